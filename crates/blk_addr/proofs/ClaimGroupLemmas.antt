@@ -1,4 +1,4 @@
--- What addresses that join the claims together change.
+-- What addresses that join the used blocks together change.
 use Rattle.std.proofs.Common.{◌≡◌, ℕ, ◌+◌, ◌*◌, List, [], ◌∷◌, ◌++◌, Bool, true, false, ◌||◌, ◌&&◌, refl, sym, ◌∙◌, ap, ap₂, IsTrue, arith, count_by, get_or}
 use Rattle.std.specs.Prelude.{◌==◌, nat_lt, not, if◌then◌else◌}
 use Rattle.std.specs.List.{list_any}
@@ -17,9 +17,9 @@ use Rattle.blk_addr.proofs.AddressFields.{address_above_0}
 use Rattle.blk_addr.proofs.ClaimLemmas.{claims_of-external, first_apart, has_claim-append, is_in_file-external, list_any-same, nothing_more, or_comm, or_false, or_parts, repeats-append, rest_apart}
 use Rattle.blk_addr.proofs.MeetLemmas.{list_any-or}
 
--- What stands once in two lists.
+-- What occurs once in two lists.
 
--- what stands once in two lists does so in the second, and none of it is in the first
+-- what occurs once in two lists does so in the second, and none of it is in the first
 once_parts : (xs ys : List Claim) → repeats (xs ++ ys) ≡ false → (repeats ys ≡ false) × (list_any (has_claim ys) xs ≡ false)
 unfolding repeats
 once_parts [] ys once = (once, refl)
@@ -47,7 +47,7 @@ not_true : (t : Bool) → not t ≡ true → t ≡ false
 not_true true e = absurd cc
 not_true false e = refl
 
--- no two claim the same, and none of it is in the set
+-- no two use the same, and none of it is in the set
 pub free_parts : (claims : Claims) (words : List ℕ) → are_free claims words ≡ true → (repeats (claims_of_all words) ≡ false) × (list_any (contains_claim claims) (claims_of_all words) ≡ false)
 unfolding are_free
 free_parts claims words free = or_parts (repeats (claims_of_all words)) (list_any (contains_claim claims) (claims_of_all words)) (not_true _ free)
@@ -208,7 +208,7 @@ is_of_all old new words addrs free adds is =
       allocations = λ file. adds.allocations file ∙ ap (λ (n : ℕ). n + count_by (is_in_file file) addrs) (is.allocations file) ∙ sym (count_by-append (is_in_file file) words addrs);
     }
 
--- whether one of some addresses is claimed is so for what they claim together
+-- whether one of some addresses is used is so for what they use together
 pub any_claimed : (claims : Claims) (words : List ℕ) → list_any (is_claimed claims) words ≡ list_any (contains_claim claims) (claims_of_all words)
 unfolding is_claimed
 any_claimed claims [] = refl
@@ -219,7 +219,7 @@ pub free_by : (claims : Claims) (words : List ℕ) (meet any : Bool) → meet �
 unfolding are_free
 free_by claims words meet any once none = ap₂ (λ (a b : Bool). not (a || b)) once (none ∙ any_claimed claims words)
 
--- addresses that repeat nothing behind the added ones are free
+-- addresses that repeat nothing after the added ones are free
 pub free-behind : (owned : Claims) (words addrs : List ℕ) → IsClaimsOf owned words → repeats (claims_of_all (words ++ addrs)) ≡ false → are_free owned addrs ≡ true
 free-behind owned words addrs is once =
     let parts = once_parts (claims_of_all words) (claims_of_all addrs) (sym (ap repeats (flat_map-append claims_of words addrs)) ∙ once) in

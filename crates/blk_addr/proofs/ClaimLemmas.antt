@@ -1,4 +1,4 @@
--- The claims of an address as numbers of a bitmap, and what an added address changes.
+-- The used blocks of an address as numbers of a bitmap, and what an added address changes.
 use Rattle.std.proofs.Common.{◌≡◌, ◌≢◌, ℕ, zero, suc, ◌+◌, ◌*◌, ◌<◌, ◌≤◌, List, [], ◌∷◌, ◌++◌, map, Bool, true, false, ◌||◌, ◌&&◌, refl, sym, ◌∙◌, ap, arith, ◌⊎◌, inl, inr, eqb, length, set, get_or, cond, count_by}
 use Rattle.std.specs.Prelude.{◌==◌, nat_lt, if◌then◌else◌}
 use Rattle.std.specs.Ordering.{nat_cmp}
@@ -33,12 +33,12 @@ pub or_parts : (a b : Bool) → (a || b) ≡ false → (a ≡ false) × (b ≡ f
 or_parts true b fails = absurd cc
 or_parts false b fails = (refl, fails)
 
--- a claim is in one of two lists
+-- a used block is in one of two lists
 pub has_claim-append : (claims others : List Claim) (c : Claim) → has_claim (claims ++ others) c ≡ (has_claim claims c || has_claim others c)
 unfolding has_claim
 has_claim-append claims others c = list_any-append (same_claim c) claims others
 
--- one claim stands once
+-- one used block occurs once
 repeats-one : (c : Claim) → repeats (c ∷ []) ≡ false
 unfolding repeats has_claim
 repeats-one c = refl
@@ -48,12 +48,12 @@ and_or : (a b c : Bool) → (a && (b || c)) ≡ (a && b || a && c)
 and_or true b c = refl
 and_or false b c = refl
 
--- an external address claims its number
+-- an external address uses its number
 pub claims_of-external : (w : ℕ) → w ≢ 0 → kind_of w ≡ external → claims_of w ≡ ExternalOf (external_number w) ∷ []
 unfolding claims_of
 claims_of-external w some kind = grind (arith, nat_tests)
 
--- an address of blocks claims each of them
+-- an address of blocks uses each of them
 pub claims_of-blocks : (w : ℕ) → w ≢ 0 → kind_of w ≢ external
     → claims_of w ≡ map (λ b. BlockOf (file_selector w) b) (range_with_len (first_block w) (block_count w))
 unfolding claims_of
@@ -95,7 +95,7 @@ any_of_run p bytes file s (suc n) is inside =
     ap (λ b. b || list_any p (map (λ b. BlockOf file b) (range_with_len (s + 1) n))) (is s ∙ ap (λ b. b && has_bit bytes (file * 65536 + s)) below)
     ∙ ap (λ t. has_bit bytes (file * 65536 + s) || t) (rest ∙ ap (λ m. list_any (has_bit bytes) (range_with_len m n)) next)
 
--- one external number joins a set of claims
+-- one external number joins a set of used blocks
 pub external_added : (p q : Claim → Bool) (w n : ℕ) → claims_of w ≡ ExternalOf n ∷ []
     → ((file b : ℕ) → q (BlockOf file b) ≡ p (BlockOf file b))
     → ((m : ℕ) → q (ExternalOf m) ≡ (m == n || p (ExternalOf m)))
@@ -105,7 +105,7 @@ external_added p q w n claims blocks externals (BlockOf file b) = blocks file b 
 external_added p q w n claims blocks externals (ExternalOf m) =
     externals m ∙ ap (λ t. t || p (ExternalOf m)) (sym (or_false (m == n))) ∙ ap (λ l. list_any (same_claim (ExternalOf m)) l || p (ExternalOf m)) (sym claims)
 
--- a run of blocks joins a set of claims
+-- a run of blocks joins a set of used blocks
 pub blocks_added : (p q : Claim → Bool) (w file s n : ℕ) → claims_of w ≡ map (λ b. BlockOf file b) (range_with_len s n)
     → ((number : ℕ) → q (ExternalOf number) ≡ p (ExternalOf number))
     → ((other b : ℕ) → q (BlockOf other b) ≡ ((other == file) && is_between s (s + n) b || p (BlockOf other b)))
@@ -180,7 +180,7 @@ pub list_any-same : {X : Type 0} (p q : X → Bool) → ((x : X) → p x ≡ q x
 list_any-same p q same [] = refl
 list_any-same p q same (x ∷ xs) = ap (λ t. t || list_any p xs) (same x) ∙ ap (λ t. q x || t) (list_any-same p q same xs)
 
--- where none of some claims is in a list, its first claim isn't among them
+-- where none of some used blocks is in a list, its first used block isn't among them
 pub first_apart : (c : Claim) (claims others : List Claim) → list_any (has_claim (c ∷ claims)) others ≡ false → has_claim others c ≡ false
 unfolding has_claim
 first_apart c claims [] apart = refl
@@ -198,7 +198,7 @@ rest_apart c claims (d ∷ others) apart =
     let first = or_parts (same_claim d c) (list_any (same_claim d) claims) parts.0 in
     ap (λ t. t || list_any (has_claim claims) others) first.1 ∙ rest_apart c claims others parts.1
 
--- two lists of claims that stand once and share none make one
+-- two lists of used blocks that occur once and share none make one
 pub repeats-append : (claims others : List Claim) → repeats claims ≡ false → repeats others ≡ false → list_any (has_claim claims) others ≡ false
     → repeats (claims ++ others) ≡ false
 unfolding repeats
@@ -208,7 +208,7 @@ repeats-append (c ∷ claims) others once once_more apart =
     ap (λ t. t || repeats (claims ++ others)) (has_claim-append claims others c ∙ ap (λ t. t || has_claim others c) parts.0 ∙ first_apart c claims others apart)
     ∙ repeats-append claims others parts.1 once_more (rest_apart c claims others apart)
 
--- the blocks of a run stand once
+-- the blocks of a run occur once
 repeats-blocks : (file s n : ℕ) → repeats (map (λ b. BlockOf file b) (range_with_len s n)) ≡ false
 unfolding repeats
 repeats-blocks file s zero = refl
@@ -217,7 +217,7 @@ repeats-blocks file s (suc n) =
     ap (λ t. t || repeats (map (λ b. BlockOf file b) (range_with_len (s + 1) n))) (has_claim-blocks file (s + 1) n file s ∙ before)
     ∙ repeats-blocks file (s + 1) n
 
--- an address claims nothing twice
+-- an address uses nothing twice
 pub repeats-claims_of : (w : ℕ) → w ≢ 0 → repeats (claims_of w) ≡ false
 repeats-claims_of w some =
     let cases : ((eqb (kind_of w) external ≡ true) × (kind_of w ≡ external)) ⊎ ((eqb (kind_of w) external ≡ false) × (kind_of w ≢ external)) = eqb_tells (kind_of w) external in

@@ -51,14 +51,14 @@ adds_blocks old new w address kind externals bits inside counts = record {
       ∙ ap (λ test. get_or old.allocations file 0 + (if test then 1 else 0)) (sym (is_in_file-blocks file w kind));
 }
 
--- a claim stays where what it is read from stays
+-- a used block stays where what it is read from stays
 same_claims : (old new : Claims) → new.externals ≡ old.externals → ((m : ℕ) → has_bit new.blocks.bytes.items m ≡ has_bit old.blocks.bytes.items m)
     → (c : Claim) → contains_claim new c ≡ contains_claim old c
 unfolding contains_claim
 same_claims old new externals bits (BlockOf file b) = ap (λ t. nat_lt b 65536 && t) (bits (file * 65536 + b))
 same_claims old new externals bits (ExternalOf number) = ap (λ numbers. contains nat_cmp numbers number) externals
 
--- more room is no change
+-- more space is no change
 pub same_numbers : (old new : Claims) → new.externals ≡ old.externals → new.allocations ≡ old.allocations
     → ((m : ℕ) → has_bit new.blocks.bytes.items m ≡ has_bit old.blocks.bytes.items m) → IsUnchanged old new
 unfolding allocations_in
@@ -67,28 +67,28 @@ same_numbers old new externals counts bits = record {
   allocations = λ file. ap (λ list. get_or list file 0) counts;
 }
 
--- no numbers are no claims
+-- no numbers are no used blocks
 no_claims : (claims : Claims) → ((m : ℕ) → has_bit claims.blocks.bytes.items m ≡ false) → claims.externals.keys ≡ [] → (c : Claim) → contains_claim claims c ≡ false
 unfolding contains_claim
 no_claims claims bits externals (BlockOf file b) = ap (λ t. nat_lt b 65536 && t) (bits (file * 65536 + b)) ∙ and_false (nat_lt b 65536)
 no_claims claims bits externals (ExternalOf number) = ap (list_any (is_at (nat_cmp number))) externals
 
--- where nothing was added there are no claims
+-- where nothing was added there are no used blocks
 pub is_of_nothing : (claims : Claims) → ((m : ℕ) → has_bit claims.blocks.bytes.items m ≡ false) → claims.externals.keys ≡ []
     → ((file : ℕ) → get_or claims.allocations file 0 ≡ 0) → IsClaimsOf claims []
 unfolding allocations_in has_claim repeats
 is_of_nothing claims bits externals counts = record { claims = no_claims claims bits externals; once = refl; allocations = counts }
 
--- the claims of a longer list of addresses
+-- the used blocks of a longer list of addresses
 claims_of_all-push : (words : List ℕ) (w : ℕ) → claims_of_all (words ++ w ∷ []) ≡ claims_of_all words ++ claims_of w
 claims_of_all-push words w = flat_map-append claims_of words (w ∷ []) ∙ ap (λ claims. claims_of_all words ++ claims) (append-nil (claims_of w))
 
--- what is claimed is what the list of addresses claims
+-- what is used is what the list of addresses uses
 pub is_claimed-overlap : (owned : Claims) (words : List ℕ) (w : ℕ) → IsClaimsOf owned words → is_claimed owned w ≡ overlap (claims_of_all words) (claims_of w)
 unfolding is_claimed overlap
 is_claimed-overlap owned words w is = list_any-same (contains_claim owned) (has_claim (claims_of_all words)) is.claims (claims_of w)
 
--- an address that shares no claim with a list is no repetition
+-- an address that shares no used block with a list is no repetition
 once_more : (owned : Claims) (words : List ℕ) (w : ℕ) → IsTrue (is_address w) → is_claimed owned w ≡ false → IsClaimsOf owned words
     → repeats (claims_of_all (words ++ w ∷ [])) ≡ false
 unfolding is_claimed
@@ -127,7 +127,7 @@ pub after_err : {T E P : Type 0} (r : Result T E) → P → OnErr r P
 after_err (Ok x) p = tt
 after_err (Err e) p = p
 
--- what is claimed stays so where the set stays
+-- what is used stays so where the set stays
 pub same_claimed : (old new : Claims) (w : ℕ) → IsUnchanged old new → is_claimed new w ≡ is_claimed old w
 unfolding is_claimed
 same_claimed old new w same = list_any-same (contains_claim new) (contains_claim old) same.claims (claims_of w)

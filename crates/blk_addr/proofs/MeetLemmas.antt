@@ -1,4 +1,4 @@
--- What addresses claim, and whether they share any of it.
+-- What addresses use, and whether they share any of it.
 use Rattle.std.proofs.Common.{◌≡◌, ◌≢◌, ◌+◌, ◌<◌, ℕ, zero, suc, Bool, true, false, ◌&&◌, ◌||◌, if◌then◌else◌, ◌≤◌, ◌-◌, List, [], ◌∷◌, ◌++◌, map, take, drop, get_or, length, refl, sym, ◌∙◌, ap, ap₂, arith, IsTrue}
 use Rattle.std.specs.Prelude.{◌==◌, nat_lt}
 use Rattle.std.specs.List.{list_any, range_with_len}
@@ -111,7 +111,7 @@ no_file_block w none = by_test (kind_of w == external) refl
     by_test true k = eqb-true _ _ k
     by_test false k = absurd (none (file_selector w) (rw k refl))
 
--- Lists of claims.
+-- Lists of used blocks.
 
 -- a test that is an or
 pub list_any-or : {A : Type 0} (p q : A → Bool) (xs : List A) → list_any (λ x. p x || q x) xs ≡ (list_any p xs || list_any q xs)
@@ -147,21 +147,21 @@ repeats-both (x ∷ xs) ys once =
     by_tests true b c = refl
     by_tests false b c = refl
 
--- Addresses of which two share a claim.
+-- Addresses of which two share a used block.
 
 -- no addresses share one
 pub nothing_repeats : (words : List ℕ) → words ≡ [] → repeats (claims_of_all words) ≡ false
 unfolding repeats
 nothing_repeats words none = ap (λ (l : List ℕ). repeats (claims_of_all l)) none
 
--- one of others shares a claim with an address where their claims together do
+-- one of others shares a used block with an address where their used blocks together do
 pub one_of : (w : ℕ) (others : List ℕ) → list_any (λ other. overlap (claims_of other) (claims_of w)) others ≡ overlap (claims_of_all others) (claims_of w)
 one_of w [] = sym (nothing_shared (claims_of w))
 one_of w (v ∷ others) =
     ap (λ (t : Bool). overlap (claims_of v) (claims_of w) || t) (one_of w others)
     ∙ sym (overlap-append (claims_of v) (claims_of_all others) (claims_of w))
 
--- two of some addresses share a claim where the first does with another, or two others do
+-- two of some addresses share a used block where the first does with another, or two others do
 pub first_shares : (w : ℕ) (words : List ℕ) → IsTrue (is_address w) → repeats (claims_of_all (w ∷ words)) ≡ (overlap (claims_of_all words) (claims_of w) || repeats (claims_of_all words))
 first_shares w words address = repeats-both (claims_of w) (claims_of_all words) (repeats-claims_of w (address_above_0 w address))
 

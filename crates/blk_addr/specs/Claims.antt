@@ -13,7 +13,7 @@ use Rattle.blk_addr.specs.declared.claim_set.Claims.{Claims}
 abbrev pub blocks_of_file : ℕ
 blocks_of_file = 65536
 
--- whether a claim is in the set
+-- whether a used block is in the set
 unfoldable pub contains_claim : Claims → Claim → Bool
 contains_claim claims (BlockOf file b) = nat_lt b blocks_of_file && has_bit claims.blocks.bytes.items (file * blocks_of_file + b)
 contains_claim claims (ExternalOf number) = contains nat_cmp claims.externals number
@@ -22,7 +22,7 @@ contains_claim claims (ExternalOf number) = contains nat_cmp claims.externals nu
 unfoldable pub allocations_in : Claims → ℕ → ℕ
 allocations_in claims file = slice_index claims.allocations file
 
--- whether an address claims something that is in the set
+-- whether an address uses something that is in the set
 unfoldable pub is_claimed : Claims → ℕ → Bool
 is_claimed claims w = list_any (contains_claim claims) (claims_of w)
 
@@ -31,12 +31,12 @@ pub record IsUnchanged (old new : Claims) : Type 0 where
   pub claims : (c : Claim) → contains_claim new c ≡ contains_claim old c
   pub allocations : (file : ℕ) → allocations_in new file ≡ allocations_in old file
 
--- the claims of an address join the set, and it counts as one more of its block file
+-- the used blocks of an address join the set, and it counts as one more of its block file
 pub record Adds (old new : Claims) (w : ℕ) : Type 0 where
   pub claims : (c : Claim) → contains_claim new c ≡ (has_claim (claims_of w) c || contains_claim old c)
   pub allocations : (file : ℕ) → allocations_in new file ≡ allocations_in old file + (if is_in_file file w then 1 else 0)
 
--- the set is that of the claims of a list of addresses, no two of which share one, and the counts are theirs
+-- the set is that of the used blocks of a list of addresses, no two of which share one, and the counts are theirs
 pub record IsClaimsOf (owned : Claims) (added : List ℕ) : Type 0 where
   pub claims : (c : Claim) → contains_claim owned c ≡ has_claim (claims_of_all added) c
   pub once : repeats (claims_of_all added) ≡ false

@@ -42,7 +42,7 @@ impl Bitmap {
         (first..first + count).any(|n| self.has(n))
     }
 
-    // Makes room for the numbers below `limit`.
+    // Makes space for the numbers below `limit`.
     pub fn reserve(&mut self, limit: u32) -> Result<(), NoMemory>
         ensures same { (n : ℕ) → has_bit self.new.bytes.items n ≡ has_bit self.old.bytes.items n }
         ensures room { OnOk result (limit ≤ 8 * vec_len self.new.bytes) }

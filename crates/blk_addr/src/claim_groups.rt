@@ -1,4 +1,4 @@
-// Addresses that join the claims together, all or none.
+// Addresses that join the used blocks together, all or none.
 ghost use Rattle.std.specs.Prelude.{◌≡◌, ℕ, ◌≤◌, ◌++◌, ◌||◌, List, [], true, false, not, vec_len, IfOk, OnOk, OnErr, if◌then◌else◌};
 ghost use Rattle.std.specs.List.{list_any};
 ghost use Rattle.spec_format.specs.Claims.{claims_of_all, overlap, repeats};
@@ -11,8 +11,8 @@ impl Claims {
     ghost use Rattle.blk_addr.specs.ClaimGroups.{AddsAll, are_free};
     ghost use Rattle.blk_addr.specs.Claims.{IsClaimsOf, IsUnchanged, is_added, is_claimed};
 
-    /// Whether none of these addresses has a block or a number that is claimed, and no two of them share one. Each two
-    /// of them are compared.
+    /// Whether none of these addresses has a block or a number that is used, and no two of them share one. Each two of
+    /// them are compared.
     pub fn are_free(&self, addrs: &[Addr]) -> bool
         ensures test { result ≡ are_free self.now addrs.now }
         ensures listed { (words : List ℕ) → IsClaimsOf self.now words → result ≡ not (repeats (claims_of_all addrs.now) || overlap (claims_of_all words) (claims_of_all addrs.now)) }
@@ -20,15 +20,15 @@ impl Claims {
         !any_meet(addrs) && !self.has_any(addrs)
     }
 
-    // Whether one of these addresses has a block or a number that is claimed.
+    // Whether one of these addresses has a block or a number that is used.
     fn has_any(&self, addrs: &[Addr]) -> bool
         ensures { result ≡ list_any (is_claimed self.now) addrs.now }
     {
         addrs.iter().any(|addr| self.has(*addr))
     }
 
-    /// Adds these addresses and their claims, all or none: where one of their blocks or numbers is claimed already, or
-    /// two of them share one, nothing changes. Gives whether they were added.
+    /// Adds these addresses and their used blocks, all or none: where one of their blocks or numbers is used already,
+    /// or two of them share one, nothing changes. Gives whether they were added.
     pub fn add_all(&mut self, addrs: &[Addr]) -> Result<bool, NoMemory>
         ensures told { IfOk result (λ added. added ≡ are_free self.old addrs.now) }
         ensures added { result ≡ Ok true → AddsAll self.old self.new addrs.now }
@@ -48,8 +48,8 @@ impl Claims {
         Ok(true)
     }
 
-    // Adds free addresses, or none of them where memory is wanting: an external number is taken back then, and blocks
-    // join only behind all that takes memory.
+    // Adds free addresses, or none of them when out of memory: an external number is taken back then, and blocks join
+    // only after all that takes memory.
     fn add_each(&mut self, addrs: &[Addr]) -> Result<(), NoMemory>
         requires free { are_free self.old addrs.now ≡ true }
         ensures ok { OnOk result (AddsAll self.old self.new addrs.now) }

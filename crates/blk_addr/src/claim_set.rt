@@ -1,4 +1,4 @@
-// Claims: the blocks and external files that have an owner.
+// Used blocks: the blocks and external files that have an owner.
 ghost use Rattle.std.specs.Prelude.{◌≡◌, ◌≢◌, ℕ, ◌+◌, ◌*◌, ◌≤◌, ◌++◌, ◌&&◌, ◌==◌, List, [], ◌∷◌, true, false, not, slice_index, vec_len, count_by, IsTrue, IfOk, OnOk, OnErr, if◌then◌else◌};
 ghost use Rattle.std.specs.BTreeSet.{contains};
 ghost use Rattle.std.specs.Ordering.{nat_cmp};
@@ -23,14 +23,14 @@ pub struct Claims {
     blocks: Bitmap,
     externals: BTreeSet<u32>,
     allocations: [u32; BLOCK_FILES],
-    // each count is at most the number of claimed blocks
+    // each count is at most the number of used blocks
     ghost counted: { (file : ℕ) → slice_index allocations file ≤ bits_of_files blocks.bytes.items },
 }
 
 impl Claims {
     ghost use Rattle.blk_addr.specs.Claims.{IsClaimsOf, IsUnchanged, Adds, is_claimed, contains_claim, allocations_in, is_added};
 
-    /// No claims.
+    /// No used blocks.
     pub fn new(alloc: Global) -> Claims
         ensures { IsClaimsOf result [] }
     {
@@ -41,7 +41,7 @@ impl Claims {
         }
     }
 
-    /// Whether a block or the number of the address is claimed.
+    /// Whether a block or the number of the address is used.
     pub fn has(&self, addr: Addr) -> bool
         ensures test { result ≡ is_claimed self.now addr }
         ensures listed { (words : List ℕ) → IsClaimsOf self.now words → result ≡ overlap (claims_of_all words) (claims_of addr) }
@@ -53,7 +53,7 @@ impl Claims {
         }
     }
 
-    /// Whether a block of a block file is claimed. No address names a block from 65536 on.
+    /// Whether a block of a block file is used. No address names a block from 65536 on.
     pub fn has_block(&self, file: u8, block: u32) -> bool
         ensures test { result ≡ contains_claim self.now (BlockOf file block) }
         ensures listed { (words : List ℕ) → IsClaimsOf self.now words → result ≡ has_claim (claims_of_all words) (BlockOf file block) }
@@ -64,8 +64,8 @@ impl Claims {
                 .has(u32::from(file) * fields::BLOCKS_OF_FILE + block)
     }
 
-    /// Adds the address and its claims, unless one of these is there: then nothing changes.
-    /// Gives whether it was added.
+    /// Adds the address and its used blocks, unless one of these is there: then nothing changes. Gives whether it was
+    /// added.
     pub fn add(&mut self, addr: Addr) -> Result<bool, NoMemory>
         ensures told { IfOk result (λ added. added ≡ not (is_claimed self.old addr)) }
         ensures added { result ≡ Ok true → Adds self.old self.new addr }
@@ -132,7 +132,7 @@ impl Claims {
         Ok(())
     }
 
-    // Makes room for the blocks of the file of an address.
+    // Makes space for the blocks of the file of an address.
     pub(crate) fn reserve_blocks(&mut self, addr: Addr) -> Result<(), NoMemory>
         ensures same { IsUnchanged self.old self.new }
         ensures room { OnOk result (file_selector addr * 65536 + 65536 ≤ 8 * vec_len self.new.blocks.bytes) }
@@ -144,7 +144,7 @@ impl Claims {
         Ok(())
     }
 
-    // Adds an address of blocks, for which there is room.
+    // Adds an address of blocks, for which there is space.
     pub(crate) fn insert_blocks(&mut self, addr: Addr)
         requires address { IsTrue (is_address addr) }
         requires kind { kind_of addr ≢ external }

@@ -1,4 +1,4 @@
-//! Addresses of blocks and external files, the storage of data by its size, and claims.
+//! Addresses of blocks and external files, the storage of data by its size, and used blocks.
 #![tactic(auto)]
 
 mod address;

@@ -55,7 +55,7 @@ fn runs_meet(addr: Addr, other: Addr) -> bool
     addr.start() < end_of(other) && other.start() < end_of(addr)
 }
 
-// The number behind the last block of an address.
+// The number after the last block of an address.
 #[tactic(auto, using(std::proofs::lemmas::Bool::Decides::nat_tests), unfolding(spec_format::specs::Address::first_block, spec_format::specs::Address::block_count))]
 fn end_of(addr: Addr) -> u32
     requires { kind_of addr ≢ external }

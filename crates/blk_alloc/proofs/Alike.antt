@@ -1,4 +1,4 @@
--- A header whose map and counters are those of claims already.
+-- A header whose map and counters are those of the used blocks already.
 use Rattle.std.proofs.Common.{◌≡◌, ℕ, zero, suc, ◌+◌, ◌*◌, ◌<◌, ◌≤◌, List, [], ◌∷◌, refl, sym, ◌∙◌, ap, arith}
 use Rattle.std.specs.Prelude.{slice_index}
 use Rattle.spec_image.specs.Bytes.{content, range_at, word_at}
@@ -23,7 +23,7 @@ zeros_at (suc (suc (suc (suc i)))) small = absurd (omega arith)
 bit_is : (image : Image) (n : ℕ) (map : List ℕ) → map ≡ range_at (byte image (Block n)) 80 8112 → (b : ℕ) → b < 64896 → is_block_marked image n b ≡ has_bit map b
 bit_is image n map read b small = sym (ap (λ (l : List ℕ). has_bit l b) read ∙ bit_read (byte image (Block n)) 0 8112 b b (omega (arith, small)) (omega arith))
 
--- where they are those of the claims, so are the bits
+-- where they are those of the used blocks, so are the bits
 pub right_bits : (claims : Claims) (image : Image) (n : ℕ) (map : List ℕ) → map ≡ range_at (byte image (Block n)) 80 8112 → HasMarksOf claims image n → AreBitsOf claims n 64896 map
 right_bits claims image n map read right b small = sym (bit_is image n map read b small) ∙ right.marks b small
 
@@ -54,7 +54,7 @@ module _ (claims : Claims) (n groups : ℕ) (image : Image) (map empty : List �
       let few = is.few in
       is.counts i small ∙ groups_same (has_bit map) (is_block_marked image n) groups (i + 1) (λ b below. sym (bit b (omega (arith, below, few)))) ∙ ap (λ (k : ℕ). groups_with (is_block_marked image n) k (i + 1)) same
 
-  -- a map and counters that were compared are those of the claims
+  -- a map and counters that were compared are those of the used blocks
   pub compared_right : groups ≡ groups_of (max_entries_in image n) → AreBitsOf claims n 64896 map → HasTheseCounters (byte image (Block n)) (allocations_in claims n) empty → HasMarksOf claims image n
   unfolding EmptyAgrees
   compared_right same marks counters = record {

@@ -1,4 +1,4 @@
--- Why a header is damaged, in a folder that tells nothing.
+-- Why a header is corrupt, in an opaque folder.
 use Rattle.std.proofs.Common.{◌≡◌, ℕ, Bool, inl, inr, Option, None, Some, Result, Ok, Err, refl, sym, ◌∙◌, ⊎_elim}
 use Rattle.std.specs.Option.{option_map}
 use Rattle.spec_image.specs.Image.{Image}
@@ -20,7 +20,7 @@ cause_before later before n start count used damage none =
     (λ short. inl (record { place = short.place; count = short.count; read = short.read; short = record { of_file = short.short.of_file; at_place = short.short.at_place; few = short.short.few; many = λ image there. absurd (none_some (sym none ∙ there)) } }))
     (λ why. inr (record { counters = why.counters; bytes = why.bytes; are = λ image there. absurd (none_some (sym none ∙ there)); of_map = λ image there. absurd (none_some (sym none ∙ there)); at_end = why.at_end }))
 
--- a folder that tells nothing after some steps told nothing before
+-- a folder that is opaque after some steps was opaque before
 pub none_before : (f : Image → Image) (a b : Option Image) → b ≡ option_map f a → b ≡ None → a ≡ None
 none_before f None b is none = refl
 none_before f (Some image) b is none = absurd (none_some (sym none ∙ is))

@@ -60,7 +60,7 @@ none_more old mid n apart before = record {
     clash : true ≡ false → ⊥
     clash e = cc
 
--- what stood among the files still does
+-- what was valid among the files still is
 pub fitted_larger : (old new : BlockFiles) (count : ℕ) → HasFitted old new count → IsLarger old new
 fitted_larger old new count fitted = record {
   types = λ f there j. kind_among (λ kind. fitted.files kind j) f;

@@ -108,7 +108,7 @@ module _ (from image : Image) (w : ℕ) (block_kind : kind_of w ≢ external) (h
     elsewhere = λ m differs. file_kept (file_selector w) from image changed.same m differs;
   }
 
--- the blocks of an address that stands are among those of its file
+-- the blocks of a valid address are among those of its file
 pub standing_blocks : (files : BlockFiles) (image : Image) (w : ℕ) → Agrees files image → stands_among files w ≡ true → HasBlocks image (file_selector w) (first_block w) (block_count w)
 unfolding stands_as_blocks
 standing_blocks files image w agrees stands =

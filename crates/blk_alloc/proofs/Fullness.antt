@@ -1,4 +1,4 @@
--- Files that have no room hold many allocations: each of their groups has one of its own.
+-- Files that have no space hold many allocations: each of their groups has one of its own.
 use Rattle.std.proofs.Common.{◌≡◌, ◌≢◌, ℕ, zero, suc, ◌+◌, ◌*◌, ◌/◌, ◌%◌, ◌<◌, ◌≤◌, ◌⊎◌, inl, inr, List, [], ◌∷◌, length, Bool, true, false, ◌&&◌, ◌||◌, not, nat_le, refl, sym, ◌∙◌, ap, subst, arith, ⊎_elim}
 use Rattle.std.specs.Prelude.{◌==◌}
 use Rattle.std.specs.List.{All, list_all, list_any, count_by, sum_by, range_with_len}
@@ -66,7 +66,7 @@ same_group w n b group of =
     let same : first_block w / 4 ≡ b / 4 = omega (arith, low, high, group) in
     grind (arith, nat_tests)
 
--- a claimed block has an allocation in its group
+-- a used block has an allocation in its group
 owner : (image : Image) (n b : ℕ) (ws : List ℕ) → All (λ w. stands_in image w ≡ true) ws → All (λ w. is_in_file n w ≡ true) ws → has_claim (claims_of_all ws) (BlockOf n b) ≡ true → list_any (λ w. first_block w / 4 == b / 4) ws ≡ true
 unfolding has_claim
 owner image n b [] stand here claimed = claimed

@@ -51,7 +51,7 @@ not_of : (w n b : ℕ) → first_block w + block_count w ≤ b → is_of w n b �
 unfolding is_of
 not_of w n b past = grind (arith, nat_tests)
 
--- blocks past the number of blocks of a file are not marked, where its allocations stand
+-- blocks past the number of blocks of a file are not marked, where its allocations are valid
 none_past : (image : Image) (n b : ℕ) → max_entries_in image n ≤ b → (ws : List ℕ) → All (λ w. stands_in image w ≡ true) ws → All (λ w. is_in_file n w ≡ true) ws → has_claim (claims_of_all ws) (BlockOf n b) ≡ false
 unfolding has_claim
 none_past image n b past [] stand here = refl

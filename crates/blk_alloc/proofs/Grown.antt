@@ -1,4 +1,4 @@
--- Room that a growth gives.
+-- Space that a growth gives.
 use Rattle.std.proofs.Common.{◌≡◌, ℕ, zero, suc, ◌+◌, ◌%◌, ◌<◌, ◌≤◌, inr, List, [], ◌∷◌, max, Bool, true, false, ◌&&◌, ◌||◌, not, Option, refl, sym, ◌∙◌, ap, ap₂, subst, arith, ⊎_elim}
 use Rattle.std.specs.List.{list_all, range_with_len}
 use Rattle.std.proofs.lemmas.Bool.{cases_eq}

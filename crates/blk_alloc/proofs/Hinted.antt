@@ -1,4 +1,4 @@
--- What is found where room was made.
+-- What is found where space was made.
 use Rattle.std.proofs.Common.{◌≡◌, ℕ, ◌+◌, ◌*◌, ◌/◌, ◌%◌, ◌<◌, ◌≤◌, ◌⊎◌, inl, inr, List, [], ◌∷◌, Bool, true, false, ◌||◌, refl, sym, ◌∙◌, ap, subst, arith, ⊎_elim}
 use Rattle.std.specs.Prelude.{◌==◌}
 use Rattle.std.specs.List.{All}
@@ -28,7 +28,7 @@ all_member P (x ∷ xs) n among all =
     or_cases true b e = inl refl
     or_cases false b e = inr e
 
--- a file has room or it has none
+-- a file has space or it has none
 pub no_room : (image : Image) (n count i : ℕ) → IsSought image n count i → HasNoRoom image count n → ⊥
 no_room image n count i sought none = let some = sought.counted in let zero_is = none i sought.small sought.enough in omega (arith, some, zero_is)
 

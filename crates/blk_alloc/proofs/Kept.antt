@@ -1,4 +1,4 @@
--- Tables of block files that get longer, or more: what stood among them still does.
+-- Tables of block files that get longer, or more: what was valid among them still is.
 use Rattle.std.proofs.Common.{◌≡◌, ◌≢◌, ℕ, ◌+◌, ◌<◌, ◌≤◌, List, max, Bool, true, false, ◌&&◌, ◌||◌, if◌then◌else◌, nat_le, Option, Some, None, refl, sym, ◌∙◌, ap, ap₂, subst, arith, ⊎_elim}
 use Rattle.std.specs.Prelude.{◌==◌}
 use Rattle.std.proofs.lemmas.Bool.{cases_eq}
@@ -50,7 +50,7 @@ standing_kept old new larger w is =
     longer : (x a b : ℕ) → a ≤ b → nat_le x a ≡ true → nat_le x b ≡ true
     longer x a b less e = grind (arith, nat_tests)
 
--- the same tables keep what stands
+-- the same tables keep what is valid
 pub standing_same : (old new : BlockFiles) → new ≡ old → KeepsStanding old new
 standing_same old new same w is = ap (λ (files : BlockFiles). stands_among files w) same ∙ is
 

@@ -44,7 +44,7 @@ same_claim-refl : (c : Claim) → same_claim c c ≡ true
 same_claim-refl (BlockOf f b) = grind (arith, nat_tests)
 same_claim-refl (ExternalOf n) = grind (arith, nat_tests)
 
--- claims that stand once in a list of two parts
+-- used blocks that occur once in a list of two parts
 pub once_parts : (a b : List Claim) → repeats (a ++ b) ≡ false → (repeats b ≡ false) × ((c : Claim) → has_claim a c ≡ true → has_claim b c ≡ true → ⊥)
 unfolding repeats has_claim
 once_parts [] b once = (once, λ c inside also. clash (sym inside))
@@ -62,7 +62,7 @@ pub record IsBlocks (w : ℕ) : Type 0 where
   pub some : w ≢ 0
   pub block_kind : kind_of w ≢ external
 
--- what an address of blocks claims of a file
+-- what an address of blocks uses of a file
 pub claims_blocks : (w n b : ℕ) → IsBlocks w → has_claim (claims_of w) (BlockOf n b) ≡ is_of w n b
 unfolding is_of
 claims_blocks w n b is = ap (λ (l : List Claim). has_claim l (BlockOf n b)) (claims_of-blocks w is.some is.block_kind) ∙ has_claim-blocks (file_selector w) (first_block w) (block_count w) n b ∙ turned
@@ -70,11 +70,11 @@ claims_blocks w n b is = ap (λ (l : List Claim). has_claim l (BlockOf n b)) (cl
     turned : ((n == file_selector w) && is_between (first_block w) (first_block w + block_count w) b) ≡ ((file_selector w == n) && is_between (first_block w) (first_block w + block_count w) b)
     turned = grind (arith, nat_tests)
 
--- it claims its first block
+-- it uses its first block
 first_claimed : (w : ℕ) → IsBlocks w → has_claim (claims_of w) (BlockOf (file_selector w) (first_block w)) ≡ true
 first_claimed w is = claims_blocks w (file_selector w) (first_block w) is ∙ (let some = block_count_above_0 w in unfold is_of in grind (arith, nat_tests))
 
--- a claim of one of some addresses is a claim of them all
+-- a used block of one of some addresses is a used block of them all
 of_all : (words : List ℕ) (w : ℕ) (c : Claim) → is_among words w ≡ true → has_claim (claims_of w) c ≡ true → has_claim (claims_of_all words) c ≡ true
 of_all [] w c among inside = absurd (clash (sym among))
 of_all (x ∷ words) w c among inside =
@@ -109,7 +109,7 @@ not_true : (t : Bool) → (t ≡ true → ⊥) → t ≡ false
 not_true true never = absurd (never refl)
 not_true false never = refl
 
--- the first of two parts stands once
+-- the first of two parts occurs once
 pub first_once : (a b : List Claim) → repeats (a ++ b) ≡ false → repeats a ≡ false
 unfolding repeats has_claim
 first_once [] b once = refl
@@ -118,7 +118,7 @@ first_once (x ∷ a) b once =
     let here = or_parts (has_claim a x) (has_claim b x) (sym (has_claim-append a b x) ∙ parts.0) in
     ap (λ (t : Bool). t || repeats a) here.0 ∙ first_once a b parts.1
 
--- no claim of one list is in another
+-- no used block of one list is in another
 pub apart_all : (a b : List Claim) → ((c : Claim) → has_claim a c ≡ true → has_claim b c ≡ true → ⊥) → list_any (has_claim a) b ≡ false
 unfolding has_claim
 apart_all a [] never = refl
@@ -182,6 +182,6 @@ leaves_out (x ∷ words) w is among once = by_test (λ there. leaves_out words w
 pub one_more_once : (words : List ℕ) (w : ℕ) → IsBlocks w → repeats (claims_of_all words) ≡ false → ((c : Claim) → has_claim (claims_of w) c ≡ true → has_claim (claims_of_all words) c ≡ true → ⊥) → repeats (claims_of_all (w ∷ words)) ≡ false
 one_more_once words w is once apart = repeats-append (claims_of w) (claims_of_all words) (repeats-claims_of w is.some) once (apart_all (claims_of w) (claims_of_all words) apart)
 
--- an address of blocks claims no external file
+-- an address of blocks uses no external file
 pub claims_no_external : (w m : ℕ) → IsBlocks w → has_claim (claims_of w) (ExternalOf m) ≡ false
 claims_no_external w m is = ap (λ (l : List Claim). has_claim l (ExternalOf m)) (claims_of-blocks w is.some is.block_kind) ∙ has_claim-no-external (file_selector w) (first_block w) (block_count w) m

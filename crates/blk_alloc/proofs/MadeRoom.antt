@@ -1,4 +1,4 @@
--- Blocks that are found in a file where room was made.
+-- Blocks that are found in a file where space was made.
 use Rattle.std.proofs.Common.{◌≡◌, ◌≢◌, ◌⊎◌, inl, inr, ℕ, ◌/◌, ◌%◌, ◌<◌, ◌≤◌, [], Bool, true, false, refl, sym, ◌∙◌, ap, subst, arith, ⊎_elim}
 use Rattle.std.proofs.lemmas.Bool.{cases_eq}
 use Rattle.spec_image.specs.Image.{Block, Image, byte}

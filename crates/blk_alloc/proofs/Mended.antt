@@ -1,4 +1,4 @@
--- The map and the counters of one file, made those of claims: at each moment, and in the end.
+-- The map and the counters of one file, made those of the used blocks: at each moment, and in the end.
 use Rattle.std.proofs.Common.{◌≡◌, ℕ, zero, suc, ◌+◌, ◌-◌, ◌*◌, ◌/◌, ◌%◌, ◌<◌, ◌≤◌, ◌⊎◌, inl, inr, List, length, Bool, true, false, ◌&&◌, ◌||◌, nat_le, nat_lt, take, drop, refl, sym, ◌∙◌, ap, subst, arith, ⊎_elim}
 use Rattle.std.specs.Prelude.{◌==◌, slice_index}
 use Rattle.std.specs.Int.{bit_at}
@@ -52,7 +52,7 @@ module _ (n : ℕ) (a b : Image) (keeps : KeepsBytes n a b) where
         ∙ ap (λ (m : ℕ → Bool). groups_with m (groups_of (max_entries_in b n)) (i + 1)) (λ j k. sym (marks_kept k) j);
   }
 
--- what is as it was or as claims have it, seen from headers that differ in updating alone
+-- what is as it was or as the used blocks have it, seen from headers that differ in updating alone
 pub each_same : (claims : Claims) (n : ℕ) (from start image later : Image) → KeepsBytes n from start → KeepsBytes n image later → IsOldOrClaimed claims n from image → IsOldOrClaimed claims n start later
 each_same claims n from start image later before behind each = record {
   marks = λ b small. ⊎_elim (λ old. inl (marks_kept n image later behind b ∙ old ∙ sym (marks_kept n from start before b))) (λ new. inr (marks_kept n image later behind b ∙ new)) (each.marks b small);
@@ -107,7 +107,7 @@ module _ (claims : Claims) (n : ℕ) (from : Image) (bytes : List ℕ) (long : l
   pub map_marked : (image : Image) → AreBytesWritten (Block n) 80 bytes (length bytes) from image → AreMarked claims image n
   map_marked image written b small = map_mark (length bytes) image written b small (omega (arith, small, long))
 
--- The counters, behind the map.
+-- The counters, after the map.
 
 counters_within : (n : ℕ) → IsWithin (counters_of n) (counts_of n)
 counters_within n =
@@ -193,7 +193,7 @@ module _ (image : Image) (n : ℕ) (map fields : List ℕ) (long : length fields
   pub old_updating : (i : ℕ) → i < 4 → content (take 4 (drop 56 fields)) i ≡ byte image (Block n) (56 + i)
   old_updating i small = content_part fields 56 4 i (omega (arith, long)) small ∙ field_is (56 + i) (omega (arith, small))
 
-  -- the map and the counters stand while updating alone has changed
+  -- the map and the counters hold while updating alone has changed
   pub map_stands : (later : Image) → KeepsBytes n image later → (i : ℕ) → i < 8112 → content map i ≡ byte later (Block n) (80 + i)
   map_stands later keeps i small =
       let beside : is_updating_place (80 + i) ≡ false = grind (arith, nat_tests) in

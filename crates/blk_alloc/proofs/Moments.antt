@@ -1,4 +1,4 @@
--- What holds at each word while room is made and blocks are marked.
+-- What holds at each word while space is made and blocks are marked.
 use Rattle.std.proofs.Common.{◌≡◌, ℕ, ◌≤◌, ◌<◌, Bool, true, false, ◌&&◌, ◌||◌, nat_le, nat_lt, refl, ◌⊎◌, inl, inr, arith, subst, ⊎_elim}
 use Rattle.std.specs.List.{All}
 use Rattle.std.proofs.lemmas.Bool.Decides.{nat_tests}
@@ -41,7 +41,7 @@ grown_count n m from image same = same_word_outside (growth_of n) from image (Bl
     spared true k low high = grind (arith, nat_tests)
     spared false k low high = refl
 
--- room is made, and its blocks aren't marked yet
+-- space is made, and its blocks aren't marked yet
 pub room_moment : (files : BlockFiles) (kind : ℕ) (from image : Image) → MakesRoomInProgress files kind from image → ExtendsInProgress files kind from image × StaysWhole from image
 room_moment files kind from image room =
     (record { file = room.file; within = room_marked files kind room.file from image image room.within (outside-refl (taking_of room.file) image); updating = inr (room_begun files kind room.file from image image room.within (outside-refl (quiet_of room.file) image)) }, room.stays)

@@ -98,7 +98,7 @@ range_content (suc n) i f (b ∷ bytes) long same =
     ap (λ (x : ℕ). x ∷ range_at f (suc i) n) (sym (same 0 (omega arith) ∙ first)) ∙ ap (λ (l : List ℕ). b ∷ l) rest
 
 module _ (f : File) (place : ℕ) (bytes : List ℕ) (n : ℕ) (long : length bytes ≡ n) (from : Image) where
-  -- bytes that stand there are written
+  -- bytes that are there are written
   pub written_same : ((i : ℕ) → i < n → content bytes i ≡ byte from f (place + i)) → AreBytesWritten f place bytes n from from
   written_same same = record { same = outside-refl (range f place n) from; there = λ i small. sym (same i small) }
 
@@ -159,7 +159,7 @@ module _ (f : File) (place : ℕ) (bytes new : List ℕ) (k : ℕ) (from mid : I
 pub content_part : (bytes : List ℕ) (at n i : ℕ) → at + n ≤ length bytes → i < n → content (take n (drop at bytes)) i ≡ content bytes (at + i)
 content_part bytes at n i fits small = ap (λ (l : List ℕ). content l i) (sym (range-is n at bytes fits)) ∙ content-range n at (content bytes) i (at + i) small refl
 
--- what stood behind the bytes that are written stands there still
+-- what came after the bytes that are written is there still
 pub stands_behind : (f : File) (place : ℕ) (bytes : List ℕ) (n : ℕ) (from image : Image) → AreBytesWritten f place bytes n from image → (i : ℕ) → n ≤ i → byte image f (place + i) ≡ byte from f (place + i)
 stands_behind f place bytes n from image written i past = written.same.bytes f (place + i) (by_test (same_file f f))
   where

@@ -1,4 +1,4 @@
--- The addresses of a file, of all that were added to claims, are its allocations.
+-- The addresses of a file, of all that were added to the used blocks, are its allocations.
 use Rattle.std.proofs.Common.{◌≡◌, ◌≢◌, ℕ, ◌+◌, List, [], ◌∷◌, get_or, Bool, true, false, ◌&&◌, ◌||◌, if◌then◌else◌, refl, sym, ◌∙◌, ap, ap₂, arith, ⊎_elim}
 use Rattle.std.specs.Prelude.{◌==◌, filter}
 use Rattle.std.specs.List.{All}
@@ -21,7 +21,7 @@ use Rattle.blk_alloc.specs.Owning.{is_of}
 use Rattle.blk_alloc.specs.Rebuilding.{words_of_file, IsRebuilt}
 use Rattle.blk_alloc.proofs.Lists.{claims_blocks, filter_cons, once_parts, first_once, apart_all, or_true, or_left, or_right}
 
--- what some of the addresses claim all of them claim
+-- what some of the addresses use all of them use
 claims_fewer : (p : ℕ → Bool) (words : List ℕ) (c : Claim) → has_claim (claims_of_all (filter p words)) c ≡ true → has_claim (claims_of_all words) c ≡ true
 claims_fewer p [] c inside = inside
 claims_fewer p (w ∷ words) c inside = by_test (p w) refl (claims_fewer p words c)
@@ -56,7 +56,7 @@ once_fewer p (w ∷ words) once = by_test (p w) refl (once_fewer p words parts.0
         (apart_all (claims_of w) (claims_of_all (filter p words)) (λ c inside also. parts.1 c inside (claims_fewer p words c also)))
     by_test false e rest = ap (λ (l : List ℕ). repeats (claims_of_all l)) (all false e) ∙ rest
 
--- an address that is none of blocks of a file claims none of them
+-- an address that is none of blocks of a file uses none of them
 unfolded_zero : (n b : ℕ) → has_claim (claims_of 0) (BlockOf n b) ≡ false
 unfolding claims_of has_claim
 unfolded_zero n b = refl
@@ -75,7 +75,7 @@ none_claimed n b w apart =
     no_block : (m : ℕ) → has_claim (ExternalOf m ∷ []) (BlockOf n b) ≡ false
     no_block m = unfold has_claim in refl
 
--- the blocks of a file that all addresses claim are those that the addresses of the file claim
+-- the blocks of a file that all addresses use are those that the addresses of the file use
 pub claims_here : (n b : ℕ) (words : List ℕ) → has_claim (claims_of_all words) (BlockOf n b) ≡ has_claim (claims_of_all (words_of_file n words)) (BlockOf n b)
 claims_here n b [] = refl
 claims_here n b (w ∷ words) = has_claim-append (claims_of w) (claims_of_all words) (BlockOf n b) ∙ by_test (is_in_file n w) refl (claims_here n b words)
@@ -93,7 +93,7 @@ claims_here n b (w ∷ words) = has_claim-append (claims_of w) (claims_of_all wo
         ap (λ (t : Bool). t || has_claim (claims_of_all words) (BlockOf n b)) (none_claimed n b w e) ∙ rest
         ∙ ap (λ (l : List ℕ). has_claim (claims_of_all l) (BlockOf n b)) (sym (all false e))
 
--- what stood stands where blocks and external files stay
+-- what was valid still is where blocks and external files stay
 pub stands_still : (from image : Image) (w : ℕ) → KeepsBlocks from image → ((m : ℕ) → has_file image (External m) ≡ has_file from (External m)) → stands_in from w ≡ true → stands_in image w ≡ true
 unfolding stands
 stands_still from image w keeps externals is = by_test (kind_of w == external) is

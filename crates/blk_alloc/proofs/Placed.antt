@@ -1,4 +1,4 @@
--- Blocks of a file that is kept stand, where the file is as long as all its blocks.
+-- Blocks of a file that is kept are valid, where the file is as long as all its blocks.
 use Rattle.std.proofs.Common.{◌≡◌, ◌≢◌, ℕ, ◌+◌, ◌*◌, ◌<◌, ◌≤◌, List, max, true, nat_le, Option, Some, refl, ◌∙◌, ap, arith}
 use Rattle.std.proofs.lemmas.Bool.Decides.{nat_tests}
 use Rattle.std.proofs.Math.Nat.{mul-le-mul}

@@ -1,4 +1,4 @@
--- Room for blocks: files that are counted never lack it, and what is given in a file that was made ready.
+-- Space for blocks: files that are counted never lack it, and what is given in a file that was made ready.
 use Rattle.std.proofs.Common.{◌≡◌, ◌≢◌, ◌⊎◌, inl, inr, ℕ, ◌+◌, ◌*◌, ◌%◌, ◌<◌, ◌≤◌, List, [], ◌∷◌, length, Bool, true, false, ◌&&◌, ◌||◌, if◌then◌else◌, Option, None, Some, Result, Ok, Err, refl, sym, ◌∙◌, ap, subst, arith, ⊎_elim, get_or}
 use Rattle.std.specs.Prelude.{◌==◌, IfOk}
 use Rattle.std.specs.List.{All, sum_by}
@@ -118,11 +118,11 @@ updating_within n = within-trans (updating_word n) (map_of n) (taking_of n) (at_
 within-refl : (F : Footprint) → IsWithin F F
 within-refl F = record { bytes = λ file i e. e; sizes = λ file e. e }
 
--- room that is made by a growth
+-- space that is made by a growth
 pub room_grown : (files : BlockFiles) (kind n : ℕ) (from image : Image) → IsFirstGrowing files (files_of files kind) n → SameOutside (growth_of n) from image → ExtendsAnd updating_word files kind from n image
 room_grown files kind n from image first same = inl (first, outside_wider (growth_of n) (either (growth_of n) (updating_word n)) from image (within_left (growth_of n) (updating_word n)) same)
 
--- room that is made in a new file
+-- space that is made in a new file
 pub room_added : (files : BlockFiles) (kind n : ℕ) (from image : Image) → n ≡ free_number files → All (HasMostBlocks files) (files_of files kind) → SameOutside (either (addition_of files kind) (growth_of (free_number files))) from image → ExtendsAnd updating_word files kind from n image
 room_added files kind n from image is full same =
     let A = addition_of files kind in
@@ -179,7 +179,7 @@ word_address files k count place block_kind some node is =
     let fields : AreFields (kind_number k) place.file place.start place.count = record { kind = kind_small k; file = is.number; start = omega (arith, small); some = omega (arith, some, counted); most = omega (arith, group, counted) } in
     is_address-block_word (kind_number k) place.file place.start place.count fields (kind_blocky k block_kind) (omega (arith, group, counted)) (λ e. counted ∙ node e)
 
--- blocks that are taken where room was made are given
+-- blocks that are taken where space was made are given
 pub given_made : (old new : BlockFiles) (from mid image : Image) (place : Blocks) (w : ℕ) → file_selector w ≡ place.file → KeepsAll old new → Extends old from place mid → MarksUsed new mid w image → (is_among (all_files old) (file_selector w) ≡ false → HasNoHints image (file_selector w)) → Allocates old from w image
 given_made old new from mid image place w file all made taken hints = record {
   free = λ among b of. sym (made.marks (file_selector w) b among) ∙ taken.free b of;
@@ -216,7 +216,7 @@ if_ok_both {A} {E} (Err e) P Q R both one other = tt
 none_some : {image : Image} → None ≡ Some image → ⊥
 none_some {image} e = cc
 
--- a folder that tells nothing after a call told nothing before it
+-- a folder that is opaque after a call was opaque before it
 pub untold_before : {a b : Told} (P : Image → Image → Type 0) → ForSome a.files (λ from. PassesTo a b (P from) (P from)) → b.files ≡ None → a.files ≡ None
 untold_before {a} {b} P stops none = by_files a.files refl
   where
@@ -224,7 +224,7 @@ untold_before {a} {b} P stops none = by_files a.files refl
     by_files None is = is
     by_files (Some from) is = absurd (none_some (sym none ∙ (stops from is).applies.files ∙ ap (option_map (after (stops from is).steps)) is))
 
--- what holds whatever the damage is
+-- what holds whatever the failed check is
 pub if_damaged_any : {A : Type 0} (r : Result A Fault) (X : Type 0) → X → IfDamaged r (λ _. X)
 if_damaged_any {A} (Ok a) X holds = tt
 if_damaged_any {A} (Err Device) X holds = tt

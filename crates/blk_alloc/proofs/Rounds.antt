@@ -111,7 +111,7 @@ module _ (marked : ℕ → Bool) (words hint run : ℕ) (some : 0 < words) where
       (λ (from : start ≤ g). seen g from (omega (arith, small, whole)) (ap (longest_run marked) (mod-eq_of_lt small) ∙ e))
       (cases_lt g start)
 
--- the place in a word with which a turn begins
+-- the place in a word with which an iteration begins
 module _ (turn start first : ℕ) (begins : turn ≡ 0 → first ≡ start % 8) (goes_on : 0 < turn → first ≡ 0) where
   pub begins_low : (j : ℕ) → start ≤ 8 * (start / 8 + turn) + j → first ≤ j
   begins_low j low =
@@ -125,7 +125,7 @@ module _ (turn start first : ℕ) (begins : turn ≡ 0 → first ≡ start % 8) 
       (λ (later : 1 ≤ turn). omega (arith, later))
       (cases_lt turn 1)
 
--- a turn of the round, by the marks of the word that was read
+-- an iteration of the round, by the marks of the word that was read
 module _ (marked bits : ℕ → Bool) (words hint run turn first : ℕ) (some : 0 < words) (seen : Seen marked words hint run turn)
     (begins : turn ≡ 0 → first ≡ hint % (8 * words) % 8) (goes_on : 0 < turn → first ≡ 0)
     (runs : (i : ℕ) → i < 8 → longest_run bits i ≡ longest_run marked (8 * ((hint % (8 * words) / 8 + turn) % words) + i)) where

@@ -11,7 +11,7 @@ use Rattle.blk_disk.proofs.Enlarging.{well_formed_still}
 use Rattle.blk_alloc.specs.Changes.{map_of}
 use Rattle.blk_alloc.specs.Marking.{hints_of_file}
 
--- of a header only num_entries and what lies behind max_entries is touched, of blocks nothing, and of the index nothing
+-- of a header only num_entries and what comes after max_entries is touched, of blocks nothing, and of the index nothing
 pub record SparesFields (F : Footprint) : Type 0 where
   pub fields : (m i : ℕ) → (i < 16) ⊎ ((20 ≤ i) × (i < 24)) → F.bytes (Block m) i ≡ false
   pub blocks : (m i : ℕ) → 8192 ≤ i → F.bytes (Block m) i ≡ false

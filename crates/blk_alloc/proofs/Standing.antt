@@ -1,4 +1,4 @@
--- Addresses that stand in a folder.
+-- Valid addresses in a folder.
 use Rattle.std.proofs.Common.{◌≡◌, ◌≢◌, ℕ, ◌+◌, ◌≤◌, List, [], ◌∷◌, Bool, true, false, ◌&&◌, ◌||◌, if◌then◌else◌, nat_le, None, Some, refl, sym, ◌∙◌, ap, subst, arith}
 use Rattle.std.specs.Prelude.{◌==◌}
 use Rattle.std.specs.List.{All}
@@ -61,7 +61,7 @@ linked_in lists n kind holds = first (is_among (lists 1) n) refl holds
     first true e h = at 1 refl e h
     first false e h = second (is_among (lists 2) n) refl h
 
--- an address of blocks that stands
+-- a valid address of blocks
 pub record StandsHere (image : Image) (w : ℕ) : Type 0 where
   pub address : is_address w ≡ true
   pub blocks : IsBlocks w

@@ -1,4 +1,4 @@
--- Blocks are allocated: where counters and hints lead, in the first file of a kind that has room, or where none has, in a file that grows or is added.
+-- Blocks are allocated: where counters and hints lead, in the first file of a kind that has space, or where none has, in a file that grows or is added.
 use Rattle.std.specs.Prelude.{◌≡◌, ◌≢◌, ◌⊎◌, ℕ, ◌+◌, ◌-◌, ◌/◌, ◌%◌, ◌<◌, ◌≤◌, List, [], ◌∷◌, length, slice_get, true, false, if◌then◌else◌, Some}
 use Rattle.std.specs.List.{All, sum_by}
 use Rattle.std.specs.Option.{ForSome}
@@ -35,12 +35,12 @@ pub record AreCounted (files : BlockFiles) (kind : ℕ) (image : Image) : Type 0
 
 -- Where the blocks lie.
 
--- the first file of a kind that may grow has room behind its old blocks
+-- the first file of a kind that may grow has space after its old blocks
 pub record IsGrownRoom (files : BlockFiles) (kind : ℕ) (place : Blocks) : Type 0 where
   pub growing : IsFirstGrowing files (files_of files kind) place.file
   pub start : place.start ≡ blocks_of files place.file
 
--- the first file of a kind that may grow does, and gives so many blocks by the same rule: of its groups, with the new ones, the first from the hint on of which all four are free, since it had no other room
+-- the first file of a kind that may grow does, and gives so many blocks by the same rule: of its groups, with the new ones, the first from the hint on of which all four are free, since it had no other space
 pub record IsGrownPlace (files : BlockFiles) (kind count : ℕ) (image : Image) (place : Blocks) : Type 0 where
   pub growing : IsFirstGrowing files (files_of files kind) place.file
   pub blocks : IsByHint image place.file (groups_of (grown (blocks_of files place.file))) count 3 place.start
@@ -52,11 +52,11 @@ pub record IsAddedPlace (files : BlockFiles) (kind : ℕ) (place : Blocks) : Typ
   pub least : IsLeastFileNumber files place.file
   pub start : place.start ≡ 0
 
--- no file of a kind has room for so many blocks
+-- no file of a kind has space for so many blocks
 abbrev pub HaveNoRoom : BlockFiles → ℕ → ℕ → Image → Type 0
 HaveNoRoom files kind count image = All (HasNoRoom image count) (files_of files kind)
 
--- the blocks of an address: those of the first file with room, or where no file of the kind has room, those of a file that grows, or of a new one where none may grow
+-- the blocks of an address: those of the first file with space, or where no file of the kind has space, those of a file that grows, or of a new one where none may grow
 pub record IsChosen (files : BlockFiles) (image : Image) (kind count w : ℕ) : Type 0 where
   pub place : Blocks
   pub word : w ≡ block_word kind place.file place.start count
@@ -64,7 +64,7 @@ pub record IsChosen (files : BlockFiles) (image : Image) (kind count w : ℕ) : 
 
 -- What becomes of the hints.
 
--- the blocks of an address are found by hint i: its file has room, and i + 1 is the length that is sought; or no file of the kind has room, and one that grows or is added has groups of which all four are free
+-- the blocks of an address are found by hint i: its file has space, and i + 1 is the length that is sought; or no file of the kind has space, and one that grows or is added has groups of which all four are free
 abbrev pub IsFoundBy : BlockFiles → (kind count : ℕ) → Image → (w i : ℕ) → Type 0
 IsFoundBy files kind count from w i =
     ((is_among (files_of files kind) (file_selector w) ≡ true) × IsSought from (file_selector w) count i)
@@ -91,7 +91,7 @@ most_words files n = blocks_of files n / 32 + 1
 
 -- What becomes of the files.
 
--- room was made in a file: blocks of it may be taken, each file that was kept has its marks and allocations as before, and a new one has none, and no hints
+-- space was made in a file: blocks of it may be taken, each file that was kept has its marks and allocations as before, and a new one has none, and no hints
 pub record Extends (files : BlockFiles) (from : Image) (place : Blocks) (image : Image) : Type 0 where
   pub takeable : CanBeMarked image place
   pub keeps : KeepsFiles files from image
@@ -128,26 +128,26 @@ AllocatesIn files kind from n image = SameOutside (taking_of n) from image ⊎ E
 abbrev pub updating_word : ℕ → Footprint
 updating_word n = one_word (Block n) updating_place
 
--- room is made in a file, or one that is added: nothing but the growth and updating differs
+-- space is made in a file, or one that is added: nothing but the growth and updating differs
 pub record MakesRoomInProgress (files : BlockFiles) (kind : ℕ) (from image : Image) : Type 0 where
   pub file : ℕ
   pub within : ExtendsAnd updating_word files kind from file image
   pub stays : StaysWhole from image
 
--- room is made in a file, and blocks of it are being marked: where more than the growth and hints differ, updating is 1
+-- space is made in a file, and blocks of it are being marked: where more than the growth and hints differ, updating is 1
 pub record ExtendsInProgress (files : BlockFiles) (kind : ℕ) (from image : Image) : Type 0 where
   pub file : ℕ
   pub within : ExtendsAnd taking_of files kind from file image
   pub updating : (updating_of (byte image (Block file)) ≡ 1) ⊎ ExtendsAnd hints_and_updating files kind from file image
 
--- room was made in a file, and blocks of it are allocated
+-- space was made in a file, and blocks of it are allocated
 pub record ExtendsAndAllocates (files : BlockFiles) (kind count : ℕ) (from image : Image) : Type 0 where
   pub place : Blocks
   pub room : IsGrownPlace files kind count from place ⊎ IsAddedPlace files kind place
   pub within : ExtendsAnd taking_of files kind from place.file image
   pub allocates : Allocates files from (block_word kind place.file place.start count) image
 
--- nothing differs yet; or blocks of the first file with room are being taken; or no file of the kind has room, and it is made, and being marked
+-- nothing differs yet; or blocks of the first file with space are being taken; or no file of the kind has space, and it is made, and being marked
 abbrev pub AllocatesByStage : BlockFiles → ℕ → ℕ → Image → Image → Type 0
 AllocatesByStage files kind count from image =
     (image ≡ from)
@@ -159,7 +159,7 @@ pub record AllocatesInProgress (files : BlockFiles) (kind count : ℕ) (from ima
   pub stage : AllocatesByStage files kind count from image
   pub stays : StaysWhole from image
 
--- blocks of the first file with room are taken; or no file of the kind had room, and blocks of the room that was made are allocated
+-- blocks of the first file with space are taken; or no file of the kind had space, and blocks of the space that was made are allocated
 abbrev pub AllocatesByChoice : BlockFiles → ℕ → ℕ → Image → Image → Type 0
 AllocatesByChoice files kind count from image =
     ((place : Blocks) × IsFit from (files_of files kind) count place × MarksUsed files from (block_word kind place.file place.start count) image)
@@ -184,7 +184,7 @@ IsCountedOnce files from w image = is_among (all_files files) (file_selector w) 
 abbrev pub last_place : ℕ
 last_place = header_size - 4
 
--- a kind has the most files, which are 60, and each has the most blocks: the damage has the place of the last word that was read, which is the last of the map of the last of them, and finds this word
+-- a kind has the most files, which are 60, and each has the most blocks: the error has the place of the last word that was read, which is the last of the map of the last of them, and finds this word
 pub record IsKindFull (files : BlockFiles) (kind : ℕ) (told : Told) (damage : Damage) : Type 0 where
   pub number : most_files ≤ length (files_of files kind)
   pub full : All (HasMostBlocks files) (files_of files kind)
@@ -195,13 +195,13 @@ pub record IsKindFull (files : BlockFiles) (kind : ℕ) (told : Told) (damage : 
   pub there : ForSome told.files (λ image. last_place + 4 ≤ length_of image (Block file))
   pub found : ForSome told.files (λ image. damage.found ≡ word image (Block file) last_place)
 
--- the header of one of the files of a kind is damaged, of which so many blocks were to be taken: a read of it gave too few bytes, or a counter would leave its range
+-- the header of one of the files of a kind is corrupt, of which so many blocks were to be taken: a read of it gave too few bytes, or a counter would leave its range
 pub record IsCauseOf (files : BlockFiles) (kind count : ℕ) (told : Told) (damage : Damage) : Type 0 where
   pub place : Blocks
   pub is : IsPlace files kind count place
   pub cause : IsCause told place.file place.start place.count true damage
 
--- why so many blocks are not allocated: the header of a file that gives blocks is damaged, which may be that of a file that was added; or room was made in a file, and none is found there; or, before anything is written, none is found in a file by its counters, or files were full
+-- why so many blocks are not allocated: the header of a file that gives blocks is corrupt, which may be that of a file that was added; or space was made in a file, and none is found there; or, before anything is written, none is found in a file by its counters, or files were full
 abbrev pub IsRefusal : BlockFiles → BlockFiles → ℕ → ℕ → Told → Told → Damage → Type 0
 IsRefusal old new kind count before after damage =
     IsCauseOf new kind count after damage

@@ -55,7 +55,7 @@ pub record CanChangeMarks (image : Image) (n start count : ℕ) (used : Bool) : 
   pub more : used ≡ true → allocations_of (byte image (Block n)) < largest
   pub less : used ≡ false → 0 < allocations_of (byte image (Block n))
 
--- these blocks are among those of a file, which has whole groups, and no more blocks than a map has room for
+-- these blocks are among those of a file, which has whole groups, and no more blocks than a map has space for
 pub record HasBlocks (image : Image) (n start count : ℕ) : Type 0 where
   pub whole : max_entries_in image n % 4 ≡ 0
   pub most : max_entries_in image n ≤ most_blocks

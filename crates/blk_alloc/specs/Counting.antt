@@ -34,7 +34,7 @@ pub record MayMoveRun (counters : Counters) (before later : ℕ) (used : Bool) :
   pub enough : (i : ℕ) → i < 4 → counted before i ≤ slice_index counters.empty i
   pub room : (i : ℕ) → i < 4 → slice_index counters.empty i + counted later i ≤ largest
 
--- the word of `empty` that counts the groups with a longest free run of so many blocks has a number: the damage has its place, and finds it
+-- the word of `empty` that counts the groups with a longest free run of so many blocks has a number: the error has its place, and finds it
 pub record IsEmptyAt (counters : Counters) (run number : ℕ) (damage : Damage) : Type 0 where
   pub i : ℕ
   pub of_run : run ≡ i + 1

@@ -1,4 +1,4 @@
--- Files get room for blocks.
+-- Files get space for blocks.
 use Rattle.std.specs.Prelude.{◌≡◌, ◌≢◌, ℕ, ◌<◌, List, true, ◌≤◌, ◌++◌, ◌∷◌, Option, None, Some}
 use Rattle.std.specs.List.{All}
 use Rattle.spec_image.specs.Image.{Block, Image, byte}
@@ -53,7 +53,7 @@ KeepsLinks old new n = (m kind : ℕ) → m ≢ n → is_among (files_of new kin
 abbrev pub HasItsBlocks : BlockFiles → ℕ → Type 0
 HasItsBlocks files n = whole_length files n ≤ length_in files n
 
--- each address that stands among the old files stands among the new ones
+-- each valid address among the old files is valid among the new ones
 abbrev pub KeepsStanding : BlockFiles → BlockFiles → Type 0
 KeepsStanding old new = (w : ℕ) → stands_among old w ≡ true → stands_among new w ≡ true
 

@@ -1,4 +1,4 @@
--- Where blocks fit: in the first file of a kind that has room by its counters, in the group to which its hints lead.
+-- Where blocks fit: in the first file of a kind that has space by its counters, in the group to which its hints lead.
 use Rattle.std.specs.Prelude.{◌≡◌, ◌≢◌, ◌⊎◌, ℕ, ◌+◌, ◌*◌, ◌/◌, ◌%◌, ◌<◌, ◌≤◌, Bool, List, ◌∷◌, ◌++◌, true}
 use Rattle.std.specs.List.{All}
 use Rattle.std.specs.Option.{ForSome}
@@ -18,11 +18,11 @@ use Rattle.blk_alloc.specs.Places.{is_place, AreNoPlaces}
 
 -- The file.
 
--- a file has no room for so many blocks: `empty` counts no group with a longest free run of so many or more
+-- a file has no space for so many blocks: `empty` counts no group with a longest free run of so many or more
 abbrev pub HasNoRoom : Image → ℕ → ℕ → Type 0
 HasNoRoom image count n = (i : ℕ) → i < 4 → count ≤ i + 1 → empty_of (byte image (Block n)) i ≡ 0
 
--- a file has room for so many blocks, and i + 1 is the length of the free run that is sought for them: the least, from so many on, of which `empty` counts a group
+-- a file has space for so many blocks, and i + 1 is the length of the free run that is sought for them: the least, from so many on, of which `empty` counts a group
 pub record IsSought (image : Image) (n count i : ℕ) : Type 0 where
   pub small : i < 4
   pub enough : count ≤ i + 1
@@ -54,7 +54,7 @@ pub record IsByHint (image : Image) (n groups count i start : ℕ) : Type 0 wher
   pub first : IsFirstMet (is_block_marked image n) groups (hints_of (byte image (Block n)) i) (i + 1) (start / group_size)
   pub least : IsLeastOfGroup (is_block_marked image n) count start
 
--- the first file of a list that has room gives the blocks to which its counters and hints lead
+-- the first file of a list that has space gives the blocks to which its counters and hints lead
 pub record IsFit (image : Image) (files : List ℕ) (count : ℕ) (place : Blocks) : Type 0 where
   pub before : List ℕ
   pub behind : List ℕ
@@ -98,7 +98,7 @@ pub record IsShortSearch (files : BlockFiles) (n : ℕ) (told : Told) (damage : 
   pub read : IsSearchRead (blocks_of files n) place count
   pub short : IsShort told (names.Block n) place count damage
 
--- `empty` counts a group that one round of the map doesn't have: the damage has the place of the word that counts it, and finds this word
+-- `empty` counts a group that one round of the map doesn't have: the error has the place of the word that counts it, and finds this word
 pub record IsMiscount (files : BlockFiles) (n : ℕ) (told : Told) (damage : Damage) : Type 0 where
   pub i : ℕ
   pub small : i < 4
@@ -108,7 +108,7 @@ pub record IsMiscount (files : BlockFiles) (n : ℕ) (told : Told) (damage : Dam
   pub found : ForSome told.files (λ image. damage.found ≡ empty_of (byte image (Block n)) i)
   pub none : ForSome told.files (λ image. (g : ℕ) → g < groups_of (blocks_of files n) → longest_run (is_block_marked image n) g ≢ i + 1)
 
--- why no blocks are found in one of the files of a kind, whether or not it has room
+-- why no blocks are found in one of the files of a kind, whether or not it has space
 pub record IsSearchDamage (files : BlockFiles) (kind : ℕ) (told : Told) (damage : Damage) : Type 0 where
   pub file : ℕ
   pub linked : is_among (files_of files kind) file ≡ true

@@ -27,7 +27,7 @@ pub record PassesNeeded (old new : Told) (P : Image → Type 0) : Type 0 where
   pub along : ForSome old.files (λ image. Along P image steps)
   pub needed : ForSome old.files (λ image. AreNeeded image steps)
 
--- the first so many of some bytes stand at a place
+-- the first so many of some bytes are at a place
 abbrev pub StandAt : (file : File) (place : ℕ) (bytes : List ℕ) (count : ℕ) → Image → Type 0
 StandAt file place bytes count image = (i : ℕ) → i < count → content bytes i ≡ byte image file (place + i)
 
@@ -35,12 +35,12 @@ StandAt file place bytes count image = (i : ℕ) → i < count → content bytes
 abbrev pub KeepsLength : File → Image → Image → Type 0
 KeepsLength file from image = length_of image file ≡ length_of from file
 
--- the first so many of some bytes stand at a place, and nothing else differs
+-- the first so many of some bytes are at a place, and nothing else differs
 pub record AreBytesWritten (file : File) (place : ℕ) (bytes : List ℕ) (count : ℕ) (from image : Image) : Type 0 where
   pub same : SameOutside (range file place count) from image
   pub there : (i : ℕ) → i < count → byte image file (place + i) ≡ content bytes i
 
--- the first words of some bytes stand at a place, and nothing else differs
+-- the first words of some bytes are at a place, and nothing else differs
 pub record IsFrontWritten (file : File) (place : ℕ) (bytes : List ℕ) (from image : Image) : Type 0 where
   pub words : ℕ
   pub most : 4 * words ≤ length bytes

@@ -49,7 +49,7 @@ pub record IsFreed (from : Image) (w : ℕ) (image : Image) : Type 0 where
   pub updating : updating_of (byte image (Block (file_selector w))) ≡ 0
   pub elsewhere : (n : ℕ) → n ≢ file_selector w → KeepsFile from image n
 
--- before the last word of a free, at each word: only map, counters and updating of the file differ, and updating is 1 from the first to the last; block files have grown at most, so each block still stands with its bytes, and a well-formed folder is well formed
+-- before the last word of a free, at each word: only map, counters and updating of the file differ, and updating is 1 from the first to the last; block files have grown at most, so each block is still there with its bytes, and a well-formed folder is well formed
 pub record FreesInProgress (w : ℕ) (from image : Image) : Type 0 where
   pub marks : IsMapInProgress (file_selector w) from image
   pub stays : StaysWhole from image
@@ -82,6 +82,6 @@ pub record IsShortHeader (told : Told) (n start : ℕ) (damage : Damage) : Type 
   pub read : IsHeaderRead start place count
   pub short : IsShort told (names.Block n) place count damage
 
--- why the header of a file is damaged where so many blocks from one on come into use or go out of it: a read of it gave too few bytes, or a counter would leave its range
+-- why the header of a file is corrupt where so many blocks from one on come into use or go out of it: a read of it gave too few bytes, or a counter would leave its range
 abbrev pub IsCause : Told → ℕ → ℕ → ℕ → Bool → Damage → Type 0
 IsCause told n start count used damage = IsShortHeader told n start damage ⊎ IsCounterDamage told n start count used damage

@@ -1,4 +1,4 @@
--- Maps and counters are made anew, and are then those of claims.
+-- Maps and counters are made anew, and are then those of the used blocks.
 use Rattle.std.specs.Prelude.{◌≡◌, ◌⊎◌, ℕ, ◌+◌, ◌<◌, ◌≤◌, List, filter, max, slice_index, Bool, false, true, ◌&&◌, ◌||◌}
 use Rattle.std.specs.List.{All}
 use Rattle.spec_image.specs.Bytes.{content, range_at}
@@ -24,15 +24,15 @@ use Rattle.blk_alloc.specs.Changes.{map_length, map_of}
 use Rattle.blk_alloc.specs.Extending.{HasItsBlocks}
 use Rattle.blk_alloc.specs.Mending.{StandAt}
 
--- whether a block of a file is claimed
+-- whether a block of a file is used
 abbrev pub is_block_claimed : Claims → ℕ → ℕ → Bool
 is_block_claimed claims n b = contains_claim claims (BlockOf n b)
 
--- of the blocks of a file exactly the claimed ones are marked
+-- of the blocks of a file exactly the used ones are marked
 abbrev pub AreMarked : Claims → Image → ℕ → Type 0
 AreMarked claims image n = (b : ℕ) → b < most_blocks → is_block_marked image n b ≡ is_block_claimed claims n b
 
--- the map and the counters of a file are those of claims: exactly the claimed blocks are marked, num_entries is the number of the addresses of the file that were added, and `empty` agrees with the map
+-- the map and the counters of a file are those of the used blocks: exactly the used blocks are marked, num_entries is the number of the addresses of the file that were added, and `empty` agrees with the map
 pub record HasMarksOf (claims : Claims) (image : Image) (n : ℕ) : Type 0 where
   pub marks : AreMarked claims image n
   pub allocations : allocations_of (byte image (Block n)) ≡ allocations_in claims n
@@ -63,11 +63,11 @@ pub record AreCountsRead (n groups : ℕ) (map fields : List ℕ) (image : Image
   pub map_stands : StandAt (Block n) map_place map map_length image
   pub counters : HasReadCounters n fields image
 
--- the first so many bits of a map are set just where these blocks of a file are claimed
+-- the first so many bits of a map are set just where these blocks of a file are used
 abbrev pub AreBitsOf : Claims → ℕ → ℕ → List ℕ → Type 0
 AreBitsOf claims n blocks map = (b : ℕ) → b < blocks → has_bit map b ≡ is_block_claimed claims n b
 
--- each linked file is right: it has all its blocks, and its map and its counters are those of claims
+-- each linked file is right: it has all its blocks, and its map and its counters are those of the used blocks
 abbrev pub AreRight : Claims → BlockFiles → Image → Type 0
 AreRight claims files image = (n : ℕ) → is_among (all_files files) n ≡ true → HasItsBlocks files n × IsRebuilt claims image n
 
@@ -75,7 +75,7 @@ AreRight claims files image = (n : ℕ) → is_among (all_files files) n ≡ tru
 abbrev pub words_of_file : ℕ → List ℕ → List ℕ
 words_of_file n words = filter (is_in_file n) words
 
--- the added addresses of each file, where they stood, are its allocations
+-- the added addresses of each file, where they were valid, are its allocations
 abbrev pub AreItsAllocations : Claims → List ℕ → Image → Image → Type 0
 AreItsAllocations claims numbers from image =
     (words : List ℕ) → IsClaimsOf claims words → (n : ℕ) → is_among numbers n ≡ true → All (λ w. stands_in from w ≡ true) (words_of_file n words) → AreAllocations image n (words_of_file n words)
@@ -129,7 +129,7 @@ rebuilding_of numbers = record { bytes = λ file i. is_block_file numbers file &
 abbrev pub KeepsBytes : ℕ → Image → Image → Type 0
 KeepsBytes n from image = (i : ℕ) → is_updating_place i ≡ false → byte image (Block n) i ≡ byte from (Block n) i
 
--- a file has its map and its counters as before, or updating is 1, or they are those of claims
+-- a file has its map and its counters as before, or updating is 1, or they are those of the used blocks
 abbrev pub IsInHand : Claims → ℕ → Image → Image → Type 0
 IsInHand claims n from image = KeepsBytes n from image ⊎ ((updating_of (byte image (Block n)) ≡ 1) ⊎ IsRebuilt claims image n)
 
@@ -139,14 +139,14 @@ pub record IsCounting (n count : ℕ) (runs : List ℕ) (from image : Image) : T
   pub allocations : (allocations_of (byte image (Block n)) ≡ allocations_of (byte from (Block n))) ⊎ (allocations_of (byte image (Block n)) ≡ count)
   pub empty : (i : ℕ) → i < 4 → (empty_of (byte image (Block n)) i ≡ empty_of (byte from (Block n)) i) ⊎ (empty_of (byte image (Block n)) i ≡ slice_index runs i)
 
--- each mark and each counter of a file is as it was, or as claims have it
+-- each mark and each counter of a file is as it was, or as the used blocks have it
 pub record IsOldOrClaimed (claims : Claims) (n : ℕ) (from image : Image) : Type 0 where
   pub marks : (b : ℕ) → b < most_blocks → (is_block_marked image n b ≡ is_block_marked from n b) ⊎ (is_block_marked image n b ≡ is_block_claimed claims n b)
   pub allocations : (allocations_of (byte image (Block n)) ≡ allocations_of (byte from (Block n))) ⊎ (allocations_of (byte image (Block n)) ≡ allocations_in claims n)
   pub empty : (i : ℕ) → i < 4 → (empty_of (byte image (Block n)) i ≡ empty_of (byte from (Block n)) i)
       ⊎ (empty_of (byte image (Block n)) i ≡ groups_with (is_block_claimed claims n) (groups_of (max_entries_in from n)) (i + 1))
 
--- the map and the counters of a file are under way to those of claims, and nothing else differs
+-- the map and the counters of a file are under way to those of the used blocks, and nothing else differs
 pub record IsMending (claims : Claims) (n : ℕ) (from image : Image) : Type 0 where
   pub same : SameOutside (counts_of n) from image
   pub each : IsOldOrClaimed claims n from image
@@ -157,14 +157,14 @@ pub record IsMendingToEnd (claims : Claims) (n : ℕ) (from image : Image) : Typ
   pub each : IsOldOrClaimed claims n from image
   pub hand : (updating_of (byte image (Block n)) ≡ 1) ⊎ IsRebuilt claims image n
 
--- in the midst of one file: only map, counters and updating differ, each mark and counter is as it was or as claims have it, the file is in hand, and where it was right each byte is as before
+-- in the midst of one file: only map, counters and updating differ, each mark and counter is as it was or as the used blocks have it, the file is in hand, and where it was right each byte is as before
 pub record RemakesInProgress (claims : Claims) (n : ℕ) (from image : Image) : Type 0 where
   pub same : SameOutside (map_of n) from image
   pub each : IsOldOrClaimed claims n from image
   pub hand : IsInHand claims n from image
   pub right : IsRebuilt claims from n → (i : ℕ) → byte image (Block n) i ≡ byte from (Block n) i
 
--- at each word: some block files are in hand, each mark and counter of theirs is as it was or as claims have it, none is shorter than before, one whose map and counters were right has each byte as before, updating too, and nothing else differs; so files have grown at most, and a well-formed folder is well formed
+-- at each word: some block files are in hand, each mark and counter of theirs is as it was or as the used blocks have it, none is shorter than before, one whose map and counters were right has each byte as before, updating too, and nothing else differs; so files have grown at most, and a well-formed folder is well formed
 pub record IsRebuilding (claims : Claims) (numbers : List ℕ) (from image : Image) : Type 0 where
   pub same : SameOutside (rebuilding_of numbers) from image
   pub longer : (n : ℕ) → length_of from (Block n) ≤ length_of image (Block n)

@@ -38,7 +38,7 @@ const WHOLE_GROUP: u32 = 3;
 // The last word of a map.
 const LAST_PLACE: u64 = BlockHead::HEADER_LEN - 4;
 
-// The damage where a kind has 60 files and none may grow.
+// The failed check where a kind has 60 files and none may grow.
 fn full_damage<F: Folder>(f: &mut F, files: &BlockFiles, kind: Kind) -> Result<Damage, Fault>
     requires block_kind { kind_number kind ≢ external }
     requires number { most_files ≤ length (files_of files.now (kind_number kind)) }
@@ -61,8 +61,8 @@ fn full_damage<F: Folder>(f: &mut F, files: &BlockFiles, kind: Kind) -> Result<D
     })
 }
 
-// Makes room for blocks, where no file of a kind has any: the first file that may grow grows, and where
-// there is none a file is added.
+// Makes space for blocks, where no file of a kind has any: the first file that may grow grows, and where there is none
+// a file is added.
 fn new_room<F: Folder>(
     f: &mut F,
     files: &mut BlockFiles,
@@ -108,7 +108,7 @@ fn new_room<F: Folder>(
     Ok(place)
 }
 
-// Gives blocks where no file of a kind has room for them.
+// Gives blocks where no file of a kind has space for them.
 fn allocate_new<F: Folder, L: Ledger>(
     f: &mut F,
     files: &mut BlockFiles,
@@ -150,16 +150,16 @@ fn allocate_new<F: Folder, L: Ledger>(
 
 /// Gives 1 to 4 blocks of a block kind, and 1 of `Rankings`, which nobody owned, marks them, and counts the words of maps that are read.
 ///
-/// They lie inside one group of four. The files of the kind are tried in the order of their links. By its
-/// counters a file has room where some group has a longest free run of as many blocks or more. The
-/// shortest such run is sought, from the group at its hint on and round to the front; the first group that has it gives
-/// its least place, and the hint becomes its number. Where no file has room, the first file with fewer than
-/// 64896 blocks grows, and where there is none, a file is added and grows; then it is searched in this way.
+/// They lie inside one group of four. The files of the kind are tried in the order of their links. By its counters a
+/// file has space where some group has a longest free run of as many blocks or more. The shortest such run is sought,
+/// from the group at its hint on and round to the front; the first group that has it gives its least place, and the
+/// hint becomes its number. Where no file has space, the first file with fewer than 64896 blocks grows, and where there
+/// is none, a file is added and grows; then it is searched in this way.
 ///
-/// A damage is a read of a file's header that gave too few bytes, a counter that would leave its
-/// range or that counts a group which one round of the map doesn't have, or 60 full files of the kind; then it
-/// finds the last word of the last map. Where the files of the kind have true counters and at most 655362
-/// allocations, all of these need a folder that tells nothing.
+/// A failed check is a read of a file's header that gave too few bytes, a counter that would leave its range or that
+/// counts a group which one round of the map doesn't have, or 60 full files of the kind; then it finds the last word of
+/// the last map. Where the files of the kind have true counters and at most 655362 allocations, all of these need an
+/// opaque folder.
 pub fn allocate_counted<F: Folder, L: Ledger>(
     f: &mut F,
     files: &mut BlockFiles,
@@ -173,17 +173,18 @@ pub fn allocate_counted<F: Folder, L: Ledger>(
     requires node { kind_number kind ≡ rankings → blocks ≡ 1 }
     requires agrees { ForSome (F.told f.old).files (Agrees files.old) }
 
-    // The blocks are of the kind, as many as asked for, and stand; their file has all its blocks.
+    // The blocks are of the kind, as many as asked for, and valid; their file has all its blocks.
     ensures kind { IfOk result (λ addr. (kind_of addr ≡ kind_number kind) × (block_count addr ≡ blocks)) }
     ensures address { IfOk result (λ addr. IsTrue (is_address addr)) }
     ensures stands { IfOk result (λ addr. IsTrue (stands_among files.new addr)) }
     ensures long { IfOk result (λ addr. HasItsBlocks files.new (file_selector addr)) }
 
-    // What stood still does, and the other files are linked as before.
+    // What was valid still is, and the other files are linked as before.
     ensures keeps { KeepsStanding files.old files.new }
     ensures links { IfOk result (λ addr. KeepsLinks files.old files.new (file_selector addr)) }
 
-    // The blocks to which counters and hints lead, in the first file with room, or where no file of the kind has room, in one that grows, or in a new one only where none may grow.
+    // The blocks to which counters and hints lead, in the first file with space, or where no file of the kind has space, in one that grows, or in a new one only where none may
+    // grow.
     ensures chosen { IfOk result (λ addr. ForSome (F.told f.old).files (λ from. IsChosen files.old from (kind_number kind) blocks addr)) }
     ensures hints { IfOk result (λ addr. ForSome (F.told f.old).files (λ from. ForSome (F.told f.new).files (SetsHint files.old (kind_number kind) blocks from addr))) }
     ensures counted { IfOk result (λ addr. ForSome (F.told f.old).files (λ from. ForSome (F.told f.new).files (IsCountedOnce files.old from addr))) }
@@ -194,11 +195,12 @@ pub fn allocate_counted<F: Folder, L: Ledger>(
     // At each word only one file of the kind differs, in its length, map, counters and hints, and where it grows or is added in what these touch; updating is 1 until the last word, with which the allocation is done; files have grown at most, and a well-formed folder is well formed.
     ensures stops { ForSome (F.told f.old).files (λ from. AreCounted files.old (kind_number kind) from → PassesTo (F.told f.old) (F.told f.new) (AllocatesInProgress files.old (kind_number kind) blocks from) (AllocatesOrStops files.old (kind_number kind) blocks from)) }
 
-    // At most each word of the map of the file that gives the blocks is read, and one of them again; and exactly one where the group at the hint is taken. Of a file without room none is read.
+    // At most each word of the map of the file that gives the blocks is read, and one of them again; and exactly one where the group at the hint is taken. Of a file without space none is
+    // read.
     ensures most { IfOk result (λ addr. steps.new ≤ steps.old + most_words files.new (file_selector addr)) }
     ensures once { IfOk result (λ addr. ForSome (F.told f.old).files (λ from. LiesAtHint files.old files.new (kind_number kind) blocks from addr → steps.new ≡ steps.old + 1)) }
 
-    // Of a damage of a file that was there, by its counters and hints, and of full files nothing is written.
+    // Of a failed check of a file that was there, by its counters and hints, and of full files nothing is written.
     ensures cause { IfDamaged result (IsRefusal files.old files.new (kind_number kind) blocks (F.told f.old) (F.told f.new)) }
     ensures untold { ForSome (F.told f.old).files (AreCounted files.old (kind_number kind)) → IfDamaged result (λ _. (F.told f.old).files ≡ None) }
     ensures silent { (F.told f.old).files ≡ None → (F.told f.new).files ≡ None }
@@ -228,17 +230,18 @@ fn allocate_from<F: Folder, L: Ledger>(
     requires node { kind_number kind ≡ rankings → blocks ≡ 1 }
     requires agrees { ForSome (F.told f.old).files (Agrees files.old) }
 
-    // The blocks are of the kind, as many as asked for, and stand; their file has all its blocks.
+    // The blocks are of the kind, as many as asked for, and valid; their file has all its blocks.
     ensures kind { IfOk result (λ addr. (kind_of addr ≡ kind_number kind) × (block_count addr ≡ blocks)) }
     ensures address { IfOk result (λ addr. IsTrue (is_address addr)) }
     ensures stands { IfOk result (λ addr. IsTrue (stands_among files.new addr)) }
     ensures long { IfOk result (λ addr. HasItsBlocks files.new (file_selector addr)) }
 
-    // What stood still does, and the other files are linked as before.
+    // What was valid still is, and the other files are linked as before.
     ensures keeps { KeepsStanding files.old files.new }
     ensures links { IfOk result (λ addr. KeepsLinks files.old files.new (file_selector addr)) }
 
-    // The blocks to which counters and hints lead, in the first file with room, or where no file of the kind has room, in one that grows, or in a new one only where none may grow.
+    // The blocks to which counters and hints lead, in the first file with space, or where no file of the kind has space, in one that grows, or in a new one only where none may
+    // grow.
     ensures chosen { IfOk result (λ addr. ForSome (F.told f.old).files (λ from. IsChosen files.old from (kind_number kind) blocks addr)) }
     ensures hints { IfOk result (λ addr. ForSome (F.told f.old).files (λ from. ForSome (F.told f.new).files (SetsHint files.old (kind_number kind) blocks from addr))) }
     ensures counted { IfOk result (λ addr. ForSome (F.told f.old).files (λ from. ForSome (F.told f.new).files (IsCountedOnce files.old from addr))) }
@@ -249,7 +252,7 @@ fn allocate_from<F: Folder, L: Ledger>(
     // At each word only one file of the kind differs, in its length, map, counters and hints, and where it grows or is added in what these touch; updating is 1 until the last word, with which the allocation is done; files have grown at most, and a well-formed folder is well formed.
     ensures stops { ForSome (F.told f.old).files (λ from. AreCounted files.old (kind_number kind) from → PassesTo (F.told f.old) (F.told f.new) (AllocatesInProgress files.old (kind_number kind) blocks from) (AllocatesOrStops files.old (kind_number kind) blocks from)) }
 
-    // Of a damage of a file that was there, by its counters and hints, and of full files nothing is written.
+    // Of a failed check of a file that was there, by its counters and hints, and of full files nothing is written.
     ensures cause { IfDamaged result (IsRefusal files.old files.new (kind_number kind) blocks (F.told f.old) (F.told f.new)) }
     ensures untold { ForSome (F.told f.old).files (AreCounted files.old (kind_number kind)) → IfDamaged result (λ _. (F.told f.old).files ≡ None) }
     ensures silent { (F.told f.old).files ≡ None → (F.told f.new).files ≡ None }
@@ -273,17 +276,18 @@ pub fn allocate<F: Folder>(
     requires node { kind_number kind ≡ rankings → blocks ≡ 1 }
     requires agrees { ForSome (F.told f.old).files (Agrees files.old) }
 
-    // The blocks are of the kind, as many as asked for, and stand; their file has all its blocks.
+    // The blocks are of the kind, as many as asked for, and valid; their file has all its blocks.
     ensures kind { IfOk result (λ addr. (kind_of addr ≡ kind_number kind) × (block_count addr ≡ blocks)) }
     ensures address { IfOk result (λ addr. IsTrue (is_address addr)) }
     ensures stands { IfOk result (λ addr. IsTrue (stands_among files.new addr)) }
     ensures long { IfOk result (λ addr. HasItsBlocks files.new (file_selector addr)) }
 
-    // What stood still does, and the other files are linked as before.
+    // What was valid still is, and the other files are linked as before.
     ensures keeps { KeepsStanding files.old files.new }
     ensures links { IfOk result (λ addr. KeepsLinks files.old files.new (file_selector addr)) }
 
-    // The blocks to which counters and hints lead, in the first file with room, or where no file of the kind has room, in one that grows, or in a new one only where none may grow.
+    // The blocks to which counters and hints lead, in the first file with space, or where no file of the kind has space, in one that grows, or in a new one only where none may
+    // grow.
     ensures chosen { IfOk result (λ addr. ForSome (F.told f.old).files (λ from. IsChosen files.old from (kind_number kind) blocks addr)) }
     ensures hints { IfOk result (λ addr. ForSome (F.told f.old).files (λ from. ForSome (F.told f.new).files (SetsHint files.old (kind_number kind) blocks from addr))) }
     ensures counted { IfOk result (λ addr. ForSome (F.told f.old).files (λ from. ForSome (F.told f.new).files (IsCountedOnce files.old from addr))) }
@@ -294,7 +298,7 @@ pub fn allocate<F: Folder>(
     // At each word only one file of the kind differs, in its length, map, counters and hints, and where it grows or is added in what these touch; updating is 1 until the last word, with which the allocation is done; files have grown at most, and a well-formed folder is well formed.
     ensures stops { ForSome (F.told f.old).files (λ from. AreCounted files.old (kind_number kind) from → PassesTo (F.told f.old) (F.told f.new) (AllocatesInProgress files.old (kind_number kind) blocks from) (AllocatesOrStops files.old (kind_number kind) blocks from)) }
 
-    // Of a damage of a file that was there, by its counters and hints, and of full files nothing is written.
+    // Of a failed check of a file that was there, by its counters and hints, and of full files nothing is written.
     ensures cause { IfDamaged result (IsRefusal files.old files.new (kind_number kind) blocks (F.told f.old) (F.told f.new)) }
     ensures untold { ForSome (F.told f.old).files (AreCounted files.old (kind_number kind)) → IfDamaged result (λ _. (F.told f.old).files ≡ None) }
     ensures silent { (F.told f.old).files ≡ None → (F.told f.new).files ≡ None }

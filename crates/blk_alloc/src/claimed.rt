@@ -1,4 +1,4 @@
-// The marks that claims make, and the room that they leave.
+// The marks that used blocks make, and the space that they leave.
 ghost use Rattle.std.specs.Prelude.{◌≡◌, ℕ, ◌+◌, ◌*◌, ◌^◌, ◌<◌, ◌≤◌, length, slice_index};
 ghost use Rattle.spec_format.specs.Maps.{group_size, groups_with};
 ghost use Rattle.blk_addr.specs.Bits.{has_bit};
@@ -8,7 +8,7 @@ ghost use Rattle.blk_alloc.specs.Rebuilding.{is_block_claimed};
 use crate::map::{longest_run, set_mark};
 use blk_addr::Claims;
 
-// Marks the claimed blocks of a file, and no others.
+// Marks the used blocks of a file, and no others.
 pub(crate) fn mark_claimed(claims: &Claims, file: u8, bytes: &mut [u8])
     requires { 8 * length bytes.old ≤ 65536 }
     ensures marks { (m : ℕ) → m < 8 * length bytes.old → has_bit bytes.new m ≡ is_block_claimed claims.now file m }

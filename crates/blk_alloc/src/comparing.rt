@@ -1,4 +1,4 @@
-// Whether the map and the counters of a file are those of claims already.
+// Whether the map and the counters of a file are those of the used blocks already.
 ghost use Rattle.std.specs.Prelude.{◌≡◌, ℕ, ◌≤◌, ◌<◌, length, IsTrue};
 ghost use Rattle.spec_image.specs.Bytes.{content};
 ghost use Rattle.spec_image.specs.Image.{Image};
@@ -30,7 +30,7 @@ fn has_counters(fields: &[u8], allocations: u32, empty: &[u32; 4]) -> bool
     found == [allocations, empty[0], empty[1], empty[2], empty[3]]
 }
 
-// Whether the first so many blocks of a map are marked just where they are claimed of a file.
+// Whether the first so many blocks of a map are marked just where those of a file are used.
 fn has_claimed(map: &[u8], claims: &Claims, file: u8, blocks: u32) -> bool
     ensures same { IsTrue result → AreBitsOf claims.now file blocks map.now }
     ensures found { AreBitsOf claims.now file blocks map.now → IsTrue result }
@@ -43,7 +43,7 @@ fn has_claimed(map: &[u8], claims: &Claims, file: u8, blocks: u32) -> bool
     true
 }
 
-// Whether the map and the counters that were read of a file are those of claims, by so many groups.
+// Whether the map and the counters that were read of a file are those of the used blocks, by so many groups.
 pub(crate) fn is_right(claims: &Claims, file: u8, groups: u32, map: &[u8], fields: &[u8]) -> bool
     requires few { groups ≤ 16224 }
     requires fields { block_fields_length ≤ length fields.now }

@@ -1,4 +1,4 @@
-// Files get room for blocks.
+// Files get space for blocks.
 ghost use Rattle.std.specs.Prelude.{◌≡◌, ◌≢◌, ◌*◌, ◌/◌, ◌≤◌, ◌<◌, [], None, length, IfOk, OnOk, OnErr, IsTrue};
 ghost use Rattle.std.specs.Option.{ForSome};
 ghost use Rattle.spec_image.specs.Footprint.{either};

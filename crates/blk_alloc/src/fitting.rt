@@ -26,7 +26,7 @@ use std::sync::ledger::Ledger;
 // The place of the first hint.
 pub(crate) const HINTS: u64 = BlockHead::EMPTY + 16;
 
-// The number of blocks of a file, which a map has room for.
+// The number of blocks of a file, which a map has space for.
 pub(crate) fn blocks_in(files: &BlockFiles, file: u8) -> u32
     ensures number { file < 256 }
     ensures most { result ≤ most_blocks }
@@ -53,7 +53,7 @@ fn sought(empty: &[u32; 4], count: u32) -> Option<u32>
     None
 }
 
-// The damage of a counter of groups that one round of the map doesn't have.
+// The failed check of a counter of groups that one round of the map doesn't have.
 fn miscount(file: u8, i: u32, found: u32) -> Damage
     ensures { result ≡ record { file = FileId.Block file; at = 24 + 4 * i; found = found } }
 {
@@ -108,7 +108,7 @@ pub(crate) fn find_by_hint<F: Folder, L: Ledger>(
     Ok(Found { place, i, word })
 }
 
-// The blocks of a file to which its counters and hints lead, where it has room for so many.
+// The blocks of a file to which its counters and hints lead, where it has space for so many.
 fn find_in_file<F: Folder, L: Ledger>(
     f: &mut F,
     files: &BlockFiles,
@@ -145,7 +145,7 @@ fn find_in_file<F: Folder, L: Ledger>(
     Ok(Some(found))
 }
 
-// The blocks of the first file of a kind that has room for so many, by its counters and hints.
+// The blocks of the first file of a kind that has space for so many, by its counters and hints.
 pub(crate) fn find<F: Folder, L: Ledger>(
     f: &mut F,
     files: &BlockFiles,

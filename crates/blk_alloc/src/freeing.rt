@@ -16,16 +16,16 @@ use blk_io::{Fault, Folder};
 
 /// Frees the blocks of an address: their marks are cleared, and the counters of the file go with them.
 ///
-/// A damage is a read of the file's header that gave too few bytes, or a counter that would leave its
-/// range, and nothing is written then. Where the address is one of the allocations of its file, both
-/// need a folder that tells nothing.
+/// A failed check is a read of the file's header that gave too few bytes, or a counter that would leave its range, and
+/// nothing is written then. Where the address is one of the allocations of its file, both need an opaque folder.
 pub fn free<F: Folder>(f: &mut F, files: &BlockFiles, addr: Addr) -> Result<(), Fault>
     requires stands { IsTrue (stands_among files.now addr) }
     requires agrees { ForSome (F.told f.old).files (Agrees files.now) }
     ensures freed { OnOk result (ForSome (F.told f.old).files (λ from. ForSome (F.told f.new).files (IsFreed from addr))) }
     ensures agrees { ForSome (F.told f.new).files (Agrees files.now) }
 
-    // At each word only map, counters and updating of the file have changed, and updating is 1 until the last word, with which all of it is done; each block that stood still stands with its bytes, and a well-formed folder is well formed.
+    // At each word only map, counters and updating of the file have changed, and updating is 1 until the last word, with which all of it is done; each block that was there still is, with its bytes, and a well-formed folder is well
+    // formed.
     ensures stops { ForSome (F.told f.old).files (λ from. PassesTo (F.told f.old) (F.told f.new) (FreesInProgress addr from) (FreesOrStops addr from)) }
 
     // Whatever it answers, no hint has changed.

@@ -1,4 +1,4 @@
-// The blocks that bytes of a map mark, and the room that they leave. Block b is bit b % 8 of byte b / 8.
+// The blocks that bytes of a map mark, and the space that they leave. Block b is bit b % 8 of byte b / 8.
 ghost use Rattle.std.specs.Prelude.{◌≡◌, ℕ, ◌+◌, ◌*◌, ◌^◌, ◌<◌, ◌≤◌, ◌==◌, length, if◌then◌else◌};
 ghost use Rattle.spec_image.specs.Bytes.{word_bytes};
 ghost use Rattle.spec_format.specs.Maps as maps;

@@ -1,4 +1,4 @@
-// Maps and counters are made anew, from claims.
+// Maps and counters are made anew, from the used blocks.
 ghost use Rattle.std.specs.Prelude.{◌≡◌, ℕ, ◌+◌, ◌/◌, ◌<◌, ◌≤◌, [], ◌∷◌, true, None, max, length, IfOk, OnOk, OnErr, IsTrue};
 ghost use Rattle.std.specs.Option.{ForSome};
 ghost use Rattle.spec_image.specs.Bytes.{word_bytes};
@@ -26,7 +26,7 @@ use blk_disk::BlockFiles;
 use blk_io::{Failed, Fault, FileId, Folder, read_exact};
 use blk_record::BlockHead;
 
-// Makes the map and the counters of a file those of claims: of the map and the fields that were read, the
+// Makes the map and the counters of a file those of the used blocks: of the map and the fields that were read, the
 // words that differ are written.
 fn mend_counts<F: Folder>(
     f: &mut F,
@@ -55,7 +55,7 @@ fn mend_counts<F: Folder>(
     mend_counters(f, file, fields, claims.allocations(file), &empty)
 }
 
-// Makes the map and the counters of a file those of claims, and then says that they are no longer under way.
+// Makes the map and the counters of a file those of the used blocks, and then says that they are no longer under way.
 fn mend_marks<F: Folder>(
     f: &mut F,
     claims: &Claims,
@@ -84,7 +84,7 @@ fn mend_marks<F: Folder>(
     )
 }
 
-// Makes the map and the counters of a file, as they were read, those of claims, and updating 0. Where they are
+// Makes the map and the counters of a file, as they were read, those of the used blocks, and updating 0. Where they are
 // already, only updating is written, and otherwise it is 1 until they are.
 fn mend_file<F: Folder>(
     f: &mut F,
@@ -113,7 +113,7 @@ fn mend_file<F: Folder>(
     mend_marks(f, claims, file, groups, map, fields)
 }
 
-// Reads the header of a file, and writes those of its words that aren't as claims have them.
+// Reads the header of a file, and writes those of its words that aren't as the used blocks have them.
 fn remake<F: Folder>(f: &mut F, claims: &Claims, file: u8, groups: u32) -> Result<(), Fault>
     requires few { groups ≤ 16224 }
     requires header { ForSome (F.told f.old).files (λ image. header_size ≤ length_of image (block file)) }
@@ -134,8 +134,8 @@ fn remake<F: Folder>(f: &mut F, claims: &Claims, file: u8, groups: u32) -> Resul
     Ok(())
 }
 
-// Lengthens a file to all its blocks, where it is shorter, and makes its map and counters anew, where they
-// aren't those of the claims already.
+// Lengthens a file to all its blocks, where it is shorter, and makes its map and counters anew, where they aren't those
+// of the used blocks already.
 fn rebuild_file<F: Folder>(
     f: &mut F,
     files: &mut BlockFiles,
@@ -162,16 +162,15 @@ fn rebuild_file<F: Folder>(
     remake(f, claims, file, groups)
 }
 
-/// Makes the maps and the counters of all linked block files those of claims, and `updating` 0. Hints stay.
+/// Makes the maps and the counters of all linked block files those of the used blocks, and `updating` 0. Hints stay.
 ///
-/// Before that, a file that is shorter than its header and blocks is lengthened to them. Of a header, which is
-/// read by two calls, only words that differ from what they have to be are written, each by a call of its own:
-/// of map and counters at most 2033, and around them `updating`, which is 1 from before the first of them to
-/// after the last. A damage is a read of a header that gave too few bytes, which needs a folder that tells
-/// nothing.
+/// Before that, a file that is shorter than its header and blocks is lengthened to them. Of a header, which is read by
+/// two calls, only words that differ from what they have to be are written, each by a call of its own: of map and
+/// counters at most 2033, and around them `updating`, which is 1 from before the first of them to after the last. A
+/// failed check is a read of a header that gave too few bytes, which needs an opaque folder.
 pub fn rebuild<F: Folder>(f: &mut F, files: &mut BlockFiles, claims: &Claims) -> Result<(), Fault>
     requires agrees { ForSome (F.told f.old).files (Agrees files.old) }
-    // In any case the same files are linked, and what stood still does.
+    // In any case the same files are linked, and what was valid still is.
     ensures all { (kind : ℕ) → files_of files.new kind ≡ files_of files.old kind }
     ensures keeps { KeepsStanding files.old files.new }
 
@@ -180,7 +179,8 @@ pub fn rebuild<F: Folder>(f: &mut F, files: &mut BlockFiles, claims: &Claims) ->
     ensures fitted { OnOk result (AreFitted files.old files.new) }
     ensures agrees { ForSome (F.told f.new).files (Agrees files.new) }
 
-    // Each step is needed: it writes bytes that aren't there already, or lengthens a file. At each word only lengths, maps, counters and updating differ, each mark and each counter is as it was or as claims have it, and in each file updating is 1 until map and counters are done; a file whose map and counters were right has each byte as before; files have grown at most, and a well-formed folder is well formed.
+    // Each step is needed: it writes bytes that aren't there already, or lengthens a file. At each word only lengths, maps, counters and updating differ, each mark and each counter is as it was or as the used blocks have it, and in each file updating is 1 until map and counters are done; a file whose map and counters were right has each byte as before; files have grown at most, and a well-formed folder is
+    // well formed.
     ensures stops { ForSome (F.told f.old).files (λ from. PassesNeeded (F.told f.old) (F.told f.new) (IsRebuilding claims.now (all_files files.old) from)) }
 
     // Where each file has all its blocks, and its map and its counters are right, no step is made.

@@ -43,7 +43,7 @@ fn group_in(bytes: &[u8], first: u32, run: u32) -> Option<u32>
     None
 }
 
-// The group of a word with which a turn of the round begins: in its first word that of the start.
+// The group of a word with which an iteration of the round begins: in its first word that of the start.
 fn first_in(turn: u32, start: u32) -> u32
     ensures begins { turn ≡ 0 → result ≡ start % 8 }
     ensures goes_on { 0 < turn → result ≡ 0 }

@@ -1,4 +1,4 @@
--- Worked lists of words, inside the grammar and outside.
+-- Worked lists of arguments, inside the grammar and outside.
 use Rattle.std.proofs.Common.{◌≡◌, ℕ, [], ◌∷◌, Option, None, Some, codes, refl}
 use Rattle.percent_encoding.specs.Percent.{percent_decode}
 use Rattle.blk_script.specs.Fields.{key_field, number_field}

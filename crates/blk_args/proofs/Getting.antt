@@ -1,4 +1,4 @@
--- What the getters of a parse give, by the parts of the words.
+-- What the getters of a parse give, by the parts of the arguments.
 use Rattle.std.proofs.Common.{◌≡◌, ℕ, List, [], ◌∷◌, map, slice_get, codes, Option, None, Some, IsSome, refl, sym, ◌∙◌, ap, subst, find}
 use Rattle.std.specs.Borrow.{Bor}
 use Rattle.std.specs.Option.{option_and_then, option_map, option_to_list}
@@ -16,7 +16,7 @@ use Rattle.blk_args.proofs.Inside.{has_parts}
 use Rattle.blk_args.proofs.Taken.{rows_show, walk_of}
 use Rattle.blk_args.proofs.Walked.{IsInside, Shows, given}
 
--- a parse gives the parts of the words
+-- a parse gives the parts of the arguments
 pub record Gives (words : List Text) (f : Found) : Type 0 where
   pub parts : Parts
   pub are : taken_apart words ≡ Some parts
@@ -68,7 +68,7 @@ given_none : (values : List Text) → None ≡ given values → values ≡ []
 given_none [] is = refl
 given_none (value ∷ values) is = none_some is
 
--- the ordinary words, where there are any
+-- the positional arguments, where there are any
 pub words_read : (f : Found) (r : Option (Bor (List (Bor Text)))) (words : Bor (List (Bor Text))) (values : List Text) → option_map (λ (s : Bor (List (Bor Text))). map (λ (v : Bor Text). v.now) s.now) r ≡ option_map raw_values (matched_of f (codes "words")) → all_of (codes "words") (rows_of f) ≡ given values → r ≡ Some words
     → map (λ (v : Bor Text). v.now) words.now ≡ values
 words_read f r words values reads shows is = given_is _ values (sym (ap (option_map (λ (s : Bor (List (Bor Text))). map (λ (v : Bor Text). v.now) s.now)) is) ∙ reads ∙ raw_values-rows f (codes "words") ∙ shows)

@@ -1,4 +1,4 @@
--- What is known of words that are in the grammar.
+-- What is known of arguments that are in the grammar.
 use Rattle.std.proofs.Common.{◌≡◌, ◌≤◌, ◌<◌, ℕ, List, length, Option, None, Some, IsSome, false, true, ◌⊎◌, inl, inr, refl, arith}
 use Rattle.std.specs.Option.{option_and_then}
 use Rattle.std.proofs.lemmas.Bool.{cases_lt}
@@ -8,7 +8,7 @@ use Rattle.blk_args.proofs.Named.{bytes_none, items_none}
 use Rattle.blk_args.proofs.Refused.{too_many}
 use Rattle.blk_args.proofs.Walked.{IsInside}
 
--- the parts of the words, which are in the grammar
+-- the parts of the arguments, which are in the grammar
 pub record HasParts (words : List (List ℕ)) : Type 0 where
   pub parts : Parts
   pub are : taken_apart words ≡ Some parts

@@ -11,22 +11,22 @@ use Rattle.blk_args.specs.declared.apart.Apart.{Apart}
 use Rattle.blk_args.specs.declared.apart.Ordinary.{Ordinary}
 use Rattle.blk_args.proofs.Refused.{too_many}
 
--- the words behind the first of some
+-- the arguments after the first of some
 abbrev pub beyond : List (List ℕ) → Option Parts
 beyond [] = None
 beyond (word ∷ words) = taken_apart words
 
--- a word, and then those behind it
+-- an argument, and then those after it
 pub apart_first : (word : List ℕ) (words : List (List ℕ)) → taken_apart (word ∷ words) ≡ one_word (word_of word) word words (taken_apart words) (beyond words)
 unfolding taken_apart
 apart_first word [] = refl
 apart_first word (next ∷ words) = refl
 
--- what is there of each word
+-- what is there of each argument
 pub apart_is : (word : List ℕ) (words : List (List ℕ)) (is : Word) → is ≡ word_of word → taken_apart (word ∷ words) ≡ one_word is word words (taken_apart words) (beyond words)
 apart_is word words is same = apart_first word words ∙ ap (λ (w : Word). one_word w word words (taken_apart words) (beyond words)) (sym same)
 
--- no word is left
+-- no argument is left
 pub apart_none : taken_apart [] ≡ Some (words_alone [])
 unfolding taken_apart
 apart_none = refl
@@ -38,16 +38,16 @@ same_parts a b m c o =
     let three : List (List ℕ) → Parts = λ x. record { maxes = b.maxes; counts = b.counts; ordinary = x } in
     ap one m ∙ ap two c ∙ ap three o
 
--- nothing behind parts
+-- nothing after parts
 pub joined_none : (a : Parts) → joined a (words_alone []) ≡ a
 joined_none a = same_parts (joined a (words_alone [])) a (append-nil a.maxes) (append-nil a.counts) (append-nil a.ordinary)
 
--- parts behind nothing
+-- parts after nothing
 pub none_joined : (b : Option Parts) → option_map (joined (words_alone [])) b ≡ b
 none_joined None = refl
 none_joined (Some b) = refl
 
--- parts behind parts behind parts
+-- parts after parts after parts
 pub joined_assoc : (a b c : Parts) → joined (joined a b) c ≡ joined a (joined b c)
 joined_assoc a b c = same_parts (joined (joined a b) c) (joined a (joined b c)) (append_assoc a.maxes b.maxes c.maxes) (append_assoc a.counts b.counts c.counts) (append_assoc a.ordinary b.ordinary c.ordinary)
 
@@ -64,7 +64,7 @@ pub value_taken : (a more : Parts) (l : Limit) (value : List ℕ) (rest : Option
 value_taken a more l value rest is =
     ap (λ (p : Parts). option_map (joined p) rest) is ∙ map_joined a (with_value l value (words_alone [])) (with_value l value) rest (value_joined l value)
 
--- an ordinary word was taken
+-- a positional argument was taken
 pub word_taken : (a more : Parts) (word : List ℕ) (rest : Option Parts) → more ≡ joined a (words_alone (word ∷ [])) → option_map (joined more) rest ≡ option_map (joined a) (option_map (with_word word) rest)
 word_taken a more word rest is = ap (λ (p : Parts). option_map (joined p) rest) is ∙ map_joined a (words_alone (word ∷ [])) (with_word word) rest (λ c. refl)
 
@@ -73,23 +73,23 @@ pub none_asked : (a : Parts) (f : Parts → Parts) (rest : Option Parts) → ((c
 none_asked a f None none = refl
 none_asked a f (Some c) none = none c
 
--- what is taken of a word, and of those behind it
+-- what is taken of an argument, and of those after it
 first : (a : Parts) (is : Word) (word : List ℕ) (words : List (List ℕ)) → is ≡ word_of word → option_map (joined a) (taken_apart (word ∷ words)) ≡ option_map (joined a) (one_word is word words (taken_apart words) (beyond words))
 first a is word words same = ap (option_map (joined a)) (apart_is word words is same)
 
--- nothing is asked where the first word asks for nothing
+-- nothing is asked where the first argument asks for nothing
 first_refused : (a : Parts) (is : Word) (word : List ℕ) (words : List (List ℕ)) → is ≡ word_of word → option_and_then asked_by (option_map (joined a) (one_word is word words (taken_apart words) (beyond words))) ≡ None
     → option_and_then asked_by (option_map (joined a) (taken_apart (word ∷ words))) ≡ None
 first_refused a is word words same none = ap (option_and_then asked_by) (first a is word words same) ∙ none
 
--- The word `--`.
+-- The argument `--`.
 pub ends_refused : (a : Parts) (word : List ℕ) (words : List (List ℕ)) → ends ≡ word_of word → 4 ≤ length (a.ordinary ++ words) → option_and_then asked_by (option_map (joined a) (taken_apart (word ∷ words))) ≡ None
 ends_refused a word words is many = first_refused a ends word words is (too_many (joined a (words_alone words)) many)
 
 pub ends_taken : (a more : Parts) (word : List ℕ) (words : List (List ℕ)) → ends ≡ word_of word → more ≡ joined a (words_alone words) → option_map (joined more) (taken_apart []) ≡ option_map (joined a) (taken_apart (word ∷ words))
 ends_taken a more word words is same = ap (option_map (joined more)) apart_none ∙ ap Some (joined_none more ∙ same) ∙ sym (first a ends word words is)
 
--- An ordinary word.
+-- A positional argument.
 pub says_refused : (a : Parts) (word : List ℕ) (words : List (List ℕ)) → says ≡ word_of word → 3 ≤ length a.ordinary → option_and_then asked_by (option_map (joined a) (taken_apart (word ∷ words))) ≡ None
 says_refused a word words is many =
     first_refused a says word words is (none_asked a (with_word word) (taken_apart words) (λ c. too_many (joined a (with_word word c)) (omega (arith, many, length-append a.ordinary (word ∷ c.ordinary)))))
@@ -105,7 +105,7 @@ sets_refused a l value word words is none = first_refused a (sets l value) word 
 pub sets_taken : (a more : Parts) (l : Limit) (value word : List ℕ) (words : List (List ℕ)) → sets l value ≡ word_of word → more ≡ joined a (with_value l value (words_alone [])) → option_map (joined more) (taken_apart words) ≡ option_map (joined a) (taken_apart (word ∷ words))
 sets_taken a more l value word words is same = value_taken a more l value (taken_apart words) same ∙ sym (first a (sets l value) word words is)
 
--- An option whose value is the next word.
+-- An option whose value is the next argument.
 pub names_refused : (a : Parts) (l : Limit) (value word : List ℕ) (all words : List (List ℕ)) → names l ≡ word_of word → all ≡ value ∷ words → ((c : Parts) → asked_by (joined a (with_value l value c)) ≡ None)
     → option_and_then asked_by (option_map (joined a) (taken_apart (word ∷ all))) ≡ None
 names_refused a l value word all words is split none =
@@ -117,19 +117,19 @@ pub names_taken : (a more : Parts) (l : Limit) (value word : List ℕ) (all word
 names_taken a more l value word all words is split same =
     value_taken a more l value (taken_apart words) same ∙ sym (first a (names l) word (value ∷ words) is) ∙ sym (ap (λ (l : List (List ℕ)). option_map (joined a) (taken_apart (word ∷ l))) split)
 
--- A word that gives none: an option without a value, or a word that is unknown.
+-- An argument that gives none: an option without a value, or an argument that is unknown.
 pub alone_refused : (a : Parts) (l : Limit) (word : List ℕ) (words : List (List ℕ)) → names l ≡ word_of word → words ≡ [] → option_and_then asked_by (option_map (joined a) (taken_apart (word ∷ words))) ≡ None
 alone_refused a l word words is none = ap (λ (l : List (List ℕ)). option_and_then asked_by (option_map (joined a) (taken_apart (word ∷ l)))) none ∙ first_refused a (names l) word [] is refl
 
 pub unknown_refused : (a : Parts) (word : List ℕ) (words : List (List ℕ)) → unknown ≡ word_of word → option_and_then asked_by (option_map (joined a) (taken_apart (word ∷ words))) ≡ None
 unknown_refused a word words is = first_refused a unknown word words is refl
 
--- the parts with more ordinary words
+-- the parts with more positional arguments
 pub more_words : (apart with : Apart) (all : Ordinary) (words : List (List ℕ)) → with ≡ record apart { ordinary = all } → words_in all ≡ words_in apart.ordinary ++ words → parts_in with ≡ joined (parts_in apart) (words_alone words)
 more_words apart with all words is are =
     ap parts_in is ∙ same_parts (parts_in (record apart { ordinary = all })) (joined (parts_in apart) (words_alone words)) (sym (append-nil (parts_in apart).maxes)) (sym (append-nil (parts_in apart).counts)) are
 
--- the first of some words, and those behind it
+-- the first of some arguments, and those after it
 pub first_word : (words : List (String Global)) (word : String Global) (bytes : List ℕ) → 1 ≤ length words → word ≡ get_or words 0 word → bytes ≡ string_bytes word → bytes_of words ≡ bytes ∷ bytes_of (take (length words - 1) (drop 1 words))
 first_word [] word bytes some is are = absurd (omega arith)
 first_word (x ∷ words) word bytes some is are =
@@ -140,7 +140,7 @@ pub no_word : (words : List (String Global)) → length words < 1 → bytes_of w
 no_word [] none = refl
 no_word (x ∷ words) none = absurd (omega arith)
 
--- what is left asks for nothing, and so do all the words
+-- what is left asks for nothing, and so do all the arguments
 pub all_refused : (a : Parts) (all left : List (List ℕ)) (word : List ℕ) (words : List (List ℕ)) → option_map (joined a) (taken_apart left) ≡ taken_apart all → left ≡ word ∷ words
     → option_and_then asked_by (option_map (joined a) (taken_apart (word ∷ words))) ≡ None → words_ask all ≡ None
 unfolding words_ask

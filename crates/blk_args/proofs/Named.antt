@@ -1,4 +1,4 @@
--- What ordinary words ask for, by the first of them; and what the words ask for, by their parts.
+-- What positional arguments ask for, by the first of them; and what the arguments ask for, by their parts.
 use Rattle.std.proofs.Common.{◌≡◌, ℕ, ◌^◌, ◌<◌, ◌≤◌, Bool, true, false, ◌&&◌, List, [], ◌∷◌, Option, None, Some, is_some, Result, Ok, Err, ◌⊎◌, inl, inr, refl, ap, ◌∙◌, sym, subst, arith}
 use Rattle.std.specs.Bool.{nat_le}
 use Rattle.std.specs.Option.{option_and_then, option_map}
@@ -15,7 +15,7 @@ use Rattle.blk_args.specs.Tasks.{Task, by_word, first_words, task_given, task_in
 use Rattle.blk_args.specs.Words.{Invocation, allowed, asked_by, at_most_once, limits_in, words_ask}
 use Rattle.blk_args.proofs.Refused.{and_none}
 
--- the first word is none of the table
+-- the first argument is none of the table
 pub unnamed : (r : Option Order) (words : List (List ℕ)) (found : Option Verb) (word : List ℕ) (behind : List (List ℕ)) → r ≡ None → words ≡ word ∷ behind → found ≡ by_word word first_words → found ≡ None → option_map task_given r ≡ task_in words
 unfolding task_in
 unnamed r words found word behind none are is not =
@@ -28,12 +28,12 @@ unfolding task_in
 named r words found v word behind are is so gives =
     gives ∙ sym (ap task_in are ∙ ap (option_and_then (λ (w : Verb). task_of w behind)) (sym is ∙ so))
 
--- there is no word
+-- there is no argument
 pub no_words : (words : List (List ℕ)) → words ≡ [] → None ≡ task_in words
 unfolding task_in
 no_words words none = sym (ap task_in none)
 
--- The words by their parts.
+-- The arguments by their parts.
 pub by_parts : (words : List (List ℕ)) (parts : Parts) → taken_apart words ≡ Some parts → words_ask words ≡ asked_by parts
 unfolding words_ask
 by_parts words parts are = ap (option_and_then asked_by) are
@@ -105,7 +105,7 @@ pub not_allowed : (parts : Parts) (bytes items word : ℕ) → at_most_once 8388
 not_allowed parts bytes items word b i is not =
     limits_none parts (limits_are parts bytes items b i ∙ allowed_not bytes items (λ may. let lie = not (subst (λ (n : ℕ). AreAllowed bytes n) (sym is) may) in cc))
 
--- the ordinary words ask for nothing
+-- the positional arguments ask for nothing
 pub task_none : (parts : Parts) → task_in parts.ordinary ≡ None → asked_by parts ≡ None
 unfolding asked_by with_task
 task_none parts none = and_none (with_task parts.ordinary) (limits_in parts) (λ limits. ap (option_and_then (λ (task : Task). Some (record { task = task; limits = limits }))) none)

@@ -32,7 +32,7 @@ unfolding limits_in
 twice_items parts v w rest two =
     no_limits parts (and_none (λ (bytes : ℕ). option_and_then (allowed bytes) (at_most_once 65536 parts.counts)) (at_most_once 83886080 parts.maxes) (λ bytes. ap (λ (values : List (List ℕ)). option_and_then (allowed bytes) (at_most_once 65536 values)) two))
 
--- no task has three words behind the first
+-- no task has three arguments after the first
 no_such : (v : Verb) (a b c : List ℕ) (rest : List (List ℕ)) → task_of v (a ∷ b ∷ c ∷ rest) ≡ None
 unfolding task_of
 no_such verb.Session a b c rest = refl
@@ -54,7 +54,7 @@ four_words (a ∷ b ∷ []) many = absurd (omega arith)
 four_words (a ∷ b ∷ c ∷ []) many = absurd (omega arith)
 four_words (a ∷ b ∷ c ∷ d ∷ rest) many = and_none (λ (v : Verb). task_of v (b ∷ c ∷ d ∷ rest)) (by_word a first_words) (λ v. no_such v b c d rest)
 
--- more than three ordinary words
+-- more than three positional arguments
 pub too_many : (parts : Parts) → 4 ≤ length parts.ordinary → asked_by parts ≡ None
 unfolding asked_by
 too_many parts many =

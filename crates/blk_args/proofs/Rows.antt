@@ -39,7 +39,7 @@ abbrev pub values_there : Option (List Text) → List Text
 values_there None = []
 values_there (Some values) = values
 
--- more values are put behind those of the name
+-- more values are put after those of the name
 pub values_used : (id : Text) (how : Reading) (s : ValueSource) (values : List Text) (rows : List Row) → bytes_eq id id ≡ true → all_of id (with_values id how s values rows) ≡ Some (values_there (all_of id rows) ++ values)
 values_used id how s values [] same = ap (λ b. values_by b (record { id = id; values = values; count = None; source = Some s; reading = how }) None) same
 values_used id how s values (r ∷ rows) same = pick (bytes_eq r.id id)

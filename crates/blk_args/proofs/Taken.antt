@@ -1,4 +1,4 @@
--- What the crate `clap` makes of words in the grammar, and that it takes them.
+-- What the crate `clap` makes of arguments in the grammar, and that it takes them.
 use Rattle.std.proofs.Common.{◌≡◌, ◌≤◌, ℕ, Bool, true, false, ◌&&◌, ◌⊎◌, inl, inr, if◌then◌else◌, List, [], ◌∷◌, ◌++◌, length, codes, is_some, Option, None, Some, refl, sym, ◌∙◌, ap, subst, arith}
 use Rattle.std.specs.List.{list_all, fold}
 use Rattle.std.specs.Option.{option_map}
@@ -18,7 +18,7 @@ use Rattle.blk_args.proofs.Rows.{absent_row}
 use Rattle.blk_args.proofs.WordFacts.{IsPlain, IsWritten, is_written, number_is_plain, option_word, setting_word}
 use Rattle.blk_args.proofs.Walked.{IsInside, IsReady, Pending, Shows, all_rows, asks, end_step, held, held_then, name_of, name_step, nothing, option_absent, option_used, rows_then, rules, set_step, settles, shape, stands, value_of, value_step, values_in, word_more, word_step, word_used, words_of}
 
--- Each word passes.
+-- Each argument passes.
 set_passes : (l : Limit) (value : Text) (rows : List Row) (pending : Pending) (b : Bool) → settle_passes rules false (held rows pending) ≡ true → has_row (name_of l) (all_rows rows pending) ≡ false → turn_passes shape [] (stands rows pending b false) (setting_word l value) ≡ true
 set_passes limit.Bytes value rows pending true settles fresh = rw (settles, fresh) refl
 set_passes limit.Bytes value rows pending false settles fresh = rw (settles, fresh) refl
@@ -57,7 +57,7 @@ word_passes word rows (value_of limit.Items value) false false (inl plain) settl
 word_passes word rows (words_of first words) true false (inl plain) settles = rw (plain.no_end, plain.no_long, plain.no_short) refl
 word_passes word rows (words_of first words) false false (inl plain) settles = rw (plain.no_end, plain.no_long, plain.no_short) refl
 
--- a walk over words comes to an end at which the rows show these parts
+-- a walk over arguments comes to an end at which the rows show these parts
 pub record Walks (words : List Text) (start : Walk) (parts : Parts) : Type 0 where
   pub rows : List Row
   pub pending : Pending
@@ -72,7 +72,7 @@ passes_first : (word : Text) (words : List Text) (start : Walk) → walk_passes 
 unfolding walk_passes
 passes_first word words start = refl
 
--- a word that leads to where such a walk starts
+-- an argument that leads to where such a walk starts
 step_then : (word : Text) (words : List Text) (start next : Walk) (parts : Parts) → walked rules [] start word ≡ next → turn_passes shape [] start word ≡ true → Walks words next parts → Walks (word ∷ words) start parts
 step_then word words start next parts leads passes walk = record {
   rows = walk.rows;
@@ -89,7 +89,7 @@ passes_none : (start : Walk) → walk_passes shape [] start [] ≡ true
 unfolding walk_passes
 passes_none start = refl
 
--- no word is left
+-- no argument is left
 none_left : (rows : List Row) (pending : Pending) (b trailing : Bool) (parts : Parts) → IsReady rows pending parts → length parts.ordinary ≤ 3 → Walks [] (stands rows pending b trailing) parts
 none_left rows pending b trailing parts ready few = record {
   rows = rows;
@@ -102,13 +102,13 @@ none_left rows pending b trailing parts ready few = record {
   holds = settles rows pending parts ready few;
 }
 
--- an ordinary word was met
+-- a positional argument was met
 word_ready : (word : Text) (rows : List Row) (pending : Pending) (parts : Parts) → IsReady rows pending parts → IsReady (rows_then rows pending) (held_then pending word) (joined parts (words_alone (word ∷ [])))
 word_ready word rows nothing parts ready = record { shows = word_used rows parts word ready.shows; may = omega (arith, length-append parts.ordinary (word ∷ [])) }
 word_ready word rows (value_of l value) parts ready = record { shows = word_used (all_rows rows (value_of l value)) parts word ready.shows; may = omega (arith, length-append parts.ordinary (word ∷ [])) }
 word_ready word rows (words_of first words) parts ready = record { shows = word_more rows parts first words word ready.shows; may = omega (arith, ready.may, length-append parts.ordinary (word ∷ []), length-append words (word ∷ [])) }
 
--- the words behind the end
+-- the arguments past the end
 trailing_walk : (words : List Text) (rows : List Row) (pending : Pending) (b : Bool) (parts : Parts) → IsReady rows pending parts → length (parts.ordinary ++ words) ≤ 3 → Walks words (stands rows pending b true) (joined parts (words_alone words))
 trailing_walk [] rows pending b parts ready few = subst (Walks [] (stands rows pending b true)) (sym (joined_none parts)) (none_left rows pending b true parts ready (omega (arith, few, ap length (append-nil parts.ordinary))))
 trailing_walk (word ∷ words) rows pending b parts ready few =
@@ -149,7 +149,7 @@ is_once limit.Items value parts rest inside =
 few_before : (parts rest : Parts) → IsInside (joined parts rest) → length parts.ordinary ≤ 3
 few_before parts rest inside = omega (arith, inside.few, length-append parts.ordinary rest.ordinary)
 
--- the walk over these words, from any start
+-- the walk over these arguments, from any start
 abbrev Walking : List Text → Type 0
 Walking words = (rest parts : Parts) (rows : List Row) (pending : Pending) (b : Bool) → taken_apart words ≡ Some rest → IsReady rows pending parts → IsInside (joined parts rest) → Walks words (stands rows pending b false) (joined parts rest)
 
@@ -248,7 +248,7 @@ walking [] = nothing_more
 walking (word ∷ []) = one_more word [] nothing_more tt
 walking (word ∷ next ∷ words) = one_more word (next ∷ words) (walking (next ∷ words)) (walking words)
 
--- the walk over all the words
+-- the walk over all the arguments
 pub walk_of : (words : List Text) (parts : Parts) → taken_apart words ≡ Some parts → IsInside parts → Walks words (stands [] nothing false false) parts
 walk_of words parts are inside = walking words parts (words_alone []) [] nothing false are (record { shows = record { maxes = refl; counts = refl; ordinary = refl }; may = tt }) inside
 
@@ -270,7 +270,7 @@ rows_show words parts walk =
     let two : List Row = with_default one items_rule in
     subst (λ (l : List Row). Shows l parts) (sym (ap (λ (w : Walk). finished rules w.held) walk.ends_at ∙ either (has_row (codes "words") two) two ∙ either (has_row (codes "items") one) one ∙ either (has_row (codes "max") rows) rows)) walk.shows
 
--- and the parse takes the words
+-- and the parse takes the arguments
 pub takes_words : (words : List Text) (parts : Parts) → Walks words (stands [] nothing false false) parts → takes program words ≡ true
 takes_words words parts walk =
     ap (λ (w : Walk). entered_passes (built program) w.stopped && (walk_passes shape [] (stands [] nothing false false) words && (settle_passes rules false w.held && (list_all default_passes rules && is_valid shape (finished rules w.held) (is_some (entered (built program) w.stopped)))))) walk.ends_at

@@ -1,4 +1,4 @@
--- The words of the grammar, one after another, as the crate `clap` walks over them.
+-- The arguments of the grammar, one after another, as the crate `clap` walks over them.
 use Rattle.std.proofs.Common.{◌≡◌, ◌≤◌, ℕ, suc, Bool, true, false, not, ◌&&◌, ◌||◌, List, [], ◌∷◌, ◌++◌, length, codes, Option, None, Some, ◌⊎◌, inl, inr, refl, sym, ◌∙◌, ap, arith}
 use Rattle.std.specs.Bool.{nat_le}
 use Rattle.std.specs.List.{list_all}
@@ -29,7 +29,7 @@ abbrev pub name_of : Limit → Text
 name_of limit.Bytes = codes "max"
 name_of limit.Items = codes "items"
 
--- what the walk holds back: nothing, the value of an option, or ordinary words
+-- what the walk holds back: nothing, the value of an option, or positional arguments
 pub data Pending : Type 0 where
   nothing : Pending
   value_of : Limit → Text → Pending
@@ -48,11 +48,11 @@ abbrev pub waits : Bool → Waiting
 waits true = positional
 waits false = idle
 
--- where the walk stands between two words, of which the second is no value of the first
+-- where the walk is between two arguments, of which the second is no value of the first
 abbrev pub stands : List Row → Pending → Bool → Bool → Walk
 stands rows pending ordinary trailing = record { held = held rows pending; waiting = waits ordinary; position = 1; is_trailing = trailing; stopped = None }
 
--- and where it stands behind an option whose value is the next word
+-- and where it comes after an option whose value is the next argument
 abbrev pub asks : List Row → Limit → Walk
 asks rows limit = record { held = record { rows = rows; pending = Some (name_of limit, []); skip = 0 }; waiting = option (name_of limit); position = 1; is_trailing = false; stopped = None }
 
@@ -80,7 +80,7 @@ pub record IsReady (rows : List Row) (pending : Pending) (parts : Parts) : Type 
   pub shows : Shows (all_rows rows pending) parts
   pub may : MayUse rows pending parts
 
--- the parts are those of words in the grammar, as far as a parse asks
+-- the parts are those of arguments in the grammar, as far as a parse asks
 pub record IsInside (parts : Parts) : Type 0 where
   pub bytes : ℕ
   pub one_max : at_most_once 83886080 parts.maxes ≡ Some bytes
@@ -145,7 +145,7 @@ pub option_absent : (l : Limit) (rows : List Row) (parts : Parts) → Shows rows
 option_absent limit.Bytes rows parts shows first = shows.maxes ∙ ap given first
 option_absent limit.Items rows parts shows first = shows.counts ∙ ap given first
 
--- an ordinary word
+-- a positional argument
 pub word_used : (rows : List Row) (parts : Parts) (word : Text) → Shows rows parts → Shows (all_rows rows (words_of word [])) (joined parts (words_alone (word ∷ [])))
 word_used rows parts word shows = record {
   maxes = values_kept (codes "words") (codes "max") AsWritten CommandLine (word ∷ []) rows refl ∙ shows.maxes ∙ ap given (sym (append-nil parts.maxes));
@@ -172,7 +172,7 @@ word_more rows parts first words word shows =
           ∙ grows parts.ordinary (before ++ (first ∷ words)) word (sym (values_used (codes "words") AsWritten CommandLine (first ∷ words) rows refl) ∙ shows.ordinary);
     }
 
--- one word of the walk
+-- one argument of the walk
 pub set_step : (l : Limit) (value : Text) (rows : List Row) (pending : Pending) (b : Bool) → walked rules [] (stands rows pending b false) (setting_word l value) ≡ stands (all_rows (all_rows rows pending) (value_of l value)) nothing false false
 unfolding walked
 set_step limit.Bytes value rows pending true = refl
@@ -197,7 +197,7 @@ unfolding walked
 end_step rows pending true = refl
 end_step rows pending false = refl
 
--- what is held back once an ordinary word was met, and the rows
+-- what is held back once a positional argument was met, and the rows
 abbrev pub held_then : Pending → Text → Pending
 held_then (words_of first words) word = words_of first (words ++ word ∷ [])
 held_then _ word = words_of word []

@@ -1,4 +1,4 @@
--- What a word of each kind is written like, and how the crate `clap` reads it.
+-- What an argument of each kind is written like, and how the crate `clap` reads it.
 use Rattle.std.proofs.Common.{◌≡◌, ℕ, Bool, true, false, ◌&&◌, ◌==◌, if◌then◌else◌, List, [], ◌∷◌, ◌++◌, codes, take, drop, None, Some, Ok, Err, refl, sym, ◌∙◌, ap, arith}
 use Rattle.std.specs.Bool.{nat_le}
 use Rattle.std.specs.List.{list_all}
@@ -17,7 +17,7 @@ use Rattle.blk_args.specs.Kinds.{Word, begins_with, ends, is_dashed, names, sets
 use Rattle.blk_args.specs.Numbers.{number_word}
 use Rattle.blk_args.proofs.Rows.{pick}
 
--- an option as it is written, with its value in the next word or behind it
+-- an option as it is written, with its value in the next argument or after it
 abbrev pub option_word : Limit → List ℕ
 option_word limit.Bytes = codes "--max"
 option_word limit.Items = codes "--items"
@@ -26,13 +26,13 @@ abbrev pub setting_word : Limit → List ℕ → List ℕ
 setting_word limit.Bytes value = codes "--max=" ++ value
 setting_word limit.Items value = codes "--items=" ++ value
 
--- the word is read as one that names no option, and doesn't end them
+-- the argument is read as one that names no option, and doesn't end them
 pub record IsPlain (word : List ℕ) : Type 0 where
   pub no_end : bytes_eq word (codes "--") ≡ false
   pub no_long : long_of word ≡ None
   pub no_short : short_of word ≡ None
 
--- a word as its kind says it is written
+-- an argument as its kind says it is written
 abbrev pub IsWritten : List ℕ → Word → Type 0
 IsWritten word ends = word ≡ codes "--"
 IsWritten word (names limit) = word ≡ option_word limit
@@ -44,7 +44,7 @@ choose : (word : List ℕ) (b : Bool) (x y : Word) → (b ≡ true → IsWritten
 choose word true x y when unless = when refl
 choose word false x y when unless = unless refl
 
--- what follows a first hyphen of a word that isn't dashed is nothing
+-- what follows a first hyphen of an argument that isn't dashed is nothing
 plain_long : (word : List ℕ) → is_dashed word ≡ false → long_of word ≡ None
 plain_long [] plain = refl
 plain_long (x ∷ []) plain = by_test (x == 45)

@@ -1,4 +1,4 @@
--- The words taken apart: the values of each option, and the ordinary words.
+-- The arguments taken apart: the values of each option, and the positional arguments.
 use Rattle.std.specs.Prelude.{ℕ, List, [], ◌∷◌, ◌++◌, Option, Some, None}
 use Rattle.std.specs.Option.{option_map, option_to_list}
 use Rattle.std.specs.Borrow.{Bor}
@@ -9,7 +9,7 @@ use Rattle.blk_args.specs.declared.apart.Ordinary.TheVariants as ordinary
 use Rattle.blk_args.specs.declared.apart.Apart.{Apart}
 use Rattle.blk_args.specs.Kinds.{Word, ends, names, sets, says, unknown, word_of}
 
--- the values that are given to `--max` and to `--items`, and the ordinary words, each in its order
+-- the values that are given to `--max` and to `--items`, and the positional arguments, each in its order
 pub record Parts : Type 0 where
   pub maxes : List (List ℕ)
   pub counts : List (List ℕ)
@@ -20,15 +20,15 @@ abbrev pub with_value : Limit → List ℕ → Parts → Parts
 with_value limit.Bytes value parts = record { maxes = value ∷ parts.maxes; counts = parts.counts; ordinary = parts.ordinary }
 with_value limit.Items value parts = record { maxes = parts.maxes; counts = value ∷ parts.counts; ordinary = parts.ordinary }
 
--- an ordinary word, before others
+-- a positional argument, before others
 abbrev pub with_word : List ℕ → Parts → Parts
 with_word word parts = record { maxes = parts.maxes; counts = parts.counts; ordinary = word ∷ parts.ordinary }
 
--- ordinary words alone
+-- positional arguments alone
 abbrev pub words_alone : List (List ℕ) → Parts
 words_alone words = record { maxes = []; counts = []; ordinary = words }
 
--- a word and those behind it; an option takes its value from the next word
+-- an argument and those after it; an option takes its value from the next argument
 abbrev pub one_word : Word → List ℕ → List (List ℕ) → Option Parts → Option Parts → Option Parts
 one_word ends word words behind beyond = Some (words_alone words)
 one_word (names limit) word [] behind beyond = None
@@ -37,7 +37,8 @@ one_word (sets limit value) word words behind beyond = option_map (with_value li
 one_word says word words behind beyond = option_map (with_word word) behind
 one_word unknown word words behind beyond = None
 
--- the words taken apart, where each is a word of the grammar: those behind the first, and those behind the second, are taken apart alike
+-- the arguments taken apart, where each is an argument of the grammar: those after the first, and those after the second, are taken apart
+-- alike
 unfoldable pub taken_apart : List (List ℕ) → Option Parts
 taken_apart [] = Some (words_alone [])
 taken_apart (word ∷ []) = one_word (word_of word) word [] (Some (words_alone [])) None
@@ -57,6 +58,6 @@ value_in value = option_to_list (option_map (λ (v : Bor (List ℕ)). v.now) val
 abbrev pub parts_in : Apart → Parts
 parts_in apart = record { maxes = value_in apart.max; counts = value_in apart.items; ordinary = words_in apart.ordinary }
 
--- parts, and parts behind them
+-- parts, and parts after them
 abbrev pub joined : Parts → Parts → Parts
 joined a b = record { maxes = a.maxes ++ b.maxes; counts = a.counts ++ b.counts; ordinary = a.ordinary ++ b.ordinary }

@@ -1,4 +1,4 @@
--- What a word of the command line is, read by itself.
+-- What an argument of the command line is, read by itself.
 use Rattle.std.specs.Prelude.{ℕ, Bool, false, ◌==◌, if◌then◌else◌, List, ◌∷◌, length, take, drop, codes}
 use Rattle.std.specs.Str.{bytes_eq}
 use Rattle.blk_args.specs.declared.kinds.Limit.{Limit}
@@ -6,29 +6,29 @@ use Rattle.blk_args.specs.declared.kinds.Limit.TheVariants as limit
 use Rattle.blk_args.specs.declared.kinds.Kind.{Kind}
 use Rattle.blk_args.specs.declared.kinds.Kind.TheVariants as kind
 
--- a word that stands before the word `--`
+-- an argument before the argument `--`
 pub data Word : Type 0 where
-  -- it is `--`: the words behind it are ordinary
+  -- it is `--`: the arguments after it are positional
   ends : Word
-  -- it names an option, and the next word is its value
+  -- it names an option, and the next argument is its value
   names : Limit → Word
   -- it names an option and has its value
   sets : Limit → List ℕ → Word
-  -- it is an ordinary word
+  -- it is a positional argument
   says : Word
-  -- it is no word of the grammar
+  -- it is no argument of the grammar
   unknown : Word
 
--- a text stands at the front of a word
+-- an argument begins with a text
 abbrev pub begins_with : List ℕ → List ℕ → Bool
 begins_with front word = bytes_eq (take (length front) word) front
 
--- a word begins with `-` and has a second character
+-- an argument begins with `-` and has a second character
 abbrev pub is_dashed : List ℕ → Bool
 is_dashed (first ∷ second ∷ rest) = first == 45
 is_dashed _ = false
 
--- what a word is
+-- what an argument is
 unfoldable pub word_of : List ℕ → Word
 word_of word =
     if bytes_eq word (codes "--") then ends
@@ -39,7 +39,7 @@ word_of word =
     else if is_dashed word then unknown
     else says
 
--- a word as the program has it
+-- an argument as the program has it
 abbrev pub shown : Kind → Word
 shown kind.End = ends
 shown (kind.Name limit) = names limit

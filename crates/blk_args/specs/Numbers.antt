@@ -1,4 +1,4 @@
--- Numbers and addresses among the words.
+-- Numbers and addresses among the arguments.
 use Rattle.std.specs.Prelude.{ℕ, Bool, ◌&&◌, nat_le, if◌then◌else◌, List, Option, Some, None}
 use Rattle.std.specs.Int.{from_be_bytes, w32}
 use Rattle.std.specs.List.{list_any}

@@ -9,11 +9,11 @@ use Rattle.clap.specs.declared.builder.action.ArgAction.TheVariants.{Append, Set
 abbrev pub option_rule : List ℕ → Rule
 option_rule name = record (new_rule name) { long = Some name; action = Some Set }
 
--- the ordinary words, of which there is one or more
+-- the positional arguments, of which there is one or more
 abbrev pub words_rule : Rule
 words_rule = record (new_rule (codes "words")) { action = Some Append; range = Some (record { start_inclusive = 1; end_inclusive = usize_max }) }
 
--- a command without help and version, all of whose words are read: the two options, and the ordinary words
+-- a command without help and version, all of whose arguments are read: the two options, and the positional arguments
 abbrev pub program : App
 program =
     with_rule

@@ -1,4 +1,4 @@
--- What the ordinary words of the command line ask for.
+-- What the positional arguments of the command line ask for.
 use Rattle.std.specs.Prelude.{ℕ, ◌≡◌, if◌then◌else◌, List, [], ◌∷◌, codes, Option, Some, None, Ok}
 use Rattle.std.specs.Option.{option_and_then, option_map}
 use Rattle.std.specs.Result.{result_ok}
@@ -27,7 +27,7 @@ pub data Task : Type 0 where
   do_verify : Task
   do_generate : (seed turns : ℕ) → Task
 
--- a generator makes no more turns
+-- a generator makes no more iterations
 abbrev pub most_turns : ℕ
 most_turns = 100000
 
@@ -38,38 +38,38 @@ key_word word = result_ok (key_field word)
 abbrev pub stream_word : List ℕ → Option ℕ
 stream_word word = result_ok (stream_field word)
 
--- no word stands behind the first
+-- no argument comes after the first
 abbrev pub alone : Task → List (List ℕ) → Option Task
 alone task [] = Some task
 alone task (word ∷ words) = None
 
--- a key stands behind it
+-- a key comes after it
 abbrev pub a_key : (List ℕ → Task) → List (List ℕ) → Option Task
 a_key make (key ∷ []) = option_map make (key_word key)
 a_key make _ = None
 
--- a number stands behind it
+-- a number comes after it
 abbrev pub a_number : (ℕ → Task) → List (List ℕ) → Option Task
 a_number make (number ∷ []) = option_map make (number_word number)
 a_number make _ = None
 
--- a key and a stream stand behind it
+-- a key and a stream come after it
 abbrev pub key_and_stream : (List ℕ → ℕ → Task) → List (List ℕ) → Option Task
 key_and_stream make (key ∷ stream ∷ []) = option_and_then (λ (k : List ℕ). option_map (make k) (stream_word stream)) (key_word key)
 key_and_stream make _ = None
 
--- the name of a part of a folder stands behind it, alone or with a number or an address
+-- the name of a part of a folder comes after it, alone or with a number or an address
 abbrev pub a_part : List (List ℕ) → Option Task
 a_part (name ∷ []) = option_map do_inspect (part_named name)
 a_part (name ∷ value ∷ []) = option_map do_inspect (part_numbered name value)
 a_part _ = None
 
--- a seed and a number of turns stand behind it
+-- a seed and a number of iterations come after it
 abbrev pub seed_and_turns : List (List ℕ) → Option Task
 seed_and_turns (seed ∷ turns ∷ []) = option_and_then (λ (s : ℕ). option_map (do_generate s) (few_word most_turns turns)) (number_word seed)
 seed_and_turns _ = None
 
--- what the words behind a first word say
+-- what the arguments after a first argument say
 unfoldable pub task_of : Verb → List (List ℕ) → Option Task
 task_of verb.Session = alone do_session
 task_of verb.Count = alone do_count
@@ -82,7 +82,7 @@ task_of verb.Inspect = a_part
 task_of verb.Verify = alone do_verify
 task_of verb.Gen = seed_and_turns
 
--- the first words as they are written
+-- the first arguments as they are written
 unfoldable pub first_words : List (List ℕ × Verb)
 first_words =
     (codes "session", verb.Session)
@@ -97,12 +97,12 @@ first_words =
     ∷ (codes "gen", verb.Gen)
     ∷ []
 
--- the entry of a table that has a word
+-- the entry of a table that has an argument
 abbrev pub by_word : List ℕ → List (List ℕ × Verb) → Option Verb
 by_word word [] = None
 by_word word (line ∷ table) = if bytes_eq word line.0 then Some line.1 else by_word word table
 
--- what ordinary words ask for
+-- what positional arguments ask for
 unfoldable pub task_in : List (List ℕ) → Option Task
 task_in [] = None
 task_in (word ∷ words) = option_and_then (λ (v : Verb). task_of v words) (by_word word first_words)

@@ -1,4 +1,4 @@
--- What the words of the command line say.
+-- What the arguments of the command line say.
 use Rattle.std.specs.Prelude.{ℕ, ◌&&◌, nat_le, if◌then◌else◌, List, [], ◌∷◌, map, string_bytes, String, Option, Some, None}
 use Rattle.std.specs.declared.alloc.Global.{Global}
 use Rattle.std.specs.Option.{option_and_then}
@@ -34,11 +34,11 @@ limits_in parts = option_and_then (λ (bytes : ℕ). option_and_then (allowed by
 unfoldable pub asked_by : Parts → Option Invocation
 asked_by parts = option_and_then (λ (limits : Bounds). option_and_then (λ (task : Task). Some (record { task = task; limits = limits })) (task_in parts.ordinary)) (limits_in parts)
 
--- what the words ask for, where they are in the grammar
+-- what the arguments ask for, where they are in the grammar
 unfoldable pub words_ask : List (List ℕ) → Option Invocation
 words_ask words = option_and_then asked_by (taken_apart words)
 
--- the bytes of the words
+-- the bytes of the arguments
 abbrev pub bytes_of : List (String Global) → List (List ℕ)
 bytes_of words = map string_bytes words
 

@@ -1,4 +1,4 @@
-// The words are taken apart into options and ordinary words.
+// The arguments are taken apart into options and positional arguments.
 ghost use Rattle.std.specs.Prelude.{◌≡◌, ◌≤◌, ◌++◌, ℕ, List, [], ◌∷◌, length, map, string_bytes, MatchOption, IfSome, Some, None};
 ghost use Rattle.std.specs.Option.{option_map, option_and_then};
 ghost use Rattle.blk_args.specs.Apart.{joined, parts_in, taken_apart, with_value, words_alone, words_in, Parts};
@@ -6,7 +6,7 @@ ghost use Rattle.blk_args.specs.Words.{asked_by, bytes_of, words_ask};
 
 use crate::kinds::{Kind, Limit, kind_of};
 
-/// Ordinary words: no command has more than three.
+/// Positional arguments: no command has more than three.
 #[derive(Clone, Copy)]
 pub enum Ordinary<'w> {
     /// There is none yet.
@@ -20,7 +20,7 @@ pub enum Ordinary<'w> {
 }
 
 impl<'w> Ordinary<'w> {
-    // The words with one more behind them, where there are fewer than three.
+    // The arguments with one more after them, where there are fewer than three.
     fn and(self, word: &'w [u8]) -> Option<Ordinary<'w>>
         ensures { MatchOption result (3 ≤ length (words_in self.entry)) (λ more. words_in more ≡ words_in self.entry ++ word.now ∷ []) }
     {
@@ -32,7 +32,7 @@ impl<'w> Ordinary<'w> {
         }
     }
 
-    // The words with all these behind them, where they are three at most.
+    // The arguments with all these after them, where they are three at most.
     fn and_all(self, words: &'w [String]) -> Option<Ordinary<'w>>
         ensures { MatchOption result (4 ≤ length (words_in self.entry ++ bytes_of words.now)) (λ more. words_in more ≡ words_in self.entry ++ bytes_of words.now) }
     {
@@ -44,7 +44,7 @@ impl<'w> Ordinary<'w> {
     }
 }
 
-/// The words taken apart: the value of each option that is there, and the ordinary words.
+/// The arguments taken apart: the value of each option that is there, and the positional arguments.
 #[derive(Clone, Copy)]
 pub struct Apart<'w> {
     pub max: Option<&'w [u8]>,
@@ -78,7 +78,7 @@ impl<'w> Apart<'w> {
         }
     }
 
-    // Takes one word, or an option and its value, and gives the words behind.
+    // Takes one argument, or an option and its value, and gives the arguments after that.
     fn take(self, word: &'w [u8], behind: &'w [String]) -> Option<(Apart<'w>, &'w [String])>
         ensures asks { MatchOption result (option_and_then asked_by (option_map (joined (parts_in self.entry)) (taken_apart (word.now ∷ bytes_of behind.now))) ≡ None) (λ next. option_map (joined (parts_in next.0)) (taken_apart (bytes_of next.1.now)) ≡ option_map (joined (parts_in self.entry)) (taken_apart (word.now ∷ bytes_of behind.now))) }
         ensures fewer { IfSome result (λ next. length next.1.now ≤ length behind.now) }
@@ -95,7 +95,7 @@ impl<'w> Apart<'w> {
         }
     }
 
-    // The same with these ordinary words.
+    // The same with these positional arguments.
     fn with(self, ordinary: Ordinary<'w>) -> Apart<'w>
         ensures { result ≡ record self.entry { ordinary = ordinary.entry } }
     {
@@ -107,7 +107,7 @@ impl<'w> Apart<'w> {
     }
 }
 
-/// The words taken apart, if they may be words of the grammar.
+/// The arguments taken apart, if they may be arguments of the grammar.
 pub fn take_apart(words: &[String]) -> Option<Apart<'_>>
     ensures { MatchOption result (words_ask (bytes_of words.now) ≡ None) (λ apart. taken_apart (bytes_of words.now) ≡ Some (parts_in apart)) }
 {

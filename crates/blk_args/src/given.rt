@@ -1,4 +1,4 @@
-// The words are parsed by the crate `clap`, which gives the values of the options and the ordinary words.
+// The arguments are parsed by the crate `clap`, which gives the values of the options and the positional arguments.
 ghost use Rattle.std.specs.Prelude.{◌≡◌, ◌≤◌, IfErr, IfOk, IsSome, Some, codes, length, map, option_map};
 ghost use Rattle.clap.specs.Words.{HasMatchesOf, first_value, found_of, kind_of};
 ghost use Rattle.blk_args.specs.Apart.{parts_in, taken_apart, words_in};
@@ -11,7 +11,7 @@ use clap::error::ErrorKind;
 use clap::{Arg, ArgAction, ArgMatches, Command, Error};
 use std::alloc::Global;
 
-// What the parse of the words gives: two options with a value each, and ordinary words.
+// What the parse of the arguments gives: two options with a value each, and positional arguments.
 fn parse<'w>(alloc: Global, words: &'w [String]) -> Result<ArgMatches<'w>, Error>
     requires inside { IsSome (words_ask (bytes_of words.now)) }
     ensures matches { IfOk result (HasMatchesOf program (bytes_of words.now)) }
@@ -42,7 +42,7 @@ fn value_of<'w>(matches: &ArgMatches<'w>, name: &str) -> Option<&'w [u8]>
     }
 }
 
-// The ordinary words, of which there are three at most.
+// The positional arguments, of which there are three at most.
 fn ordinary_of<'w>(words: &[&'w str]) -> Ordinary<'w>
     requires few { length words.now ≤ 3 }
     ensures { words_in result ≡ map (λ word. word.now) words.now }
@@ -56,7 +56,7 @@ fn ordinary_of<'w>(words: &[&'w str]) -> Ordinary<'w>
     }
 }
 
-/// The words taken apart, which are those of the grammar. It fails for want of memory alone.
+/// The arguments taken apart, which are those of the grammar. It fails only when out of memory.
 pub fn take_given<'w>(alloc: Global, words: &'w [String]) -> Result<Apart<'w>, NoMemory>
     requires inside { IsSome (words_ask (bytes_of words.now)) }
     ensures { IfOk result (λ apart. taken_apart (bytes_of words.now) ≡ Some (parts_in apart)) }

@@ -1,11 +1,11 @@
-// The part of a folder that words name.
+// The part of a folder that arguments name.
 ghost use Rattle.std.specs.Prelude.{◌≡◌};
 ghost use Rattle.blk_args.specs.Inspected.{part_named, part_numbered};
 
 use crate::numbers::{read_address, read_few};
 use blk_inspect::Part;
 
-/// The part that a word names.
+/// The part that an argument names.
 #[tactic(auto, unfolding(crate::specs::Inspected::part_named))]
 pub fn part_named(name: &[u8]) -> Option<Part>
     ensures { result ≡ part_named name.now }
@@ -19,7 +19,7 @@ pub fn part_named(name: &[u8]) -> Option<Part>
     }
 }
 
-/// The part that a word names with a number or an address behind it.
+/// The part that an argument names with a number or an address after it.
 #[tactic(auto, unfolding(crate::specs::Inspected::part_numbered))]
 pub fn part_numbered(name: &[u8], value: &[u8]) -> Option<Part>
     ensures { result ≡ part_numbered name.now value.now }

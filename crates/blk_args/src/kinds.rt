@@ -1,4 +1,4 @@
-// What a word is by itself.
+// What an argument is by itself.
 ghost use Rattle.std.specs.Prelude.{◌≡◌};
 ghost use Rattle.blk_args.specs.Kinds.{is_dashed, shown, word_of};
 
@@ -11,22 +11,22 @@ pub enum Limit {
     Items,
 }
 
-/// What a word before `--` is.
+/// What an argument before `--` is.
 #[derive(Clone, Copy)]
 pub enum Kind<'w> {
-    /// `--`: the words behind it are ordinary.
+    /// `--`: the arguments after it are positional.
     End,
-    /// An option whose value is the next word.
+    /// An option whose value is the next argument.
     Name(Limit),
     /// An option with its value.
     Value(Limit, &'w [u8]),
-    /// An ordinary word.
+    /// A positional argument.
     Ordinary,
-    /// No word of the grammar.
+    /// No argument of the grammar.
     Unknown,
 }
 
-/// What a word is.
+/// What an argument is.
 #[tactic(auto, unfolding(crate::specs::Kinds::word_of))]
 pub fn kind_of(word: &[u8]) -> Kind<'_>
     ensures { shown result ≡ word_of word.now }
@@ -48,7 +48,7 @@ pub fn kind_of(word: &[u8]) -> Kind<'_>
     }
 }
 
-// Whether a word begins with `-` and has a second character.
+// Whether an argument begins with `-` and has a second character.
 fn is_dashed(word: &[u8]) -> bool
     ensures { result ≡ is_dashed word.now }
 {

@@ -1,6 +1,6 @@
-//! The words of the command line: what they ask the program for, and with which limits.
+//! The arguments of the command line: what they ask the program for, and with which limits.
 //!
-//! The words are checked without memory; their values are given by the crate `clap`, which takes some.
+//! The arguments are checked without memory; their values are given by the crate `clap`, which takes some.
 #![tactic(auto)]
 
 mod apart;

@@ -1,4 +1,4 @@
-// Numbers and addresses among the words.
+// Numbers and addresses among the arguments.
 ghost use Rattle.std.specs.Prelude.{◌≡◌, ◌≤◌, IfSome};
 ghost use Rattle.std.specs.List.{list_any};
 ghost use Rattle.blk_args.specs.Numbers.{address_word, few_word, is_upper};
@@ -30,7 +30,7 @@ pub fn read_address(word: &[u8]) -> Option<u32>
     }
 }
 
-// Whether an upper-case letter is among the bytes of a word.
+// Whether an upper-case letter is among the bytes of an argument.
 fn has_upper(word: &[u8]) -> bool
     ensures { result ≡ list_any is_upper word.now }
 {

@@ -1,4 +1,4 @@
-// What the ordinary words ask for.
+// What the positional arguments ask for.
 ghost use Rattle.std.specs.Prelude.{◌≡◌, ℕ, List, [], ◌∷◌, IfSome, Ok};
 ghost use Rattle.std.specs.Option.{option_map};
 ghost use Rattle.percent_encoding.specs.Percent.{percent_decode};
@@ -13,10 +13,10 @@ use crate::verbs::{Verb, verb_of};
 use blk_inspect::Part;
 use blk_script::{is_key, read_count, read_stream};
 
-// A generator makes no more turns.
+// A generator makes no more iterations.
 const MOST_TURNS: u64 = 100_000;
 
-/// What the program is asked for. A key stands as it is spelled; `blk_script::decode_key` gives its bytes.
+/// What the program is asked for. A key is kept as it is spelled; `blk_script::decode_key` gives its bytes.
 #[derive(Clone, Copy, Debug, PartialEq, Eq)]
 pub enum Order<'w> {
     /// `session`: the script on the input is run.
@@ -38,11 +38,11 @@ pub enum Order<'w> {
     Inspect { part: Part },
     /// `verify`: what the folder holds is checked and printed.
     Verify,
-    /// `gen SEED TURNS`: so many turns of a generator are played.
+    /// `gen SEED TURNS`: so many iterations of a generator are played.
     Generate { seed: u64, turns: u32 },
 }
 
-/// What the ordinary words ask for, if they are a command.
+/// What the positional arguments ask for, if they are a command.
 pub fn read_order(words: Ordinary<'_>) -> Option<Order<'_>>
     ensures task { option_map task_given result ≡ task_in (words_in words.entry) }
     ensures spelled { IfSome result HasSpelledKey }
@@ -55,7 +55,7 @@ pub fn read_order(words: Ordinary<'_>) -> Option<Order<'_>>
     }
 }
 
-// What a first word alone asks for.
+// What a first argument alone asks for.
 #[tactic(auto, unfolding(crate::specs::Tasks::task_of))]
 fn read_alone<'w>(verb: Verb) -> Option<Order<'w>>
     ensures task { option_map task_given result ≡ task_of verb [] }
@@ -70,7 +70,7 @@ fn read_alone<'w>(verb: Verb) -> Option<Order<'w>>
     }
 }
 
-// What it asks for with one word behind it.
+// What it asks for with one argument after it.
 #[tactic(auto, unfolding(crate::specs::Tasks::task_of))]
 fn read_with_one(verb: Verb, word: &[u8]) -> Option<Order<'_>>
     ensures task { option_map task_given result ≡ task_of verb (word.now ∷ []) }
@@ -99,7 +99,7 @@ fn read_with_one(verb: Verb, word: &[u8]) -> Option<Order<'_>>
     }
 }
 
-// What it asks for with two words behind it.
+// What it asks for with two arguments after it.
 #[tactic(auto, unfolding(crate::specs::Tasks::task_of))]
 fn read_with_two<'w>(verb: Verb, first: &'w [u8], second: &[u8]) -> Option<Order<'w>>
     ensures task { option_map task_given result ≡ task_of verb (first.now ∷ second.now ∷ []) }
@@ -137,7 +137,7 @@ fn key_and_stream<'w>(key: &'w [u8], stream: &[u8]) -> Option<(&'w [u8], u8)>
     Some((key, stream))
 }
 
-// The word, where it is a key as a script line spells it.
+// The argument, where it is a key as a script line spells it.
 #[tactic(auto, unfolding(blk_script::specs::Fields::key_field))]
 fn spelled_key(word: &[u8]) -> Option<&[u8]>
     ensures key { option_map (λ key. percent_decode key.now) result ≡ key_word word.now }

@@ -1,4 +1,4 @@
-// The words are read.
+// The arguments are read.
 ghost use Rattle.std.specs.Prelude.{◌≡◌, IfErr, IfOk, IfSome, IsSome, is_some};
 ghost use Rattle.std.specs.Option.{option_map};
 ghost use Rattle.blk_args.specs.Tasks.{HasSpelledKey};
@@ -28,10 +28,11 @@ pub struct Asked<'w> {
     pub limits: Limits,
 }
 
-/// What the words ask for, or `None` where they are no words of the command line. It fails for want of memory, and then
-/// they are.
+/// What the arguments ask for, or `None` where they are no arguments of the command line. It fails when out of memory,
+/// and then they are.
 ///
-/// The options `--max` and `--items` may stand anywhere before a word `--`, each once; behind it all words are ordinary.
+/// The options `--max` and `--items` may come anywhere before an argument `--`, each once; after it all arguments are
+/// positional.
 pub fn read_words<'w>(alloc: Global, words: &'w [String]) -> Result<Option<Asked<'w>>, NoMemory>
     ensures asks { IfOk result (λ asked. option_map invocation_of asked ≡ words_ask (bytes_of words.now)) }
     ensures spelled { IfOk result (λ asked. IfSome asked (λ one. HasSpelledKey one.order)) }
@@ -44,7 +45,7 @@ pub fn read_words<'w>(alloc: Global, words: &'w [String]) -> Result<Option<Asked
     Ok(read_apart(apart))
 }
 
-// Whether the words are in the grammar.
+// Whether the arguments are in the grammar.
 fn are_inside(words: &[String]) -> bool
     ensures { result ≡ is_some (words_ask (bytes_of words.now)) }
 {
@@ -54,7 +55,7 @@ fn are_inside(words: &[String]) -> bool
     }
 }
 
-// What the words ask for, taken apart.
+// What the arguments ask for, taken apart.
 fn read_apart<'w>(apart: Apart<'w>) -> Option<Asked<'w>>
     ensures asks { option_map invocation_of result ≡ asked_by (parts_in apart.entry) }
     ensures spelled { IfSome result (λ asked. HasSpelledKey asked.order) }

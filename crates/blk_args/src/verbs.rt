@@ -1,8 +1,8 @@
-// The first of the ordinary words.
+// The first of the positional arguments.
 ghost use Rattle.std.specs.Prelude.{◌≡◌, map};
 ghost use Rattle.blk_args.specs.Tasks.{by_word, first_words};
 
-/// What the first ordinary word names.
+/// What the first positional argument names.
 #[derive(Clone, Copy)]
 pub enum Verb {
     /// `session`
@@ -27,7 +27,7 @@ pub enum Verb {
     Gen,
 }
 
-/// What a first word names, if it is one.
+/// What a first argument names, if it is one.
 #[tactic(auto, unfolding(crate::specs::Tasks::first_words))]
 pub fn verb_of(word: &[u8]) -> Option<Verb>
     ensures { result ≡ by_word word.now first_words }

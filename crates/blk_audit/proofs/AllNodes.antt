@@ -66,7 +66,7 @@ address_of : (files : BlockFiles) (w : ℕ) → is_node_among files w ≡ true �
 unfolding names_among
 address_of files w is = (and_parts (is_address w) ((kind_of w == rankings) && stands_among files w) is).0
 
--- each node that stands was read from its place
+-- each node that is there was read from its place
 pub each_there : (files : BlockFiles) (image : Image) (nodes : Nodes) → ((n : ℕ) → n < 256 → IsFilled files image nodes n) → HasNodes files image
 each_there files image nodes filled w is =
     let kind = node_kind files w is in

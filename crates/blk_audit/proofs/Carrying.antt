@@ -39,18 +39,18 @@ carried {A} {B} r (Err x) e P is same holds =
     of_fault (Damaged damage) at = at
     of_fault Memory at = tt
 
--- what a damage says, from what it says
+-- what a failed check says, from what it says
 pub weaker : {A : Type 0} (r : Result A ScanFault) (P Q : Damage → Type 0) → ((damage : Damage) → P damage → Q damage) → IfScanDamaged r P → IfScanDamaged r Q
 weaker {A} (Ok a) P Q by holds = tt
 weaker {A} (Err Device) P Q by holds = tt
 weaker {A} (Err (Damaged damage)) P Q by holds = by damage holds
 weaker {A} (Err Memory) P Q by holds = tt
 
--- where the file has what was asked, only a folder that tells nothing gives too few bytes
+-- where the file has what was asked, only an opaque folder gives too few bytes
 pub untold_piece : {A : Type 0} (r : Result A Fault) (old new : Told) (file : FileId) (place count : ℕ) → new ≡ old → IfDamaged r (IsShort old file place count) → ForSome new.files (λ image. place + count ≤ length_of image (file_of file)) → IfDamaged r (λ _. new.files ≡ None)
 untold_piece r old new file place count stays short inside = untold_if r new file place count (subst (λ (t : Told). IfDamaged r (IsShort t file place count)) (sym stays) short) inside
 
--- what a call gives only on a folder that tells nothing, behind calls that changed nothing: under its own premise, and under one that implies it
+-- what a call gives only on an opaque folder, after calls that changed nothing: under its own premise, and under one that implies it
 pub untold_last : {A : Type 0} (r : Result A ScanFault) {a m : Told} (P Q : Image → Type 0) → ((image : Image) → P image → Q image) → m ≡ a → (ForSome m.files Q → IfScanDamaged r (λ _. m.files ≡ None)) → ForSome a.files P → IfScanDamaged r (λ _. a.files ≡ None)
 untold_last r {a} {m} P Q stronger stays untold holds =
     weaker r (λ _. m.files ≡ None) (λ _. a.files ≡ None) (λ damage none. ap (λ (t : Told). t.files) (sym stays) ∙ none)

@@ -74,7 +74,7 @@ module _ (store : StoreView) where
   begin_is n zero lt = refl
   begin_is n (suc b) lt = end_is n b (omega (arith, lt))
 
-  -- the records of one chain, with those before and behind
+  -- the records of one chain, with those before and after
   record IsCutAt (n b : ℕ) : Type 0 where
     pub behind : List ℕ
     pub is : reached_by store n ≡ reached_by store b ++ ((chain store b).reached ++ behind)
@@ -172,7 +172,7 @@ cut_more old new ends closed w is cut =
       told = cut.told;
     }
 
--- one bucket more, which ends behind all records
+-- one bucket more, which ends after all records
 pub cut_next : (words old new : List ℕ) (closed closes : List Bool) (t : Bool) → new ≡ old ++ length words ∷ [] → closes ≡ closed ++ t ∷ [] → AreCut words old closed → AreCut words new closes
 cut_next words old new closed closes t is told cut =
     subst (λ (ends : List ℕ). AreCut words ends closes) (sym is) (subst (AreCut words (old ++ length words ∷ [])) (sym told) (record {
@@ -202,7 +202,7 @@ cut_next words old new closed closes t is told cut =
 pub stand_none : (files : BlockFiles) (words : List ℕ) → words ≡ [] → RecordsStand files words
 stand_none files words none i d lt = let size : length words ≡ 0 = ap (λ (xs : List ℕ). length xs) none in absurd (omega (arith, lt, size))
 
--- one record more stands
+-- one record more is valid
 pub stand_more : (files : BlockFiles) (old new : List ℕ) (w v : ℕ) → new ≡ old ++ w ∷ [] → RecordsStand files old → w ≡ v → is_record_among files v ≡ true → RecordsStand files new
 stand_more files old new w v is all same here =
     subst (RecordsStand files) (sym is)

@@ -1,4 +1,4 @@
--- The nodes of a file that stand are its first ones.
+-- The nodes of a file that are there are its first ones.
 use Rattle.std.proofs.Common.{◌≡◌, ℕ, ◌+◌, ◌*◌, ◌<◌, ◌≤◌, Bool, true, false, ◌&&◌, ◌-◌, refl, sym, subst, ◌∙◌, arith}
 use Rattle.std.specs.Prelude.{nat_le, nat_lt}
 use Rattle.std.proofs.lemmas.Bool.{and_parts}
@@ -15,7 +15,7 @@ use Rattle.blk_disk.specs.Tables.{Agrees, files_of, blocks_of, length_in, stands
 fields : (n b : ℕ) → n < 256 → b < 65536 → AreFields 1 n b 1
 fields n b file block = record { kind = omega arith; file = file; start = block; some = omega arith; most = omega arith }
 
--- whether node b of a file stands
+-- whether node b of a file is there
 abbrev pub node_stands : BlockFiles → ℕ → ℕ → Bool
 node_stands files n b = stands_among files (block_word 1 n b 1)
 
@@ -32,7 +32,7 @@ stands_is files n b file block =
 le_down : (a b c : ℕ) → a ≤ b → nat_le b c ≡ true → nat_le a c ≡ true
 le_down a b c below h = grind (arith, nat_tests)
 
--- one that stands behind another
+-- one that comes after another
 pub stands_down : (files : BlockFiles) (n a b : ℕ) → n < 256 → b < 65536 → a ≤ b → node_stands files n b ≡ true → node_stands files n a ≡ true
 unfolding shown
 stands_down files n a b file block below h =
@@ -58,7 +58,7 @@ size_is n b file block =
 lt_last : (n : ℕ) → 0 < n → nat_lt (n - 1) n ≡ true
 lt_last n some = grind (arith, nat_tests)
 
--- the nodes of a file that stand lie in it
+-- the nodes of a file that are there lie in it
 pub range_there : (files : BlockFiles) (image : Image) (n count : ℕ) → Agrees files image → ((b : ℕ) → b < 65536 → node_stands files n b ≡ nat_lt b count) → n < 256 → count ≤ 65536 → 0 < count → HasRange image (Block n) 8192 (36 * count)
 range_there files image n count agrees stand file most some =
     let block : count - 1 < 65536 = omega (arith, most, some) in
@@ -69,7 +69,7 @@ range_there files image n count agrees stand file most some =
     let here : place (block_word 1 n (count - 1) 1) + 0 + 36 ≤ length_of image (Block n) = subst (λ (k : ℕ). place (block_word 1 n (count - 1) 1) + 0 + 36 ≤ length_of image (Block k)) (file_selector-block_word 1 n (count - 1) 1 (fields n (count - 1) file block)) range in
     omega (arith, here, at, some)
 
--- the nodes below one number stand, and from another on none does
+-- the nodes below one number are there, and from another on none is
 pub record IsBetween (files : BlockFiles) (n low high : ℕ) : Type 0 where
   pub ordered : low ≤ high
   pub few : high ≤ 65536

@@ -1,4 +1,4 @@
--- The nodes that were met, by their claims.
+-- The nodes that were met, as used blocks.
 use Rattle.std.proofs.Common.{◌≡◌, ◌≢◌, ℕ, ◌+◌, ◌<◌, ◌^◌, ◌/◌, Bool, true, false, ◌||◌, ◌&&◌, List, [], ◌∷◌, ◌++◌, map, refl, sym, ap, ap₂, subst, ◌∙◌, arith, IsTrue}
 use Rattle.std.specs.Prelude.{◌==◌}
 use Rattle.std.specs.List.{list_any, range_with_len}
@@ -66,7 +66,7 @@ same_node w v is of = both_or_neither ((file_selector v == file_selector w) && i
 no_external : (w : ℕ) → kind_of w ≡ rankings → kind_of w ≢ external
 no_external w kind e = let h : ◌≡◌ {A = ℕ} 1 0 = sym kind ∙ e in omega (arith, h)
 
--- what a node claims
+-- what a node uses
 claims_of_node : (w : ℕ) → IsNodeWord w → claims_of w ≡ BlockOf (file_selector w) (first_block w) ∷ []
 claims_of_node w is =
     claims_of-blocks w (address_above_0 w is.address) (no_external w is.kind)
@@ -86,7 +86,7 @@ has_node (w ∷ words) all v of =
     has_claim-append (claims_of w) (claims_of_all words) (BlockOf (file_selector v) (first_block v))
     ∙ ap₂ (λ (a b : Bool). a || b) (one_claim w v (all w (or_first (w == w) (is_among words w) (eq-eqb w w refl))) of) (has_node words (λ u h. all u (or_second (w == u) (is_among words u) h)) v of)
 
--- a node was met where it shares a claim with those that were
+-- a node was met where it shares a block with those that were
 pub met_is : (words : List ℕ) → ((u : ℕ) → is_among words u ≡ true → IsNodeWord u) → (v : ℕ) → IsNodeWord v → overlap (claims_of_all words) (claims_of v) ≡ is_among words v
 unfolding overlap
 met_is words all v of =

@@ -100,7 +100,7 @@ window_is f p i bytes below is =
     let size : 32768 ≡ 256 * i + (32768 - 256 * i) = omega (arith, below) in
     ap (drop (256 * i)) (is ∙ ap (range_at f p) size) ∙ drop-range (256 * i) (32768 - 256 * i) p f
 
--- a short key that is stored lies behind its record
+-- a short key that is stored lies after its record
 stored_short : (image : Image) (w : ℕ) (fields : RecordFields) (key : List ℕ) → nat_le fields.key_len 927 ≡ true → stored_key (store_of image) w fields ≡ Some key → key ≡ range_at (block_bytes image w) (place w + 96) fields.key_len
 unfolding stored_key store_of key_place_at
 stored_short image w fields key short is =
@@ -140,7 +140,7 @@ said_block image n b at bytes file block there long small inside is =
       there = subst (λ (f : ℕ). HasRange image (Block f) (place w) 96) (sym sel) (subst (λ (p : ℕ). HasRange image (Block n) p 96) at_place (omega (arith, inside, long)));
     }
 
--- a piece lies in its file where its last block stands
+-- a piece lies in its file where its last block is valid
 pub piece_there : (files : BlockFiles) (image : Image) (n first : ℕ) → Agrees files image → n < 256 → first + 128 ≤ 65536 → stands_among files (block_word 2 n (first + 128 - 1) 1) ≡ true → HasRange image (Block n) (8192 + first * 256) 32768
 piece_there files image n first agrees file inside there =
     let block : first + 128 - 1 < 65536 = omega (arith, inside) in

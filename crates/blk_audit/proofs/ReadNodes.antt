@@ -52,7 +52,7 @@ unfolding loaded_node
 loaded_is nodes w address = rw address refl
 
 module _ (image : Image) (lists : Lists) (are : AreListsOf image lists) where
-  -- a walked node is an address, and stands
+  -- a walked node is an address, and valid
   is_node : (i addr : ℕ) → slice_get (nodes_walked lists.walked) i ≡ Some addr → IsNodeWord addr
   is_node i addr is = are.met.nodes addr (among_at (nodes_walked lists.walked) i addr is)
 
@@ -128,7 +128,7 @@ own_claim : (f b : ℕ) → has_claim (BlockOf f b ∷ []) (BlockOf f b) ≡ tru
 unfolding has_claim
 own_claim f b = rw (eq-eqb f f refl, eq-eqb b b refl) refl
 
--- where a number of a list stands
+-- where a number of a list is
 record IsAt (xs : List ℕ) (x : ℕ) : Type 0 where
   pub at : ℕ
   pub is : slice_get xs at ≡ Some x
@@ -167,7 +167,7 @@ unnamed image lists entry node are address kind free = by_node (loaded_node list
     by_node None is = listed_none image lists are node entry is
     by_node (Some said) is = listed_by image lists are node entry said is ∙ by_contents said (is_among (nodes_walked lists.walked) node) (said.contents == entry) is refl refl
 
--- a first block that is added is claimed, and so are those that were
+-- a first block that is added is used, and so are those that were
 pub claimed_more : {E : Type 0} (old new : Claims) (w : ℕ) (added : Bool) → added ≡ not (is_claimed old (first_block_of w)) → (◌≡◌ {A = Result Bool E} (Ok added) (Ok true) → Adds old new (first_block_of w)) → (◌≡◌ {A = Result Bool E} (Ok added) (Ok false) → new ≡ old)
     → IsMore old new w
 claimed_more {E} old new w true told adds kept =

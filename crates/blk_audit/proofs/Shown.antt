@@ -44,7 +44,7 @@ same_test true true s x e = e refl ∙ sym (and_true x)
 same_test true false s x e = sym (and_none x)
 same_test false k s x e = refl
 
--- a word names a record among the kept files where one stands in the folder
+-- a word names a record among the kept files where there is one in the folder
 pub names_stand : (files : BlockFiles) (image : Image) (w : ℕ) → Agrees files image → is_record_among files w ≡ stands_as image blocks_256 w
 unfolding names_among stands
 names_stand files image w agrees =

@@ -39,7 +39,7 @@ module _ (writes : List ListWrite) (nodes : Nodes) (head : ℕ) where
   unfolding list_in
   head_is = written.head_after writes (list_in nodes head)
 
-  -- no node stands there
+  -- there is no node
   pub link_none : (old : List ℕ) (link : Link) → loaded_node nodes link.word ≡ None → is_next (list_after writes nodes head) old link ≡ false
   link_none old link at =
       fail_first ((list_after writes nodes head).checks link.word) (not (is_among old link.word)) ((list_after writes nodes head).prev link.word == link.before)
@@ -88,7 +88,7 @@ pub node_unnamed : (nodes : Nodes) (w : ℕ) → is_address w ≡ false → load
 unfolding loaded_node
 node_unnamed nodes w none = rw none refl
 
--- an address at which a node stands is that of a node
+-- an address at which there is a node is that of a node
 pub node_word_of : (nodes : Nodes) (w : ℕ) (node : Node) → is_address w ≡ true → Some node ≡ node_of nodes w → IsNodeWord w
 unfolding node_of
 node_word_of nodes w node address found = record { address = address; kind = go (kind_of w == rankings) refl found }

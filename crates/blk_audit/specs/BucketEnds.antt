@@ -11,7 +11,7 @@ begin_of ends (suc before) = slice_index ends before
 abbrev pub records_of : (records ends : List ℕ) → ℕ → List ℕ
 records_of records ends bucket = take (slice_index ends bucket - begin_of ends bucket) (drop (begin_of ends bucket) records)
 
--- each bucket has some of the records, those of one behind those of the one before
+-- each bucket has some of the records, those of one after those of the one before
 pub record AreEnds (records ends : List ℕ) : Type 0 where
   pub many : length ends ≡ table_length
   pub rising : (bucket : ℕ) → bucket < table_length → begin_of ends bucket ≤ slice_index ends bucket

@@ -39,7 +39,7 @@ words_reached reached = reached.words.items
 abbrev pub first_block_of : ℕ → ℕ
 first_block_of w = block_word blocks_256 (file_selector w) (first_block w) 1
 
--- the records of each bucket that was followed end among these, behind those of the one before, and each is told closed or not
+-- the records of each bucket that was followed end among these, after those of the one before, and each is told closed or not
 pub record AreCut (words ends : List ℕ) (closed : List Bool) : Type 0 where
   pub rising : (b : ℕ) → b < length ends → begin_of ends b ≤ slice_index ends b
   pub inside : (b : ℕ) → b < length ends → slice_index ends b ≤ length words
@@ -86,7 +86,7 @@ AreOfFirst store n words = (w : ℕ) → is_among words w ≡ true → IsOfFirst
 abbrev pub is_met : List ℕ → ℕ → Bool
 is_met words w = is_among (map file_and_block words) (file_and_block w)
 
--- a step of a chain: it ends at the word, with what is reached from it on, or it goes on behind the record of the word
+-- a step of a chain: it ends at the word, with what is reached from it on, or it goes on after the record of the word
 abbrev pub IsReach : StoreView → ℕ → List ℕ → ℕ → List ℕ → Option ℕ → Type 0
 IsReach store bucket old w new None =
     (most : ℕ) → (new ≡ old ++ (chain_from store bucket (suc most) (map file_and_block old) w).reached) × ((chain_from store bucket (suc most) (map file_and_block old) w).end ≡ w)
@@ -96,7 +96,7 @@ IsReach store bucket old w new (Some next) =
     → ((chain_from store bucket (suc most) (map file_and_block old) w).reached ≡ w ∷ (chain_from store bucket most (map file_and_block new) next).reached)
     × ((chain_from store bucket (suc most) (map file_and_block old) w).end ≡ (chain_from store bucket most (map file_and_block new) next).end))
 
--- these are addresses of records that stand
+-- these are addresses of records that are there
 abbrev pub RecordsStand : BlockFiles → List ℕ → Type 0
 RecordsStand files words = All (λ w. is_record_among files w ≡ true) words
 
@@ -108,7 +108,7 @@ HasEntry files image w = is_record_among files w ≡ true → HasRange image (Bl
 abbrev pub IsLookedAt : BlockFiles → Image → List ℕ → ℕ → Type 0
 IsLookedAt files image words w = length words < most_records → HasEntry files image w
 
--- a reached record stands among the block files, and its bytes are there
+-- a reached record is valid among the block files, and its bytes are there
 pub record IsReachedThere (files : BlockFiles) (image : Image) (w : ℕ) : Type 0 where
   pub named : is_record_among files w ≡ true
   pub there : HasRange image (Block (file_selector w)) (place w) 96
@@ -127,7 +127,7 @@ pub record HasFirst (files : BlockFiles) (image : Image) (words : List ℕ) (n :
   pub records : HasRecords files image words
   pub first : (b : ℕ) → b < n → IsLookedAt files image words (bucket_of (byte image Index) b)
 
--- what is read of all chains is there: the table, the records that it names, and those behind them
+-- what is read of all chains is there: the table, the records that it names, and those after them
 pub record AreChainsThere (files : BlockFiles) (image : Image) (words : List ℕ) : Type 0 where
   pub table : HasRange image Index (place_of_bucket 0) (4 * table_length)
   pub chains : HasFirst files image words table_length

@@ -23,7 +23,7 @@ abbrev pub scan_fault : Fault → ScanFault
 scan_fault fault.Device = Device
 scan_fault (fault.Damaged damage) = Damaged damage
 
--- where the answer is a damage, the damage is so
+-- where the answer is a failed check, that check is so
 abbrev pub IfScanDamaged : {A : Type 0} → Result A ScanFault → (Damage → Type 0) → Type 0
 IfScanDamaged (Ok a) P = Unit {0}
 IfScanDamaged (Err Device) P = Unit {0}
@@ -48,11 +48,11 @@ pub record IsNodesDamage (told : Told) (damage : Damage) : Type 0 where
   pub file : ℕ
   pub short : IsShortOfNodes told file damage
 
--- a walk met too few bytes of the head, of a word or a node of the operation in flight, or of nodes that stand
+-- a walk met too few bytes of the head, of a word or a node of the operation in flight, or of nodes that are there
 abbrev pub IsWalkDamage : BlockFiles → Told → Damage → Type 0
 IsWalkDamage files told damage = IsShort told names.Index IndexHead.HEADS 4 damage ⊎ (IsPendingDamage files told damage ⊎ IsNodesDamage told damage)
 
--- a record that stands was read, and its bytes are too few
+-- a record that is there was read, and its bytes are too few
 pub record IsRecordDamage (files : BlockFiles) (told : Told) (damage : Damage) : Type 0 where
   pub entry : ℕ
   pub kind : kind_of entry ≡ blocks_256
@@ -70,7 +70,7 @@ pub record IsTableDamage (told : Told) (damage : Damage) : Type 0 where
   pub first : ℕ
   pub short : IsShort told names.Index (place_of_bucket first) table_piece_length damage
 
--- the chains were damaged at blocks of records, at words of the table, or at a record
+-- the chains were corrupt at blocks of records, at words of the table, or at a record
 abbrev pub IsChainsDamage : BlockFiles → Told → Damage → Type 0
 IsChainsDamage files told damage = IsRecordsDamage told damage ⊎ (IsTableDamage told damage ⊎ IsRecordDamage files told damage)
 

@@ -1,4 +1,4 @@
--- What is kept of the use list and of the chains.
+-- What is kept of the LRU list and of the chains.
 use Rattle.std.specs.Prelude.{◌≡◌, ℕ, ◌<◌, Bool, true, false, ◌&&◌, ◌==◌, List, slice_get, if◌then◌else◌}
 use Rattle.std.specs.Option.{option_and_then, option_map, option_map_or}
 use Rattle.std.specs.declared.option.Option.{Option}
@@ -40,7 +40,7 @@ record_by node = if is_address node.contents && (kind_of node.contents == blocks
 abbrev pub record_of : Nodes → Option ℕ → Option ℕ
 record_of nodes w = option_and_then (λ w. option_and_then record_by (node_of nodes w)) w
 
--- whether the first block of a record has a claim
+-- whether the first block of a record is named
 abbrev pub is_claimed_first : Claims → ℕ → Bool
 is_claimed_first named w = contains_claim named (BlockOf (file_selector w) (first_block w))
 
@@ -68,7 +68,7 @@ pub record AreListsOf (image : Image) (lists : Lists) : Type 0 where
   pub records : AreRecordsOf image lists.records
   pub named : AreNamed lists.nodes (nodes_walked lists.walked) lists.named
 
--- the walked nodes and the reached records stand among the block files, and each bucket has its end among the records
+-- the walked nodes and the reached records are valid among the block files, and each bucket has its end among the records
 pub record AreListsAmong (files : BlockFiles) (lists : Lists) : Type 0 where
   pub nodes : NodesStand files (nodes_walked lists.walked)
   pub records : RecordsStand files (words_reached lists.reached)

@@ -4,7 +4,7 @@ use Rattle.spec_format.specs.Sealed.{BeginsWithRecord}
 use Rattle.blk_disk.specs.declared.tables.BlockFiles.{BlockFiles}
 use Rattle.blk_disk.specs.Tables.{stands_among}
 
--- the blocks of an address stand, and begin with a node or a record
+-- the blocks of an address are valid, and begin with a node or a record
 pub record CanBeSealed (files : BlockFiles) (w : ℕ) : Type 0 where
   pub stands : stands_among files w ≡ true
   pub begins : BeginsWithRecord w

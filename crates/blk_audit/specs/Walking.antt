@@ -22,7 +22,7 @@ use Rattle.blk_audit.specs.Nodes.{HasNodes, loaded_node}
 abbrev pub nodes_walked : Walked → List ℕ
 nodes_walked walk = walk.nodes.items
 
--- these are addresses of nodes that stand
+-- these are addresses of nodes that are there
 abbrev pub NodesStand : BlockFiles → List ℕ → Type 0
 NodesStand files words = All (λ w. is_node_among files w ≡ true) words
 
@@ -36,14 +36,14 @@ pub record AreMet (walk : Walked) : Type 0 where
   pub claims : IsClaimsOf walk.met walk.nodes.items
   pub nodes : (w : ℕ) → is_among walk.nodes.items w ≡ true → IsNodeWord w
 
--- a step of a walk: it ends with what is walked from the word on, or it goes on behind the node of the word
+-- a step of a walk: it ends with what is walked from the word on, or it goes on after the node of the word
 abbrev pub IsWalkStep : ListView → List ℕ → Link → List ℕ → Option Link → Type 0
 IsWalkStep list old link new None = (most : ℕ) → new ≡ old ++ walk_from list.checks list.next list.prev (suc most) old link.before link.word
 IsWalkStep list old link new (Some next) =
     (new ≡ old ++ link.word ∷ [])
     × ((most : ℕ) → walk_from list.checks list.next list.prev (suc most) old link.before link.word ≡ link.word ∷ walk_from list.checks list.next list.prev most new next.before next.word)
 
--- a node stands at the address that a word is
+-- there is a node at the address that a word is
 pub record IsStanding (nodes : Nodes) (w : ℕ) (found : Standing) : Type 0 where
   pub addr : found.addr ≡ w
   pub node : loaded_node nodes w ≡ Some found.node
@@ -54,12 +54,12 @@ abbrev pub IsAdded : List ℕ → ℕ → List ℕ → Bool → Type 0
 IsAdded old node new true = (is_among old node ≡ false) × (new ≡ old ++ node ∷ [])
 IsAdded old node new false = (is_among old node ≡ true) × (new ≡ old)
 
--- the ends of the use list that are read are there: the word of the head, and what completing reads
+-- the ends of the LRU list that are read are there: the word of the head, and what completing reads
 pub record HasEnds (files : BlockFiles) (image : Image) : Type 0 where
   pub head : HasRange image Index IndexHead.HEADS 4
   pub flight : HasFlight files image
 
--- what is read of the use list is there: the nodes that stand, and its ends
+-- what is read of the LRU list is there: the nodes that are there, and its ends
 pub record HasUseList (files : BlockFiles) (image : Image) : Type 0 where
   pub nodes : HasNodes files image
   pub ends : HasEnds files image

@@ -9,7 +9,7 @@ pub enum ScanFault {
     Device,
     /// What the folder holds failed a check.
     Damaged(Damage),
-    /// There was too little memory.
+    /// Out of memory.
     Memory,
 }
 

@@ -1,4 +1,4 @@
-// The walk of the use list.
+// The walk of the LRU list.
 ghost use Rattle.std.specs.Prelude.{◌≡◌, ℕ, IfOk, OnOk, MatchOption, None, length, map, slice_get};
 ghost use Rattle.spec_format.specs.BlockFiles.{is_among};
 ghost use Rattle.spec_folder.specs.ListView.{after_writes};
@@ -17,14 +17,14 @@ use blk_addr::{Addr, Claims, NoMemory};
 use blk_lru::{MOST_NODES, Write};
 use std::alloc::Global;
 
-/// The walked nodes of a use list, in its order: no node stands twice, and there are at most 131072.
+/// The walked nodes of an LRU list, in its order: no node occurs twice, and there are at most 131072.
 #[derive(Drop)]
 pub struct Walked {
     nodes: Vec<Addr>,
     met: Claims,
 }
 
-// Where a walk stands: at a word, behind the node before it.
+// Where a walk is: at a word, after the node before it.
 #[derive(Clone, Copy)]
 struct Link {
     word: u32,
@@ -38,7 +38,7 @@ pub(crate) struct Standing {
     pub(crate) node: Node,
 }
 
-// Walks the use list with this head after these writes.
+// Walks the LRU list with this head after these writes.
 pub(crate) fn walk_nodes(
     alloc: Global,
     nodes: &Nodes,
@@ -69,8 +69,8 @@ pub(crate) fn walk_nodes(
     Ok(walk)
 }
 
-// Walks the node of a word, where one stands that checks, was not met, and has the node before it as its prev.
-// Gives where the walk goes on.
+// Walks the node of a word, where there is one that checks, was not met, and has the node before it as its prev. Gives
+// where the walk goes on.
 fn visit(
     nodes: &Nodes,
     writes: &[Write],
@@ -105,7 +105,7 @@ fn visit(
     }))
 }
 
-// The node that a word names, if one stands there.
+// The node that a word names, if there is one.
 pub(crate) fn node_named(nodes: &Nodes, word: u32) -> Option<Standing>
     ensures { MatchOption result (loaded_node nodes.now word ≡ None) (IsStanding nodes.now word) }
 {

@@ -54,7 +54,7 @@ impl Lists {
         })
     }
 
-    /// The record of an address that stands: it was read with the lists, or its words are read by one folder call.
+    /// The record of a valid address: it was read with the lists, or its words are read by one folder call.
     pub fn record_at<F: Folder>(
         &self,
         f: &mut F,

@@ -78,7 +78,7 @@ impl Nodes {
         Ok(())
     }
 
-    // The node at an address, if one stands there.
+    // The node at an address, if there is one.
     #[tactic(auto, using(std::proofs::lemmas::Bool::Decides::nat_tests), unfolding(crate::specs::Nodes::node_of))]
     pub(crate) fn get(&self, addr: Addr) -> Option<Node>
         ensures { result ≡ node_of self.now addr }

@@ -128,7 +128,7 @@ impl Reached {
         Ok(())
     }
 
-    // Ends the next bucket behind the records that were reached.
+    // Ends the next bucket after the records that were reached.
     fn end_bucket(&mut self, closed: bool) -> Result<(), NoMemory>
         requires reached { AreReached self.old }
         ensures reached { OnOk result (AreReached self.new) }
@@ -147,10 +147,10 @@ impl Reached {
 
 /// Follows the chain of each bucket, bucket after bucket. Nothing is written, and every chain ends.
 ///
-/// One call reads 16384 words of the table. Of the records, those whose first block has a claim in `named` are read 128
-/// blocks by one call, and each other one by a call of its own, so `named` changes the cost and not the result. A
-/// damage is a read that gave too few bytes; a folder whose files are those of `files` gives none. `Device` comes only where the
-/// folder failed in this call.
+/// One call reads 16384 words of the table. Of the records, those whose first block is in `named` are read 128 blocks by one
+/// call, and each other one by a call of its own, so `named` changes the cost and not the result. A failed check is a read that
+/// gave too few bytes; a folder whose files are those of `files` gives none. `Device` comes only where the folder failed in this
+/// call.
 pub fn chains<F: Folder>(
     alloc: Global,
     f: &mut F,
@@ -165,7 +165,7 @@ pub fn chains<F: Folder>(
     ensures checked { IfOk result (λ reached. ForSome (F.told f.old).files (λ image. AreChainsThere files.now image (words_reached reached))) }
     ensures stays { Stays (F.told f.old) (F.told f.new) }
 
-    // A folder that tells its files gives a damage only where its index is too short or the block files don't agree with it.
+    // An observable folder reports corruption only where its index is too short or the block files don't agree with it.
     ensures damaged { IfScanDamaged result (IsChainsDamage files.now (F.told f.new)) }
     ensures untold { ForSome (F.told f.old).files (IsOpen files.now) → IfScanDamaged result (λ _. (F.told f.old).files ≡ None) }
 
@@ -313,7 +313,7 @@ fn follow<F: Folder>(
     Ok(word)
 }
 
-// Reaches the record of a word, where one stands whose first block was not met, that checks, and is of the bucket.
+// Reaches the record of a word, where there is one whose first block was not met, that checks, and is of the bucket.
 // Gives its next.
 fn reach<F: Folder>(
     f: &mut F,

@@ -14,7 +14,7 @@ use blk_disk::BlockFiles;
 use blk_io::Folder;
 use std::alloc::Global;
 
-// Reads the nodes that stand, file after file, each file in pieces.
+// Reads the nodes that are there, file after file, each file in pieces.
 pub(crate) fn read_nodes<F: Folder>(
     alloc: Global,
     f: &mut F,

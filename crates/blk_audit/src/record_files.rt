@@ -73,7 +73,7 @@ impl Records {
         self.placed.get(i).copied()
     }
 
-    // The place of a first block among those of the records, or where it would stand.
+    // The place of a first block among those of the records, or where it would be.
     fn place_of(&self, first: u32) -> usize {
         let mut low = 0;
         let mut high = self.placed.len();
@@ -88,7 +88,7 @@ impl Records {
         low
     }
 
-    // Adds the records of a piece of a file whose first blocks have a claim.
+    // Adds the records of a piece of a file whose first blocks are named.
     fn add_piece(
         &mut self,
         named: &Claims,
@@ -107,7 +107,7 @@ impl Records {
         Ok(())
     }
 
-    // Adds the record that begins with a block of a file, where the block has a claim; these are the bytes from it on.
+    // Adds the record that begins with a block of a file, where the block is named; these are the bytes from it on.
     fn add(&mut self, named: &Claims, file: u8, start: u32, bytes: &[u8]) -> Result<(), NoMemory>
         requires small { start < 65536 }
         requires size { entry_size ≤ length bytes.now }
@@ -148,7 +148,7 @@ impl Records {
         Ok(())
     }
 
-    // Reads the pieces of a file that have a block with a claim, up to the first that does not lie in it.
+    // Reads the pieces of a file that have a named block, up to the first that does not lie in it.
     fn read_file<F: Folder>(
         &mut self,
         f: &mut F,
@@ -175,7 +175,7 @@ impl Records {
     }
 }
 
-// Whether one of the blocks of a piece has a claim.
+// Whether one of the blocks of a piece is named.
 fn has_named(named: &Claims, file: u8, first: u32) -> bool
     requires inside { first + blocks_of_piece ≤ 65536 }
     ensures { result ≡ list_any (λ b. contains_claim named.now (BlockOf file b)) (range_with_len first blocks_of_piece) }
@@ -183,7 +183,7 @@ fn has_named(named: &Claims, file: u8, first: u32) -> bool
     (first..first + BLOCKS_OF_PIECE).any(|block| named.has_block(file, block))
 }
 
-// Reads the records whose first blocks have a claim, file after file and each file in pieces.
+// Reads the records whose first blocks are named, file after file and each file in pieces.
 pub(crate) fn read_records<F: Folder>(
     alloc: Global,
     f: &mut F,
@@ -206,7 +206,7 @@ pub(crate) fn read_records<F: Folder>(
     Ok(records)
 }
 
-// The record of an address that stands: it was read in a piece, or its words are read by one folder call.
+// The record of a valid address: it was read in a piece, or its words are read by one folder call.
 pub(crate) fn record_of<F: Folder>(
     f: &mut F,
     files: &BlockFiles,
@@ -228,7 +228,7 @@ pub(crate) fn record_of<F: Folder>(
     }
 }
 
-// Reads the words of the record of an address that stands, by one folder call.
+// Reads the words of the record of a valid address, by one folder call.
 fn read_record<F: Folder>(f: &mut F, files: &BlockFiles, addr: Addr) -> Result<ReadRecord, Fault>
     requires kind { kind_of addr ≡ blocks_256 }
     requires stands { IsTrue (stands_among files.now addr) }

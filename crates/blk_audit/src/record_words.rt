@@ -46,9 +46,9 @@ pub struct RecordWords {
     pub flags: u32,
 }
 
-/// Reads the words of a record that stands, by one folder call.
+/// Reads the words of a record that is there, by one folder call.
 ///
-/// A damage is a read that gave too few bytes; a folder whose files are those of `files` gives none.
+/// A failed check is a read that gave too few bytes; a folder whose files are those of `files` gives none.
 pub fn read_words<F: Folder>(
     f: &mut F,
     files: &BlockFiles,

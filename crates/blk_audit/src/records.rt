@@ -18,7 +18,7 @@ pub struct ReadRecord {
     pub hash_is_right: bool,
 }
 
-// The record that begins with the first of these bytes, which may go on behind it.
+// The record that begins with the first of these bytes, which may go on after it.
 pub(crate) fn record_of_bytes(bytes: &[u8]) -> ReadRecord
     requires { 96 ≤ length bytes.now }
     ensures { result ≡ record_in bytes.now }

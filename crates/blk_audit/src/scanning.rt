@@ -1,4 +1,4 @@
-// The use list and the chains of a folder, read together.
+// The LRU list and the chains of a folder, read together.
 ghost use Rattle.std.specs.Prelude.{◌≡◌, ◌≤◌, None, IfOk};
 ghost use Rattle.std.specs.Option.{ForSome};
 ghost use Rattle.spec_image.specs.Told.{Rises, Stays};
@@ -28,7 +28,7 @@ use std::alloc::Global;
 /// The walked nodes and the reached records of a folder, with what was read of both.
 #[derive(Drop)]
 pub struct Lists {
-    /// The nodes of the use list.
+    /// The nodes of the LRU list.
     pub walked: Walked,
     /// The records of the chains.
     pub reached: Reached,
@@ -38,13 +38,13 @@ pub struct Lists {
     pub(crate) named: Claims,
 }
 
-/// Walks the use list of a folder, as it is once its operation in flight is completed, and follows its chains. Nothing
+/// Walks the LRU list of a folder, as it is once its operation in flight is completed, and follows its chains. Nothing
 /// is written.
 ///
 /// On a folder where each reached record is that of a walked node, no call is made for a node or a record alone, but
-/// for those of the operation in flight and for records in a file that is too short for its blocks. A damage is a read
-/// that gave too few bytes; a folder whose files are those of `files`
-/// gives none. `Device` comes only where the folder failed in this call.
+/// for those of the operation in flight and for records in a file that is too short for its blocks. A failed check is a
+/// read that gave too few bytes; a folder whose files are those of `files` gives none. `Device` comes only where the
+/// folder failed in this call.
 pub fn read_lists<F: Folder>(
     alloc: Global,
     f: &mut F,
@@ -57,7 +57,7 @@ pub fn read_lists<F: Folder>(
     ensures stand { IfOk result (AreListsAmong files.now) }
     ensures stays { Stays (F.told f.old) (F.told f.new) }
 
-    // A folder that tells its files gives a damage only where its index is too short or the block files don't agree with it.
+    // An observable folder reports corruption only where its index is too short or the block files don't agree with it.
     ensures damaged { IfScanDamaged result (IsListsDamage files.now (F.told f.new)) }
     ensures untold { ForSome (F.told f.old).files (IsOpen files.now) → IfScanDamaged result (λ _. (F.told f.old).files ≡ None) }
 

@@ -21,11 +21,11 @@ use blk_lru::pending;
 use blk_record::IndexHead;
 use std::alloc::Global;
 
-/// Walks the use list of a folder as it is once its operation in flight is completed. Nothing is written.
+/// Walks the LRU list of a folder as it is once its operation in flight is completed. Nothing is written.
 ///
-/// One call reads 1024 nodes of a file, of which each takes 20 bytes of memory, one the head, and at most
-/// seven the operation in flight and its nodes. A damage is a read that gave too few bytes; a folder whose files are
-/// those of `files` gives none. `Device` comes only where the folder failed in this call.
+/// One call reads 1024 nodes of a file, of which each takes 20 bytes of memory, one the head, and at most seven the
+/// operation in flight and its nodes. A failed check is a read that gave too few bytes; a folder whose files are those
+/// of `files` gives none. `Device` comes only where the folder failed in this call.
 pub fn walk<F: Folder>(alloc: Global, f: &mut F, files: &BlockFiles) -> Result<Walked, ScanFault>
     ensures walked { IfOk result (λ walked. ForSome (F.told f.old).files (λ image. Agrees files.now image → nodes_walked walked ≡ completed_walk image)) }
     ensures met { IfOk result AreMet }
@@ -33,7 +33,7 @@ pub fn walk<F: Folder>(alloc: Global, f: &mut F, files: &BlockFiles) -> Result<W
     ensures checked { OnOk result (ForSome (F.told f.old).files (HasUseList files.now)) }
     ensures stays { Stays (F.told f.old) (F.told f.new) }
 
-    // A folder that tells its files gives a damage only where its index is too short or the block files don't agree with it.
+    // An observable folder reports corruption only where its index is too short or the block files don't agree with it.
     ensures damaged { IfScanDamaged result (IsWalkDamage files.now (F.told f.new)) }
     ensures untold { ForSome (F.told f.old).files (IsOpen files.now) → IfScanDamaged result (λ _. (F.told f.old).files ≡ None) }
 

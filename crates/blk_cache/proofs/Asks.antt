@@ -154,7 +154,7 @@ none-there bindings handle r e none = by (binding_of bindings handle) refl where
   by None free = free
   by (Some b) bound = absurd (let c : Some (open_object bindings b) ≡ None = sym (e ∙ ap (option_map (open_object bindings)) bound) ∙ none in cc)
 
--- its node and its record stand among the block files
+-- its node and its record are valid among the block files
 pub opened-stands : (files : BlockFiles) (bindings : Bindings) → AreBoundAmong files bindings → (handle : ℕ) (object : OpenObject) → IsOpened bindings handle object → (is_node_among files object.node ≡ true) × (is_record_among files object.entry ≡ true)
 opened-stands files bindings stand handle object o = subst (λ (x : OpenObject). (is_node_among files x.node ≡ true) × (is_record_among files x.entry ≡ true)) (sym o.opened) (stand handle o.b o.bound)
 

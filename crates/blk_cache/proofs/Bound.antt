@@ -1,4 +1,4 @@
--- What names are bound to stands among the block files.
+-- What names are bound to is valid among the block files.
 use Rattle.std.proofs.Common.{◌≡◌, ⊎_elim, ℕ, Bool, true, false, refl, Option, Some, None, subst, set}
 use Rattle.std.specs.Prelude.{unwrap_or}
 use Rattle.spec_image.proofs.Runs.{some_inj}
@@ -22,7 +22,7 @@ bound-stands files bindings stand entry node dirty good named = by_open (open_wi
   by_open None all = (good, named)
   by_open (Some b) all = all b refl
 
--- once a name is bound to what stands, all do
+-- once a name is bound to what is valid, all are
 pub still-stand : (files : BlockFiles) (bindings : Bindings) → AreBoundAmong files bindings → (name : ℕ) (b : Binding) → (is_node_among files b.node ≡ true) × (is_record_among files b.entry ≡ true) → AreBoundAmong files (set bindings name (Some b))
 still-stand files bindings stand name b good other c here = ⊎_elim
     (λ (h : (other ≡ name) × (◌≡◌ {A = Option Binding} (Some b) (Some c))). subst (λ (x : Binding). (is_node_among files x.node ≡ true) × (is_record_among files x.entry ≡ true)) (some_inj h.1) good)

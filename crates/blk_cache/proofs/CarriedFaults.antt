@@ -31,7 +31,7 @@ module _ {B : Type 0} (q : Result B OpenFault) (e : Fault) (is : IsErrAnd q (λ 
     by_fault fault.Device h = h
     by_fault (fault.Damaged damage) h = tt
 
--- a fault of a folder is no want of memory
+-- a fault of a folder isn't out of memory
 pub no-memory : {B : Type 0} (q : Result B OpenFault) (e : Fault) (P : Type 0) → IsErrAnd q (λ (x : OpenFault). x ≡ of_fault e) → IfOpenMemory q P
 no-memory {B = B} q e P is = subst (λ (r : Result B OpenFault). IfOpenMemory r P) (sym (is-err q (of_fault e) is)) (by_fault e) where
   by_fault : (e : Fault) → IfOpenMemory {A = B} (Err (of_fault e)) P
@@ -54,7 +54,7 @@ module _ {B : Type 0} (q : Result B OpenFault) (e : ScanFault) (is : IsErrAnd q 
     by_fault (scan.Damaged damage) h = tt
     by_fault scan.Memory h = tt
 
--- what holds in any case holds where memory is wanting, and of any damage
+-- what holds in any case holds when out of memory, and of any failed check
 pub if-memory : {B : Type 0} (q : Result B OpenFault) (P : Type 0) → P → IfOpenMemory q P
 if-memory (Ok b) P h = tt
 if-memory (Err Device) P h = tt
@@ -73,7 +73,7 @@ open-damaged-weaker (Err Device) P Q f h = tt
 open-damaged-weaker (Err (Damaged damage)) P Q f h = f damage h
 open-damaged-weaker (Err Memory) P Q f h = tt
 
--- what a premise leads to of a damage, a damage says under the premise
+-- what a premise leads to of a failed check, a failed check says under the premise
 pub open-damaged-where : {B : Type 0} (q : Result B OpenFault) (A : Type 0) (P : Damage → Type 0) → (A → IfOpenDamaged q P) → IfOpenDamaged q (λ damage. A → P damage)
 open-damaged-where (Ok b) A P h = tt
 open-damaged-where (Err Device) A P h = tt
@@ -109,7 +109,7 @@ module _ {B : Type 0} (q : Result B OpenFault) (e : OpenFault) (is : IsErrAnd q 
     by_fault (Damaged damage) h = tt
     by_fault Memory h = h
 
--- no memory was the fault
+-- out of memory was the fault
 pub of-memory : {B : Type 0} (q : Result B OpenFault) → IsErrAnd q (λ (x : OpenFault). x ≡ Memory) → (P : Damage → Type 0) → IfOpenDamaged q P
 of-memory {B = B} q is P = subst (λ (r : Result B OpenFault). IfOpenDamaged r P) (sym (is-err q Memory is)) tt
 

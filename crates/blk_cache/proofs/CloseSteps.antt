@@ -250,7 +250,7 @@ module _ (cache : Cache) (handle : ℕ) (small : handle < 2 ^ 16) (b : Binding) 
 
 -- ---- what was freed last
 
--- its record and its node stand
+-- its record and its node are valid
 module _ (files now : BlockFiles) (bindings left : Bindings) (stand : AreBoundAmong files bindings) (same : now ≡ files) (handle : ℕ) (b : Binding) (bound : binding_of bindings handle ≡ Some b) (object : OpenObject) (was : WasLast bindings left b object) where
   pub last-named : is_record_among now object.entry ≡ true
   last-named = subst (λ (fs : BlockFiles). is_record_among fs object.entry ≡ true) (sym same) (ap (λ (o : OpenObject). is_record_among files o.entry) was.object_is ∙ (stand handle b bound).1)

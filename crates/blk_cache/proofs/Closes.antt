@@ -188,7 +188,7 @@ module _ (cache : Cache) (state : State) (from : Image) (k : KeepsState cache st
   less-keeps new image keeps files id others frees charges =
       closes-keep new image k.layout less refl refl (λ name. less-names (named_by less name) (binding_of bindings name) (bound-less state k.layout [] from kept state.names cache.handles k.names handle name)) keeps files id (kept-as new less refl refl others frees charges)
 
-  -- and where the object is settled with its last name
+  -- and where the object is clean with its last name
   module _ (last : is_named less number ≡ false) (alive : is.object.live ≡ true) where
     pub node-place : node_of_object k.layout number is.object ≡ k.layout.place (main is.object.key)
     node-place = ap (λ (t : Bool). if t then k.layout.place (main is.object.key) else k.layout.place_of_doomed number) alive

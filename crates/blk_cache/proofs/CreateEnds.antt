@@ -29,7 +29,7 @@ unfolding reply
 create-answer moment handle key s goes = ap answer_of (passed s moment (to_create handle key) goes).1
 
 module _ (cache : Cache) (handle : ℕ) (key : List ℕ) (small : handle < 2 ^ 16) (bytes : IsBytes key) where
-  -- there is room for the object
+  -- there is space for the object
   pub ready-room : (state : State) (moment : ℕ) (image : Image) → IsReadyToCreate cache state moment handle key image → HasRoomFor (with_room state moment (to_create handle key)) handle key
   ready-room state moment image ready =
       let few = cache.limits.few_items in

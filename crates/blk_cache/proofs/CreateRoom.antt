@@ -1,4 +1,4 @@
--- The room that a Create has once all that it evicts is out.
+-- The space that a Create has once all that it evicts is out.
 use Rattle.std.proofs.Common.{◌≡◌, ◌⊎◌, inl, inr, ⊎_elim, ℕ, suc, ◌+◌, ◌-◌, ◌≤◌, Bool, true, false, not, ◌&&◌, ◌||◌, cond, List, [], ◌∷◌, ◌++◌, length, Some, None, Option, refl, sym, ap, ap₂, subst, ◌∙◌, arith, get_or, map, reverse, append-nil, append_assoc, T}
 use Rattle.std.specs.Prelude.{IfSome, is_some, nat_le}
 use Rattle.std.specs.Bool.{nat_lt, ◌==◌}
@@ -54,7 +54,7 @@ left-behind i j list apart there =
     let z : ◌≡◌ {A = ℕ} (cond (same_item i j) 1 0) 0 = ap (λ (b : Bool). cond {A = ℕ} b 1 0) apart in
     omega (arith, c, z, there)
 
--- each listed item that need not stay is in a group that could go
+-- each listed item that need not stay is in a group that could be evicted
 goes : (stays : Item → Bool) (list : List Item) (item : Item) → 1 ≤ times item list → stays item ≡ false → is_out (groups_from_back stays list) item ≡ true
 unfolding groups_from_back
 goes stays [] item there free = let none : times item [] ≡ 0 = refl in absurd (omega (arith, there, none))
@@ -100,7 +100,7 @@ alike true false o e = e
 alike false true o e = sym e
 alike false false o e = refl
 
--- groups go until there is enough, or all go
+-- groups are evicted until there is enough, or all are
 shortest-ends : (enough : List Group → Bool) (done groups : List Group) → (enough (shortest enough done groups) ≡ true) ⊎ (shortest enough done groups ≡ done ++ groups)
 shortest-ends enough done [] = inr (sym (append-nil done))
 shortest-ends enough done (group ∷ groups) = ⊎_elim
@@ -144,7 +144,7 @@ none-without : (state : State) → without [] state ≡ state
 unfolding without
 none-without state = refl
 
--- how room is decided
+-- how space is decided
 abbrev decided : Bool → Bool → Bool → List Group → Room
 decided none over all gone = cond none (after []) (cond over full (cond all (after []) (after gone)))
 
@@ -152,7 +152,7 @@ times-back : (item : Item) (list : List Item) → times item (reverse list) ≡ 
 times-back item list = sum_by-IsPermutation (λ i. cond (same_item item i) 1 0) list (reverse list) (IsPermutation-reverse list)
 
 module _ (state : State) (valid : IsValidState state) (covered : List Item) where
-  -- all groups that could go
+  -- all groups that could be evicted
   abbrev all : List Group
   all = groups_from_back (is_pinned state covered) (reverse state.uses)
 
@@ -238,7 +238,7 @@ module _ (state : State) (valid : IsValidState state) (covered : List Item) wher
   objects-left : (without all state).objects ≡ pinned state covered
   objects-left = objects-without state all ∙ from-left 0 state.objects (λ k. subst (λ n. LeftAsPinned n (get_or state.objects k None)) (let e : k ≡ 0 + k = omega arith in e) (slot-left k (object_at state k) refl))
 
-  -- ---- room
+  -- ---- space
 
   module _ (bytes more : ℕ) where
     -- so much fits in what is left
@@ -306,7 +306,7 @@ wants-one state moment handle key =
     let more = items-after state handle key in
     ap₂ (λ (b m : ℕ). room state [] b m) (let e : total (created handle key state) - total state ≡ length key = omega (arith, bytes) in e) (let e : items (created handle key state) - items state ≡ 1 = omega (arith, more) in e)
 
--- a Create that isn't refused finds room
+-- a Create that isn't refused finds space
 pub finds-room : (state : State) (moment handle : ℕ) (key : List ℕ) → refused moment (to_create handle key) state ≡ None → is_full (room_for moment (to_create handle key) state) ≡ false
 unfolding refusals
 finds-room state moment handle key passes = let p = none_comes (refusals moment (to_create handle key) state) passes in p.1.1.1.1.0

@@ -20,7 +20,7 @@ use Rattle.blk_cache.specs.declared.cache.Cache.{Cache}
 use Rattle.blk_cache.specs.CacheKeeping.{KeepsState}
 use Rattle.blk_cache.specs.Creating.{KeepsWithRoom}
 
--- what stood among the block files by its kind does so among those that keep it
+-- what was valid among the block files by its kind is so among those that keep it
 still-among : (old new : BlockFiles) → KeepsStanding old new → (kind w : ℕ) → names_among old kind w ≡ true → names_among new kind w ≡ true
 unfolding names_among
 still-among old new keeps kind w is =

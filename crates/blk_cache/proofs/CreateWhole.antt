@@ -1,4 +1,4 @@
--- A Create whole: why it is refused, what it evicts, and how the making of its object follows on the making of room.
+-- A Create whole: why it is refused, what it evicts, and how the making of its object follows on the making of space.
 use Rattle.std.proofs.Common.{◌≡◌, ℕ, Bool, true, false, List, [], ◌∷◌, ◌++◌, length, Option, Some, None, Result, Ok, Err, refl, sym, ap, subst, ◌∙◌}
 use Rattle.std.specs.Option.{ForSome, option_map}
 use Rattle.std.specs.Prelude.{IfOk, OnOk}
@@ -44,7 +44,7 @@ if-any (Ok a) P all = tt
 if-any (Err fault.Device) P all = tt
 if-any (Err (fault.Damaged damage)) P all = all damage
 
--- a folder that tells its files gives no damage, where that is so of each that it may tell
+-- an observable folder reports no corruption, where that is so of each that it may tell
 pub untold-by : {A : Type 0} (r : Result A Fault) (files : Option Image) → ((image : Image) → files ≡ Some image → IfDamaged r (λ _. files ≡ None)) → IfDamaged r (λ _. files ≡ None)
 untold-by r None all = if-any r (λ _. None ≡ None) (λ damage. refl)
 untold-by r (Some image) all = all image refl
@@ -73,7 +73,7 @@ module _ (moment handle : ℕ) (key : List ℕ) where
   unfolding step outcome
   passed-groups state is = ap (λ (o : Option Refusal). (outcome moment (to_create handle key) state o).groups) is
 
-  -- a Create that isn't refused finds room
+  -- a Create that isn't refused finds space
   pub has-room : (state : State) → refused moment (to_create handle key) state ≡ None → is_full (room state [] (length key) 1) ≡ false
   has-room state passes = sym (room-is state) ∙ finds-room state moment handle key passes
 
@@ -98,10 +98,10 @@ module _ (moment handle : ℕ) (key : List ℕ) where
       pub made-front : ForKept (KeepsState cache) told (λ state. Appends old new (evicted_text (evicted_for (room state [] (length key) 1)))) → SaysFront cache told moment (to_create handle key) old new
       made-front front image there state k = subst (λ (groups : List Group). Appends old new (evicted_text groups)) (sym (groups-made state (passes image there state k))) (front image there state k)
 
--- ---- want of room
+-- ---- lack of space
 
 module _ (cache : Cache) (told : Told) (moment handle : ℕ) (key : List ℕ) (alone : WantsRoomAlone cache told moment handle key) where
-  -- where nothing else is wanted, it is refused where there is no room
+  -- where nothing else is wanted, it is refused where there is no space
   pub full-refused : ForKept (KeepsState cache) told (λ state. is_full (room state [] (length key) 1) ≡ true) → ForKept (KeepsState cache) told (λ state. refused moment (to_create handle key) state ≡ Some refusal.Full)
   full-refused over image there state k = refused-full moment handle key state (alone image there state k) (over image there state k)
 
@@ -109,7 +109,7 @@ module _ (cache : Cache) (told : Told) (moment handle : ℕ) (key : List ℕ) (a
   pub free-passes : ForKept (KeepsState cache) told (λ state. is_full (room state [] (length key) 1) ≡ false) → IsNotRefused cache told moment handle key
   free-passes free image there state k = not-refused moment handle key state (alone image there state k) (free image there state k)
 
--- what is evicted where there is room is evicted for a Create that isn't refused
+-- what is evicted where there is space is evicted for a Create that isn't refused
 pub room-groups : (cache : Cache) (told : Told) (moment handle : ℕ) (key : List ℕ) (parts : Covered) (P : State → List Group → Type 0) → parts ≡ no_parts → IsNotRefused cache told moment handle key
     → ForRoom cache parts told (length key) 1 P → ForKept (KeepsState cache) told (λ state. P state (evicted_for (room state [] (length key) 1)))
 room-groups cache told moment handle key parts P none passes holds image there state k =
@@ -125,7 +125,7 @@ there-after told mid P p image there = (after p.steps image, p.applies.files ∙
 module _ (cache : Cache) (told mid : Told) (moment handle : ℕ) (key : List ℕ)
     (passes : IsNotRefused cache told moment handle key)
     (evicting : ForKept (KeepsState cache) told (λ state. Passes told mid (IsEvicting (evicted_for (room state [] (length key) 1)) state))) where
-  -- at a word at which room is made it may be stopped
+  -- at a word at which space is made it may crash
   room-stop : (image i : Image) (state : State) → told.files ≡ Some image → KeepsState cache state image → IsEvicting (evicted_for (room state [] (length key) 1)) state i → MayStop state moment (to_create handle key) i
   room-stop image i state there k e = stop-evicted state moment (to_create handle key) e.first e.others i k.kept.entries.valid (record { passes = passes image there state k; groups = evicted-is moment handle key state ∙ e.split }) e.finds
 
@@ -159,7 +159,7 @@ module _ (cache : Cache) (told mid : Told) (moment handle : ℕ) (key : List ℕ
           let at = there-after told mid (MayStop state moment (to_create handle key)) (room-stops image there state k) image there in
           does at.0 at.1 state (ready image at.0 state there at.1 k)
 
-    -- a folder that tells its files gives no damage
+    -- an observable folder reports no corruption
     pub whole-untold : {A : Type 0} (r : Result A Fault) → (ForSome mid.files (IsReadyForSome new handle key) → IfDamaged r (λ _. mid.files ≡ None)) → ForSome told.files (KeepsAny cache) → IfDamaged r (λ _. told.files ≡ None)
     whole-untold r untold some = untold-by r told.files (λ image there. if-damaged r image there (untold (ready-for-some image there (some image there)))) where
       clash : {x : Image} → ◌≡◌ {A = Option Image} None (Some x) → ⊥

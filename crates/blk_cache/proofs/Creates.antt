@@ -38,18 +38,18 @@ use Rattle.blk_cache.proofs.NamedObjects.{IsOneMore, count-more, named-new, name
 
 -- ---- slots
 
--- what stands in a slot does so with one slot more behind
+-- what is in a slot is so with one slot more at the end
 push-before : {A : Type 0} (slots : List (Option A)) (slot : Option A) (n : ℕ) (x : A) → get_or slots n None ≡ Some x → get_or (slots ++ slot ∷ []) n None ≡ Some x
 push-before {A} [] slot n x e = absurd (let c : ◌≡◌ {A = Option A} None (Some x) = e in cc)
 push-before {A} (s ∷ slots) slot zero x e = e
 push-before {A} (s ∷ slots) slot (suc n) x e = push-before slots slot n x e
 
--- behind the last slot there is nothing
+-- after the last slot there is nothing
 past-last : {A : Type 0} (slots : List (Option A)) → get_or slots (length slots) None ≡ None
 past-last [] = refl
 past-last (s ∷ slots) = past-last slots
 
--- a number that stands in no slot
+-- a number that is in no slot
 not-any : (slots : List (Option ℕ)) (n : ℕ) → ((name : ℕ) → slice_index_or slots name None ≡ Some n → ⊥) → list_any (is_number n) slots ≡ false
 not-any [] n none = refl
 not-any (None ∷ slots) n none = not-any slots n (λ name. none (suc name))

@@ -26,7 +26,7 @@ use Rattle.blk_items.specs.DoomingObjects.{IsDoomed}
 use Rattle.blk_cache.proofs.BoundObjects.{open-is-named}
 use Rattle.blk_cache.proofs.DoomedNames.{bound-after, named-after, open-same}
 
--- what names are bound to stands as before, where a record's object is marked as doomed
+-- what names are bound to is valid as before, where a record's object is marked as doomed
 pub doomed-stand : (files : BlockFiles) (bindings : Bindings) → AreBoundAmong files bindings → (entry : ℕ) → AreBoundAmong files (with_change with_doom entry bindings)
 doomed-stand files bindings stand entry name c here = by (binding_of bindings name) refl (sym (binding_of-change with_doom entry bindings name) ∙ here) where
   one : (b : Binding) → binding_of bindings name ≡ Some b → (t : Bool) → (if t then with_doom b else b) ≡ c → (is_node_among files c.node ≡ true) × (is_record_among files c.entry ≡ true)

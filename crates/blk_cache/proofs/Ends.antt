@@ -39,7 +39,7 @@ free-unnamed : (cache : Cache) (state : State) (image : Image) → KeepsState ca
 free-unnamed cache state image k free number =
     none-among state.names number (λ i. free-named state k.layout (named_by state i) (subst (λ (o : Option Binding). IsBoundAs state k.layout (named_by state i) o) (free i) (k.names i)))
 
--- then it is mended
+-- then it is repaired
 module _ (cache : Cache) (state : State) (from image : Image) (k : KeepsState cache state from) (free : AreAllFree cache.handles) (outside : SameOutside (one_word Index 32) from image) where
   was : IsMended from
   was = sound-mended from (kept-sound state k.layout from k.kept (unnamed-rests state k.kept.entries.valid (free-unnamed cache state from k free)))

@@ -36,12 +36,12 @@ module _ (moment : ℕ) (request : Request) (cache : Cache) (told : Told) (passe
   pub passed-says : (failed_before failed : Bool) (old new : Option (List ℕ)) → ForKept (KeepsState cache) told (λ state. Prints failed_before failed old new (evicted_text (evicted moment request state))) → SaysEvicted cache told moment request failed_before failed old new
   passed-says failed_before failed old new prints image there state k = subst (λ (groups : List Group). Prints failed_before failed old new (evicted_text groups)) (sym (passed-groups moment request state (passes image there state k))) (prints image there state k)
 
-  -- or a front of it
+  -- or a prefix of it
   pub passed-front : (old new : Option (List ℕ)) → ForKept (KeepsState cache) told (λ state. Appends old new (evicted_text (evicted moment request state))) → SaysFront cache told moment request old new
   passed-front old new front image there state k = subst (λ (groups : List Group). Appends old new (evicted_text groups)) (sym (passed-groups moment request state (passes image there state k))) (front image there state k)
 
   module _ (mid : Told) (evicting : ForKept (KeepsState cache) told (λ state. Passes told mid (IsEvicting (evicted moment request state) state))) where
-    -- at a word at which it evicts it may be stopped
+    -- at a word at which it evicts it may crash
     pub evicting-stops : MayStopAtEach (KeepsState cache) told mid moment request
     evicting-stops image there state k =
         let may : (i : Image) → IsEvicting (evicted moment request state) state i → MayStop state moment request i
@@ -61,7 +61,7 @@ module _ (moment : ℕ) (request : Request) (cache : Cache) (told : Told) (passe
             let at = there-after told mid (MayStop state moment request) (evicting-stops image there state k) image there in
             does at.0 at.1 state (ready image at.0 state there at.1 k)
 
-      -- a folder that tells its files gives no damage
+      -- an observable folder reports no corruption
       pub then-untold : {A : Type 0} (r : Result A Fault) → (((from : Image) → mid.files ≡ Some from → (state : State) × Ready state from) → IfDamaged r (λ _. mid.files ≡ None)) → ForSome told.files (KeepsAny cache) → IfDamaged r (λ _. told.files ≡ None)
       then-untold r untold some = untold-by r told.files (λ image there.
           let k = some image there in

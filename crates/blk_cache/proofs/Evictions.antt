@@ -44,7 +44,7 @@ use Rattle.blk_items.proofs.RoomCounts.{counted-less}
 use Rattle.blk_items.proofs.RoomGroups.{covered-one, last-next, nothing-more, of-named-stay, others-next, pinned-before, without-none}
 use Rattle.blk_items.proofs.RoomTexts.{appends-after, appends-longer, none-printed, printed-on}
 
--- ---- what stays behind the group that goes
+-- ---- what stays after the group that is evicted
 
 clash : true ≡ false → ⊥
 clash h = cc
@@ -254,7 +254,7 @@ module _ (enough : State → Bool) (state : State) (covered : List Item) (parts 
     pub next-passes : (mid later_now : Told) → mid ≡ now → Passes mid later_now (FindsEither between (without (group ∷ []) between)) → Passes told later_now (IsEvicting (evicted_until enough state covered) state)
     next-passes mid later_now same more = passes_then h.passes (passes_stayed same (passes_weaker more either-is either-is))
 
-    -- where it is being evicted, a front of the text
+    -- where it is being evicted, a prefix of the text
     pub next-front : (w2 : Option (List ℕ)) → (failed ≡ true → w2 ≡ w1) → Appends w1 w2 (evicted_text (group ∷ [])) → Appends w0 w2 (evicted_text (evicted_until enough state covered))
     next-front w2 quiet more =
         let so : Appends w0 w2 (evicted_text h.first ++ evicted_text (group ∷ [])) = appends-after failed_before failed w0 w1 w2 (evicted_text h.first) (evicted_text (group ∷ [])) h.prints quiet more in
@@ -292,7 +292,7 @@ module _ (enough : State → Bool) (state : State) (covered : List Item) (parts 
           passes = next-passes mid later_now same more;
         }
 
--- ---- damages
+-- ---- failed checks
 
 any-damaged : {A : Type 0} (result : Result A Fault) (P : Damage → Type 0) → ((damage : Damage) → P damage) → IfDamaged result P
 any-damaged (Ok x) P all = tt
@@ -302,7 +302,7 @@ any-damaged (Err (Damaged damage)) P all = all damage
 none-some : (image : Image) → ◌≡◌ {A = Option Image} (Some image) None → ⊥
 none-some image e = cc
 
--- a call on a folder that tells nothing more than one that told its files before, and tells them still
+-- a call on a folder that tells nothing more than on one that told its files before, and tells them still
 pub untold-on : {A : Type 0} (result : Result A Fault) (told now : Told) (P : Image → Type 0) → (told.files ≡ None → now.files ≡ None) → ((from : Image) → told.files ≡ Some from → (image : Image) × (now.files ≡ Some image) × P image)
     → (ForSome now.files P → IfDamaged result (λ _. now.files ≡ None)) → IfDamaged result (λ _. told.files ≡ None)
 untold-on {A} result told now P silent holds call = go told.files refl where
@@ -312,7 +312,7 @@ untold-on {A} result told now P silent holds call = go told.files refl where
       let h = holds from e in
       if_damaged_weaker result (λ _. now.files ≡ None) (λ _. told.files ≡ None) (λ damage none. absurd (none-some h.0 (sym h.1 ∙ none))) (call (λ image there. subst P (some_inj (sym h.1 ∙ there)) h.2))
 
--- a call that gives no damage where its premise holds
+-- a call that reports no corruption where its premise holds
 pub untold-where : {A : Type 0} (result : Result A Fault) (told : Told) (P : Image → Type 0) → ForSome told.files P → ForSome told.files (λ from. P from → IfDamaged result (λ _. told.files ≡ None)) → IfDamaged result (λ _. told.files ≡ None)
 untold-where {A} result told P holds call = go told.files refl where
   go : (o : Option Image) → told.files ≡ o → IfDamaged result (λ _. told.files ≡ None)

@@ -36,7 +36,7 @@ other-file before Index past = absurd (⊎_elim (λ (e : file_rank before < 0). 
 other-file before (Block n) past = refl
 other-file before (External n) past = refl
 
--- files that are listed behind one aren't the index
+-- files that are listed after one aren't the index
 listed-others : (image : Image) (before : File) (files : List File) (last : File) → Lists image before files last → AreOthers files
 listed-others image before [] last lists = All-nil (λ (file : File). same_file file Index ≡ false)
 listed-others image before (file ∷ files) last lists =

@@ -20,7 +20,7 @@ set-back {A = A} [] i x e = absurd (let c : ◌≡◌ {A = Option A} None (Some 
 set-back {A = A} (y ∷ xs) zero x e = ap (λ (o : Option A). o ∷ xs) (sym e)
 set-back {A = A} (y ∷ xs) (suc i) x e = ap (λ (l : List (Option A)). y ∷ l) (set-back xs i x e)
 
--- what stands in slots of which one was set
+-- what is in slots of which one was set
 pub set-cases : {A : Type 0} (xs : List (Option A)) (i : ℕ) (x : Option A) (n : ℕ) (y : A) → get_or (set xs i x) n None ≡ Some y → ((n ≡ i) × (x ≡ Some y)) ⊎ (get_or xs n None ≡ Some y)
 set-cases [] i x n y e = inr e
 set-cases (z ∷ xs) zero x zero y e = inl (refl, e)
@@ -61,7 +61,7 @@ count-more bindings name b within free =
 
 -- ---- named objects
 
--- behind a number, states that name the same but for it name the same
+-- after a number, states that name the same but for it name the same
 named-behind : (s t : State) (number : ℕ) → ((n : ℕ) → n ≢ number → is_named t n ≡ is_named s n) → (base : ℕ) → number < base → (slots : List (Option Object)) → named_from t base slots ≡ named_from s base slots
 named-behind s t number same base behind [] = refl
 named-behind s t number same base behind (None ∷ slots) = named-behind s t number same (base + 1) (omega (arith, behind)) slots

@@ -1,4 +1,4 @@
--- The note behind the steps of a command.
+-- The note after the steps of a command.
 use Rattle.std.proofs.Common.{◌≡◌, ℕ, [], ◌∷◌, Option, Some, None, inl, inr, refl, sym, ap, subst, ◌∙◌}
 use Rattle.std.specs.Option.{ForSome, option_map}
 use Rattle.spec_image.specs.Image.{Image}

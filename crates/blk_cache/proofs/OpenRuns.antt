@@ -1,4 +1,4 @@
--- What an opening leaves behind each of its parts.
+-- What an opening leaves after each of its parts.
 use Rattle.std.proofs.Common.{◌≡◌, ◌⊎◌, inl, inr, ⊎_elim, ℕ, Bool, true, List, [], length, Option, Some, None, Result, Err, refl, sym, ap, subst, ◌∙◌, lit≤}
 use Rattle.std.specs.Prelude.{All, IsErrAnd, IsTrue, if◌then◌else◌, unwrap_or}
 use Rattle.std.specs.Option.{ForSome, option_map}
@@ -111,7 +111,7 @@ made-opened entry made image opened un is left =
 pub made-can : (scan : Scan) (image : Image) → IsJustMade image → IsEmptyScan scan → IsRepairable scan image
 made-can scan image made empty = made-repairable made.0 image scan made.1 empty
 
--- the empty scan stands among any block files
+-- the empty scan is valid among any block files
 pub empty-stands : (files : BlockFiles) (scan : Scan) → IsEmptyScan scan → StandAmong files scan
 empty-stands files scan empty = record {
   walked = subst (All (λ (w : ℕ). is_node_among files w ≡ true)) (sym empty.walked) (All-nil _);
@@ -143,7 +143,7 @@ stayed-mid from there well same = breaks-none (IsMidRepair from) same (λ i is. 
 pub stayed-still : {a b : Told} (from : Image) → a.files ≡ Some from → b ≡ a → BreaksOff a b (HoldsStill from)
 stayed-still from there same = breaks-none (HoldsStill from) same (λ i is. subst (HoldsStill from) (some_inj (sym there ∙ is)) (record { usable = λ h. h; formed = λ h. h; found_same = refl }))
 
--- a call that passes tells nothing of a folder that tells nothing
+-- a call that passes leaves an opaque folder opaque
 pub passes-silent : {a b : Told} {P Q : Image → Type 0} → PassesTo a b P Q → a.files ≡ None → b.files ≡ None
 passes-silent passes none = passes.applies.files ∙ ap (option_map (after passes.steps)) none
 
@@ -160,7 +160,7 @@ repaired-either from either = either-weaker either (λ i mid. mid) (λ i repaire
 pub made-stands : (entry made image : Image) → IsUnfinished entry → IsJustMade made → StandsOpened made image → StandsOpened entry image
 made-stands entry made image un is stands limits = subst (λ (rows : List Row). StandsFor image (open_state rows limits)) (made-found made is ∙ sym (unfinished-found entry un)) (stands limits)
 
--- ---- damages
+-- ---- failed checks
 
 pub mending-damage : {B : Type 0} (q : Result B Fault) (e : Fault) (told : Told) (files : BlockFiles) → IsErrAnd q (λ (x : Fault). x ≡ e) → IfDamaged {A = Told} (Err e) (IsRepairDamage files told) → IfDamaged q (IsOpeningDamage told)
 mending-damage q e told files is cause =
@@ -172,20 +172,20 @@ loading-damage q e a b same is cause =
     let r : Result Told Fault = Err e in
     carried r q e (IsOpeningDamage b) refl is (if_damaged_weaker r (IsLoadDamage a) (IsOpeningDamage b) (λ damage h. inr (inl (subst (λ (t : Told). IsLoadDamage t damage) (sym same) h))) cause)
 
--- a damage that a folder gives only where it tells nothing
+-- a failed check that a folder reports only where it is opaque
 pub untold-on : {B : Type 0} (q : Result B Fault) (e : Fault) (a b : Told) → IsErrAnd q (λ (x : Fault). x ≡ e) → (b.files ≡ None → a.files ≡ None) → IfDamaged {A = Told} (Err e) (λ _. b.files ≡ None) → IfDamaged q (λ _. a.files ≡ None)
 untold-on q e a b is before cause =
     let r : Result Told Fault = Err e in
     carried r q e (λ _. a.files ≡ None) refl is (if_damaged_weaker r (λ _. b.files ≡ None) (λ _. a.files ≡ None) (λ damage none. before none) cause)
 
--- the block files of a well-formed folder give no damage
+-- the block files of a well-formed folder report no corruption
 pub load-untold : (e : Fault) (a : Told) → ForSome a.files IsWellFormed → ForSome a.files (LoadsAs (Err e)) → IfDamaged {A = Told} (Err e) (λ _. a.files ≡ None)
 load-untold fault.Device a well loaded = tt
 load-untold (fault.Damaged damage) a well loaded = untold_where a.files (λ i there. no (damage_of damage) (sym (loaded i there) ∙ blocks-formed i (well i there))) where
   no : (d : Damage) → ◌≡◌ {A = Option Damage} (Some d) None → ⊥
   no d e = cc
 
--- the first damage of a folder with a finished index, and of any
+-- the first failed check of a folder with a finished index, and of any
 pub first-of_load : (e : Fault) (files : Option Image) → ForSome files (LoadsAs (Err e)) → IfDamaged {A = Told} (Err e) (λ damage. ForSome files (λ from. IsFinished from → first_damage from ≡ Some (damage_of damage)))
 first-of_load fault.Device files loaded = tt
 first-of_load (fault.Damaged damage) files loaded = λ image there (fin : IsFinished image). first-behind image fin.undamaged ∙ loaded image there
@@ -200,7 +200,7 @@ loading-as e a b same cause = if_damaged_weaker {A = Told} (Err e) (IsLoadDamage
 pub looking-as : (e : Fault) (a b : Told) → b ≡ a → IfDamaged {A = Told} (Err e) (IsLookDamage a) → IfDamaged {A = Told} (Err e) (IsOpeningDamage b)
 looking-as e a b same cause = if_damaged_weaker {A = Told} (Err e) (IsLookDamage a) (IsOpeningDamage b) (λ damage h. inl (subst (λ (t : Told). IsLookDamage t damage) (sym same) h)) cause
 
--- a folder that tells its files tells them
+-- an observable folder tells its files
 pub told-some : {P : Type 0} (a : Told) (image : Image) → a.files ≡ Some image → a.files ≡ None → P
 told-some a image there none = absurd (no (sym there ∙ none)) where
   no : ◌≡◌ {A = Option Image} (Some image) None → ⊥
@@ -214,6 +214,6 @@ scanned-can files scan image well open_now told = record { well_formed = well; s
 pub untold-as : (e : Fault) (a b : Told) → b ≡ a → IfDamaged {A = Told} (Err e) (λ _. b.files ≡ None) → IfDamaged {A = Told} (Err e) (λ _. a.files ≡ None)
 untold-as e a b same cause = if_damaged_weaker {A = Told} (Err e) (λ _. b.files ≡ None) (λ _. a.files ≡ None) (λ damage none. sym (ap (λ (t : Told). t.files) same) ∙ none) cause
 
--- a damage that comes only of a folder that tells nothing says anything of one that tells its files
+-- a failed check that comes only of an opaque folder says anything of an observable one
 pub untold-says : (e : Fault) (a : Told) (old : Option Image) (P : blk.Damage → Image → Type 0) → ((image : Image) → old ≡ Some image → a.files ≡ Some image) → IfDamaged {A = Told} (Err e) (λ _. a.files ≡ None) → IfDamaged {A = Told} (Err e) (λ damage. ForSome old (P damage))
 untold-says e a old P handed cause = if_damaged_weaker {A = Told} (Err e) (λ _. a.files ≡ None) (λ damage. ForSome old (P damage)) (λ damage none image there. told-some a image (handed image there) none) cause

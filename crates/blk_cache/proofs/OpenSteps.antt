@@ -44,7 +44,7 @@ use Rattle.blk_items.specs.Looking.{IsLiveAt}
 use Rattle.blk_cache.proofs.Opens.{opened-keeps, used-node}
 use Rattle.blk_cache.proofs.Refusing.{name-below, name-free, not-refused}
 
--- what is found in a folder that tells its files
+-- what is found in an observable folder
 abbrev pub IsFoundIn : Told → List ℕ → Live → Type 0
 IsFoundIn told key found = ForSome told.files (λ image. (state : State) (layout : Layout) (unlinked : List ℕ) → KeepsUncounted state layout unlinked image → IsLiveAt state layout key found)
 

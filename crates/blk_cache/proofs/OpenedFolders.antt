@@ -56,7 +56,7 @@ next-some id = go ((id + 1) % 2 ^ 32 == 0) refl where
   go true is e = absurd (omega (arith, e))
   go false is e = let c : true ≡ false = sym (eq-eqb ((id + 1) % 2 ^ 32) 0 e) ∙ is in cc
 
--- all objects of an opened state are settled
+-- all objects of an opened state are clean
 all-settled : (rows : List Row) (limits : Bounds) → IsValidHolding rows → (number : ℕ) (object : Object) → object_at (open_state rows limits) number ≡ Some object → object.live ≡ true → object.settled ≡ false → ⊥
 all-settled rows limits valid number object here live unsettled =
     let held : IfSome (Some object) (λ o. (o.live && o.settled ≡ false) → is_named (open_state rows limits) number ≡ true) =

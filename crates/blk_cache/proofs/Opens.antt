@@ -66,7 +66,7 @@ module _ (cache : Cache) (state : State) (from : Image) (k : KeepsState cache st
   open-as-named : is_open cache.handles found.entry ≡ is_named state at.number
   open-as-named = open-is-named state k.layout [] from kept state.names cache.handles k.names at.number its-binding its-bound
 
-  -- where it isn't open it is settled
+  -- where it isn't open it is clean
   closed-settled : open_with cache.handles found.entry ≡ None → at.object.settled ≡ true
   closed-settled none = ⊎_elim
       (λ (h : at.object.settled ≡ true). h)

@@ -79,7 +79,7 @@ second-of false b p = absurd p
 abbrev counted_there : (ℕ × PartValue → ℕ) → List (ℕ × PartValue) → ℕ → ℕ
 counted_there f parts n = option_map_or (λ (v : PartValue). f (n, v)) (find nat_cmp n parts) 0
 
--- a number stands once
+-- a number occurs once
 not-again : (p : ℕ × PartValue) (parts : List (ℕ × PartValue)) → T (is_sorted nat_cmp (p ∷ parts)) → find nat_cmp p.0 parts ≡ None
 not-again p parts sorted = by (find nat_cmp p.0 parts) refl where
   same : eq_by_cmp nat_cmp p.0 p.0 ≡ true

@@ -70,7 +70,7 @@ pub read-refuses : (cache : Cache) (old now : Told) → now ≡ old → (moment 
 read-refuses cache old now stays moment handle stream offset count why refuses =
     refusals-done (KeepsState cache) old now moment (to_read handle stream offset count) why stays (λ image there state k. read-refused state moment handle stream offset count ∙ refuses image there state k)
 
--- ---- the state where items stand in another order
+-- ---- the state where items are in another order
 
 in-order-as : (state : State) (layout : Layout) (uses : List Item) (o : Option ℕ) (b : Option Binding) → IsBoundAs state layout o b → IsBoundAs (in_order uses state) layout o b
 in-order-as state layout uses None None n = n

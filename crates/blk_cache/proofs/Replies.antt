@@ -218,7 +218,7 @@ part-longer before old new a b part = record { silent = part.silent; front = app
 pub rows-and-end : (before between failed : Bool) (w0 w1 w2 : Option (List ℕ)) (given : Answer) (state : State) → Prints before between w0 w1 (flat_map row_line (rows state)) → Prints between failed w1 w2 (reply_text (answered given)) → Prints before failed w0 w2 (rows_text given state)
 rows-and-end before between failed w0 w1 w2 given state rows_are end_is = printed-on before between failed w0 w1 w2 (flat_map row_line (rows state)) (reply_text (answered given)) rows_are end_is
 
--- ---- what a cache keeps doesn't hang on its room for names
+-- ---- what a cache keeps doesn't depend on its buffers for names
 
 unfoldable pub kept-still : (old new : Cache) (state : State) (image : Image) → OnlyRoomChanges old new → KeepsState old state image → KeepsState new state image
 kept-still old new state image same k = record {

@@ -1,4 +1,4 @@
--- What is evicted where room is made.
+-- What is evicted where space is made.
 use Rattle.std.proofs.Common.{◌≡◌, ℕ, Bool, true, false, List, [], ◌∷◌, Option, Some, refl, sym, ap, subst, ◌∙◌}
 use Rattle.std.specs.Prelude.{◌+◌, ◌-◌, ◌/◌, ◌&&◌, ◌||◌, ◌==◌, if◌then◌else◌, nat_le, reverse}
 use Rattle.spec_image.specs.Image.{Image}
@@ -36,7 +36,7 @@ pub until-met : (bytes more : ℕ) (state : State) (covered : List Item) → evi
 unfolding evicted_until
 until-met bytes more state covered = ap (λ (enough : List Group → Bool). shortest enough [] (groups_from_back (is_pinned state covered) (reverse state.uses))) (λ i groups. met-same bytes more groups state i)
 
--- where there is room and it is wanted, this is evicted
+-- where there is space and it is needed, this is evicted
 pub wanted-goes : (state : State) (covered : List Item) (bytes more : ℕ) → is_full (room state covered bytes more) ≡ false → ((bytes == 0 && more == 0) || fits state.limits.max_bytes bytes more state) ≡ false → evicted_until (is_met (goal.Room bytes more)) state covered ≡ evicted_for (room state covered bytes more)
 wanted-goes state covered bytes more passes wanted = until-met bytes more state covered ∙ sym (ap (λ (b : Bool). if b then [] else evicted_until (fits (low state) bytes more) state covered) wanted) ∙ sym (room-made state covered bytes more passes)
 
@@ -44,7 +44,7 @@ wanted-goes state covered bytes more passes wanted = until-met bytes more state 
 pub none-goes : (state : State) (covered : List Item) (bytes more : ℕ) → is_full (room state covered bytes more) ≡ false → ((bytes == 0 && more == 0) || fits state.limits.max_bytes bytes more state) ≡ true → evicted_for (room state covered bytes more) ≡ []
 none-goes state covered bytes more passes wanted = room-made state covered bytes more passes ∙ ap (λ (b : Bool). if b then [] else evicted_until (fits (low state) bytes more) state covered) wanted
 
--- nothing is evicted where there is no room
+-- nothing is evicted where there is no space
 pub full-none : (state : State) (covered : List Item) (bytes more : ℕ) → is_full (room state covered bytes more) ≡ true → evicted_for (room state covered bytes more) ≡ []
 full-none state covered bytes more is = go (room state covered bytes more) is where
   go : (r : Room) → is_full r ≡ true → evicted_for r ≡ []

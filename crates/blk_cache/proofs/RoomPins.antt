@@ -1,4 +1,4 @@
--- What is pinned where no part is covered, and where there is room.
+-- What is pinned where no part is covered, and where there is space.
 use Rattle.std.proofs.Common.{◌≡◌, ℕ, suc, ◌+◌, Bool, true, false, not, ◌&&◌, ◌||◌, cond, List, [], ◌∷◌, length, Some, None, Option, IfSome, refl, sym, ap, subst, ◌∙◌, arith, get_or}
 use Rattle.std.specs.Bool.{◌==◌}
 use Rattle.std.specs.List.{filter, list_any, sum_by}
@@ -81,7 +81,7 @@ named-pinned state valid = record { bytes = total-from state 0 state.objects hel
   held : HeldFrom state 0 state.objects
   held k = subst (λ n. IfSome (object_at state k) (λ object. (object.live && object.settled ≡ false) → is_named state n ≡ true)) (let e : k ≡ 0 + k = omega arith in e) (valid.held k)
 
--- ---- room
+-- ---- space
 
 abbrev decided : Bool → Bool → Bool → List Group → Room
 decided none over all gone = cond none (after []) (cond over full (cond all (after []) (after gone)))

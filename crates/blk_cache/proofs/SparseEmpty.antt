@@ -69,7 +69,7 @@ module _ (state : State) (moment handle offset : ℕ) (layout : Layout) (found :
       ∙ ap (λ (o : Object). set state.objects t.its.number (Some o)) same-object
       ∙ set-same state.objects t.its.number object t.its.names.here
 
-  -- it wants no room
+  -- it needs no space
   room-is : room_for moment (to_sparse_write handle offset []) state ≡ after []
   unfolding room_for room
   room-is =

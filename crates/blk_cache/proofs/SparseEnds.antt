@@ -1,4 +1,4 @@
--- A SparseWrite of some bytes, from the unsettling of its object.
+-- A SparseWrite of some bytes, from where its object becomes dirty.
 use Rattle.std.proofs.Common.{◌≡◌, ⊎_elim, inl, inr, ℕ, zero, suc, ◌+◌, ◌<◌, ◌≤◌, ◌^◌, ◌%◌, Bool, true, false, List, [], ◌∷◌, length, map, set, get_or, Option, Some, None, Result, refl, sym, ap, ap₂, subst, ◌∙◌, arith}
 use Rattle.std.specs.Prelude.{◌⊎◌, IsSome}
 use Rattle.std.specs.Option.{ForSome}
@@ -54,7 +54,7 @@ made moment object target is signed = by target.plain refl where
   by true e = ap (made_sparse moment) (is.of_plain e).0 ∙ ap sparse (sym (signed e))
   by false e = ap (made_sparse moment) (is.of_sparse e)
 
--- what it is after some bytes, and isn't settled
+-- what it is after some bytes, and is dirty
 pub after-is : (moment : ℕ) (object : Object) (target : Target) (offset : ℕ) (bytes : List ℕ) → 1 ≤ length bytes → IsTargetOf object target → IsSignedBy moment target → sparse_after moment object offset bytes ≡ object_written (record object { settled = false }) (signature_to target) offset bytes
 unfolding sparse_after
 after-is moment object target offset [] some is signed = absurd (omega (arith, some))
@@ -94,7 +94,7 @@ module _ (state : State) (moment handle offset : ℕ) (bytes : List ℕ) (some :
     later-names : Names later handle number loose
     later-names = record { names = names.names; here = set-at base number object loose names.here }
 
-    -- it has the effect of the bytes on the object once it isn't settled
+    -- it has the effect of the bytes on the object once it is dirty
     effect-is : effect moment (to_sparse_write handle offset bytes) base ≡ sparse_state later number loose (signature_to target) offset bytes
     effect-is =
         effect-same moment handle offset bytes base
@@ -128,7 +128,7 @@ module _ (state : State) (moment handle offset : ℕ) (bytes : List ℕ) (some :
       within = let same = same-total in omega (arith, within, same);
     }
 
-    -- while the object is unsettled, and as long as what is at rest then is found
+    -- while the object is dirty, and as long as the durable contents then are recovered
     pub sparse-either-stops : (image : Image) → Finds (rest base) image ⊎ Finds (rest later) image → MayStop state moment (to_sparse_write handle offset bytes) image
     sparse-either-stops image finds = by bytes refl where
       by : (bs : List ℕ) → bytes ≡ bs → MayStop state moment (to_sparse_write handle offset bytes) image
@@ -141,7 +141,7 @@ module _ (state : State) (moment handle offset : ℕ) (bytes : List ℕ) (some :
 -- ---- the moments
 
 module _ (cache : Cache) (moment handle offset : ℕ) (bytes : List ℕ) (some : 1 ≤ length bytes) (target : Target) (more_bytes more_items : ℕ) (old mid : Told) where
-  -- what is at rest once it is unsettled, or before
+  -- the durable contents once it is dirty, or before
   abbrev Either : State → ℕ → Object → Image → Type 0
   Either state number object image = Finds (rest state) image ⊎ Finds (rest (marked state number object false)) image
 
@@ -188,7 +188,7 @@ module _ (cache : Cache) (moment handle offset : ℕ) (bytes : List ℕ) (some :
                   (stored m.0 m.1 (then-state from here state ready) (kept-then from here state ready m.0 m.1) (can-then from here state ready) i there);
             }
 
--- ---- damages
+-- ---- failed checks
 
 -- a cache that is ready keeps a state
 pub sparse-ready-any : (cache : Cache) (handle offset : ℕ) (bytes : List ℕ) (target : Target) (more_bytes more_items : ℕ) (image : Image) → IsReadyToStoreSome cache handle offset bytes target more_bytes more_items image → KeepsAny cache image

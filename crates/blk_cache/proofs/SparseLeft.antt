@@ -1,4 +1,4 @@
--- What a SparseWrite raises once all that it evicts is out, and how much room there is then.
+-- What a SparseWrite raises once all that it evicts is out, and how much space there is then.
 use Rattle.std.proofs.Common.{◌≡◌, ⊎_elim, ℕ, ◌+◌, ◌<◌, ◌≤◌, ◌^◌, Bool, true, false, not, cond, List, [], ◌∷◌, length, map, get_or, Option, Some, None, sym, ap, ap₂, subst, ◌∙◌, arith}
 use Rattle.std.specs.Prelude.{◌&&◌, ◌==◌, IfSome}
 use Rattle.std.specs.List.{AllByRecursion, list_any}
@@ -106,7 +106,7 @@ module _ (state : State) (valid : IsValidState state) (moment handle offset : �
       (same-parts state valid number object names.here named ns groups loose live) more_bytes more_items was in
       raised-by base moment handle number after found offset bytes more_bytes more_items names-after is-after signed some now
 
-  -- ---- room
+  -- ---- space
 
   module _ (passes : refused moment (to_sparse_write handle offset bytes) state ≡ None) (max_bytes max_items : ℕ) (limits : state.limits ≡ record { max_bytes = max_bytes; max_items = max_items }) (few_bytes : max_bytes ≤ 2147483647) (few_items : max_items ≤ 131072)
       (light : total state < 2 ^ 64) (few_before : items state ≤ 131072) where

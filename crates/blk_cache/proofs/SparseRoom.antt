@@ -1,4 +1,4 @@
--- The room that a SparseWrite wants, and why it is refused.
+-- The space that a SparseWrite needs, and why it is refused.
 use Rattle.std.proofs.Common.{◌≡◌, ℕ, ◌-◌, Bool, true, false, not, List, [], ◌∷◌, length, Option, Some, None, refl, sym, ap, ap₂, ◌∙◌, arith}
 use Rattle.std.specs.Prelude.{◌==◌, ◌&&◌, if◌then◌else◌, nat_lt}
 use Rattle.blk_model.specs.Effects.{effect, object_of}
@@ -65,7 +65,7 @@ module _ (state : State) (moment handle offset : ℕ) (bytes : List ℕ) where
     unless-full : (not (is_sparse object.shape) && not (has_one_stream object)) ≡ false → refused moment (to_sparse_write handle offset bytes) state ≡ (if no_room moment (to_sparse_write handle offset bytes) state then Some refusal.Full else None)
     unless-full may = late-is passes ∙ ap (λ (e : Bool). two e (no_room moment (to_sparse_write handle offset bytes) state)) (fifth-is ∙ may)
 
-  -- an object that is named so is refused for want of room alone
+  -- an object that is named so is refused for lack of space alone
   pub wants-room : (layout : Layout) (found : Target) → IsTargetNamed state layout moment handle offset (length bytes) found → refused moment (to_sparse_write handle offset bytes) state ≡ (if no_room moment (to_sparse_write handle offset bytes) state then Some refusal.Full else None)
   wants-room layout found t = unless-full t.its.number t.its.object t.its.names t.passes (by found.plain refl) where
     by : (b : Bool) → found.plain ≡ b → (not (is_sparse t.its.object.shape) && not (has_one_stream t.its.object)) ≡ false
@@ -75,7 +75,7 @@ module _ (state : State) (moment handle offset : ℕ) (bytes : List ℕ) where
         ap (λ (b : Bool). not (is_sparse t.its.object.shape) && not b) one ∙ and-none (not (is_sparse t.its.object.shape))
     by false e = ap (λ (s : Shape). not (is_sparse s) && not (has_one_stream t.its.object)) (t.may.of_sparse e)
 
-  -- ---- room
+  -- ---- space
 
   evicts : evicted moment (to_sparse_write handle offset bytes) state ≡ evicted_for (room_for moment (to_sparse_write handle offset bytes) state)
   unfolding evicted
@@ -86,7 +86,7 @@ module _ (state : State) (moment handle offset : ℕ) (bytes : List ℕ) where
   room-found passes = let p = none_comes (refusals moment (to_sparse_write handle offset bytes) state) passes in p.1.1.1.1.1.0
 
   module _ (more_bytes more_items : ℕ) (raised : IsRaisedBy state moment handle offset bytes more_bytes more_items) where
-    -- it wants room for what it raises, beside what it covers
+    -- it needs space for what it raises, beside what it covers
     pub room-is : room_for moment (to_sparse_write handle offset bytes) state ≡ room state (covered (to_sparse_write handle offset bytes) state) more_bytes more_items
     unfolding room_for
     room-is =
@@ -96,7 +96,7 @@ module _ (state : State) (moment handle offset : ℕ) (bytes : List ℕ) where
         (let e : total (effect moment (to_sparse_write handle offset bytes) state) - total state ≡ more_bytes = omega (arith, one) in e)
         (let e : items (effect moment (to_sparse_write handle offset bytes) state) - items state ≡ more_items = omega (arith, other) in e)
 
-    -- and evicts what has to go for that
+    -- and evicts what is needed for that
     pub groups-are : evicted moment (to_sparse_write handle offset bytes) state ≡ evicted_for (room state (covered (to_sparse_write handle offset bytes) state) more_bytes more_items)
     groups-are = evicts ∙ ap evicted_for room-is
 
@@ -110,6 +110,6 @@ module _ (state : State) (moment handle offset : ℕ) (bytes : List ℕ) where
       pub not-refused : is_full (room state (covered (to_sparse_write handle offset bytes) state) more_bytes more_items) ≡ false → refused moment (to_sparse_write handle offset bytes) state ≡ None
       not-refused free = by-room ∙ ap (λ (b : Bool). if b then Some refusal.Full else None) free
 
-    -- where it isn't refused there is room
+    -- where it isn't refused there is space
     pub has-room : refused moment (to_sparse_write handle offset bytes) state ≡ None → is_full (room state (covered (to_sparse_write handle offset bytes) state) more_bytes more_items) ≡ false
     has-room passes = sym (ap is_full room-is) ∙ room-found passes

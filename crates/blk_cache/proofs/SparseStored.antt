@@ -1,4 +1,4 @@
--- What a cache keeps once sparse data are written to an open object that isn't settled.
+-- What a cache keeps once sparse data are written to an open object that is dirty.
 use Rattle.std.proofs.Common.{◌≡◌, ◌≢◌, ⊎_elim, ℕ, ◌+◌, ◌<◌, ◌≤◌, ◌^◌, Bool, true, false, not, List, [], ◌∷◌, length, set, Option, Some, None, Result, T, refl, sym, ap, ap₂, subst, ◌∙◌, arith}
 use Rattle.std.specs.Prelude.{IfSome, if◌then◌else◌, sum_by}
 use Rattle.std.specs.Bool.{passes}

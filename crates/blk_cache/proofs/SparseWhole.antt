@@ -34,7 +34,7 @@ use Rattle.blk_cache.proofs.SparseAsks.{goes-bound}
 use Rattle.blk_cache.proofs.SparseLeft.{after, fits-after, is-after, names-after, raised-after}
 use Rattle.blk_cache.proofs.SparseRoom.{groups-are, has-room, not-refused, refused-full}
 
--- ---- a cache of which only the room for names changes
+-- ---- a cache of which only the buffers for names change
 
 pub room-back : (old new : Cache) → OnlyRoomChanges old new → OnlyRoomChanges new old
 room-back old new o = record { limits = sym o.limits; items = sym o.items; bytes = sym o.bytes; open_bytes = sym o.open_bytes; handles = sym o.handles; files = sym o.files; mark = sym o.mark; notes = sym o.notes }
@@ -55,11 +55,11 @@ module _ (old new : Cache) (others : OnlyRoomChanges old new) (told : Told) wher
   unfolding kept-still
   for-layouts P holds image there state k = holds image there state (kept-still new old state image (room-back old new others) k)
 
--- ---- want of room
+-- ---- lack of space
 
 module _ (cache : Cache) (told : Told) (moment handle offset : ℕ) (bytes : List ℕ) (found : Target) (rise : Rise) (asks : AsksToStore cache told moment handle offset bytes found rise) (result : Bool)
     (full : (state : State) (image : Image) (k : KeepsState cache state image) (covers : List Item) → AreCovered state k.layout covers rise.parts → result ≡ is_full (room state covers rise.bytes rise.items)) where
-  -- it is refused where there is no room
+  -- it is refused where there is no space
   pub full-refused : result ≡ true → ForKept (KeepsState cache) told (λ state. refused moment (to_sparse_write handle offset bytes) state ≡ Some refusal.Full)
   full-refused over image there state k =
       let a : IsToStore state k.layout moment handle offset bytes found rise = asks image there state k in
@@ -71,7 +71,7 @@ module _ (cache : Cache) (told : Told) (moment handle offset : ℕ) (bytes : Lis
       let a : IsToStore state k.layout moment handle offset bytes found rise = asks image there state k in
       (a, not-refused state moment handle offset bytes rise.bytes rise.items a.rises.raised k.layout found a.named (sym (full state image k (covered (to_sparse_write handle offset bytes) state) a.rises.parts) ∙ free))
 
--- ---- once there is room
+-- ---- once there is space
 
 module _ (cache : Cache) (told : Told) (moment handle offset : ℕ) (bytes : List ℕ) (found : Target) (rise : Rise) (has : HasRoomToStore cache told moment handle offset bytes found rise) where
   pub goes-on : ForKept (KeepsState cache) told (λ state. refused moment (to_sparse_write handle offset bytes) state ≡ None)

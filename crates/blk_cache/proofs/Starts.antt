@@ -21,7 +21,7 @@ use Rattle.blk_cache.proofs.Unnamed.{few-unnamed, none-bound, none-named, none-o
 pub all-free : (bindings : Bindings) → bindings ≡ all_free → AreAllFree bindings
 all-free bindings is name = ap (λ (bs : Bindings). binding_of bs name) is ∙ none-bound name
 
--- what is bound to no name stands anywhere
+-- what is bound to no name is valid anywhere
 pub none-stand : (files : BlockFiles) (bindings : Bindings) → bindings ≡ all_free → AreBoundAmong files bindings
 none-stand files bindings is name binding here = absurd (no (sym (all-free bindings is name) ∙ here)) where
   no : ◌≡◌ {A = Option Binding} None (Some binding) → ⊥

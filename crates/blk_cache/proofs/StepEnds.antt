@@ -1,4 +1,4 @@
--- How a step ends behind its note, in the reply.
+-- How a step ends after its note, in the reply.
 use Rattle.std.proofs.Common.{◌≡◌, ◌∙◌, ◌⊎◌, inl, inr, ℕ, List, Option, None, Some, Result, Ok, Err, refl, sym, ap, subst}
 use Rattle.std.specs.Prelude.{IsErrAnd}
 use Rattle.std.specs.Option.{ForSome}
@@ -46,12 +46,12 @@ any-device (Err step_fault.Device) P h = h
 any-device (Err step_fault.Sink) P h = tt
 any-device (Err (step_fault.Damaged damage)) P h = tt
 
--- a folder tells nothing, or its files
+-- a folder is opaque, or tells its files
 pub by-files : (P : Type 0) (files : Option Image) → (files ≡ None → P) → ((image : Image) → files ≡ Some image → P) → P
 by-files P None none some = none refl
 by-files P (Some image) none some = some image refl
 
--- ---- the state behind the reply
+-- ---- the state after the reply
 
 module _ (noted last : Cache) (mid now : Told) (others : OnlyRoomChanges noted last) (stays : now ≡ mid) where
   pub kept-behind : (state : State) → ForSome mid.files (KeepsState noted state) → ForSome now.files (KeepsState last state)
@@ -70,6 +70,6 @@ module _ {A : Type 0} (result : Result A StepFault) (cache : Cache) (told now : 
   pub failed-before : SaysFront cache told moment request old new → Unanswered
   failed-before front = any-device result (SaysFront cache told moment request old new ⊎ ForKept (KeepsState cache) told (IsNoted told now moment request number)) (inl front)
 
-  -- and behind it the command is noted
+  -- and after it the command is noted
   pub failed-behind : ForKept (KeepsState cache) told (IsNoted told now moment request number) → Unanswered
   failed-behind noted = any-device result (SaysFront cache told moment request old new ⊎ ForKept (KeepsState cache) told (IsNoted told now moment request number)) (inr noted)

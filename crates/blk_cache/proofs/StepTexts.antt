@@ -1,4 +1,4 @@
--- What a step prints: the lines of what goes, and then its reply.
+-- What a step prints: the lines of what is evicted, and then its reply.
 use Rattle.std.proofs.Common.{◌≡◌, ℕ, Bool, false, List, [], ◌++◌, Option, Some, None, refl, sym, ap, subst, ◌∙◌, append_assoc}
 use Rattle.std.specs.Option.{ForSome, option_map}
 use Rattle.spec_image.specs.Image.{Image}
@@ -72,7 +72,7 @@ module _ (cache : Cache) (told : Told) (moment : ℕ) (request : Request) (quiet
 -- The whole text.
 
 module _ (old done : Cache) (told mid now : Told) (moment : ℕ) (request : Request) (stops : MayStopAtEach (KeepsState old) told mid moment request) (same : now.files ≡ mid.files) where
-  -- a folder that tells its files still does
+  -- an observable folder still is
   still-told : (state : State) (image : Image) → told.files ≡ Some image → KeepsState old state image → (i : Image) × (now.files ≡ Some i)
   still-told state image there k =
       let p = stops image there state k in
@@ -112,7 +112,7 @@ module _ (old done : Cache) (told mid now : Told) (moment : ℕ) (request : Requ
       front-printed part image there state k =
           (part-on false between w0 w1 w2 (evicted_first (step state moment request)) (reply_text (step state moment request).reply) (says image there state k) (replied (PrintsInPart between w1 w2) part image there state k)).front
 
--- a front of what is evicted is one of the whole text
+-- a prefix of what is evicted is one of the whole text
 more-behind : (a b : List ℕ) (old new : Option (List ℕ)) → Appends old new a → Appends old new (a ++ b)
 more-behind a b old new front = record { front = front.front; rest = front.rest ++ b; split = ap (λ (l : List ℕ). l ++ b) front.split ∙ append_assoc front.front front.rest b; written = front.written }
 

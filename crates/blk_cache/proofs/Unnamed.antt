@@ -62,7 +62,7 @@ none-from state number (Some object ∷ slots) all = rw (all number) (none-from 
 pub none-named : (state : State) → ((n : ℕ) → is_named state n ≡ false) → named_objects state ≡ []
 none-named state all = none-from state 0 state.objects all
 
--- and all its objects are live and settled
+-- and all its objects are live and clean
 pub unnamed-rests : (state : State) → IsValidState state → ((n : ℕ) → is_named state n ≡ false) → AllAreAtRest state
 unnamed-rests state valid all number = go (object_at state number) (valid.held number) where
   both : (b : Bool) → (b ≡ false → is_named state number ≡ true) → b ≡ true

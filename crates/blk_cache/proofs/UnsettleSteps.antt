@@ -1,4 +1,4 @@
--- An object of a handle is unsettled, from the moments of its dirty word.
+-- An object of a handle is dirty, from the moments of its dirty word.
 use Rattle.std.proofs.Common.{◌≡◌, ℕ, ◌<◌, ◌^◌, Bool, true, false, not, [], inl, Option, Some, None, Result, refl, sym, ap, subst, ◌∙◌}
 use Rattle.std.specs.Prelude.{◌⊎◌, ◌==◌, IfSome, IsSome, OnOk, if◌then◌else◌}
 use Rattle.std.specs.Option.{ForSome, option_map}
@@ -34,13 +34,13 @@ use Rattle.blk_cache.proofs.BoundObjects.{number-of}
 use Rattle.blk_cache.proofs.ChangedObjects.{bound-to, its-object}
 use Rattle.blk_cache.proofs.Unsettles.{at-node, marked-same, node-is, unsettled-keeps, unsettling-finds}
 
--- what is at rest is found, before and after
+-- the durable contents are recovered, before and after
 abbrev Either : State → ℕ → Object → Image → Type 0
 Either state number object image = Finds (rest state) image ⊎ Finds (rest (marked state number object false)) image
 
 -- ---- names
 
--- names with other marks stand where they stood
+-- names with other marks are valid where they were
 pub change-stands : (files : BlockFiles) (bindings : Bindings) (doomed dirty : Bool) (entry : ℕ) → AreBoundAmong files bindings → AreBoundAmong files (with_change (with_status doomed dirty) entry bindings)
 change-stands files bindings doomed dirty entry stand name binding is = by (binding_of bindings name) refl (sym (binding_of-change (with_status doomed dirty) entry bindings name) ∙ is) where
   with-marks : (d : Binding) (t : Bool) → (is_node_among files d.node ≡ true) × (is_record_among files d.entry ≡ true) → (is_node_among files (if t then with_status doomed dirty d else d).node ≡ true) × (is_record_among files (if t then with_status doomed dirty d else d).entry ≡ true)
@@ -65,7 +65,7 @@ change-bound bindings change entry name some = subst (λ (o : Option Binding). I
 -- ---- the object
 
 module _ (cache : Cache) (handle : ℕ) (b : Binding) (bound : binding_of cache.handles handle ≡ Some b) where
-  -- one that isn't settled stays as it is
+  -- one that is dirty stays as it is
   module _ (loose : b.dirty ≡ true) (told : Told) where
     its-loose : (from : Image) (state : State) (number : ℕ) (object : Object) → KeepsState cache state from → Names state handle number object → object.settled ≡ false
     its-loose from state number object k names =

@@ -1,4 +1,4 @@
--- An object of a handle is unsettled, in a cache that keeps a state.
+-- An object of a handle is dirty, in a cache that keeps a state.
 use Rattle.std.proofs.Common.{◌≡◌, ◌≢◌, ℕ, zero, suc, ◌+◌, Bool, true, false, not, List, [], ◌∷◌, set, get_or, Option, Some, None, inl, inr, refl, sym, ap, subst, ◌∙◌, arith, cond}
 use Rattle.std.specs.Prelude.{◌⊎◌, ◌==◌, ◌&&◌, if◌then◌else◌, IfSome}
 use Rattle.std.proofs.lemmas.Bool.{cases_eq, eq-eqb, eqb-true}
@@ -36,7 +36,7 @@ use Rattle.blk_cache.proofs.ChangedObjects.{CountsAs, LiesChanged, bound-to, cha
 
 -- ---- states
 
--- a named object may be unsettled, live or doomed
+-- a named object may be dirty, live or doomed
 pub unsettled-valid : (state : State) (number : ℕ) (object : Object) → IsValidState state → object_at state number ≡ Some object → is_named state number ≡ true → IsValidState (marked state number object false)
 unsettled-valid state number object valid here named =
     let new : Object = record object { settled = false } in
@@ -67,7 +67,7 @@ set-same [] i x e = refl
 set-same (y ∷ xs) zero x e = ap (λ (z : Option _). z ∷ xs) (sym e)
 set-same (y ∷ xs) (suc i) x e = ap (λ (zs : List (Option _)). y ∷ zs) (set-same xs i x e)
 
--- one that isn't settled is as it was
+-- one that is dirty is as it was
 pub marked-same : (state : State) (number : ℕ) (object : Object) → object_at state number ≡ Some object → object.settled ≡ false → marked state number object false ≡ state
 marked-same state number object here loose =
     let same : record object { settled = false } ≡ object = ap (λ (b : Bool). record object { settled = b }) (sym loose) in

@@ -1,4 +1,4 @@
--- A Write, from the unsettling of its object.
+-- A Write, from where its object becomes dirty.
 use Rattle.std.proofs.Common.{◌≡◌, ⊎_elim, inl, inr, ℕ, zero, suc, ◌+◌, ◌/◌, ◌<◌, ◌≤◌, Bool, true, false, List, [], ◌∷◌, length, set, get_or, Option, Some, None, Result, refl, sym, ap, ap₂, subst, ◌∙◌}
 use Rattle.std.specs.Prelude.{◌⊎◌, IsSome, is_none, nat_lt}
 use Rattle.std.specs.Option.{ForSome}
@@ -97,7 +97,7 @@ module _ (state : State) (moment handle stream offset : ℕ) (cut : Bool) (bytes
     later-names : Names later handle number loose
     later-names = record { names = names.names; here = set-at base number object loose names.here }
 
-    -- the same is written to it once it is unsettled
+    -- the same is written to it once it is dirty
     written-same : written handle stream offset cut bytes later ≡ written handle stream offset cut bytes base
     written-same =
         written-is later handle stream offset cut bytes number loose later-names
@@ -121,7 +121,7 @@ module _ (state : State) (moment handle stream offset : ℕ) (cut : Bool) (bytes
           (ready-within state moment handle stream offset cut bytes valid passes number object names (subst (λ (n : ℕ). n < length (stream_after cut (stream_of object stream) offset bytes)) is longer));
     }
 
-    -- while the object is unsettled, and as long as what is at rest then is found
+    -- while the object is dirty, and as long as the durable contents then are recovered
     pub either-stops : (image : Image) → Finds (rest base) image ⊎ Finds (rest later) image → MayStop state moment (to_write handle stream offset cut bytes) image
     either-stops image finds = by object.live refl where
       by : (t : Bool) → object.live ≡ t → MayStop state moment (to_write handle stream offset cut bytes) image
@@ -135,7 +135,7 @@ module _ (state : State) (moment handle stream offset : ℕ) (cut : Bool) (bytes
 -- ---- the moments
 
 module _ (cache : Cache) (moment handle stream offset : ℕ) (cut : Bool) (bytes : List ℕ) (size : ℕ) (old mid : Told) where
-  -- what is at rest once it is unsettled, or before
+  -- the durable contents once it is dirty, or before
   abbrev Either : State → ℕ → Object → Image → Type 0
   Either state number object image = Finds (rest state) image ⊎ Finds (rest (marked state number object false)) image
 
@@ -180,7 +180,7 @@ module _ (cache : Cache) (moment handle stream offset : ℕ) (cut : Bool) (bytes
               kept = λ i there. subst (λ (s : State). KeepsState last s i) (sym (write-ends state moment handle stream offset cut bytes ready.valid ready.passes ready.number ready.object ready.names)) (wrote m.0 m.1 (then-state from here state ready) (kept-then from here state ready m.0 m.1) (can-then from here state ready) i there);
             }
 
--- ---- damages
+-- ---- failed checks
 
 -- a cache that is ready keeps a state
 pub ready-any : (cache : Cache) (handle stream offset : ℕ) (cut : Bool) (bytes : List ℕ) (size : ℕ) (image : Image) → IsReadyToWriteSome cache handle stream offset cut bytes size image → KeepsAny cache image

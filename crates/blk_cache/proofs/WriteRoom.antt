@@ -1,4 +1,4 @@
--- The room that a Write wants, and has once all that it evicts is out.
+-- The space that a Write needs, and has once all that it evicts is out.
 use Rattle.std.proofs.Common.{◌≡◌, ⊎_elim, ℕ, zero, suc, ◌+◌, ◌-◌, ◌≤◌, ◌<◌, ◌^◌, Bool, true, false, ◌&&◌, cond, List, [], ◌∷◌, ◌++◌, length, set, get_or, Option, Some, None, refl, sym, ap, ap₂, subst, ◌∙◌, arith}
 use Rattle.std.specs.List.{AllByRecursion}
 use Rattle.std.specs.Prelude.{◌==◌, max, nat_lt, replicate, drop, take, unwrap_or, sum_by}
@@ -46,7 +46,7 @@ long-cut old new place =
     let b = long-front old place in
     omega (arith, a, b)
 
--- another one keeps what lies behind them
+-- another one keeps what comes after them
 pub long-over : (old new : List ℕ) (place : ℕ) → length (overwritten old place new) ≡ max (length old) (place + length new)
 long-over old new place =
     let a = length-append (take place old ++ zeros (place - length old) ++ new) (drop (place + length new) old) in
@@ -109,7 +109,7 @@ module _ (state : State) (handle stream offset : ℕ) (cut : Bool) (bytes : List
       let slots : items (written handle stream offset cut bytes state) ≡ sum_by (of_slot item_count) (set state.objects number (Some (after_write object stream offset cut bytes))) = ap (sum_by (of_slot item_count)) written-objects in
       omega (arith, sum, slots)
 
--- ---- room
+-- ---- space
 
 its-stream : (state : State) (handle stream number : ℕ) (object : Object) → Names state handle number object → is_kept_from_streams state handle stream ≡ false → (is_sparse object.shape && nat_lt 0 stream) ≡ false
 its-stream state handle stream number object names apart = ap (λ (o : Object). is_sparse o.shape && nat_lt 0 stream) (sym (named-object state handle number object names)) ∙ apart
@@ -184,7 +184,7 @@ module _ (state : State) (moment handle stream offset : ℕ) (cut : Bool) (bytes
     wants = wants-rise state moment handle stream offset cut bytes first.number first.object first-names kept-apart
         ∙ ap (λ (old : List ℕ). room state [] (length (stream_after cut old offset bytes) - length old) 0) (sym same-stream)
 
-    -- where the stream gets longer there is room for that
+    -- where the stream gets longer there is space for that
     pub ready-within : before < after → total (written handle stream offset cut bytes base) ≤ base.limits.max_bytes
     ready-within longer =
         let some : (after - before == 0) ≡ false = grind (arith, nat_tests, longer) in

@@ -1,4 +1,4 @@
--- A stream of an unsettled object is written and used, from the moments of both.
+-- A stream of a dirty object is written and used, from the moments of both.
 use Rattle.std.proofs.Common.{◌≡◌, ℕ, ◌-◌, ◌<◌, ◌^◌, Bool, true, false, not, List, [], ◌++◌, ◌∷◌, Option, Some, None, Result, refl, sym, ap, subst, ◌∙◌}
 use Rattle.std.specs.Prelude.{length}
 use Rattle.std.specs.Option.{ForSome}

@@ -1,4 +1,4 @@
--- The use of an item of an unsettled object, and the count of its rise.
+-- The use of an item of a dirty object, and the count of its rise.
 use Rattle.std.proofs.Common.{◌≡◌, ℕ, ◌+◌, ◌<◌, Bool, true, false, List, [], ◌∷◌, ◌++◌, set, Option, Some, None, Result, Ok, Err, refl, sym, ap, subst, ◌∙◌, arith}
 use Rattle.std.specs.Prelude.{OnOk, if◌then◌else◌, nat_lt}
 use Rattle.std.specs.Option.{ForSome, option_map}
@@ -39,13 +39,13 @@ use Rattle.blk_cache.specs.Writing.{ForEachToUse, IsToBeUsed, IsUsedAndCounted}
 use Rattle.blk_cache.proofs.CreateWhole.{there-after, untold-by}
 use Rattle.blk_cache.proofs.Unsettles.{set-same}
 
--- ---- what is at rest
+-- ---- the durable contents
 
 module _ (state : State) (number : ℕ) (object : Object) (valid : IsValidState state) (here : object_at state number ≡ Some object) (live : object.live ≡ true) (loose : object.settled ≡ false) where
   as-it-is : (uses : List Item) → amidst state number object uses ≡ record state { uses = uses }
   as-it-is uses = ap (λ (os : List (Option Object)). record state { objects = os; uses = uses }) (set-same state.objects number object here)
 
-  -- whatever becomes of an object that isn't settled, the same is at rest
+  -- whatever becomes of a dirty object, the durable contents are the same
   pub rest-whatever : (other : Object) (uses : List Item) → IsUnsettled other object.key → KeepsOtherKeys state object.key uses → rest (amidst state number other uses) ≡ rest state
   rest-whatever other uses is keeps =
       unsettled-rest state number object other object uses state.uses valid here live is (record { key_is = refl; live = live; unsettled = loose }) keeps refl ∙ ap rest (as-it-is state.uses)
@@ -130,9 +130,9 @@ module _ (files : BlockFiles) (node moment less more : ℕ) (old mid now : Told)
           kept_still = end (with_used state (main object.key)) layout [] k;
         }
 
--- ---- damages
+-- ---- failed checks
 
--- where files are told, none is said by a damage that comes only where none are
+-- where files are told, none is said by a failed check that comes only where none are
 pub never-told : {A : Type 0} (r : Result A Fault) (mid old : Option Image) (i : Image) → mid ≡ Some i → IfDamaged r (λ _. mid ≡ None) → IfDamaged r (λ _. old ≡ None)
 never-told (Ok a) mid old i there d = tt
 never-told (Err fault.Device) mid old i there d = tt

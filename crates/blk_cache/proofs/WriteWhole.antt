@@ -1,4 +1,4 @@
--- A Write whole: why it is refused, what it evicts, and how its end follows on the making of room.
+-- A Write whole: why it is refused, what it evicts, and how its end follows on the making of space.
 use Rattle.std.proofs.Common.{◌≡◌, ℕ, ◌-◌, Bool, true, false, List, [], ◌∷◌, ◌++◌, length, get_or, Option, Some, None, Result, Ok, Err, refl, sym, ap, subst, ◌∙◌}
 use Rattle.std.specs.Prelude.{◌||◌, IfOk, if◌then◌else◌, is_none}
 use Rattle.std.specs.Option.{ForSome, option_map}
@@ -61,7 +61,7 @@ module _ (moment : ℕ) (request : Request) (cache : Cache) (told : Told) (faile
   pub front-before : SaysFront cache told moment request old old
   front-before image there state k = record { front = []; rest = evicted_text (step state moment request).groups; split = refl; written = none-behind old }
 
--- ---- a request that is refused for want of room alone, and wants room for so many bytes
+-- ---- a request that is refused for lack of space alone, and needs space for so many bytes
 
 -- for each state that is kept
 pub record WantsRoom (moment : ℕ) (request : Request) (more : ℕ) (state : State) : Type 0 where
@@ -103,7 +103,7 @@ module _ (moment : ℕ) (request : Request) (more : ℕ) where
       made-front front image there state k = subst (λ (groups : List Group). Appends old new (evicted_text groups)) (sym (groups-made image there state k)) (front image there state k)
 
     module _ (mid : Told) (evicting : ForKept (KeepsState cache) told (λ state. Passes told mid (IsEvicting (evicted_for (room state [] more 0)) state))) where
-      -- at a word at which room is made it may be stopped
+      -- at a word at which space is made it may crash
       room-stop : (image i : Image) (state : State) → told.files ≡ Some image → KeepsState cache state image → IsEvicting (evicted_for (room state [] more 0)) state i → MayStop state moment request i
       room-stop image i state there k e = by (is_full (room state [] more 0)) refl where
         by : (over : Bool) → is_full (room state [] more 0) ≡ over → MayStop state moment request i
@@ -135,7 +135,7 @@ module _ (moment handle stream offset : ℕ) (cut : Bool) (bytes : List ℕ) (ca
   unfolding evicted
   evicts state = refl
 
-  -- it wants room for what its stream gets longer
+  -- it needs space for what its stream gets longer
   pub write-wants : ForKept (KeepsState cache) told (WantsRoom moment (to_write handle stream offset cut bytes) more)
   write-wants image there state k =
       let m = has image there state k in
@@ -194,7 +194,7 @@ module _ (moment handle stream offset : ℕ) (cut : Bool) (bytes : List ℕ) (ca
           let at = there-after told mid (MayStop state moment (to_write handle stream offset cut bytes)) (first-stops image there state k) image there in
           does at.0 at.1 state (ready image at.0 state there at.1 k)
 
-    -- a folder that tells its files gives no damage
+    -- an observable folder reports no corruption
     pub whole-untold : {A : Type 0} (r : Result A Fault) → (ForSome mid.files (IsReadyToWriteSome new handle stream offset cut bytes found.size) → IfDamaged r (λ _. mid.files ≡ None)) → ForSome told.files (KeepsAny cache) → IfDamaged r (λ _. told.files ≡ None)
     whole-untold r untold some = untold-by r told.files (λ image there.
         let k = some image there in

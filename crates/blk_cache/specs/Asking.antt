@@ -61,7 +61,7 @@ abbrev pub StandsAmong : BlockFiles → (stream : ℕ) → Asked → Type 0
 StandsAmong files stream (asked.Refused why) = Unit {0}
 StandsAmong files stream (asked.Stream found) = (is_node_among files found.node ≡ true) × ((is_record_among files found.entry ≡ true) × (stream < stream_count))
 
--- Damages.
+-- Failed checks.
 
 -- the record of the object that a handle names fails its check or has too few bytes
 pub record IsAskDamage (bindings : Bindings) (told : Told) (handle : ℕ) (damage : Damage) : Type 0 where

@@ -5,7 +5,7 @@ use Rattle.blk_disk.specs.declared.tables.BlockFiles.{BlockFiles}
 use Rattle.blk_disk.specs.Tables.{is_node_among, is_record_among}
 use Rattle.blk_handles.specs.Bindings.{Binding, Bindings, binding_of}
 
--- the node and the record of what each name is bound to stand among the block files
+-- the node and the record of what each name is bound to are valid among the block files
 abbrev pub AreBoundAmong : BlockFiles → Bindings → Type 0
 AreBoundAmong files bindings = (name : ℕ) (binding : Binding) → binding_of bindings name ≡ Some binding → (is_node_among files binding.node ≡ true) × (is_record_among files binding.entry ≡ true)
 

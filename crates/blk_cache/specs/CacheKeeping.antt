@@ -18,7 +18,7 @@ use Rattle.blk_cache.specs.declared.cache.Cache.{Cache}
 
 -- Names.
 
--- a name is bound to the record and the node of the object with a number, which is marked doomed exactly where it is doomed, and dirty exactly where it isn't settled
+-- a name is bound to the record and the node of the object with a number, which is marked doomed exactly where it is doomed, and dirty exactly where it is dirty
 pub record IsBoundTo (state : State) (layout : Layout) (number : ℕ) (binding : Binding) : Type 0 where
   pub object : Object
   pub here : object_at state number ≡ Some object
@@ -70,5 +70,5 @@ pub record KeepsState (cache : Cache) (state : State) (image : Image) : Type 0 w
   pub names : (name : ℕ) → IsBoundAs state layout (named_by state name) (binding_of cache.handles name)
   -- the block files are those of the image
   pub files : Agrees cache.files image
-  -- what isn't settled is marked by the number of the session
+  -- what is dirty is marked by the number of the session
   pub mark : cache.mark ≡ this_id_of (byte image Index)

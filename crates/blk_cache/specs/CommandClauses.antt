@@ -62,6 +62,6 @@ pub record IsUseDamage (files : BlockFiles) (old new : Told) (damage : Damage) :
   pub stands : is_node_among files node ≡ true
   pub wrong : IsTouchDamage node files old new damage
 
--- the damages of an Open: of the search for the key, or of the use of what was found
+-- the failed checks of an Open: of the search for the key, or of the use of what was found
 abbrev pub IsOpenDamage : BlockFiles → (old new : Told) → List ℕ → Damage → Type 0
 IsOpenDamage files old new key damage = IsLookDamage files old key damage ⊎ IsUseDamage files old new damage

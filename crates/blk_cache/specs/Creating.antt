@@ -18,12 +18,12 @@ use Rattle.blk_cache.specs.CacheKeeping.{KeepsState}
 
 -- Refusals.
 
--- why a Create is refused: an early reason, that stands whether there is room or not, or else that there is no room
+-- why a Create is refused: an early reason, that holds whether there is space or not, or else that there is no space
 abbrev pub create_refusal : (early : Option Refusal) → (no_room : Bool) → Option Refusal
 create_refusal (Some why) no_room = Some why
 create_refusal None no_room = if no_room then Some refusal.Full else None
 
--- whatever state a cache keeps, a Create is refused for nothing but want of room
+-- whatever state a cache keeps, a Create is refused for nothing but lack of space
 abbrev pub WantsRoomAlone : Cache → Told → (moment handle : ℕ) → List ℕ → Type 0
 WantsRoomAlone cache told moment handle key = ForKept (KeepsState cache) told (λ state. refused moment (to_create handle key) state ≡ create_refusal None (no_room moment (to_create handle key) state))
 

@@ -8,11 +8,11 @@ use Rattle.blk_model.specs.State.{State, IsValidState}
 use Rattle.law_state.specs.CommandStates.{with_room}
 use Rattle.blk_cache.specs.Creating.{HasRoomFor}
 
--- a Create wants room for the bytes of its key, and for one item
+-- a Create needs space for the bytes of its key, and for one item
 abbrev pub CreatesWantRoomForOneItem : Type 0
 CreatesWantRoomForOneItem = (state : State) (moment handle : ℕ) (key : List ℕ) → room_for moment (to_create handle key) state ≡ room state [] (length key) 1
 
--- and where it isn't refused, there is room for its object once all that it evicts is out
+-- and where it isn't refused, there is space for its object once all that it evicts is out
 abbrev pub CreatesHaveRoom : Type 0
 CreatesHaveRoom = (state : State) (moment handle : ℕ) (key : List ℕ) → IsValidState state → state.limits.max_items ≤ most_items → IsRequest (to_create handle key) → refused moment (to_create handle key) state ≡ None
     → HasRoomFor (with_room state moment (to_create handle key)) handle key

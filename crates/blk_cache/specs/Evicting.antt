@@ -23,14 +23,14 @@ is_met (Bytes most) state = nat_le (total state) most
 abbrev pub count_of_groups : List Group → ℕ
 count_of_groups groups = sum_by (λ group. length (items_of_group group)) groups
 
--- while groups of a state go one after another: what is at rest without the first of them is found
+-- while groups of a state go one after another: the durable contents without the first of them are recovered
 pub record IsEvicting (groups : List Group) (state : State) (image : Image) : Type 0 where
   pub first : List Group
   pub others : List Group
   pub split : groups ≡ first ++ others
   pub finds : Finds (rest (without first state)) image
 
--- all but the items, their bytes and the room for names is as before
+-- all but the items, their bytes and the buffers for names is as before
 pub record OnlyItemsChange (old new : Cache) : Type 0 where
   pub limits : new.limits ≡ old.limits
   pub open_bytes : new.open_bytes ≡ old.open_bytes
@@ -44,11 +44,11 @@ pub record KeepsInPlaces (cache : Cache) (state : State) (layout : Layout) (imag
   pub kept : KeepsState cache state image
   pub places : kept.layout.place ≡ layout.place
 
--- what holds of each state that a cache keeps in which this item may go: by its layout, and the group of the item
+-- what holds of each state that a cache keeps in which this item may be evicted: by its layout, and the group of the item
 abbrev pub ForEachThatMayGo : Cache → Unpinned → Image → (State → Layout → Group → Type 0) → Type 0
 ForEachThatMayGo cache found image P = (state : State) (kept : KeepsState cache state image) (at : MayGoAt state kept.layout found) → P state kept.layout (group_for at.item at.front)
 
--- a cache keeps some state in which this item may go
+-- a cache keeps some state in which this item may be evicted
 pub record KeepsThatMayGo (cache : Cache) (found : Unpinned) (image : Image) : Type 0 where
   pub state : State
   pub kept : KeepsState cache state image

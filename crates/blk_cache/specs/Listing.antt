@@ -2,7 +2,7 @@
 use Rattle.std.specs.Prelude.{◌≡◌}
 use Rattle.blk_cache.specs.declared.cache.Cache.{Cache}
 
--- all but the room for names is as before
+-- all but the buffers for names is as before
 pub record OnlyRoomChanges (old new : Cache) : Type 0 where
   pub limits : new.limits ≡ old.limits
   pub items : new.items ≡ old.items

@@ -35,18 +35,18 @@ pub record IsOpenedAs (entry : Image) (opened : Opened) (image : Image) : Type 0
   pub mark : opened.mark ≡ this_id_of (byte image Index)
   pub id_is : this_id_of (byte image Index) ≡ opened_id entry
 
--- Damages.
+-- Failed checks.
 
 -- the index is finished, and this is the first check of the folder that fails
 pub record IsFirstDamage (damage : Damage) (image : Image) : Type 0 where
   pub finished : IsUnfinished image → ⊥
   pub first : first_damage image ≡ Some (damage_of damage)
 
--- a damage was met behind the checks of the headers: while what the folder holds was read, or in its repair
+-- a failed check was met after the checks of the headers: while what the folder holds was read, or in its repair
 pub record IsMendingDamage (told : Told) (damage : Damage) : Type 0 where
   pub files : BlockFiles
   pub cause : IsScanDamage files told damage ⊎ IsRepairDamage files told damage
 
--- a damage was met in an opening: a check of the index or of the block files failed, or too little was given of one of these, or it was behind the checks
+-- a failed check was met in an opening: a check of the index or of the block files failed, or too little was given of one of these, or it was after the checks
 abbrev pub IsOpeningDamage : Told → Damage → Type 0
 IsOpeningDamage told damage = IsLookDamage told damage ⊎ (IsLoadDamage told damage ⊎ IsMendingDamage told damage)

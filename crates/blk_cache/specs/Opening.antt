@@ -74,14 +74,14 @@ IfOpenDevice (Err Device) P = P
 IfOpenDevice (Err (Damaged damage)) P = Unit {0}
 IfOpenDevice (Err Memory) P = Unit {0}
 
--- where it is a damage, the damage is so
+-- where it is a failed check, that check is so
 abbrev pub IfOpenDamaged : {A : Type 0} → Result A OpenFault → (Damage → Type 0) → Type 0
 IfOpenDamaged (Ok a) P = Unit {0}
 IfOpenDamaged (Err Device) P = Unit {0}
 IfOpenDamaged (Err (Damaged damage)) P = P damage
 IfOpenDamaged (Err Memory) P = Unit {0}
 
--- where it is that there was too little memory, this holds
+-- where it is out of memory, this holds
 abbrev pub IfOpenMemory : {A : Type 0} → Result A OpenFault → Type 0 → Type 0
 IfOpenMemory (Ok a) P = Unit {0}
 IfOpenMemory (Err Device) P = Unit {0}

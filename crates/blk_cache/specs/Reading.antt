@@ -25,6 +25,6 @@ pub record UsesItem {A : Type 0} (files : BlockFiles) (old new : Told) (object :
 abbrev pub bytes_there : (size offset count : ℕ) → ℕ
 bytes_there size offset count = min count (size - offset)
 
--- the damages of a Read before its note: of the record of its object, or of the use of its node
+-- the failed checks of a Read before its note: of the record of its object, or of the use of its node
 abbrev pub IsReadDamage : Bindings → BlockFiles → (old new : Told) → (handle : ℕ) → Damage → Type 0
 IsReadDamage bindings files old new handle damage = IsAskDamage bindings old handle damage ⊎ IsUseDamage files old new damage

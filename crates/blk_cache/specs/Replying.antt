@@ -49,7 +49,7 @@ ForReply cache told request given P = ForKept (KeepsState cache) told (λ state.
 abbrev pub ForBytes : Cache → Told → Request → (number : ℕ) → (List ℕ → Type 0) → Type 0
 ForBytes cache told request number P = ForKept (KeepsState cache) told (λ state. IsAfter request (answer.Bytes number) state → P (bytes_text request state))
 
--- of the rows of each state that is kept, and of the line of an answer behind them
+-- of the rows of each state that is kept, and of the line of an answer after them
 abbrev pub ForRows : Cache → Told → Answer → (List ℕ → Type 0) → Type 0
 ForRows cache told given P = ForKept (KeepsState cache) told (λ state. P (rows_text given state))
 

@@ -37,7 +37,7 @@ pub record KeepsBy (cache : Cache) (state : State) (layout : Layout) (image : Im
   pub kept : KeepsState cache state image
   pub layout_is : kept.layout ≡ layout
 
--- then the cache keeps the state without the group by that layout, where it is the group of an item that may go
+-- then the cache keeps the state without the group by that layout, where it is the group of an item that may be evicted
 abbrev pub EvictedStatesAreKept : Type 0
 EvictedStatesAreKept =
     (state : State) (front : List Item) (item : Item) (behind : List Item) (left : Layout) (old new : Cache) (from image : Image) (k : KeepsState old state from)

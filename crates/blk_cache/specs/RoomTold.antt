@@ -1,4 +1,4 @@
--- What is pinned where no part is covered, and how a cache tells from what it keeps where there is room.
+-- What is pinned where no part is covered, and how a cache tells from what it keeps where there is space.
 use Rattle.std.specs.Prelude.{◌≡◌, ℕ, ◌+◌, Bool, false, not, ◌&&◌, ◌||◌, ◌==◌, nat_lt, List, [], length, sum_by, if◌then◌else◌}
 use Rattle.spec_image.specs.Image.{Image}
 use Rattle.blk_model.specs.Bounds.{bounds_of}
@@ -25,12 +25,12 @@ NamedObjectsArePinned = (state : State) → IsValidState state → ArePinned sta
 abbrev pub is_over : Bounds → ℕ → ℕ → ℕ → ℕ → Bool
 is_over limits open_bytes open_objects bytes more = nat_lt limits.max_bytes (open_bytes + bytes) || nat_lt limits.max_items (open_objects + more)
 
--- so where there is room is told by what a cache keeps, and by what is covered
+-- so where there is space is told by what a cache keeps, and by what is covered
 abbrev pub RoomIsTold : Type 0
 RoomIsTold = (cache : Cache) (state : State) (image : Image) (covered : List Item) (parts : Covered) (bytes more : ℕ) → (k : KeepsState cache state image) → AreCovered state k.layout covered parts
     → is_full (room state covered bytes more) ≡ not (bytes == 0 && more == 0) && is_over (bounds_of cache.limits) (cache.open_bytes + parts.bytes) (open_count cache.handles + part_count parts) bytes more
 
--- where there is room, nothing is evicted for what fits, or for nothing; else as much as leaves no more than the low-water mark
+-- where there is space, nothing is evicted for what fits, or for nothing; else as much as leaves no more than the low-water mark
 abbrev pub RoomIsMade : Type 0
 RoomIsMade = (state : State) (covered : List Item) (bytes more : ℕ) → is_full (room state covered bytes more) ≡ false
     → evicted_for (room state covered bytes more) ≡ (if (bytes == 0 && more == 0) || fits state.limits.max_bytes bytes more state then [] else evicted_until (fits (low state) bytes more) state covered)

@@ -1,4 +1,4 @@
--- A SparseWrite before room is made: the object that it names, and what it adds.
+-- A SparseWrite before space is made: the object that it names, and what it adds.
 use Rattle.std.specs.Prelude.{◌≡◌, ◌<◌, ◌+◌, ◌%◌, ℕ, List, false, if◌then◌else◌, length, true}
 use Rattle.std.specs.Int.{cast_signed, w64}
 use Rattle.std.specs.Option.{ForSome}

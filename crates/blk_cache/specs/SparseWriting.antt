@@ -41,7 +41,7 @@ own_target node entry target = record { parent = record { entry = entry; node = 
 
 -- The change.
 
--- the live object of a handle isn't settled, and gets the bytes: the state with them is charged for so much more and so many items more, which a cache may have
+-- the live object of a handle is dirty, and gets the bytes: the state with them is charged for so much more and so many items more, which a cache may have
 pub record CanStore (state : State) (handle offset : ℕ) (bytes : List ℕ) (target : Target) (more_bytes more_items : ℕ) : Type 0 where
   pub number : ℕ
   pub object : Object
@@ -101,7 +101,7 @@ pub record IsReadyToStoreSome (cache : Cache) (handle offset : ℕ) (bytes : Lis
   pub moment : ℕ
   pub ready : IsReadyToStore cache state moment handle offset bytes target more_bytes more_items image
 
--- Before room is made.
+-- Before space is made.
 
 -- the parts that a SparseWrite covers, as they are measured
 abbrev pub covered_of : Measured → Covered

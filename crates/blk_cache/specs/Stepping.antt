@@ -30,7 +30,7 @@ outcome_text outcome = evicted_first outcome ++ reply_text outcome.reply
 abbrev pub SaysEvicted : Cache → Told → (moment : ℕ) → Request → (failed_before failed : Bool) → (old new : Option (List ℕ)) → Type 0
 SaysEvicted cache told moment request failed_before failed old new = ForKept (KeepsState cache) told (λ state. Prints failed_before failed old new (evicted_first (step state moment request)))
 
--- a front of it was printed
+-- a prefix of it was printed
 abbrev pub SaysFront : Cache → Told → (moment : ℕ) → Request → (old new : Option (List ℕ)) → Type 0
 SaysFront cache told moment request old new = ForKept (KeepsState cache) told (λ state. Appends old new (evicted_first (step state moment request)))
 
@@ -62,7 +62,7 @@ IfStepDevice (Err step_fault.Sink) P = Unit {0}
 IfStepDevice (Err (step_fault.Damaged damage)) P = Unit {0}
 IfStepDevice (Ok a) P = Unit {0}
 
--- where it is a damage, the damage is so
+-- where it is a failed check, that check is so
 abbrev pub IfStepDamaged : {A : Type 0} → Result A StepFault → (Damage → Type 0) → Type 0
 IfStepDamaged (Err (step_fault.Damaged damage)) P = P damage
 IfStepDamaged (Err step_fault.Device) P = Unit {0}

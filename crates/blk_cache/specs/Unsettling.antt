@@ -1,4 +1,4 @@
--- An open object that is settled is marked as one that isn't.
+-- An open object that is clean is marked dirty.
 use Rattle.std.specs.Prelude.{ℕ}
 use Rattle.spec_image.specs.Image.{Image}
 use Rattle.blk_model.specs.State.{Object, State}

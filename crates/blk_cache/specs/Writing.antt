@@ -35,7 +35,7 @@ abbrev pub early_write_refusal : Cache → (handle stream offset count : ℕ) �
 early_write_refusal cache handle stream offset count =
     first_refusal ((is_none (binding_of cache.handles handle), refusal.BadHandle) ∷ (no_stream stream, refusal.BadStream) ∷ (nat_lt (cache.limits.max_bytes / stream_share) (offset + count), refusal.TooLarge) ∷ [])
 
--- a stream of an object that a handle names is found, and may be written unless there is no room
+-- a stream of an object that a handle names is found, and may be written unless there is no space
 pub record MayBeWritten (state : State) (layout : Layout) (moment handle stream offset : ℕ) (cut : Bool) (bytes : List ℕ) (found : NamedStream) : Type 0 where
   pub named : IsNamedStream state layout handle stream found
   pub unless_full : refused moment (to_write handle stream offset cut bytes) state ≡ (if no_room moment (to_write handle stream offset cut bytes) state then Some refusal.Full else None)
@@ -70,7 +70,7 @@ pub record IsReadyToWriteSome (cache : Cache) (handle stream offset : ℕ) (cut 
 
 -- The change.
 
--- the object of a handle isn't settled, and can get bytes in a stream, which has so many now: where it gets longer, the state with them is within the limit
+-- the object of a handle is dirty, and can get bytes in a stream, which has so many now: where it gets longer, the state with them is within the limit
 pub record CanGetBytes (state : State) (handle stream offset : ℕ) (cut : Bool) (bytes : List ℕ) (size : ℕ) : Type 0 where
   pub number : ℕ
   pub object : Object
@@ -88,7 +88,7 @@ pub record KeepsToWrite (cache : Cache) (handle stream offset : ℕ) (cut : Bool
 
 -- The use.
 
--- a state is kept in which the main item of a live object that isn't settled lies at a node
+-- a state is kept in which the main item of a dirty live object lies at a node
 pub record IsToBeUsed (state : State) (layout : Layout) (number : ℕ) (object : Object) (node : ℕ) (image : Image) : Type 0 where
   pub kept : KeepsUncounted state layout [] image
   pub here : object_at state number ≡ Some object

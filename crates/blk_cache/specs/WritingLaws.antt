@@ -7,7 +7,7 @@ use Rattle.blk_model.specs.Room.{room}
 use Rattle.blk_model.specs.State.{Object, State}
 use Rattle.law_state.specs.OneCallLaws.{Names}
 
--- a Write wants room for the bytes by which its stream gets longer, and for no item
+-- a Write needs space for the bytes by which its stream gets longer, and for no item
 abbrev pub WritesWantRoomForTheRise : Type 0
 WritesWantRoomForTheRise =
     (state : State) (moment handle stream offset : ℕ) (cut : Bool) (bytes : List ℕ) (number : ℕ) (object : Object) → Names state handle number object → is_kept_from_streams state handle stream ≡ false

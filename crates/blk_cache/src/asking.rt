@@ -44,7 +44,7 @@ impl Cache {
     ///
     /// It is refused with `BadHandle` where the name is free, or 4096 or more, `BadStream` where the number is 3 or more,
     /// and `SparseStream` where the object is sparse and the number isn't 0, the first of these; the first two are
-    /// decided before any folder call. A damage is one of the object's record.
+    /// decided before any folder call. A failed check is one of the object's record.
     pub(crate) fn ask_stream<F: Folder>(
         &self,
         f: &mut F,

@@ -20,11 +20,11 @@ pub struct Cache {
     pub(crate) open_bytes: u64,
     pub(crate) handles: Handles,
     pub(crate) files: BlockFiles,
-    // The dirty word of what isn't settled: the number of the session.
+    // The dirty word of what is dirty: the number of the session.
     pub(crate) mark: u32,
     // How many notes this cache has made, or the last value of a u64.
     pub(crate) notes: u64,
-    // Room for the key of a parent and the name of a part.
+    // A buffer for the key of a parent and the name of a part.
     pub(crate) name: Vec<u8>,
     ghost stand: { AreBoundAmong files handles },
     ghost room: { length name.items ≡ name_room },

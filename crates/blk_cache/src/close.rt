@@ -26,7 +26,7 @@ use blk_object::end_object;
 
 impl Cache {
     /// Frees a handle name. Where it was the last name of its object, the object is charged no longer as an open one: of
-    /// a doomed object all that it has is freed, and it is no item any more; of another that isn't settled the dirty word
+    /// a doomed object all that it has is freed, and it is no item any more; of another that is dirty the dirty word
     /// becomes 0. Else nothing is written.
     ///
     /// It is refused with `BadHandle` where the name is free, or 4096 or more. For a last name one folder call reads the
@@ -49,10 +49,10 @@ impl Cache {
         ensures notes { self.new.notes ≡ self.old.notes }
         ensures mark { self.new.mark ≡ self.old.mark }
 
-        // A damage is a check that fails on what is read here; nothing is written after it.
+        // Corruption is a check that fails on what is read here; nothing is written after it.
         ensures damaged { IfDamaged result (IsFailedCheck self.new.files (F.told f.new)) }
 
-        // A folder that tells its files gives no damage where the cache keeps a state.
+        // An observable folder reports no corruption where the cache keeps a state.
         ensures untold { ForSome (F.told f.old).files (KeepsAny self.old) → IfDamaged result (λ _. (F.told f.old).files ≡ None) }
         ensures silent { (F.told f.old).files ≡ None → (F.told f.new).files ≡ None }
         ensures later { F.faults f.old ≤ F.faults f.new }
@@ -85,8 +85,8 @@ impl Cache {
 
     // Ends an object whose last name was freed, and counts it with its charge as closed.
     //
-    // The clean word is the last that is written to one that isn't doomed: from it on the object is settled as it lies
-    // there.
+    // Of one that isn't doomed nothing but its node's seal is written after the dirty word: once that is 0 the object
+    // is clean as it lies there.
     fn end_last<F: Folder>(
         &mut self,
         f: &mut F,

@@ -34,8 +34,8 @@ use blk_model::{Answer, Refusal};
 use blk_object::make_entry;
 
 impl Cache {
-    /// Makes a new object with a key, to which it gives a handle name, once there is room for it; what is evicted for that
-    /// is printed as it goes.
+    /// Makes a new object with a key, to which it gives a handle name, once there is space for it; what is evicted for
+    /// that is printed as it goes.
     ///
     /// It is refused with `BadKey` where the key has no bytes or more than 32768, `BadHandle` where the name is 4096 or
     /// more, `HandleBusy` where it is bound, `Exists` where a live object has the key, and `Full` where the open objects
@@ -54,7 +54,7 @@ impl Cache {
         ensures does { IfOk result (λ answer. Does (KeepsState self.old) (KeepsState self.new) (F.told f.old) (F.told f.new) moment (to_create handle key.now) answer) }
         ensures stops { MayStopAtEach (KeepsState self.old) (F.told f.old) (F.told f.new) moment (to_create handle key.now) }
 
-        // What it evicts is printed, and on any answer a front of that.
+        // What it evicts is printed, and on any answer a prefix of that.
         ensures says { OnOk result (SaysEvicted self.old (F.told f.old) moment (to_create handle key.now) failed.old failed.new (K.written out.old) (K.written out.new)) }
         ensures front { SaysFront self.old (F.told f.old) moment (to_create handle key.now) (K.written out.old) (K.written out.new) }
         ensures fails { FailsWhereItRose failed.old failed.new (K.faults out.old) (K.faults out.new) }
@@ -68,10 +68,10 @@ impl Cache {
         ensures notes { self.new.notes ≡ self.old.notes }
         ensures mark { self.new.mark ≡ self.old.mark }
 
-        // A damage is a check that fails on what is read here; nothing is written after it.
+        // Corruption is a check that fails on what is read here; nothing is written after it.
         ensures damaged { IfDamaged result (IsFailedCheck self.new.files (F.told f.new)) }
 
-        // A folder that tells its files gives no damage where the cache keeps a state.
+        // An observable folder reports no corruption where the cache keeps a state.
         ensures untold { ForSome (F.told f.old).files (KeepsAny self.old) → IfDamaged result (λ _. (F.told f.old).files ≡ None) }
         ensures silent { (F.told f.old).files ≡ None → (F.told f.new).files ≡ None }
         ensures later { F.faults f.old ≤ F.faults f.new }
@@ -84,9 +84,9 @@ impl Cache {
         self.create_where_room(f, out, failed, handle, key, moment)
     }
 
-    // Makes a new object where there is room for it, by a Create that is refused for nothing else.
+    // Makes a new object where there is space for it, by a Create that is refused for nothing else.
     //
-    // It is known whether there is room before anything is evicted, made or bound.
+    // It is known whether there is space before anything is evicted, made or bound.
     fn create_where_room<F: Folder, K: Sink>(
         &mut self,
         f: &mut F,
@@ -102,11 +102,11 @@ impl Cache {
         requires free { binding_of self.old.handles handle ≡ None }
         requires is_open { ForSome (F.told f.old).files (IsOpen self.old.files) }
 
-        // It is the map's Create, and may be stopped at each word.
+        // It is the map's Create, and may crash at each word.
         ensures does { WantsRoomAlone self.old (F.told f.old) moment handle key.now → IfOk result (λ answer. Does (KeepsState self.old) (KeepsState self.new) (F.told f.old) (F.told f.new) moment (to_create handle key.now) answer) }
         ensures stops { WantsRoomAlone self.old (F.told f.old) moment handle key.now → MayStopAtEach (KeepsState self.old) (F.told f.old) (F.told f.new) moment (to_create handle key.now) }
 
-        // What it evicts is printed, and on any answer a front of that.
+        // What it evicts is printed, and on any answer a prefix of that.
         ensures says { WantsRoomAlone self.old (F.told f.old) moment handle key.now → OnOk result (SaysEvicted self.old (F.told f.old) moment (to_create handle key.now) failed.old failed.new (K.written out.old) (K.written out.new)) }
         ensures front { WantsRoomAlone self.old (F.told f.old) moment handle key.now → SaysFront self.old (F.told f.old) moment (to_create handle key.now) (K.written out.old) (K.written out.new) }
         ensures fails { FailsWhereItRose failed.old failed.new (K.faults out.old) (K.faults out.new) }
@@ -131,9 +131,9 @@ impl Cache {
         self.create_with_room(f, out, failed, handle, key, moment)
     }
 
-    // Whether there is no room for a new object with a key, by what is kept in memory.
+    // Whether there is no space for a new object with a key, by what is kept in memory.
     fn has_no_room(&self, key: &[u8]) -> bool
-        // Where a Create wants nothing but room it is refused then, and a refusal does and prints nothing.
+        // Where a Create needs nothing but space it is refused then, and a refusal does and prints nothing.
         ensures does { result ≡ true → (told : Told) (moment handle : ℕ) → WantsRoomAlone self.now told moment handle key.now → Does (KeepsState self.now) (KeepsState self.now) told told moment (to_create handle key.now) (answer.Refused refusal.Full) }
         ensures says { result ≡ true → (told : Told) (moment handle : ℕ) → WantsRoomAlone self.now told moment handle key.now → (failed : Bool) (written : Option (List ℕ)) → SaysEvicted self.now told moment (to_create handle key.now) failed failed written written }
         ensures stops { (told : Told) (moment handle : ℕ) → MayStopAtEach (KeepsState self.now) told told moment (to_create handle key.now) }
@@ -145,7 +145,7 @@ impl Cache {
         self.is_full(key.len() as u64, 1, &Covered::none())
     }
 
-    // Makes a new object by a Create that isn't refused, once all that has to go for it is evicted.
+    // Makes a new object by a Create that isn't refused, once all that has to be evicted for it is out.
     fn create_with_room<F: Folder, K: Sink>(
         &mut self,
         f: &mut F,
@@ -161,11 +161,11 @@ impl Cache {
         requires free { binding_of self.old.handles handle ≡ None }
         requires is_open { ForSome (F.told f.old).files (IsOpen self.old.files) }
 
-        // It is done, and may be stopped at each word.
+        // It is done, and may crash at each word.
         ensures does { IsNotRefused self.old (F.told f.old) moment handle key.now → IfOk result (λ answer. Does (KeepsState self.old) (KeepsState self.new) (F.told f.old) (F.told f.new) moment (to_create handle key.now) answer) }
         ensures stops { IsNotRefused self.old (F.told f.old) moment handle key.now → MayStopAtEach (KeepsState self.old) (F.told f.old) (F.told f.new) moment (to_create handle key.now) }
 
-        // What it evicts is printed, and on any answer a front of that.
+        // What it evicts is printed, and on any answer a prefix of that.
         ensures says { IsNotRefused self.old (F.told f.old) moment handle key.now → OnOk result (SaysEvicted self.old (F.told f.old) moment (to_create handle key.now) failed.old failed.new (K.written out.old) (K.written out.new)) }
         ensures front { IsNotRefused self.old (F.told f.old) moment handle key.now → SaysFront self.old (F.told f.old) moment (to_create handle key.now) (K.written out.old) (K.written out.new) }
         ensures fails { FailsWhereItRose failed.old failed.new (K.faults out.old) (K.faults out.new) }
@@ -203,7 +203,7 @@ impl Cache {
         requires free { binding_of self.old.handles handle ≡ None }
         requires is_open { ForSome (F.told f.old).files (IsOpen self.old.files) }
 
-        // It is done, whatever state the Create began with, and may be stopped at each word.
+        // It is done, whatever state the Create began with, and may crash at each word.
         ensures does { IfOk result (λ answer. ForSome (F.told f.old).files (λ from. (state : State) → IsReadyToCreate self.old state moment handle key.now from → IsDone (KeepsState self.new) (F.told f.new) moment (to_create handle key.now) answer state)) }
         ensures stops { ForSome (F.told f.old).files (λ from. (state : State) → IsReadyToCreate self.old state moment handle key.now from → Passes (F.told f.old) (F.told f.new) (MayStop state moment (to_create handle key.now))) }
 
@@ -221,8 +221,8 @@ impl Cache {
         Ok(Answer::Done)
     }
 
-    // Makes a new object with a key that no live object has, once there is room for it: it isn't settled, its item is
-    // in front of the use list, and a free handle name is bound to it.
+    // Makes a new object with a key that no live object has, once there is space for it: it is dirty, its item is in
+    // front of the LRU list, and a free handle name is bound to it.
     //
     // The object is made in the folder before the name is bound and the item is counted. After a fault nothing is
     // promised of the cache but that it may be let go.
@@ -239,20 +239,20 @@ impl Cache {
         requires free { binding_of self.old.handles handle ≡ None }
         requires is_open { ForSome (F.told f.old).files (IsOpen self.old.files) }
 
-        // In the end each state that was kept, that has room for the object, is kept with it.
+        // In the end each state that was kept, that has space for the object, is kept with it.
         ensures made { OnOk result (ForSome (F.told f.old).files (λ from. (state : State) → KeepsState self.old state from → HasRoomFor state handle key.now → ForSome (F.told f.new).files (KeepsState self.new (created handle key.now state)))) }
 
-        // At each word what was at rest is found.
+        // At each word the old durable contents are recovered.
         ensures stops { ForSome (F.told f.old).files (λ from. (state : State) → KeepsState self.old state from → CanHaveNew state handle key.now → Passes (F.told f.old) (F.told f.new) (Finds (rest state))) }
 
         ensures notes { self.new.notes ≡ self.old.notes }
         ensures mark { self.new.mark ≡ self.old.mark }
         ensures is_open { OnOk result (ForSome (F.told f.new).files (IsOpen self.new.files)) }
 
-        // A damage is a check that fails on what is read here; nothing is written after it.
+        // Corruption is a check that fails on what is read here; nothing is written after it.
         ensures damaged { IfDamaged result (IsFailedCheck self.new.files (F.told f.new)) }
 
-        // A folder that tells its files gives no damage where the cache keeps such a state.
+        // An observable folder reports no corruption where the cache keeps such a state.
         ensures untold { ForSome (F.told f.old).files (KeepsWithRoom self.old handle key.now) → IfDamaged result (λ _. (F.told f.old).files ≡ None) }
         ensures silent { (F.told f.old).files ≡ None → (F.told f.new).files ≡ None }
         ensures later { F.faults f.old ≤ F.faults f.new }
@@ -269,7 +269,7 @@ impl Cache {
         Ok(())
     }
 
-    // Why a Create is refused, but for want of room: with `BadKey`, `BadHandle` or `HandleBusy`, by what the names and
+    // Why a Create is refused, but for lack of space: with `BadKey`, `BadHandle` or `HandleBusy`, by what the names and
     // the key tell, or with `Exists` where a live object has the key, the first of these. Nothing is written.
     pub(crate) fn refuses_create<F: Folder>(
         &self,
@@ -284,7 +284,7 @@ impl Cache {
         ensures goes_on { IfOk result (λ early. early ≡ None → open_refusal self.now.handles handle key.now ≡ None) }
         ensures stays { Stays (F.told f.old) (F.told f.new) }
 
-        // A folder that tells its files gives no damage where the cache keeps a state.
+        // An observable folder reports no corruption where the cache keeps a state.
         ensures damaged { IfDamaged result (IsLookDamage self.now.files (F.told f.old) key.now) }
         ensures untold { ForSome (F.told f.old).files (IsOpen self.now.files) → ForSome (F.told f.old).files (KeepsAny self.now) → IfDamaged result (λ _. (F.told f.old).files ≡ None) }
         ensures later { F.faults f.old ≤ F.faults f.new }
@@ -299,7 +299,7 @@ impl Cache {
         }
     }
 
-    // Binds a free name to a new object, which isn't settled, and counts it.
+    // Binds a free name to a new object, which is dirty, and counts it.
     fn bind_new(&mut self, name: u16, new: &Live, node: Addr)
         requires known { name < handle_names }
         requires free { binding_of self.old.handles name ≡ None }

@@ -23,7 +23,7 @@ use blk_items::{Unpinned, evict_group};
 
 impl Cache {
     /// Evicts groups, each that of the last item that isn't pinned, until enough is evicted or each item is pinned, and
-    /// prints each item of them. It tells how many items went. The covered parts are pinned.
+    /// prints each item of them. It tells how many items were evicted. The covered parts are pinned.
     ///
     /// After a fault nothing is promised of the cache but that it may be let go. Where the sink fails nothing more is
     /// printed, and the eviction goes on.
@@ -37,12 +37,12 @@ impl Cache {
     ) -> Result<u64, Fault>
         requires is_open { ForSome (F.told f.old).files (IsOpen self.old.files) }
 
-        // Each state that was kept is kept without the groups that go, and these are counted and printed.
+        // Each state that was kept is kept without the groups that are evicted, and these are counted and printed.
         ensures evicted { OnOk result (ForCovered self.old parts.now (F.told f.old) (λ state covered. ForSome (F.told f.new).files (KeepsState self.new (without (evicted_until (is_met goal.now) state covered) state)))) }
         ensures counts { IfOk result (λ count. ForCovered self.old parts.now (F.told f.old) (λ state covered. count ≡ count_of_groups (evicted_until (is_met goal.now) state covered))) }
         ensures prints { OnOk result (ForCovered self.old parts.now (F.told f.old) (λ state covered. Prints failed.old failed.new (K.written out.old) (K.written out.new) (evicted_text (evicted_until (is_met goal.now) state covered)))) }
 
-        // At each word the first of them are out; on any answer a front of their text was printed.
+        // At each word the first of them are out; on any answer a prefix of their text was printed.
         ensures stops { ForCovered self.old parts.now (F.told f.old) (λ state covered. Passes (F.told f.old) (F.told f.new) (IsEvicting (evicted_until (is_met goal.now) state covered) state)) }
         ensures front { ForCovered self.old parts.now (F.told f.old) (λ state covered. Appends (K.written out.old) (K.written out.new) (evicted_text (evicted_until (is_met goal.now) state covered))) }
 
@@ -52,10 +52,10 @@ impl Cache {
         ensures others { OnlyItemsChange self.old self.new }
         ensures is_open { ForSome (F.told f.new).files (IsOpen self.new.files) }
 
-        // A damage is a check that fails on what is read here; nothing is written after it.
+        // Corruption is a check that fails on what is read here; nothing is written after it.
         ensures damaged { IfDamaged result (IsFailedCheck self.new.files (F.told f.new)) }
 
-        // A folder that tells its files gives no damage where the cache keeps a state, in which these parts are covered.
+        // An observable folder reports no corruption where the cache keeps a state, in which these parts are covered.
         ensures untold { ForSome (F.told f.old).files (KeepsCovered self.old parts.now) → IfDamaged result (λ _. (F.told f.old).files ≡ None) }
         ensures silent { (F.told f.old).files ≡ None → (F.told f.new).files ≡ None }
         ensures later { F.faults f.old ≤ F.faults f.new }
@@ -120,7 +120,7 @@ impl Cache {
         requires record_stands { IsTrue (is_record_among self.old.files found.now.entry) }
         requires is_open { ForSome (F.told f.old).files (IsOpen self.old.files) }
 
-        // Where it may go in a state that was kept, that is kept without its group.
+        // Where it may be evicted in a state that was kept, that is kept without its group.
         ensures evicted { OnOk result (ForSome (F.told f.old).files (λ from. ForEachThatMayGo self.old found.now from (λ state layout group. ForSome (F.told f.new).files (KeepsInPlaces self.new (without (group ∷ []) state) layout)))) }
         ensures prints { OnOk result (ForSome (F.told f.old).files (λ from. ForEachThatMayGo self.old found.now from (λ state layout group. Prints failed.old failed.new (K.written out.old) (K.written out.new) (evicted_text (group ∷ []))))) }
         ensures stops { ForSome (F.told f.old).files (λ from. ForEachThatMayGo self.old found.now from (λ state layout group. Passes (F.told f.old) (F.told f.new) (FindsEither state (without (group ∷ []) state)))) }

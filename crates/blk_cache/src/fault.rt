@@ -10,7 +10,7 @@ pub enum OpenFault {
     Device,
     /// What the folder holds failed a check.
     Damaged(Damage),
-    /// There was too little memory. Nothing was written.
+    /// Out of memory. Nothing was written.
     Memory,
 }
 
@@ -61,7 +61,7 @@ pub enum StepFault {
     Device,
     /// The sink failed. The command is done, and noted.
     Sink,
-    /// What the folder holds failed a check, which it doesn't where the folder tells its files.
+    /// What the folder holds failed a check, which it doesn't where the folder is observable.
     Damaged(Damage),
 }
 

@@ -23,13 +23,13 @@ use blk_model::Answer;
 use blk_record::IndexHead;
 
 impl Cache {
-    /// How many items the use list has, by one folder call. Nothing is written, and nothing is refused.
+    /// How many items the LRU list has, by one folder call. Nothing is written, and nothing is refused.
     pub(crate) fn list<F: Folder>(&self, f: &mut F) -> Result<Answer, Fault>
         ensures does { (moment : ℕ) → IfOk result (λ answer. Does (KeepsState self.now) (KeepsState self.now) (F.told f.old) (F.told f.new) moment to_list answer) }
         ensures stays { Stays (F.told f.old) (F.told f.new) }
         ensures passes { IfOk result (λ given. IsRefused given → ⊥) }
 
-        // Too few bytes, which a folder that tells its files doesn't give where the cache keeps a state.
+        // Too few bytes, which an observable folder doesn't give where the cache keeps a state.
         ensures damaged { IfDamaged result (IsShort (F.told f.old) names.Index IndexHead.SIZES 4) }
         ensures cause { IfDamaged result (IsFailedCheck self.now.files (F.told f.new)) }
         ensures untold { ForSome (F.told f.old).files (KeepsAny self.now) → IfDamaged result (λ _. (F.told f.old).files ≡ None) }
@@ -40,11 +40,11 @@ impl Cache {
         Ok(Answer::Listed(u64::from(count)))
     }
 
-    /// Prints the rows of a List, a line each, from the front of the use list on: of an object its key and the lengths of
+    /// Prints the rows of a List, a line each, from the front of the LRU list on: of an object its key and the lengths of
     /// its streams, and of a part its number and how many bytes it has. A doomed object has none.
     ///
-    /// One folder call finds the first item, and five more are made for each. Nothing is written. After a fault a front
-    /// of the lines is printed.
+    /// One folder call finds the first item, and five more are made for each. Nothing is written. After a fault a
+    /// prefix of the lines is printed.
     pub(crate) fn print_rows<F: Folder, K: Sink>(
         &mut self,
         f: &mut F,

@@ -1,4 +1,4 @@
-// Room is made.
+// Space is made.
 ghost use Rattle.std.specs.Prelude.{◌≡◌, ◌≤◌, ◌&&◌, ◌||◌, ◌==◌, [], IfOk, None, OnOk, true};
 ghost use Rattle.spec_image.specs.Image.{Image};
 ghost use Rattle.std.specs.Option.{ForSome};
@@ -24,18 +24,18 @@ use crate::covered::Covered;
 use crate::goal::Goal;
 use blk_io::{Fault, Folder, Sink};
 
-/// Whether there is room for what a command adds.
+/// Whether there is space for what a command adds.
 #[derive(Clone, Copy, PartialEq, Eq)]
 pub(crate) enum Room {
     /// The open objects and what is added exceed a limit.
     Full,
-    /// There is room, and what had to go for it is evicted.
+    /// There is space, and what had to be evicted for it is out.
     Made,
 }
 
 impl Cache {
-    /// Makes room for so many more bytes and items, where there can be room, and prints what is evicted for it. No part
-    /// is covered.
+    /// Makes space for so many more bytes and items, where there can be space, and prints what is evicted for it. No
+    /// part is covered.
     ///
     /// After a fault nothing is promised of the cache but that it may be let go.
     pub(crate) fn make_room<F: Folder, K: Sink>(
@@ -48,7 +48,7 @@ impl Cache {
     ) -> Result<Room, Fault>
         requires is_open { ForSome (F.told f.old).files (IsOpen self.old.files) }
 
-        // There is no room exactly where the map has none; then nothing is done.
+        // There is no space exactly where the map has none; then nothing is done.
         ensures full { IfOk result (λ answer. ForKept (KeepsState self.old) (F.told f.old) (λ state. says_full answer ≡ is_full_room (room state [] bytes items))) }
         ensures stays { IfOk result (λ answer. says_full answer ≡ true → Stays (F.told f.old) (F.told f.new)) }
         ensures unchanged { IfOk result (λ answer. says_full answer ≡ true → self.new ≡ self.old) }
@@ -58,7 +58,7 @@ impl Cache {
         ensures made { OnOk result (ForKept (KeepsState self.old) (F.told f.old) (λ state. ForSome (F.told f.new).files (KeepsState self.new (without (evicted_for (room state [] bytes items)) state)))) }
         ensures prints { OnOk result (ForKept (KeepsState self.old) (F.told f.old) (λ state. Prints failed.old failed.new (K.written out.old) (K.written out.new) (evicted_text (evicted_for (room state [] bytes items))))) }
 
-        // At each word the first of that are out; on any answer a front of its text was printed.
+        // At each word the first of that are out; on any answer a prefix of its text was printed.
         ensures stops { ForKept (KeepsState self.old) (F.told f.old) (λ state. Passes (F.told f.old) (F.told f.new) (IsEvicting (evicted_for (room state [] bytes items)) state)) }
         ensures front { ForKept (KeepsState self.old) (F.told f.old) (λ state. Appends (K.written out.old) (K.written out.new) (evicted_text (evicted_for (room state [] bytes items)))) }
 
@@ -68,10 +68,10 @@ impl Cache {
         ensures others { OnlyItemsChange self.old self.new }
         ensures is_open { ForSome (F.told f.new).files (IsOpen self.new.files) }
 
-        // A damage is a check that fails on what is read here; nothing is written after it.
+        // Corruption is a check that fails on what is read here; nothing is written after it.
         ensures damaged { IfDamaged result (IsFailedCheck self.new.files (F.told f.new)) }
 
-        // A folder that tells its files gives no damage where the cache keeps a state.
+        // An observable folder reports no corruption where the cache keeps a state.
         ensures untold { ForSome (F.told f.old).files (KeepsAny self.old) → IfDamaged result (λ _. (F.told f.old).files ≡ None) }
         ensures silent { (F.told f.old).files ≡ None → (F.told f.new).files ≡ None }
         ensures later { F.faults f.old ≤ F.faults f.new }
@@ -81,11 +81,11 @@ impl Cache {
         self.make_room_beside(f, out, failed, bytes, items, &Covered::none())
     }
 
-    /// Makes room for so many more bytes and items, where there can be room, and prints what is evicted for it. The
+    /// Makes space for so many more bytes and items, where there can be space, and prints what is evicted for it. The
     /// covered parts stay.
     ///
-    /// Nothing is evicted where they fit, or nothing is asked for; and whether there can be room is told by what is kept
-    /// in memory. After a fault nothing is promised of the cache but that it may be let go.
+    /// Nothing is evicted where they fit, or nothing is asked for; and whether there can be space is told by what is
+    /// kept in memory. After a fault nothing is promised of the cache but that it may be let go.
     pub(crate) fn make_room_beside<F: Folder, K: Sink>(
         &mut self,
         f: &mut F,
@@ -97,7 +97,7 @@ impl Cache {
     ) -> Result<Room, Fault>
         requires is_open { ForSome (F.told f.old).files (IsOpen self.old.files) }
 
-        // There is no room exactly where the map has none; then nothing is done.
+        // There is no space exactly where the map has none; then nothing is done.
         ensures full { IfOk result (λ answer. ForCovered self.old parts.now (F.told f.old) (λ state covered. says_full answer ≡ is_full_room (room state covered bytes items))) }
         ensures stays { IfOk result (λ answer. says_full answer ≡ true → Stays (F.told f.old) (F.told f.new)) }
         ensures unchanged { IfOk result (λ answer. says_full answer ≡ true → self.new ≡ self.old) }
@@ -107,7 +107,7 @@ impl Cache {
         ensures made { OnOk result (ForCovered self.old parts.now (F.told f.old) (λ state covered. ForSome (F.told f.new).files (KeepsState self.new (without (evicted_for (room state covered bytes items)) state)))) }
         ensures prints { OnOk result (ForCovered self.old parts.now (F.told f.old) (λ state covered. Prints failed.old failed.new (K.written out.old) (K.written out.new) (evicted_text (evicted_for (room state covered bytes items))))) }
 
-        // At each word the first of that are out; on any answer a front of its text was printed.
+        // At each word the first of that are out; on any answer a prefix of its text was printed.
         ensures stops { ForCovered self.old parts.now (F.told f.old) (λ state covered. Passes (F.told f.old) (F.told f.new) (IsEvicting (evicted_for (room state covered bytes items)) state)) }
         ensures front { ForCovered self.old parts.now (F.told f.old) (λ state covered. Appends (K.written out.old) (K.written out.new) (evicted_text (evicted_for (room state covered bytes items)))) }
 
@@ -117,10 +117,10 @@ impl Cache {
         ensures others { OnlyItemsChange self.old self.new }
         ensures is_open { ForSome (F.told f.new).files (IsOpen self.new.files) }
 
-        // A damage is a check that fails on what is read here; nothing is written after it.
+        // Corruption is a check that fails on what is read here; nothing is written after it.
         ensures damaged { IfDamaged result (IsFailedCheck self.new.files (F.told f.new)) }
 
-        // A folder that tells its files gives no damage where the cache keeps a state, in which these parts are covered.
+        // An observable folder reports no corruption where the cache keeps a state, in which these parts are covered.
         ensures untold { ForSome (F.told f.old).files (KeepsCovered self.old parts.now) → IfDamaged result (λ _. (F.told f.old).files ≡ None) }
         ensures silent { (F.told f.old).files ≡ None → (F.told f.new).files ≡ None }
         ensures later { F.faults f.old ≤ F.faults f.new }
@@ -134,7 +134,7 @@ impl Cache {
         Ok(Room::Made)
     }
 
-    /// Evicts what has to go for so many more bytes and items, where there can be room for them, and prints it. The
+    /// Evicts what is needed for so many more bytes and items, where there can be space for them, and prints it. The
     /// covered parts stay.
     ///
     /// Nothing is evicted where they fit, or nothing is asked for. After a fault nothing is promised of the cache but that
@@ -150,11 +150,11 @@ impl Cache {
     ) -> Result<(), Fault>
         requires is_open { ForSome (F.told f.old).files (IsOpen self.old.files) }
 
-        // Each state that was kept, and has room, is kept without what is evicted for it, and that is printed.
+        // Each state that was kept, and has space, is kept without what is evicted for it, and that is printed.
         ensures evicted { OnOk result (ForRoom self.old parts.now (F.told f.old) bytes items (λ state groups. ForSome (F.told f.new).files (KeepsState self.new (without groups state)))) }
         ensures prints { OnOk result (ForRoom self.old parts.now (F.told f.old) bytes items (λ state groups. Prints failed.old failed.new (K.written out.old) (K.written out.new) (evicted_text groups))) }
 
-        // At each word the first of that are out; on any answer a front of its text was printed.
+        // At each word the first of that are out; on any answer a prefix of its text was printed.
         ensures stops { ForRoom self.old parts.now (F.told f.old) bytes items (λ state groups. Passes (F.told f.old) (F.told f.new) (IsEvicting groups state)) }
         ensures front { ForRoom self.old parts.now (F.told f.old) bytes items (λ state groups. Appends (K.written out.old) (K.written out.new) (evicted_text groups)) }
 
@@ -164,10 +164,10 @@ impl Cache {
         ensures others { OnlyItemsChange self.old self.new }
         ensures is_open { ForSome (F.told f.new).files (IsOpen self.new.files) }
 
-        // A damage is a check that fails on what is read here; nothing is written after it.
+        // Corruption is a check that fails on what is read here; nothing is written after it.
         ensures damaged { IfDamaged result (IsFailedCheck self.new.files (F.told f.new)) }
 
-        // A folder that tells its files gives no damage where the cache keeps a state, in which these parts are covered.
+        // An observable folder reports no corruption where the cache keeps a state, in which these parts are covered.
         ensures untold { ForSome (F.told f.old).files (KeepsCovered self.old parts.now) → IfDamaged result (λ _. (F.told f.old).files ≡ None) }
         ensures silent { (F.told f.old).files ≡ None → (F.told f.new).files ≡ None }
         ensures later { F.faults f.old ≤ F.faults f.new }

@@ -12,7 +12,7 @@ use std::alloc::Global;
 // How many bytes there are for names: for the key of a parent, and for the name of a part.
 const NAME_ROOM: usize = LONGEST_KEY as usize + LONGEST_NAME as usize;
 
-// The handle names, and room for names of objects.
+// The handle names, and buffers for names of objects.
 #[derive(Drop)]
 pub(crate) struct Names {
     pub(crate) handles: Handles,

@@ -24,7 +24,7 @@ use blk_model::{Answer, Refusal};
 use blk_ranges::LONGEST_KEY;
 
 impl Cache {
-    /// Gives a handle name to the live object with a key, and puts its item in front of the use list.
+    /// Gives a handle name to the live object with a key, and puts its item in front of the LRU list.
     ///
     /// It is refused with `BadKey` where the key has no bytes or more than 32768, `BadHandle` where the name is 4096 or
     /// more, `HandleBusy` where it is bound, and `Missing` where no live object has the key, the first of these. After a
@@ -49,7 +49,7 @@ impl Cache {
         ensures notes { self.new.notes ≡ self.old.notes }
         ensures mark { self.new.mark ≡ self.old.mark }
 
-        // A folder that tells its files gives no damage where the cache keeps a state.
+        // An observable folder reports no corruption where the cache keeps a state.
         ensures damaged { IfDamaged result (IsOpenDamage self.old.files (F.told f.old) (F.told f.new) key.now) }
         ensures cause { IfDamaged result (IsFailedCheck self.new.files (F.told f.new)) }
         ensures untold { ForSome (F.told f.old).files (KeepsAny self.old) → IfDamaged result (λ _. (F.told f.old).files ≡ None) }

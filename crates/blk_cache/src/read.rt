@@ -24,7 +24,7 @@ use blk_lru::touch;
 use blk_model::Answer;
 
 impl Cache {
-    /// Does all of a Read that writes: the item of its object, where that isn't doomed, is put in front of the use list.
+    /// Does all of a Read that writes: the item of its object, where that isn't doomed, is put in front of the LRU list.
     /// The answer is the number of bytes to be printed: those from `offset` on, at most `count`.
     ///
     /// It is refused with `BadHandle` where the name is free, or 4096 or more, `BadStream` where the number of the stream
@@ -49,7 +49,7 @@ impl Cache {
 
         ensures is_open { ForSome (F.told f.new).files (IsOpen self.now.files) }
 
-        // A folder that tells its files gives no damage where the cache keeps a state.
+        // An observable folder reports no corruption where the cache keeps a state.
         ensures damaged { IfDamaged result (IsReadDamage self.now.handles self.now.files (F.told f.old) (F.told f.new) handle) }
         ensures cause { IfDamaged result (IsFailedCheck self.now.files (F.told f.new)) }
         ensures untold { ForSome (F.told f.old).files (KeepsAny self.now) → IfDamaged result (λ _. (F.told f.old).files ≡ None) }
@@ -68,7 +68,7 @@ impl Cache {
     }
 }
 
-// Puts the item of a live object in front of the use list; a doomed one has none.
+// Puts the item of a live object in front of the LRU list; a doomed one has none.
 fn use_item<F: Folder>(
     f: &mut F,
     files: &BlockFiles,

@@ -17,7 +17,7 @@ impl Cache {
     /// and then the bytes.
     ///
     /// Two folder calls are made for each 4096 bytes. Nothing is written. Where the handle names no object, or no stream
-    /// has that number, nothing is printed. After a fault a front of the line is printed.
+    /// has that number, nothing is printed. After a fault a prefix of the line is printed.
     pub(crate) fn print_read<F: Folder, K: Sink>(
         &self,
         f: &mut F,
@@ -33,7 +33,7 @@ impl Cache {
         ensures failed { FailsWhereItRose failed.old failed.new (K.faults out.old) (K.faults out.new) }
         ensures stays { Stays (F.told f.old) (F.told f.new) }
 
-        // A folder that tells its files gives no damage where the cache keeps a state with so many bytes.
+        // An observable folder reports no corruption where the cache keeps a state with so many bytes.
         ensures damaged { IfDamaged result (IsFailedCheck self.now.files (F.told f.new)) }
         ensures untold { ForSome (F.told f.old).files (KeepsToRead self.now handle stream offset number) → IfDamaged result (λ _. (F.told f.old).files ≡ None) }
         ensures later { F.faults f.old ≤ F.faults f.new }

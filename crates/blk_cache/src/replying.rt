@@ -22,7 +22,7 @@ impl Cache {
     /// Prints the reply of a command that is done, unless the sink failed before: the bytes of a Read or a SparseRead
     /// and the rows of a List as the folder has them now, and else the line of the answer.
     ///
-    /// Nothing is written. After a fault a front of the reply is printed.
+    /// Nothing is written. After a fault a prefix of the reply is printed.
     pub(crate) fn reply<F: Folder, K: Sink>(
         &mut self,
         f: &mut F,
@@ -38,7 +38,7 @@ impl Cache {
         ensures others { OnlyRoomChanges self.old self.new }
         ensures stays { Stays (F.told f.old) (F.told f.new) }
 
-        // A folder that tells its files gives no damage where the cache keeps the state after the command.
+        // An observable folder reports no corruption where the cache keeps the state after the command.
         ensures damaged { IfDamaged result (IsFailedCheck self.new.files (F.told f.new)) }
         ensures untold { ForSome (F.told f.old).files (KeepsAfter self.old (request_of command.now) answer.now) → IfDamaged result (λ _. (F.told f.old).files ≡ None) }
         ensures later { F.faults f.old ≤ F.faults f.new }

@@ -1,8 +1,9 @@
-//! The laws of room, each the contract of a function with an empty body.
+//! The laws of space, each the contract of a function with an empty body.
 ghost use Rattle.blk_cache.specs.RoomKept.{EvictedStatesAreKept, NamedObjectsLieApart, WholeGroupsLieApart};
 ghost use Rattle.blk_cache.specs.RoomTold.{NamedObjectsArePinned, RoomIsMade, RoomIsTold};
 
-/// Where no part is covered the named objects are what is pinned; so where there is room is told by what a cache keeps.
+/// Where no part is covered the named objects are what is pinned; so where there is space is told by what a cache
+/// keeps.
 pub fn named_objects_are_pinned()
     ensures pinned { NamedObjectsArePinned }
     ensures told { RoomIsTold }

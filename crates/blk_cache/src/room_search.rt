@@ -1,4 +1,4 @@
-// The last item of the use list that isn't pinned.
+// The last item of the LRU list that isn't pinned.
 ghost use Rattle.std.specs.Prelude.{◌≡◌, ◌≤◌, ◌||◌, IfOk, IfSome, IsTrue, List, None};
 ghost use Rattle.std.specs.Option.{ForSome};
 ghost use Rattle.spec_image.specs.Told.{Rises, Stays};
@@ -24,9 +24,9 @@ use blk_object::{end_walk, entry_named};
 use blk_record::NodeView;
 
 impl Cache {
-    /// The last item of the use list that isn't pinned, of those in front of a node, from which on all are; without a
-    /// node, of all items. Nothing is written. A list that goes on behind 131073 nodes, from the back on, is a damage, of the
-    /// prev of the last one.
+    /// The last item of the LRU list that isn't pinned, of those in front of a node, from which on all are; without a node,
+    /// of all items. Nothing is written. A list that goes on after 131073 nodes, from the back on, is corruption, of the prev
+    /// of the last one.
     pub(crate) fn last_unpinned<F: Folder>(
         &self,
         f: &mut F,
@@ -44,10 +44,10 @@ impl Cache {
         ensures next_stands { IfOk result (λ found. IfSome found (λ item. IfSome item.behind (λ node. IsTrue (is_node_among self.now.files node)))) }
         ensures stays { Stays (F.told f.old) (F.told f.new) }
 
-        // A damage is a check that fails on what is read here; nothing is written after it.
+        // Corruption is a check that fails on what is read here; nothing is written after it.
         ensures damaged { IfDamaged result (IsFailedCheck self.now.files (F.told f.new)) }
 
-        // A folder that tells its files gives no damage where the cache keeps a state.
+        // An observable folder reports no corruption where the cache keeps a state.
         ensures untold { ForSome (F.told f.old).files (KeepsPinnedFrom self.now parts.now behind) → IfDamaged result (λ _. (F.told f.old).files ≡ None) }
 
         ensures later { F.faults f.old ≤ F.faults f.new }

@@ -33,7 +33,7 @@ impl Cache {
         // What the names and the stream tell is refused on every folder.
         ensures refuses { IfSome (early_stream_refusal self.now.handles handle stream) (λ why. result ≡ Ok (answer.Refused why)) }
 
-        // A folder that tells its files gives no damage where the cache keeps a state.
+        // An observable folder reports no corruption where the cache keeps a state.
         ensures damaged { IfDamaged result (IsAskDamage self.now.handles (F.told f.old) handle) }
         ensures cause { IfDamaged result (IsFailedCheck self.now.files (F.told f.new)) }
         ensures untold { ForSome (F.told f.old).files (KeepsAny self.now) → IfDamaged result (λ _. (F.told f.old).files ≡ None) }

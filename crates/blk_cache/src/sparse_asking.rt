@@ -44,9 +44,8 @@ impl Cache {
     /// The live object that a handle names, for so many bytes of sparse data from an offset on. Nothing is written.
     ///
     /// It is refused with `BadHandle` where the name is free, or 4096 or more, `TooLarge` where there are more than 1048576
-    /// bytes, `RangeEnd` where they end behind 68719476736, and `Doomed` where the object is doomed, the first of these:
-    /// each is decided before any folder call. One folder call reads the record, and two more the index of a sparse
-    /// object.
+    /// bytes, `RangeEnd` where they end after 68719476736, and `Doomed` where the object is doomed, the first of these:
+    /// each is decided before any folder call. One folder call reads the record, and two more the index of a sparse object.
     pub(crate) fn ask_sparse<F: Folder>(
         &self,
         f: &mut F,
@@ -62,7 +61,7 @@ impl Cache {
         ensures inside { IfOk result (FindsInside (early_sparse_refusal self.now.handles handle offset count) offset count) }
         ensures stays { Stays (F.told f.old) (F.told f.new) }
 
-        // A damage is a check that fails on what is read here. A folder that tells its files gives none where the cache keeps a state.
+        // Corruption is a check that fails on what is read here. An observable folder gives none where the cache keeps a state.
         ensures damaged { IfDamaged result (IsFailedCheck self.now.files (F.told f.new)) }
         ensures untold { ForSome (F.told f.old).files (KeepsAny self.now) → IfDamaged result (λ _. (F.told f.old).files ≡ None) }
         ensures later { F.faults f.old ≤ F.faults f.new }

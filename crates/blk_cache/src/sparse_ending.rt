@@ -1,4 +1,4 @@
-// The end of a SparseWrite: its object is unsettled, and then the bytes are stored and counted.
+// The end of a SparseWrite: its object is dirty, and then the bytes are stored and counted.
 ghost use Rattle.std.specs.Prelude.{◌≡◌, ◌≤◌, ◌<◌, ◌+◌, IfOk, IsSome, None, OnOk, length};
 ghost use Rattle.std.specs.Option.{ForSome};
 ghost use Rattle.spec_image.specs.Told.{Passes, Rises};
@@ -27,7 +27,7 @@ use blk_sparse::{Parent, Target, store_sparse};
 pub(crate) const PARTS_INDEX: u64 = 8256;
 
 impl Cache {
-    /// Ends a SparseWrite of some bytes that isn't refused, once all that it evicts is out: its object is unsettled, and
+    /// Ends a SparseWrite of some bytes that isn't refused, once all that it evicts is out: its object is dirty, and
     /// then it gets the bytes, which raise what is kept by so many bytes and items.
     pub(crate) fn end_sparse_write<F: Folder>(
         &mut self,
@@ -47,7 +47,7 @@ impl Cache {
         requires inside { offset + length bytes.now ≤ largest_offset }
         requires is_open { ForSome (F.told f.old).files (IsOpen self.old.files) }
 
-        // It is done, whatever state the SparseWrite began with, and may be stopped at each word.
+        // It is done, whatever state the SparseWrite began with, and may crash at each word.
         ensures does { IfOk result (λ answer. ForSome (F.told f.old).files (λ from. (state : State) → IsReadyToStore self.old state moment handle offset bytes.now target.now more_bytes more_items from → IsDone (KeepsState self.new) (F.told f.new) moment (to_sparse_write handle offset bytes.now) answer state)) }
         ensures stops { ForSome (F.told f.old).files (λ from. (state : State) → IsReadyToStore self.old state moment handle offset bytes.now target.now more_bytes more_items from → Passes (F.told f.old) (F.told f.new) (MayStop state moment (to_sparse_write handle offset bytes.now))) }
 
@@ -68,7 +68,7 @@ impl Cache {
         Ok(Answer::Wrote(bytes.len() as u64))
     }
 
-    // Gives an object that isn't settled some bytes of sparse data, and counts what they raise.
+    // Gives a dirty object some bytes of sparse data, and counts what they raise.
     fn store_unsettled<F: Folder>(
         &mut self,
         f: &mut F,
@@ -90,7 +90,7 @@ impl Cache {
         // In the end each state that was kept, whose object can get them, is kept with them, and with its items in front.
         ensures stored { OnOk result (ForSome (F.told f.old).files (λ from. (state : State) → KeepsState self.old state from → (can : CanStore state handle offset bytes.now target.now more_bytes more_items) → ForSome (F.told f.new).files (KeepsState self.new (sparse_state state can.number can.object (signature_to target.now) offset bytes.now)))) }
 
-        // At each word what was at rest is found.
+        // At each word the old durable contents are recovered.
         ensures stops { ForSome (F.told f.old).files (λ from. (state : State) → KeepsState self.old state from → CanStore state handle offset bytes.now target.now more_bytes more_items → Passes (F.told f.old) (F.told f.new) (Finds (rest state))) }
 
         ensures notes { self.new.notes ≡ self.old.notes }

@@ -19,8 +19,8 @@ impl Cache {
     /// Prints the line of a SparseRead that was done: the number of bytes that are present from `offset` on, which its
     /// answer told, and then the bytes.
     ///
-    /// Nothing is written. Where the handle names no object, or so many bytes end behind where sparse data does, nothing is
-    /// printed. After a fault a front of the line is printed.
+    /// Nothing is written. Where the handle names no object, or so many bytes end past where sparse data does, nothing is
+    /// printed. After a fault a prefix of the line is printed.
     pub(crate) fn print_sparse<F: Folder, K: Sink>(
         &mut self,
         f: &mut F,
@@ -37,7 +37,7 @@ impl Cache {
         ensures others { OnlyRoomChanges self.old self.new }
         ensures stays { Stays (F.told f.old) (F.told f.new) }
 
-        // A folder that tells its files gives no damage where the cache keeps a state with so many bytes.
+        // An observable folder reports no corruption where the cache keeps a state with so many bytes.
         ensures damaged { IfDamaged result (IsFailedCheck self.new.files (F.told f.new)) }
         ensures untold { ForSome (F.told f.old).files (KeepsPresent self.old handle offset number) → IfDamaged result (λ _. (F.told f.old).files ≡ None) }
         ensures later { F.faults f.old ≤ F.faults f.new }

@@ -29,13 +29,13 @@ pub(crate) enum Wanted {
 }
 
 impl Cache {
-    /// Does all of a SparseRead or a SparseRange that writes: the item of its object is put in front of the use list, and
+    /// Does all of a SparseRead or a SparseRange that writes: the item of its object is put in front of the LRU list, and
     /// then each part that the bytes cover and that there is, in rising number. The answer tells what is wanted of the
     /// first run of present bytes.
     ///
     /// It is refused with `BadHandle` where the name is free, or 4096 or more, `TooLarge` where there are more than 1048576
-    /// bytes, `RangeEnd` where they end behind 68719476736, `Doomed` where the object is doomed, and `NotSparse` where it
-    /// is plain, the first of these. After a fault nothing is promised of the cache but that it may be let go.
+    /// bytes, `RangeEnd` where they end after 68719476736, `Doomed` where the object is doomed, and `NotSparse` where it is
+    /// plain, the first of these. After a fault nothing is promised of the cache but that it may be let go.
     pub(crate) fn use_sparse<F: Folder>(
         &mut self,
         f: &mut F,
@@ -57,7 +57,7 @@ impl Cache {
         ensures others { OnlyRoomChanges self.old self.new }
         ensures is_open { ForSome (F.told f.new).files (IsOpen self.new.files) }
 
-        // A damage is a check that fails on what is read here; nothing is written after it. A folder that tells its files gives none where the cache keeps a state.
+        // Corruption is a check that fails on what is read here; nothing is written after it. An observable folder gives none where the cache keeps a state.
         ensures damaged { IfDamaged result (IsFailedCheck self.new.files (F.told f.new)) }
         ensures untold { ForSome (F.told f.old).files (KeepsAny self.old) → IfDamaged result (λ _. (F.told f.old).files ≡ None) }
         ensures silent { (F.told f.old).files ≡ None → (F.told f.new).files ≡ None }

@@ -1,4 +1,4 @@
-// What a SparseWrite adds, measured before room is made for it.
+// What a SparseWrite adds, measured before space is made for it.
 ghost use Rattle.std.specs.Prelude.{◌≡◌, ◌≤◌, ◌<◌, ◌+◌, ◌^◌, ℕ, IfOk, IsTrue, List, None, length};
 ghost use Rattle.std.specs.Option.{ForSome};
 ghost use Rattle.spec_image.specs.Told.{Rises, Stays};
@@ -52,7 +52,7 @@ impl Cache {
         ensures stays { Stays (F.told f.old) (F.told f.new) }
         ensures others { OnlyRoomChanges self.old self.new }
 
-        // A damage is a check that fails on what is read here. A folder that tells its files gives none where the cache keeps such a state.
+        // Corruption is a check that fails on what is read here. An observable folder gives none where the cache keeps such a state.
         ensures damaged { IfDamaged result (IsFailedCheck self.new.files (F.told f.new)) }
         ensures untold { ForSome (F.told f.old).files (λ image. (state : State) (k : KeepsState self.old state image) (moment handle : ℕ) → IsTargetNamed state k.layout moment handle offset count target.now → IfDamaged result (λ _. (F.told f.old).files ≡ None)) }
         ensures later { F.faults f.old ≤ F.faults f.new }

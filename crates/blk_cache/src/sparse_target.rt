@@ -20,7 +20,7 @@ use blk_sparse::{Parent, Target};
 // A signature is a moment below this.
 const SIGNATURES: u64 = 1 << 63;
 
-/// The object that a SparseWrite names, or why it is refused, but for want of room.
+/// The object that a SparseWrite names, or why it is refused, but for lack of space.
 #[derive(Clone, Copy)]
 pub(crate) enum AskedTarget {
     Refused(Refusal),
@@ -47,7 +47,7 @@ impl Cache {
         ensures finds { IfOk result (FindsTarget self.now.files (early_sparse_refusal self.now.handles handle offset (length bytes.now)) offset (length bytes.now)) }
         ensures stays { Stays (F.told f.old) (F.told f.new) }
 
-        // A damage is a check that fails on what is read here. A folder that tells its files gives none where the cache keeps a state.
+        // Corruption is a check that fails on what is read here. An observable folder gives none where the cache keeps a state.
         ensures damaged { IfDamaged result (IsFailedCheck self.now.files (F.told f.new)) }
         ensures untold { ForSome (F.told f.old).files (KeepsAny self.now) → IfDamaged result (λ _. (F.told f.old).files ≡ None) }
         ensures later { F.faults f.old ≤ F.faults f.new }

@@ -29,14 +29,14 @@ use blk_model::{Answer, Refusal};
 use blk_sparse::Target;
 
 impl Cache {
-    /// Writes some bytes of sparse data to the object that a handle names, from an offset on. Room for what is added is
+    /// Writes some bytes of sparse data to the object that a handle names, from an offset on. Space for what is added is
     /// made first, beside the parts that the bytes cover; what is evicted for that is printed as it goes. Then the object
-    /// is unsettled; it becomes sparse where it is plain, with the moment as its signature; its item is put in front of the
-    /// use list, and each covered part, made where there is none, gets its bytes and is put in front. Where there are no
-    /// bytes the item is put in front, and nothing else is done.
+    /// becomes dirty; it becomes sparse where it is plain, with the moment as its signature; its item is put in front of
+    /// the LRU list, and each covered part, made where there is none, gets its bytes and is put in front. Where there are
+    /// no bytes the item is put in front, and nothing else is done.
     ///
     /// It is refused with `BadHandle` where the name is free, or 4096 or more, `TooLarge` where there are more than 1048576
-    /// bytes, `RangeEnd` where they end behind 68719476736, `Doomed` where the object is doomed, `NotSparse` where it is
+    /// bytes, `RangeEnd` where they end after 68719476736, `Doomed` where the object is doomed, `NotSparse` where it is
     /// plain and has bytes in its second or third stream, and `Full` where the open objects, the covered parts and what is
     /// added exceed a limit, the first of these. After a fault nothing is promised of the cache but that it may be let go.
     pub(crate) fn sparse_write<F: Folder, K: Sink>(
@@ -53,12 +53,13 @@ impl Cache {
         ensures does { IfOk result (λ answer. Does (KeepsState self.old) (KeepsState self.new) (F.told f.old) (F.told f.new) moment (to_sparse_write handle offset bytes.now) answer) }
         ensures stops { MayStopAtEach (KeepsState self.old) (F.told f.old) (F.told f.new) moment (to_sparse_write handle offset bytes.now) }
 
-        // What it evicts is printed, and on any answer a front of that.
+        // What it evicts is printed, and on any answer a prefix of that.
         ensures says { OnOk result (SaysEvicted self.old (F.told f.old) moment (to_sparse_write handle offset bytes.now) failed.old failed.new (K.written out.old) (K.written out.new)) }
         ensures front { SaysFront self.old (F.told f.old) moment (to_sparse_write handle offset bytes.now) (K.written out.old) (K.written out.new) }
         ensures fails { FailsWhereItRose failed.old failed.new (K.faults out.old) (K.faults out.new) }
 
-        // What the names and the range tell is refused on every folder, and a refusal does nothing, but to the room for names.
+        // What the names and the range tell is refused on every folder, and a refusal does nothing, but to the buffers for
+        // names.
         ensures refuses { IfSome (early_sparse_refusal self.old.handles handle offset (length bytes.now)) (λ why. result ≡ Ok (answer.Refused why)) }
         ensures quiet { IfOk result (λ answer. IsRefused answer → Stays (F.told f.old) (F.told f.new)) }
         ensures unchanged { IfOk result (λ answer. IsRefused answer → OnlyRoomChanges self.old self.new) }
@@ -67,7 +68,7 @@ impl Cache {
         ensures notes { self.new.notes ≡ self.old.notes }
         ensures mark { self.new.mark ≡ self.old.mark }
 
-        // A damage is a check that fails on what is read here; nothing is written after it. A folder that tells its files gives none where the cache keeps a state.
+        // Corruption is a check that fails on what is read here; nothing is written after it. An observable folder gives none where the cache keeps a state.
         ensures damaged { IfDamaged result (IsFailedCheck self.new.files (F.told f.new)) }
         ensures untold { ForSome (F.told f.old).files (KeepsAny self.old) → IfDamaged result (λ _. (F.told f.old).files ≡ None) }
         ensures silent { (F.told f.old).files ≡ None → (F.told f.new).files ≡ None }
@@ -104,16 +105,16 @@ impl Cache {
         requires inside { offset + length bytes.now ≤ largest_offset }
         requires is_open { ForSome (F.told f.old).files (IsOpen self.old.files) }
 
-        // It is the map's SparseWrite, and may be stopped at each word.
+        // It is the map's SparseWrite, and may crash at each word.
         ensures does { NamesTarget self.old (F.told f.old) moment handle offset (length bytes.now) target.now → IfOk result (λ answer. Does (KeepsState self.old) (KeepsState self.new) (F.told f.old) (F.told f.new) moment (to_sparse_write handle offset bytes.now) answer) }
         ensures stops { NamesTarget self.old (F.told f.old) moment handle offset (length bytes.now) target.now → MayStopAtEach (KeepsState self.old) (F.told f.old) (F.told f.new) moment (to_sparse_write handle offset bytes.now) }
 
-        // What it evicts is printed, and on any answer a front of that.
+        // What it evicts is printed, and on any answer a prefix of that.
         ensures says { NamesTarget self.old (F.told f.old) moment handle offset (length bytes.now) target.now → OnOk result (SaysEvicted self.old (F.told f.old) moment (to_sparse_write handle offset bytes.now) failed.old failed.new (K.written out.old) (K.written out.new)) }
         ensures front { NamesTarget self.old (F.told f.old) moment handle offset (length bytes.now) target.now → SaysFront self.old (F.told f.old) moment (to_sparse_write handle offset bytes.now) (K.written out.old) (K.written out.new) }
         ensures fails { FailsWhereItRose failed.old failed.new (K.faults out.old) (K.faults out.new) }
 
-        // A refusal does nothing, but to the room for names.
+        // A refusal does nothing, but to the buffers for names.
         ensures quiet { IfOk result (λ answer. IsRefused answer → Stays (F.told f.old) (F.told f.new)) }
         ensures unchanged { IfOk result (λ answer. IsRefused answer → OnlyRoomChanges self.old self.new) }
 
@@ -154,16 +155,16 @@ impl Cache {
         requires inside { offset + length bytes.now ≤ largest_offset }
         requires is_open { ForSome (F.told f.old).files (IsOpen self.old.files) }
 
-        // It is the map's SparseWrite, and may be stopped at each word.
+        // It is the map's SparseWrite, and may crash at each word.
         ensures does { NamesTarget self.old (F.told f.old) moment handle offset (length bytes.now) target.now → IfOk result (λ answer. Does (KeepsState self.old) (KeepsState self.new) (F.told f.old) (F.told f.new) moment (to_sparse_write handle offset bytes.now) answer) }
         ensures stops { NamesTarget self.old (F.told f.old) moment handle offset (length bytes.now) target.now → MayStopAtEach (KeepsState self.old) (F.told f.old) (F.told f.new) moment (to_sparse_write handle offset bytes.now) }
 
-        // What it evicts is printed, and on any answer a front of that.
+        // What it evicts is printed, and on any answer a prefix of that.
         ensures says { NamesTarget self.old (F.told f.old) moment handle offset (length bytes.now) target.now → OnOk result (SaysEvicted self.old (F.told f.old) moment (to_sparse_write handle offset bytes.now) failed.old failed.new (K.written out.old) (K.written out.new)) }
         ensures front { NamesTarget self.old (F.told f.old) moment handle offset (length bytes.now) target.now → SaysFront self.old (F.told f.old) moment (to_sparse_write handle offset bytes.now) (K.written out.old) (K.written out.new) }
         ensures fails { FailsWhereItRose failed.old failed.new (K.faults out.old) (K.faults out.new) }
 
-        // A refusal does nothing, but to the room for names.
+        // A refusal does nothing, but to the buffers for names.
         ensures quiet { IfOk result (λ answer. IsRefused answer → Stays (F.told f.old) (F.told f.new)) }
         ensures unchanged { IfOk result (λ answer. IsRefused answer → OnlyRoomChanges self.old self.new) }
 
@@ -181,7 +182,7 @@ impl Cache {
         self.write_where_room(f, out, failed, handle, target, &rise, offset, bytes, moment)
     }
 
-    // Writes them where there is room for what they add, which is known before anything is evicted or written.
+    // Writes them where there is space for what they add, which is known before anything is evicted or written.
     fn write_where_room<F: Folder, K: Sink>(
         &mut self,
         f: &mut F,
@@ -203,16 +204,16 @@ impl Cache {
         requires inside { offset + length bytes.now ≤ largest_offset }
         requires is_open { ForSome (F.told f.old).files (IsOpen self.old.files) }
 
-        // It is the map's SparseWrite, and may be stopped at each word.
+        // It is the map's SparseWrite, and may crash at each word.
         ensures does { AsksToStore self.old (F.told f.old) moment handle offset bytes.now target.now rise.now → IfOk result (λ answer. Does (KeepsState self.old) (KeepsState self.new) (F.told f.old) (F.told f.new) moment (to_sparse_write handle offset bytes.now) answer) }
         ensures stops { AsksToStore self.old (F.told f.old) moment handle offset bytes.now target.now rise.now → MayStopAtEach (KeepsState self.old) (F.told f.old) (F.told f.new) moment (to_sparse_write handle offset bytes.now) }
 
-        // What it evicts is printed, and on any answer a front of that.
+        // What it evicts is printed, and on any answer a prefix of that.
         ensures says { AsksToStore self.old (F.told f.old) moment handle offset bytes.now target.now rise.now → OnOk result (SaysEvicted self.old (F.told f.old) moment (to_sparse_write handle offset bytes.now) failed.old failed.new (K.written out.old) (K.written out.new)) }
         ensures front { AsksToStore self.old (F.told f.old) moment handle offset bytes.now target.now rise.now → SaysFront self.old (F.told f.old) moment (to_sparse_write handle offset bytes.now) (K.written out.old) (K.written out.new) }
         ensures fails { FailsWhereItRose failed.old failed.new (K.faults out.old) (K.faults out.new) }
 
-        // A refusal does nothing, but to the room for names.
+        // A refusal does nothing, but to the buffers for names.
         ensures quiet { IfOk result (λ answer. IsRefused answer → Stays (F.told f.old) (F.told f.new)) }
         ensures unchanged { IfOk result (λ answer. IsRefused answer → OnlyRoomChanges self.old self.new) }
 
@@ -232,7 +233,7 @@ impl Cache {
         self.write_with_room(f, out, failed, handle, target, rise, offset, bytes, moment)
     }
 
-    // Writes them once all that has to go for them is evicted, where nothing refuses it.
+    // Writes them once all that has to be evicted for them is out, where nothing refuses it.
     fn write_with_room<F: Folder, K: Sink>(
         &mut self,
         f: &mut F,
@@ -254,16 +255,16 @@ impl Cache {
         requires inside { offset + length bytes.now ≤ largest_offset }
         requires is_open { ForSome (F.told f.old).files (IsOpen self.old.files) }
 
-        // It is the map's SparseWrite, and may be stopped at each word.
+        // It is the map's SparseWrite, and may crash at each word.
         ensures does { HasRoomToStore self.old (F.told f.old) moment handle offset bytes.now target.now rise.now → IfOk result (λ answer. Does (KeepsState self.old) (KeepsState self.new) (F.told f.old) (F.told f.new) moment (to_sparse_write handle offset bytes.now) answer) }
         ensures stops { HasRoomToStore self.old (F.told f.old) moment handle offset bytes.now target.now rise.now → MayStopAtEach (KeepsState self.old) (F.told f.old) (F.told f.new) moment (to_sparse_write handle offset bytes.now) }
 
-        // What it evicts is printed, and on any answer a front of that.
+        // What it evicts is printed, and on any answer a prefix of that.
         ensures says { HasRoomToStore self.old (F.told f.old) moment handle offset bytes.now target.now rise.now → OnOk result (SaysEvicted self.old (F.told f.old) moment (to_sparse_write handle offset bytes.now) failed.old failed.new (K.written out.old) (K.written out.new)) }
         ensures front { HasRoomToStore self.old (F.told f.old) moment handle offset bytes.now target.now rise.now → SaysFront self.old (F.told f.old) moment (to_sparse_write handle offset bytes.now) (K.written out.old) (K.written out.new) }
         ensures fails { FailsWhereItRose failed.old failed.new (K.faults out.old) (K.faults out.new) }
 
-        // A refusal does nothing, but to the room for names.
+        // A refusal does nothing, but to the buffers for names.
         ensures quiet { IfOk result (λ answer. IsRefused answer → Stays (F.told f.old) (F.told f.new)) }
         ensures unchanged { IfOk result (λ answer. IsRefused answer → OnlyRoomChanges self.old self.new) }
 
@@ -293,7 +294,7 @@ impl Cache {
         self.bytes
     }
 
-    // Does a SparseWrite of no bytes: the main item of its object is put in front of the use list.
+    // Does a SparseWrite of no bytes: the main item of its object is put in front of the LRU list.
     fn use_target<F: Folder>(
         &self,
         f: &mut F,

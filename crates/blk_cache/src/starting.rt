@@ -25,13 +25,13 @@ impl Cache {
     /// in it; any other is checked and repaired, so that it keeps what was found in it. No handle name is bound.
     ///
     /// The last step makes the crash word 1, in a session with the next number; the first where the folder was made. It
-    /// may be stopped anywhere and begun again.
+    /// may crash anywhere and be begun again.
     ///
     /// # Errors
     ///
-    /// `Damaged` with the first check of the index and of the block files that fails; where the folder tells its files
-    /// nothing was written then. `Memory` where there was too little of it, before anything was written: a session takes
-    /// no more later. `Device` where the folder failed in this call.
+    /// `Damaged` with the first check of the index and of the block files that fails; where the folder is observable
+    /// nothing was written then. `Memory` when out of memory, before anything was written: a session takes no more
+    /// later. `Device` where the folder failed in this call.
     pub fn start<F: Folder>(
         alloc: Global,
         f: &mut F,
@@ -52,7 +52,7 @@ impl Cache {
         ensures stops { ForSome (F.told f.old).files (λ from. OpensOrBreaksOff from (F.told f.old) (F.told f.new)) }
         ensures last { OnOk result (ForSome (F.told f.old).files (λ from. Opens from (F.told f.old) (F.told f.new))) }
 
-        // A folder that tells its files gives a damage only where a check of its headers fails, and the first one.
+        // An observable folder reports corruption only where a check of its headers fails, and the first one.
         ensures damaged { IfOpenDamaged result (IsOpeningDamage (F.told f.new)) }
         ensures first { IfOpenDamaged result (λ damage. ForSome (F.told f.old).files (IsFirstDamage damage)) }
         ensures unwritten { IfOpenDamaged result (λ _. ForSome (F.told f.old).files (λ _. Stays (F.told f.old) (F.told f.new))) }

@@ -32,8 +32,8 @@ impl Cache {
     /// # Errors
     ///
     /// `Sink` where the sink failed in this call: the command is done all the same, and noted. `Device` where the folder
-    /// failed, and `Damaged` where it tells nothing and a check failed: then nothing is promised of the cache but that it
-    /// may be let go, and the folder may be opened again.
+    /// failed, and `Damaged` where it is opaque and a check failed: then nothing is promised of the cache but that it may
+    /// be let go, and the folder may be opened again.
     pub fn step<F: Folder, K: Sink>(
         &mut self,
         f: &mut F,
@@ -61,7 +61,7 @@ impl Cache {
         // So does one that the map refuses, also where only the sink failed.
         ensures refused { IfDone result (ForKept (KeepsState self.old) (F.told f.old) (λ state. IsRefused (answer_of (step state moment (request_of command.now)).reply) → Applies (F.told f.old) (F.told f.new) (Note (note_number (self.old.notes + 1)) ∷ []))) }
 
-        // What it evicts is printed, and then the reply; where there is no answer, a front of it; where the folder failed nothing of the reply, or it failed in the reply, behind the note.
+        // What it evicts is printed, and then the reply; where there is no answer, a prefix of it; where the folder failed nothing of the reply, or it failed in the reply, after the note.
         ensures printed { OnOk result (ForKept (KeepsState self.old) (F.told f.old) (λ state. K.written out.new ≡ option_map (λ w. w ++ outcome_text (step state moment (request_of command.now))) (K.written out.old))) }
         ensures front { ForKept (KeepsState self.old) (F.told f.old) (λ state. Appends (K.written out.old) (K.written out.new) (outcome_text (step state moment (request_of command.now)))) }
         ensures unanswered { IfStepDevice result (SaysFront self.old (F.told f.old) moment (request_of command.now) (K.written out.old) (K.written out.new) ⊎ ForKept (KeepsState self.old) (F.told f.old) (IsNoted (F.told f.old) (F.told f.new) moment (request_of command.now) (note_number (self.old.notes + 1)))) }

@@ -19,8 +19,8 @@ use blk_io::{Fault, Folder, Sink};
 use blk_model::Answer;
 
 impl Cache {
-    /// Evicts groups from the back of the use list, until no more than so many bytes are left or each item is pinned, and
-    /// prints what goes. It answers how many items went, and is never refused.
+    /// Evicts groups from the back of the LRU list, until no more than so many bytes are left or each item is pinned, and
+    /// prints what is evicted. It answers how many items were evicted, and is never refused.
     ///
     /// After a fault nothing is promised of the cache but that it may be let go.
     pub(crate) fn trim<F: Folder, K: Sink>(
@@ -34,7 +34,7 @@ impl Cache {
         ensures does { (moment : ℕ) → IfOk result (λ answer. Does (KeepsState self.old) (KeepsState self.new) (F.told f.old) (F.told f.new) moment (to_trim bytes) answer) }
         ensures stops { (moment : ℕ) → MayStopAtEach (KeepsState self.old) (F.told f.old) (F.told f.new) moment (to_trim bytes) }
 
-        // What it evicts is printed, and on any answer a front of that.
+        // What it evicts is printed, and on any answer a prefix of that.
         ensures says { (moment : ℕ) → OnOk result (SaysEvicted self.old (F.told f.old) moment (to_trim bytes) failed.old failed.new (K.written out.old) (K.written out.new)) }
         ensures front { (moment : ℕ) → SaysFront self.old (F.told f.old) moment (to_trim bytes) (K.written out.old) (K.written out.new) }
         ensures fails { FailsWhereItRose failed.old failed.new (K.faults out.old) (K.faults out.new) }
@@ -44,10 +44,10 @@ impl Cache {
         ensures notes { self.new.notes ≡ self.old.notes }
         ensures mark { self.new.mark ≡ self.old.mark }
 
-        // A damage is a check that fails on what is read here; nothing is written after it.
+        // Corruption is a check that fails on what is read here; nothing is written after it.
         ensures damaged { IfDamaged result (IsFailedCheck self.new.files (F.told f.new)) }
 
-        // A folder that tells its files gives no damage where the cache keeps a state.
+        // An observable folder reports no corruption where the cache keeps a state.
         ensures untold { ForSome (F.told f.old).files (KeepsAny self.old) → IfDamaged result (λ _. (F.told f.old).files ≡ None) }
         ensures silent { (F.told f.old).files ≡ None → (F.told f.new).files ≡ None }
         ensures later { F.faults f.old ≤ F.faults f.new }

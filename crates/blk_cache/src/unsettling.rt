@@ -1,4 +1,4 @@
-// An open object that is settled is marked as one that isn't.
+// An open object that is clean is marked dirty.
 ghost use Rattle.std.specs.Prelude.{◌≡◌, ◌≤◌, IsSome, None, OnOk, false};
 ghost use Rattle.std.specs.Option.{ForSome};
 ghost use Rattle.spec_image.specs.Told.{Passes, Rises};
@@ -17,18 +17,18 @@ use blk_io::{Fault, Folder};
 use blk_object::set_mark;
 
 impl Cache {
-    /// Unsettles the object that a handle names, live or doomed, where it is settled: the dirty word of its node becomes
-    /// the number of the session, and its names are marked so.
+    /// Makes the object that a handle names, live or doomed, dirty, where it is clean: the dirty word of its node
+    /// becomes the number of the session, and its names are marked so.
     ///
-    /// This takes three folder calls, and none where it isn't settled.
+    /// This takes three folder calls, and none where it is dirty.
     pub(crate) fn unsettle<F: Folder>(&mut self, f: &mut F, handle: u16) -> Result<(), Fault>
         requires bound { IsSome (binding_of self.old.handles handle) }
         requires is_open { ForSome (F.told f.old).files (IsOpen self.old.files) }
 
-        // In the end each state that was kept is kept with its object unsettled.
+        // In the end each state that was kept is kept with its object dirty.
         ensures unsettled { OnOk result (ForSome (F.told f.old).files (λ from. ForEachNamed self.old handle from (λ state number object. ForSome (F.told f.new).files (KeepsState self.new (marked state number object false))))) }
 
-        // At each word what was at rest is found, or what is at rest then.
+        // At each word the old durable contents are recovered, or the new ones.
         ensures stops { ForSome (F.told f.old).files (λ from. ForEachNamed self.old handle from (λ state number object. Passes (F.told f.old) (F.told f.new) (FindsEither state (marked state number object false)))) }
 
         ensures stays_bound { IsSome (binding_of self.new.handles handle) }
@@ -36,7 +36,7 @@ impl Cache {
         ensures charged { self.new.open_bytes ≡ self.old.open_bytes }
         ensures is_open { ForSome (F.told f.new).files (IsOpen self.new.files) }
 
-        // A damage is a check that fails on what is read here; nothing is written after it. A folder that tells its files gives none where the cache keeps a state.
+        // Corruption is a check that fails on what is read here; nothing is written after it. An observable folder gives none where the cache keeps a state.
         ensures damaged { IfDamaged result (IsFailedCheck self.new.files (F.told f.new)) }
         ensures untold { ForSome (F.told f.old).files (KeepsAny self.old) → IfDamaged result (λ _. (F.told f.old).files ≡ None) }
         ensures silent { (F.told f.old).files ≡ None → (F.told f.new).files ≡ None }

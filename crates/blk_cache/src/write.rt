@@ -40,12 +40,12 @@ const STREAM_SHARE: u64 = 8;
 
 impl Cache {
     /// Writes bytes over a stream of the object that a handle names, from an offset on, with zeros before them where it
-    /// ends there; it ends with them where it is cut, and else keeps what lies behind them. Room for what it gets longer
-    /// is made first; what is evicted for that is printed as it goes. Then the object is unsettled, and once it is
-    /// written its item is put in front of the use list. A doomed object has no item.
+    /// ends there; it ends with them where it is cut, and else keeps what comes after them. Space for what it gets
+    /// longer is made first; what is evicted for that is printed as it goes. Then the object becomes dirty, and once it
+    /// is written its item is put in front of the LRU list. A doomed object has no item.
     ///
     /// It is refused with `BadHandle` where the name is free, or 4096 or more, `BadStream` where the number of the stream
-    /// is 3 or more, `TooLarge` where the bytes end behind an eighth of the limit, `SparseStream` where the object is
+    /// is 3 or more, `TooLarge` where the bytes end past an eighth of the limit, `SparseStream` where the object is
     /// sparse and the number isn't 0, and `Full` where the open objects and what is added exceed a limit, the first of
     /// these. After a fault nothing is promised of the cache but that it may be let go.
     pub(crate) fn write<F: Folder, K: Sink>(
@@ -64,7 +64,7 @@ impl Cache {
         ensures does { IfOk result (λ answer. Does (KeepsState self.old) (KeepsState self.new) (F.told f.old) (F.told f.new) moment (to_write handle stream offset cut bytes.now) answer) }
         ensures stops { MayStopAtEach (KeepsState self.old) (F.told f.old) (F.told f.new) moment (to_write handle stream offset cut bytes.now) }
 
-        // What it evicts is printed, and on any answer a front of that.
+        // What it evicts is printed, and on any answer a prefix of that.
         ensures says { OnOk result (SaysEvicted self.old (F.told f.old) moment (to_write handle stream offset cut bytes.now) failed.old failed.new (K.written out.old) (K.written out.new)) }
         ensures front { SaysFront self.old (F.told f.old) moment (to_write handle stream offset cut bytes.now) (K.written out.old) (K.written out.new) }
         ensures fails { FailsWhereItRose failed.old failed.new (K.faults out.old) (K.faults out.new) }
@@ -78,7 +78,7 @@ impl Cache {
         ensures notes { self.new.notes ≡ self.old.notes }
         ensures mark { self.new.mark ≡ self.old.mark }
 
-        // A damage is a check that fails on what is read here; nothing is written after it. A folder that tells its files gives none where the cache keeps a state.
+        // Corruption is a check that fails on what is read here; nothing is written after it. An observable folder gives none where the cache keeps a state.
         ensures damaged { IfDamaged result (IsFailedCheck self.new.files (F.told f.new)) }
         ensures untold { ForSome (F.told f.old).files (KeepsAny self.old) → IfDamaged result (λ _. (F.told f.old).files ≡ None) }
         ensures silent { (F.told f.old).files ≡ None → (F.told f.new).files ≡ None }
@@ -101,7 +101,7 @@ impl Cache {
         }
     }
 
-    // Ends a Write that isn't refused, once all that it evicts is out: its object is unsettled, and then written.
+    // Ends a Write that isn't refused, once all that it evicts is out: its object is dirty, and then written.
     pub(crate) fn end_write<F: Folder>(
         &mut self,
         f: &mut F,
@@ -116,7 +116,7 @@ impl Cache {
         requires passes { early_write_refusal self.old handle stream offset (length bytes.now) ≡ None }
         requires is_open { ForSome (F.told f.old).files (IsOpen self.old.files) }
 
-        // It is done, whatever state the Write began with, and may be stopped at each word.
+        // It is done, whatever state the Write began with, and may crash at each word.
         ensures does { IfOk result (λ answer. ForSome (F.told f.old).files (λ from. (state : State) → IsReadyToWrite self.old state moment handle stream offset cut bytes.now size from → IsDone (KeepsState self.new) (F.told f.new) moment (to_write handle stream offset cut bytes.now) answer state)) }
         ensures stops { ForSome (F.told f.old).files (λ from. (state : State) → IsReadyToWrite self.old state moment handle stream offset cut bytes.now size from → Passes (F.told f.old) (F.told f.new) (MayStop state moment (to_write handle stream offset cut bytes.now))) }
 
@@ -135,7 +135,7 @@ impl Cache {
         Ok(Answer::Wrote(bytes.len() as u64))
     }
 
-    // Writes bytes over a stream of so many of the object that a handle names, which isn't settled: then the item of a live
+    // Writes bytes over a stream of so many of the object that a handle names, which is dirty: then the item of a live
     // object is used, and its rise is counted in the index; and that of any in the cache.
     fn write_unsettled<F: Folder>(
         &mut self,
@@ -154,7 +154,7 @@ impl Cache {
         // In the end each state that was kept, whose object can get them, is kept with them, and with the item in front.
         ensures written { OnOk result (ForSome (F.told f.old).files (λ from. (state : State) → KeepsState self.old state from → CanGetBytes state handle stream offset cut bytes.now size → ForSome (F.told f.new).files (KeepsState self.new (written handle stream offset cut bytes.now state)))) }
 
-        // At each word what was at rest is found.
+        // At each word the old durable contents are recovered.
         ensures stops { ForSome (F.told f.old).files (λ from. (state : State) → KeepsState self.old state from → CanGetBytes state handle stream offset cut bytes.now size → Passes (F.told f.old) (F.told f.new) (Finds (rest state))) }
 
         ensures notes { self.new.notes ≡ self.old.notes }
@@ -182,7 +182,7 @@ impl Cache {
         Ok(())
     }
 
-    // The stream that a Write names, or why the Write is refused, but for want of room. Nothing is written.
+    // The stream that a Write names, or why the Write is refused, but for lack of space. Nothing is written.
     pub(crate) fn refuses_write<F: Folder>(
         &self,
         f: &mut F,
@@ -198,7 +198,7 @@ impl Cache {
         ensures goes_on { IfOk result (GoesOn (early_write_refusal self.now handle stream offset (length bytes.now))) }
         ensures stays { Stays (F.told f.old) (F.told f.new) }
 
-        // A damage is a check that fails on what is read here. A folder that tells its files gives none where the cache keeps a state.
+        // Corruption is a check that fails on what is read here. An observable folder gives none where the cache keeps a state.
         ensures damaged { IfDamaged result (IsFailedCheck self.now.files (F.told f.new)) }
         ensures untold { ForSome (F.told f.old).files (KeepsAny self.now) → IfDamaged result (λ _. (F.told f.old).files ≡ None) }
         ensures later { F.faults f.old ≤ F.faults f.new }
@@ -249,7 +249,7 @@ fn use_and_count<F: Folder>(
     ensures used { OnOk result (object.now.doomed ≡ false → ForSome (F.told f.old).files (λ from. ForEachToUse object.now.node from (λ state layout its. ForSome (F.told f.new).files (IsUsedAndCounted state layout its object.now.size after from)))) }
     ensures stays { object.now.doomed ≡ true → Stays (F.told f.old) (F.told f.new) }
 
-    // At each word what was at rest is found.
+    // At each word the old durable contents are recovered.
     ensures stops { object.now.doomed ≡ false → ForSome (F.told f.old).files (λ from. ForEachToUse object.now.node from (λ state layout its. Passes (F.told f.old) (F.told f.new) (Finds (rest state)))) }
 
     ensures is_open { ForSome (F.told f.new).files (IsOpen files.now) }

@@ -22,7 +22,7 @@ use Rattle.blk_entry.proofs.KeyPlaces.{key_by_bytes}
 use Rattle.blk_chain.specs.Finding.{IsFollowed, IsKeyed, IsSought}
 use Rattle.law_folder.proofs.chains.ChainWords.{record_checks, shown-fields, shown-kind}
 
--- a word that names a record that stands
+-- a word that names a record that is there
 pub names-parts : (files : BlockFiles) (w : ℕ) → is_record_among files w ≡ true → (is_address w ≡ true) × ((kind_of w ≡ blocks_256) × (stands_among files w ≡ true))
 unfolding names_among
 names-parts files w e =
@@ -35,7 +35,7 @@ pub named-some : (files : BlockFiles) → is_record_among files 0 ≡ true → �
 unfolding kind_of
 named-some files e = let kind : kind_of 0 ≡ 2 = (names-parts files 0 e).1.0 in cc
 
--- a record that is shown stands
+-- a record that is shown is there
 pub shown-names : (files : BlockFiles) (image : Image) (w : ℕ) (fields : RecordFields) → Agrees files image → (store_of image).entry w ≡ Some fields → is_record_among files w ≡ true
 unfolding names_among stands
 shown-names files image w fields agrees here =

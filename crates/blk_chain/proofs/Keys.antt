@@ -74,13 +74,13 @@ module _ (w : ℕ) where
         (λ (e : ((f == file_selector w) && (b == first_block w)) ≡ false). rw e refl)
         (cases_Bool ((f == file_selector w) && (b == first_block w)))
 
--- fewer blocks stand where more do
+-- fewer blocks are valid where more are
 fewer : (address linked : Bool) (s c most p long : ℕ) → 1 ≤ c → (address && (linked && nat_le (s + c) most && nat_le (p + c * 256) long)) ≡ true → (linked && nat_le (s + 1) most && nat_le (p + 256) long) ≡ true
 fewer true true s c most p long some h = grind (arith, nat_tests)
 fewer true false s c most p long some h = h
 fewer false linked s c most p long some h = cc
 
--- it stands where the record does
+-- it is valid where the record is
 pub first-stands : (image : Image) (w : ℕ) → kind_of w ≡ 2 → stands_in image w ≡ true → stands_in image (first_word w) ≡ true
 unfolding stands stands_as_blocks byte_size block_size
 first-stands image w kind st =

@@ -34,11 +34,11 @@ one-name store w key other is_child flag one two =
     let fields : one.fields ≡ two.fields = some_inj (sym one.here ∙ two.here) in
     (two, (some_inj (sym one.key ∙ ap (λ (c : RecordFields). stored_key store w c) fields ∙ two.key), sym one.flag ∙ ap (λ (c : RecordFields). c.flags == 2) fields ∙ two.flag))
 
--- a word that isn't the first one is behind it
+-- a word that isn't the first one is after it
 not-first : (v w : ℕ) (words : List ℕ) → w ≢ v → is_among (v ∷ words) w ≡ true → is_among words w ≡ true
 not-first v w words apart among = ⊎_elim (λ (e : (v == w) ≡ true). absurd (apart (sym (eqb-true v w e)))) (λ (e : is_among words w ≡ true). e) (or_cases (v == w) (is_among words w) among)
 
--- and one that isn't the one behind the middle is among the others
+-- and one that isn't the one after the middle is among the others
 not-behind : (prefix : List ℕ) (p c w : ℕ) (rest : List ℕ) → w ≢ c → is_among (prefix ++ p ∷ c ∷ rest) w ≡ true → is_among (prefix ++ p ∷ rest) w ≡ true
 not-behind [] p c w rest apart among =
     ⊎_elim (λ (e : (p == w) ≡ true). or_left (p == w) (is_among rest w) e) (λ (e : is_among (c ∷ rest) w ≡ true). or_right (p == w) (is_among rest w) (not-first c w rest apart e)) (or_cases (p == w) (is_among (c ∷ rest) w) among)

@@ -115,7 +115,7 @@ module _ (from : Image) (bytes : AreBytes from) (entry before : ℕ) (can : CanB
           (λ (e : file_and_block w ≢ file_and_block before). sym (only.chain_next w e))
           (cases_eq (file_and_block w) (file_and_block before))
 
-    -- where it is the next of the record behind, that one is unlinked
+    -- where it is the next of the record after, that one is unlinked
     now-unlinked : (store_of image).chain_next before ≡ next_record from entry → IsUnlinked from entry (Some before) image
     now-unlinked link = record {
       keeps = keeps;

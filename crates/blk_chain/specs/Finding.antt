@@ -41,7 +41,7 @@ abbrev pub up_to : List ℕ → Option ℕ → List ℕ
 up_to prefix None = prefix
 up_to prefix (Some before) = prefix ++ before ∷ []
 
--- a record has this key and child flag, it stands in the chain behind this one, and it is the first there that has
+-- a record has this key and child flag, it is in the chain after this one, and it is the first there that has
 pub record IsFound (key : List ℕ) (is_child : Bool) (entry : ℕ) (before : Option ℕ) (image : Image) : Type 0 where
   pub has_key : HasKey (store_of image) key is_child entry
   pub prefix : List ℕ
@@ -61,7 +61,7 @@ pub record IsSought (key : List ℕ) (is_child : Bool) (w : ℕ) (image : Image)
   pub bytes : HasBytesOf key w image
   pub flag : ((entry_at image w).flags == child) ≡ is_child
 
--- a word was followed: it names a record that stands, whose bytes are there and check
+-- a word was followed: it names a record that is there, whose bytes are there and check
 pub record IsFollowed (files : BlockFiles) (w : ℕ) (image : Image) : Type 0 where
   pub stands : is_record_among files w ≡ true
   pub whole : HasRecord w image
@@ -71,12 +71,12 @@ abbrev pub Walks : BlockFiles → List ℕ → Bool → Image → ℕ → List �
 Walks files key is_child image word [] on = word ≡ on
 Walks files key is_child image word (w ∷ words) on = (word ≡ w) × (IsFollowed files w image × ((IsSought key is_child w image → ⊥) × Walks files key is_child image (next_record image w) words on))
 
--- the last of words, or what stood before them
+-- the last of words, or what was before them
 abbrev pub last_passed : Option ℕ → List ℕ → Option ℕ
 last_passed before [] = before
 last_passed before (w ∷ words) = last_passed (Some w) words
 
--- a search has passed so many records, from the word of the bucket on, and stands at a word behind the last of them
+-- a search has passed so many records, from the word of the bucket on, and is at a word after the last of them
 pub record HasPassed (files : BlockFiles) (key : List ℕ) (is_child : Bool) (word : ℕ) (before : Option ℕ) (count : ℕ) (image : Image) : Type 0 where
   pub passed : List ℕ
   pub many : length passed ≡ count
@@ -101,18 +101,18 @@ abbrev pub IsOutcome : BlockFiles → List ℕ → Bool → Option Found → Ima
 IsOutcome files key is_child None image = EndsUnfound files key is_child image
 IsOutcome files key is_child (Some found) image = EndsAt files key is_child found.entry found.before image
 
--- The damages of a search.
+-- The failed checks of a search.
 
--- a damage is that of the word of a bucket, or of the next of a record
+-- a failed check is that of the word of a bucket, or of the next of a record
 abbrev pub IsOfLink : ℕ → Option ℕ → Damage → Type 0
 IsOfLink bucket None damage = (damage.file ≡ names.Index) × (damage.at ≡ place_of_bucket bucket)
 IsOfLink bucket (Some before) damage = (damage.file ≡ names.Block (file_selector before)) × (damage.at ≡ place before + 4)
 
--- the record before, where there is one, is named by a word and stands
+-- the record before, where there is one, is named by a word and is there
 abbrev pub StandsBefore : BlockFiles → Option ℕ → Type 0
 StandsBefore files before = IfSome before (λ w. is_record_among files w ≡ true)
 
--- a word at which a chain goes on names no record that stands
+-- a word at which a chain goes on names no record that is there
 pub record IsDanglingLink (files : BlockFiles) (bucket : ℕ) (damage : Damage) : Type 0 where
   pub before : Option ℕ
   pub stands : StandsBefore files before
@@ -120,7 +120,7 @@ pub record IsDanglingLink (files : BlockFiles) (bucket : ℕ) (damage : Damage) 
   pub some : damage.found ≢ 0
   pub dangling : is_record_among files damage.found ≡ false
 
--- a chain goes on behind the last record that a search passes, which has passed one more than is searched
+-- a chain goes on after the last record that a search passes, which has passed one more than is searched
 pub record IsTooLong (files : BlockFiles) (told : Told) (key : List ℕ) (is_child : Bool) (damage : Damage) : Type 0 where
   pub last : ℕ
   pub stands : is_record_among files last ≡ true
@@ -128,17 +128,17 @@ pub record IsTooLong (files : BlockFiles) (told : Told) (key : List ℕ) (is_chi
   pub some : damage.found ≢ 0
   pub passed : ForSome told.files (HasPassed files key is_child damage.found (Some last) (most_searched + 1))
 
--- a record that stands has too few bytes or doesn't check, or its key of so many bytes has a wrong length or place or too few bytes
+-- a record that is there has too few bytes or doesn't check, or its key of so many bytes has a wrong length or place or too few bytes
 pub record IsWrongRecord (files : BlockFiles) (told : Told) (key_len : ℕ) (damage : Damage) : Type 0 where
   pub entry : ℕ
   pub stands : is_record_among files entry ≡ true
   pub wrong : IsKeyDamage files told entry key_len damage
 
--- a damage of a chain that is followed: a word that names no record, a wrong record, or a chain that is too long
+-- a failed check of a chain that is followed: a word that names no record, a wrong record, or a chain that is too long
 abbrev pub IsChainDamage : BlockFiles → Told → List ℕ → Bool → Damage → Type 0
 IsChainDamage files told key is_child damage = IsDanglingLink files (bucket_of_key key) damage ⊎ (IsWrongRecord files told (length key) damage ⊎ IsTooLong files told key is_child damage)
 
--- a damage of a search: too few bytes of the bucket's word, or one of the chain
+-- a failed check of a search: too few bytes of the bucket's word, or one of the chain
 abbrev pub IsSearchDamage : BlockFiles → Told → List ℕ → Bool → Damage → Type 0
 IsSearchDamage files told key is_child damage = IsShort told names.Index (place_of_bucket (bucket_of_key key)) 4 damage ⊎ IsChainDamage files told key is_child damage
 
@@ -151,14 +151,14 @@ pub record IsKeyed (w : ℕ) (image : Image) : Type 0 where
   pub good : fields.checks ≡ true
   pub key : HasReadableKey w image
 
--- a fault is a damage of the word of a link
+-- a fault is a failed check of the word of a link
 pub record IsFaultOfLink (bucket : ℕ) (before : Option ℕ) (found : ℕ) (fault : Fault) : Type 0 where
   pub damage : Damage
   pub is : fault ≡ Damaged damage
   pub link : IsOfLink bucket before damage
   pub of_word : damage.found ≡ found
 
--- what a step finds at a word: a record that stands, and the next record's word where it isn't the one
+-- what a step finds at a word: a record that is there, and the next record's word where it isn't the one
 abbrev pub StandsAt : BlockFiles → ℕ → Step → Type 0
 StandsAt files w (Here entry) = (entry ≡ w) × (is_record_among files w ≡ true)
 StandsAt files w (On link) = (link.before ≡ Some w) × (is_record_among files w ≡ true)

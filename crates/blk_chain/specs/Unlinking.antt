@@ -22,7 +22,7 @@ use Rattle.spec_folder.specs.Searches.{HasKey, IsWholeChain}
 use Rattle.blk_chain.specs.Linking.{chained_with, place_of_front}
 use Rattle.spec_format.specs.Storage.{longest_short_key}
 
--- words have this one, with the word before it, if there is one, so many before that, and these behind
+-- words have this one, with the word before it, if there is one, so many before that, and these after that
 abbrev pub StandsBehind : List ℕ → ℕ → Option ℕ → List ℕ → List ℕ → Type 0
 StandsBehind words w None prefix suffix = (prefix ≡ []) × (words ≡ w ∷ suffix)
 StandsBehind words w (Some before) prefix suffix = words ≡ prefix ++ before ∷ w ∷ suffix
@@ -87,7 +87,7 @@ pub record IsStillLinked (from : Image) (entry : ℕ) (before : Option ℕ) (ima
   pub keeps : KeepsRecords from before (unlink_range from entry before) image
   pub chains : (bucket : ℕ) → chain (store_of image) bucket ≡ chain (store_of from) bucket
 
--- the record before links to the next of the one behind it, and no other link has changed: the table, what the nodes say, and the link of each word of another file or first block are as they were
+-- the record before links to the next of the one after it, and no other link has changed: the table, what the nodes say, and the link of each word of another file or first block are as they were
 pub record IsRelinked (from : Image) (entry : ℕ) (before : ℕ) (image : Image) : Type 0 where
   pub link : (store_of image).chain_next before ≡ next_record from entry
   pub table : (bucket : ℕ) → (store_of image).table bucket ≡ (store_of from).table bucket
@@ -121,7 +121,8 @@ abbrev pub BeforeChecks : Option ℕ → Image → Type 0
 BeforeChecks None image = Unit {0}
 BeforeChecks (Some before) image = RecordChecks before image
 
--- the damages of unlinking: too few bytes at the record's next; then at its hash, or at the record before, which may also fail to check
+-- the failed checks of unlinking: too few bytes at the record's next; then at its hash, or at the record before, which may also fail to
+-- check
 abbrev pub IsUnlinkDamage : Told → ℕ → Option ℕ → Damage → Type 0
 IsUnlinkDamage told entry None damage = IsShort told (names.Block (file_selector entry)) (place entry + 4) 4 damage ⊎ IsShort told (names.Block (file_selector entry)) (place entry) 4 damage
 IsUnlinkDamage told entry (Some before) damage =

@@ -27,7 +27,7 @@ use blk_record::{EntryFlags, EntryView, IndexHead, super_fast_hash};
 // The most records that a search passes.
 const MOST_RECORDS: u32 = 131_073;
 
-// Where a search stands: at a word, behind the record that has it as its next, or at the front of a chain.
+// Where a search is: at a word, after the record that has it as its next, or at the front of a chain.
 #[derive(Clone, Copy)]
 struct Link {
     word: u32,
@@ -41,7 +41,7 @@ struct Sought {
     child: bool,
 }
 
-// What a step finds: the record that is sought, or another one behind which the search goes on.
+// What a step finds: the record that is sought, or another one after which the search goes on.
 enum Step {
     Here(Addr),
     On(Link),
@@ -55,9 +55,9 @@ enum Step {
 /// length and child flag agree is the key read too: by one call, or by two where it has more than 16398
 /// bytes and the first of them are the same. So no record costs more than three calls.
 ///
-/// A damage is a read that gave too few bytes, a word of the chain that names no record that stands,
-/// a record that doesn't check or whose key has a wrong length or place, or a chain that goes on
-/// behind 131073 records: then the word that would be followed is found. Nothing is written.
+/// A failed check is a read that gave too few bytes, a word of the chain that names no record that is there, a record
+/// that doesn't check or whose key has a wrong length or place, or a chain that goes on after 131073 records: then the
+/// word that would be followed is found. Nothing is written.
 pub fn find<F: Folder>(
     f: &mut F,
     files: &BlockFiles,
@@ -69,7 +69,7 @@ pub fn find<F: Folder>(
     ensures found { IfOk result (λ answer. ForSome (F.told f.old).files (λ image. CanBeSearched key.now image → IsAnswer key.now child answer image)) }
     ensures checked { OnOk result (ForSome (F.told f.old).files (λ image. HasRange image index (place_of_bucket (bucket_of_key key.now)) 4)) }
 
-    // What is found stands, and so does the record before it; it can be unlinked.
+    // What is found is valid, and so is the record before it; it can be unlinked.
     ensures names { IfOk result (λ answer. IfSome answer (λ found. IsTrue (is_record_among files.now found.entry))) }
     ensures kind { IfOk result (λ answer. IfSome answer (λ found. kind_of found.entry ≡ blocks_256)) }
     ensures stands { IfOk result (λ answer. IfSome answer (λ found. IsTrue (stands_among files.now found.entry))) }
@@ -79,7 +79,7 @@ pub fn find<F: Folder>(
     ensures linked { IfOk result (λ answer. IfSome answer (λ found. ForSome (F.told f.old).files (λ image. CanBeSearched key.now image → CanBeUnlinked found.entry found.before image))) }
     ensures stays { Stays (F.told f.old) (F.told f.new) }
 
-    // A folder that tells its files gives a damage only for a chain that can't be searched.
+    // An observable folder reports corruption only for a chain that can't be searched.
     ensures damaged { IfDamaged result (IsSearchDamage files.now (F.told f.old) key.now child) }
     ensures untold { ForSome (F.told f.old).files HasWholeIndex → ForSome (F.told f.old).files (Agrees files.now) → ForSome (F.told f.old).files (CanBeSearched key.now) → IfDamaged result (λ _. (F.told f.old).files ≡ None) }
 
@@ -198,7 +198,7 @@ fn is_sought<F: Folder>(
     key_is(f, files, entry, head, key)
 }
 
-// The record of a word, where it names one that stands.
+// The record of a word, where it names one that is there.
 fn record_of(files: &BlockFiles, hash: u32, link: &Link) -> Result<Addr, Fault>
     requires some { link.now.word ≢ 0 }
     requires kind_before { IfSome link.now.before (λ before. kind_of before ≡ blocks_256) }
@@ -215,7 +215,7 @@ fn record_of(files: &BlockFiles, hash: u32, link: &Link) -> Result<Addr, Fault>
     }
 }
 
-// The damage of the word of a link: of the word of a bucket, or of a record's next.
+// The failed check of the word of a link: of the word of a bucket, or of a record's next.
 fn damage_of(hash: u32, link: &Link) -> Fault
     requires kind_before { IfSome link.now.before (λ before. kind_of before ≡ blocks_256) }
     ensures { IsFaultOfLink (bucket_of_hash hash) link.now.before link.now.word result }

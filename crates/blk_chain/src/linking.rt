@@ -20,8 +20,8 @@ use blk_record::{EntryView, IndexHead};
 
 /// Links a record in front of the chain of its bucket: the word of the bucket names it from then on.
 ///
-/// The record is complete, and its next is the word of the bucket. One folder call reads its hash,
-/// and one writes the word. Too few bytes are a damage, and nothing is written.
+/// The record is complete, and its next is the word of the bucket. One folder call reads its hash, and one writes the
+/// word. Too few bytes are corruption, and nothing is written.
 pub fn link_front<F: Folder>(f: &mut F, files: &BlockFiles, entry: Addr) -> Result<(), Fault>
     requires kind { kind_of entry ≡ blocks_256 }
     requires stands { IsTrue (stands_among files.now entry) }
@@ -38,12 +38,12 @@ pub fn link_front<F: Folder>(f: &mut F, files: &BlockFiles, entry: Addr) -> Resu
     // Until the word of the bucket is written all is as before, and from then on the record is linked and nothing else has changed.
     ensures commits { ForSome (F.told f.old).files (λ from. CanBeLinked entry from → Commits 1 (F.told f.old) (F.told f.new) (λ image. image ≡ from) (IsLinkedInFront from entry)) }
 
-    // A damage is too few bytes, which a folder that tells its files never gives, and nothing was written.
+    // A failed check is too few bytes, which an observable folder never gives, and nothing was written.
     ensures short { IfDamaged result (IsShort (F.told f.old) (FileId.Block (file_selector entry)) (place entry) 4) }
     ensures unwritten { IfDamaged result (λ _. Stays (F.told f.old) (F.told f.new)) }
     ensures untold { IfDamaged result (λ _. (F.told f.old).files ≡ None) }
 
-    // A folder that tells no files goes on telling none.
+    // An opaque folder stays opaque.
 
     ensures later { F.faults f.old ≤ F.faults f.new }
     ensures device { IfDevice result (Rises (F.faults f.old) (F.faults f.new)) }

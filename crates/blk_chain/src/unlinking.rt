@@ -18,7 +18,7 @@ use blk_index::set_bucket;
 use blk_io::{Fault, Folder};
 use blk_record::{EntryView, IndexHead};
 
-// Takes the record out of its chain that stands behind this one: its next becomes that record's.
+// Takes the record out of its chain that comes after this one: its next becomes that record's.
 fn unlink_behind<F: Folder>(
     f: &mut F,
     files: &BlockFiles,
@@ -72,9 +72,9 @@ fn unlink_first<F: Folder>(f: &mut F, files: &BlockFiles, entry: Addr) -> Result
 /// Takes a record out of its chain: what named it, the word of its bucket or the next of the record
 /// before it, takes its next.
 ///
-/// One folder call reads the next. At the front of a chain one reads the hash and one writes the word;
-/// else the record before is read and changed by a sealed update. Too few bytes, or a record before
-/// that doesn't check, are a damage, and nothing is written.
+/// One folder call reads the next. At the front of a chain one reads the hash and one writes the word; else the record
+/// before is read and changed by a sealed update. Too few bytes, or a record before that doesn't check, are corruption,
+/// and nothing is written.
 pub fn unlink<F: Folder>(f: &mut F, files: &BlockFiles, found: &Found) -> Result<(), Fault>
     requires kind { kind_of found.now.entry ≡ blocks_256 }
     requires stands { IsTrue (stands_among files.now found.now.entry) }
@@ -96,12 +96,12 @@ pub fn unlink<F: Folder>(f: &mut F, files: &BlockFiles, found: &Found) -> Result
     // Until that one word is written the chains are the old ones, and from then on the record is unlinked; each record checks as before.
     ensures commits { ForSome (F.told f.old).files (λ from. CanBeUnlinked found.now.entry found.now.before from → Commits (words_to_unlink found.now.before) (F.told f.old) (F.told f.new) (IsStillLinked from found.now.entry found.now.before) (IsUnlinked from found.now.entry found.now.before)) }
 
-    // A damage is a short read or a record before that doesn't check, and nothing was written. A folder that tells its files gives one only for such a record.
+    // A failed check is a short read or a record before that doesn't check, and nothing was written. An observable folder gives one only for such a record.
     ensures damaged { IfDamaged result (IsUnlinkDamage (F.told f.old) found.now.entry found.now.before) }
     ensures unwritten { IfDamaged result (λ _. Stays (F.told f.old) (F.told f.new)) }
     ensures untold { ForSome (F.told f.old).files (BeforeChecks found.now.before) → IfDamaged result (λ _. (F.told f.old).files ≡ None) }
 
-    // A folder that tells no files goes on telling none.
+    // An opaque folder stays opaque.
 
     ensures later { F.faults f.old ≤ F.faults f.new }
     ensures device { IfDevice result (Rises (F.faults f.old) (F.faults f.new)) }

@@ -1,4 +1,4 @@
--- What the checks of a folder without damage say of the files along the links.
+-- What the checks of a folder without corruption say of the files along the links.
 use Rattle.std.proofs.Common.{◌≡◌, ◌≢◌, ℕ, zero, suc, ◌-◌, ◌<◌, ◌≤◌, Bool, true, false, not, ◌&&◌, ◌||◌, nat_le, nat_lt, if◌then◌else◌, List, [], ◌∷◌, ◌++◌, None, refl, sym, ◌∙◌, ap, subst, arith, ◌⊎◌, inl, inr, ⊎_elim}
 use Rattle.std.specs.Prelude.{◌==◌}
 use Rattle.std.proofs.lemmas.Bool.{cases_lt}
@@ -50,7 +50,7 @@ pub record IsMet (image : Image) (met : List ℕ) (k m : ℕ) : Type 0 where
   pub fresh : is_among met m ≡ false
   pub whole : 8192 ≤ length_of image (Block m)
 
--- a member of a list is its first or behind it
+-- a member of a list is its first or after it
 first_or_behind : (k m : ℕ) (xs : List ℕ) → is_among (k ∷ xs) m ≡ true → (k ≡ m) ⊎ (is_among xs m ≡ true)
 first_or_behind k m xs among = ⊎_elim (λ (e : (k == m) ≡ true). inl (grind (arith, nat_tests))) inr (or_cases (k == m) (is_among xs m) among)
 

@@ -293,7 +293,7 @@ module _ (files : BlockFiles) (image : Image) (n : ℕ) (agrees : Agrees files i
       pub agrees_grown : Agrees new (after all_steps image)
       agrees_grown = subst (Agrees new) (sym grow_ends) agrees_done
 
-  -- there is room for the header's words
+  -- there is space for the header's words
   pub long_room : 40 ≤ length_of long (Block n)
   long_room = omega (arith, long_size, size_some)
 

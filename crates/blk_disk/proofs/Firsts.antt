@@ -15,7 +15,7 @@ length_passed kind met left n f size none =
     let test : nat_le 8192 size ≡ true = passed (Block n) 8192 (size % 2 ^ 32) (nat_le 8192 size) (all_none (file_checks kind met left n f size) none 0) in
     grind (arith, nat_tests)
 
--- a link has room, after one more file
+-- a link has space, after one more file
 pub link_room : (met : List ℕ) (count next : ℕ) → is_link met (59 - count) next ≡ true → HasRoom (count + 1) (next_of next)
 unfolding is_link
 link_room met count next holds = by_test (next == 0) refl

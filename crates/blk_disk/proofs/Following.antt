@@ -49,7 +49,7 @@ unfolding checks_along
 along_damaged image kind met zero n d some = some
 along_damaged image kind met (suc left) n d some = append_some (file_checks kind (met ++ n ∷ []) (suc left) n (byte image (Block n)) (length_of image (Block n))) _ d some
 
--- a damage of the next file is the first
+-- a failed check of the next file is the first
 pub damaged : (files : BlockFiles) (image : Image) (kind n : ℕ) (d : checks.Damage) → Follows files image kind (Some n) → first_of (next_checks files image kind n) ≡ Some d → first_block_damage image ≡ Some d
 damaged files image kind n d follows some =
     follows.undamaged ∙ append_some (checks_along image kind (all_files files) (files_left files kind) n) (checks_after image kind) d (along_damaged image kind (all_files files) (files_left files kind) n d some)

@@ -25,7 +25,7 @@ apart k (n ∷ ns) none = by_test (apart k ns) (n == k) refl none
 Distinct : List ℕ → Type 0
 Distinct ns = IsDistinct (λ m n. m == n) ns
 
--- no file stands twice along the links
+-- no file occurs twice along the links
 distinct_along : (image : Image) (kind left k : ℕ) (met : List ℕ) → is_among met k ≡ false → first_of (checks_along image kind met left k) ≡ None → Distinct (files_along (next_file_in image) left k)
 unfolding files_along checks_along is_link Distinct IsDistinct
 distinct_along image kind zero k met fresh none = (tt, tt)

@@ -1,4 +1,4 @@
--- The bytes of the blocks of an address that stands.
+-- The bytes of the blocks of a valid address.
 use Rattle.std.proofs.Common.{◌≡◌, ◌≢◌, ℕ, ◌+◌, ◌*◌, ◌≤◌, Bool, true, false, ◌&&◌, ◌||◌, if◌then◌else◌, List, refl, ◌∙◌, ap, ap₂, arith}
 use Rattle.std.specs.Prelude.{◌==◌, nat_le, None, Some}
 use Rattle.std.specs.declared.option.Option.{Option}
@@ -34,7 +34,7 @@ second_of_two false b e = absurd (clash e)
 differ : (b : Bool) → b ≡ true → b ≡ false → ⊥
 differ b e d = cc
 
--- the three parts of what stands
+-- the three parts of what is valid
 linked_part : (files : BlockFiles) (w : ℕ) → stands_among files w ≡ true → is_linked_as (kind_among (files_of files) (file_selector w)) (kind_of w) ≡ true
 unfolding stands_as_blocks
 linked_part files w stands = first_of_two _ _ (first_of_two _ _ stands)
@@ -84,7 +84,7 @@ stands_range files image w at n agrees stands within =
     let inside = inside_part files w stands in
     omega (arith, size, inside)
 
--- its room
+-- its space
 pub size_small : (kind : ℕ) → block_size kind ≤ 4096
 unfolding block_size
 size_small kind = by_tests (kind == 1) (kind == 2) (kind == 3)
@@ -113,7 +113,7 @@ same_kinds : (f g : ℕ → List ℕ) (n : ℕ) → f 1 ≡ g 1 → f 2 ≡ g 2 
 unfolding kind_among
 same_kinds f g n e1 e2 e3 e4 = λ i. if is_among (e1 i) n then Some 1 else if is_among (e2 i) n then Some 2 else if is_among (e3 i) n then Some 3 else if is_among (e4 i) n then Some 4 else None
 
--- what stands among the files that are kept stands in a folder with which they agree
+-- what is valid among the files that are kept is valid in a folder with which they agree
 pub stands_agree : (files : BlockFiles) (image : Image) (w : ℕ) → Agrees files image → stands_among files w ≡ stands_in_blocks image w
 unfolding stands_as_blocks
 stands_agree files image w agrees =
@@ -129,7 +129,7 @@ stands_agree files image w agrees =
         ∙ ap₂ (λ (x y : ℕ). b && nat_le (first_block w + block_count w) x && nat_le (place w + byte_size w) y) (blocks refl) (lengths refl)
     by_test false b e blocks lengths = ap (λ (x : Bool). x && nat_le (first_block w + block_count w) (max_entries_in image (file_selector w)) && nat_le (place w + byte_size w) (length_of image (Block (file_selector w)))) e
 
--- an address stands where its file is linked as before, and has as many blocks and bytes or more
+-- an address is valid where its file is linked as before, and has as many blocks and bytes or more
 pub stands_more : (a b : Image) (w : ℕ) → linked_as b (file_selector w) ≡ linked_as a (file_selector w) → max_entries_in a (file_selector w) ≤ max_entries_in b (file_selector w) → length_of a (Block (file_selector w)) ≤ length_of b (Block (file_selector w)) → stands_in_blocks a w ≡ true → stands_in_blocks b w ≡ true
 unfolding stands_as_blocks
 stands_more a b w linked blocks longer stands =

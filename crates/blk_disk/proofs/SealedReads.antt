@@ -42,7 +42,7 @@ wrong_is s found bytes is = by_test (checks s bytes) refl is
           unlike = λ zero. let z : word_at (content bytes) s ≡ 0 = sym same ∙ zero in clash (0 == seal_of s bytes) (sym (ap (λ (n : ℕ). (n == 0) || (n == seal_of s bytes)) z) ∙ e);
         }
 
--- the damage has the seal
+-- the error has the seal
 pub unsealed_is : (told : Told) (w s found : ℕ) (bytes : List ℕ) (damage : Damage) → s ≡ seal_place w → wrong_seal s bytes ≡ Some found → damage.file ≡ names.Block (file_selector w) → damage.at ≡ place w + s → damage.found ≡ found
     → ForSome told.files (λ image. bytes ≡ record_at image w) → IsUnsealed told w damage
 unsealed_is told w s found bytes damage place_is wrong file at is read =
@@ -57,7 +57,7 @@ unsealed_is told w s found bytes damage place_is wrong file at is read =
       );
     }
 
--- a folder that tells its files gives a record that checks
+-- an observable folder gives a record that checks
 pub untold_unsealed : (told : Told) (w : ℕ) (damage : Damage) → IsUnsealed told w damage → ForSome told.files (RecordChecks w) → told.files ≡ None
 untold_unsealed told w damage unsealed checks = by_files told.files refl
   where

@@ -17,7 +17,7 @@ use Rattle.blk_disk.specs.Unsealed.{IsUnsealed}
 abbrev pub IsFailedRecord : Told → (w size : ℕ) → Damage → Type 0
 IsFailedRecord told w size damage = IsShort told (names.Block (file_selector w)) (place w) size damage ⊎ IsUnsealed told w damage
 
--- the word at a place of a file was to name a node, and doesn't: the damage has the place, and finds the word
+-- the word at a place of a file was to name a node, and doesn't: the error has the place, and finds the word
 pub record NamesNoNode (files : BlockFiles) (told : Told) (file : FileId) (at : ℕ) (damage : Damage) : Type 0 where
   pub of_file : damage.file ≡ file
   pub at_place : damage.at ≡ at

@@ -18,7 +18,7 @@ use Rattle.blk_disk.specs.declared.tables.BlockFiles.{BlockFiles}
 use Rattle.blk_disk.specs.declared.heads.Head.{Head}
 use Rattle.blk_disk.specs.Tables.{files_of, all_files, blocks_of, length_in, Agrees}
 
--- the answer for an image: what is kept agrees with it and no check fails; or the damage is the first check that fails; a failed device says nothing of the image
+-- the answer for an image: what is kept agrees with it and no check fails; or the error is the first check that fails; a failed device says nothing of the image
 abbrev pub LoadsAs : Result BlockFiles Fault → Image → Type 0
 LoadsAs (Ok files) image = Agrees files image × (first_block_damage image ≡ None)
 LoadsAs (Err Device) image = Unit {0}
@@ -51,14 +51,14 @@ files_left files kind = most_files - 1 - length (files_of files kind)
 abbrev pub header_checks : BlockFiles → ℕ → ℕ → (ℕ → ℕ) → ℕ → List (Option checks.Damage)
 header_checks files kind n f size = file_checks kind (all_files files ++ n ∷ []) (files_left files kind) n f size
 
--- the fields of this header and this length were read, of the next file of a kind, and the damage is the first check of them that fails
+-- the fields of this header and this length were read, of the next file of a kind, and the error is the first check of them that fails
 pub record FailsFileCheck (files : BlockFiles) (kind n : ℕ) (damage : Damage) : Type 0 where
   pub header : List ℕ
   pub size : ℕ
   pub read : length header ≡ block_fields_length
   pub first : first_of (header_checks files kind n (content header) size) ≡ Some (damage_of damage)
 
--- why the next file of a kind can't be taken up, whether or not the folder tells its files: too few bytes of its header came, or a check of what was read fails
+-- why the next file of a kind can't be taken up, whether or not the folder is observable: too few bytes of its header came, or a check of what was read fails
 abbrev pub IsHeaderDamage : Told → BlockFiles → ℕ → ℕ → Damage → Type 0
 IsHeaderDamage told files kind n damage = IsShort told (names.Block n) 0 block_fields_length damage ⊎ FailsFileCheck files kind n damage
 
@@ -117,7 +117,7 @@ abbrev pub links_from : BlockFiles → Image → ℕ → Option ℕ → List ℕ
 links_from files image kind None = []
 links_from files image kind (Some n) = files_along (next_file_in image) (files_left files kind) n
 
--- where there is a next file of a kind, there is room for it after so many
+-- where there is a next file of a kind, there is space for it after so many
 abbrev pub HasRoom : ℕ → Option ℕ → Type 0
 HasRoom count None = Unit {0}
 HasRoom count (Some n) = count < most_files

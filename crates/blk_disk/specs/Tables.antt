@@ -56,11 +56,11 @@ stands_among files w = stands_as_blocks (kind_among (files_of files)) (blocks_of
 unfoldable pub names_among : BlockFiles → ℕ → ℕ → Bool
 names_among files kind w = is_address w && ((kind_of w == kind) && stands_among files w)
 
--- a word is the address of a node that stands
+-- a word is the address of a node that is there
 abbrev pub is_node_among : BlockFiles → ℕ → Bool
 is_node_among files w = names_among files rankings w
 
--- a word is the address of an entry record that stands
+-- a word is the address of an entry record that is there
 abbrev pub is_record_among : BlockFiles → ℕ → Bool
 is_record_among files w = names_among files blocks_256 w
 

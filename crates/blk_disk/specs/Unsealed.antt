@@ -15,7 +15,7 @@ use Rattle.blk_io.specs.declared.fault.Damage.{Damage}
 abbrev pub wrong_seal : ℕ → List ℕ → Option ℕ
 wrong_seal seal bytes = if checks seal bytes then None else Some (word_at (content bytes) seal)
 
--- a record that was read doesn't check: the damage has its seal, which isn't 0
+-- a record that was read doesn't check: the error has its seal, which isn't 0
 pub record IsUnsealed (told : Told) (w : ℕ) (damage : Damage) : Type 0 where
   pub of_file : damage.file ≡ names.Block (file_selector w)
   pub at_seal : damage.at ≡ place w + seal_place w

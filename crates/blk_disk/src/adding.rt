@@ -24,9 +24,9 @@ const FIRST_NUMBER: u8 = 4;
 impl BlockFiles {
     /// Adds a file with no blocks as the last one of a kind that has fewer than 60, and gives its number.
     ///
-    /// The number is the least from 4 that no linked file has. The file gets the length 0, then
-    /// 8192 and its header, and then the `next_file` of the last file of the kind names it. `Failed` comes
-    /// only where the folder failed in this call; a front of the steps has then lasted.
+    /// The number is the least from 4 that no linked file has. The file gets the length 0, then 8192 and its header,
+    /// and then the `next_file` of the last file of the kind names it. `Failed` comes only where the folder failed in
+    /// this call; a prefix of the steps has then lasted.
     pub fn add_file<F: Folder>(&mut self, f: &mut F, kind: Kind) -> Result<u8, Failed>
         requires block_kind { kind_number kind ≢ external }
         requires room { length (files_of self.old (kind_number kind)) < most_files }
@@ -89,7 +89,7 @@ impl BlockFiles {
     }
 }
 
-// Makes a file with a header and no blocks. The four fields that aren't 0 stand side by side, and are written by one call.
+// Makes a file with a header and no blocks. The four fields that aren't 0 lie side by side, and are written by one call.
 fn make_file<F: Folder>(f: &mut F, kind: Kind, n: u8) -> Result<(), Failed>
     requires { kind_number kind ≢ external }
     ensures steps { OnOk result (Applies (F.told f.old) (F.told f.new) (file_steps (kind_number kind) n)) }

@@ -19,8 +19,8 @@ use blk_io::{Failed, Fault, FileId, Folder, read_exact};
 impl BlockFiles {
     /// Reads bytes of the blocks of an address, from a place among them on.
     ///
-    /// Too few bytes are a damage: it has the place of the read, and finds how many bytes there were.
-    /// `Device` comes only where the folder failed in this call.
+    /// Too few bytes are corruption: the error has the place of the read, and finds how many bytes there were. `Device`
+    /// comes only where the folder failed in this call.
     pub fn read_block<F: Folder>(
         &self,
         f: &mut F,
@@ -34,7 +34,7 @@ impl BlockFiles {
         ensures checked { OnOk result (ForSome (F.told f.old).files (λ image. HasRange image (block (file_selector addr)) (place addr + at) (length out.old) ⊎ (length out.old ≡ 0))) }
         ensures stays { Stays (F.told f.old) (F.told f.new) }
 
-        // Too few bytes, which a folder that tells its files gives only where the block files don't agree with it.
+        // Too few bytes, which an observable folder gives only where the block files don't agree with it.
         ensures short { IfDamaged result (IsShort (F.told f.old) (FileId.Block (file_selector addr)) (place addr + at) (length out.old)) }
         ensures untold { ForSome (F.told f.old).files (Agrees self.now) → IfDamaged result (λ _. (F.told f.old).files ≡ None) }
 
@@ -46,7 +46,7 @@ impl BlockFiles {
 
     /// Writes bytes over the blocks of an address, from a place among them on, one word after another.
     ///
-    /// `Failed` comes only where the folder failed in this call; a front of the words has then lasted.
+    /// `Failed` comes only where the folder failed in this call; a prefix of the words has then lasted.
     pub fn write_block<F: Folder>(
         &self,
         f: &mut F,

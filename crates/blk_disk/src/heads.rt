@@ -92,8 +92,8 @@ impl BlockFiles {
         self.judge(&head, kind, n, given, size)
     }
 
-    // Checks a header, of which so many bytes were given, of a file of this length. Where the file has all
-    // bytes of its header and too few came, that is the damage.
+    // Checks a header, of which so many bytes were given, of a file of this length. Where the file has all bytes of its
+    // header and too few came, that is the failed check.
     fn judge(
         &self,
         head: &BlockHead<'_>,

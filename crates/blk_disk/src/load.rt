@@ -16,12 +16,12 @@ use blk_io::{Fault, Folder};
 impl BlockFiles {
     /// Checks the headers of the block files, and takes them up.
     ///
-    /// They are `data_0` to `data_3`, and after each the files along its links. A damage names the
-    /// first check that fails. `Device` comes only where the folder failed in this call.
+    /// They are `data_0` to `data_3`, and after each the files along its links. The error names the first check that
+    /// fails. `Device` comes only where the folder failed in this call.
     pub fn load<F: Folder>(f: &mut F) -> Result<BlockFiles, Fault>
         ensures loaded { ForSome (F.told f.old).files (LoadsAs result) }
 
-        // The cause of a damage, which holds for a folder that tells nothing too.
+        // The cause of a failed check, which holds for an opaque folder too.
         ensures cause { IfDamaged result (IsLoadDamage (F.told f.old)) }
 
         ensures stays { Stays (F.told f.old) (F.told f.new) }

@@ -18,8 +18,8 @@ use std::sync::ledger::Ledger;
 impl BlockFiles {
     /// Reads a word of the map of a linked file, which has the marks of 32 blocks, its low byte first, and counts one step.
     ///
-    /// Too few bytes are a damage: it has the place of the word, and finds how many bytes there were.
-    /// `Device` comes only where the folder failed in this call.
+    /// Too few bytes are corruption: the error has the place of the word, and finds how many bytes there were. `Device`
+    /// comes only where the folder failed in this call.
     pub fn map_word<F: Folder, L: Ledger>(
         &self,
         f: &mut F,
@@ -34,7 +34,7 @@ impl BlockFiles {
         ensures counts { steps.new ≡ steps.old + 1 }
         ensures stays { Stays (F.told f.old) (F.told f.new) }
 
-        // Too few bytes, which a folder that tells its files gives only where the block files don't agree with it.
+        // Too few bytes, which an observable folder gives only where the block files don't agree with it.
         ensures short { IfDamaged result (IsShort (F.told f.old) (FileId.Block file) (map_place + 4 * number) 4) }
         ensures untold { ForSome (F.told f.old).files (Agrees self.now) → IfDamaged result (λ _. (F.told f.old).files ≡ None) }
 

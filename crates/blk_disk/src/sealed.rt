@@ -31,10 +31,10 @@ impl BlockFiles {
     /// or of an entry record. Each change is a place in bytes from the front of the record, before the
     /// seal, and the new word; no two are of one place.
     ///
-    /// The record is read by one folder call. Then its seal becomes 0, the words are written in the
-    /// order given, and the seal becomes the hash: words that lie side by side by one call. A record that has too few
-    /// bytes or doesn't check is a damage, and nothing is written. `Device` comes only where the folder
-    /// failed in this call; a front of the words has then lasted.
+    /// The record is read by one folder call. Then its seal becomes 0, the words are written in the order given, and
+    /// the seal becomes the hash: words that lie side by side by one call. A record that has too few bytes or doesn't
+    /// check is corruption, and nothing is written. `Device` comes only where the folder failed in this call; a prefix
+    /// of the words has then lasted.
     pub fn update_sealed<F: Folder>(
         &self,
         f: &mut F,
@@ -52,15 +52,16 @@ impl BlockFiles {
         ensures steps { OnOk result (ForSome (F.told f.old).files (λ from. Applies (F.told f.old) (F.told f.new) (sealed_steps from addr changes.now))) }
         ensures prefix { MakesPartOf (F.told f.old) (F.told f.new) (λ from. sealed_steps from addr changes.now) }
 
-        // At each word of an update of a record that checks, it still checks and has a front of the changes, and nothing else has changed.
+        // At each word of an update of a record that checks, it still checks and has a prefix of the changes, and nothing else has
+        // changed.
         ensures stops { ForSome (F.told f.old).files (λ from. RecordChecks addr from → Passes (F.told f.old) (F.told f.new) (IsMidUpdate from addr changes.now)) }
 
-        // A damage is a short read or a record that doesn't check, and nothing was written. A folder that tells its files gives one only for a record that doesn't check.
+        // A failed check is a short read or a record that doesn't check, and nothing was written. An observable folder gives one only for a record that doesn't check.
         ensures damaged { IfDamaged result (IsFailedRecord (F.told f.old) addr (record_size addr)) }
         ensures unwritten { IfDamaged result (λ _. Stays (F.told f.old) (F.told f.new)) }
         ensures untold { ForSome (F.told f.old).files (RecordChecks addr) → IfDamaged result (λ _. (F.told f.old).files ≡ None) }
 
-        // A folder that tells no files goes on telling none.
+        // An opaque folder stays opaque.
 
         ensures later { F.faults f.old ≤ F.faults f.new }
         ensures device { IfDevice result (Rises (F.faults f.old) (F.faults f.new)) }
@@ -75,8 +76,8 @@ impl BlockFiles {
     /// Reads the sealed record at the front of an address's blocks, of a node or of an entry record, by one
     /// folder call.
     ///
-    /// Too few bytes and a record that doesn't check are damages. `Device` comes only where the folder failed
-    /// in this call.
+    /// Too few bytes and a record that doesn't check are failed checks. `Device` comes only where the folder failed in
+    /// this call.
     pub fn read_record<F: Folder>(
         &self,
         f: &mut F,
@@ -106,7 +107,7 @@ impl BlockFiles {
     /// Changes at most four words of a sealed record that was read, as `update_sealed` does, but without a
     /// read: the caller has its bytes, and gets them as they are afterwards.
     ///
-    /// `Failed` comes only where the folder failed in this call; a front of the words has then lasted.
+    /// `Failed` comes only where the folder failed in this call; a prefix of the words has then lasted.
     pub fn update_record<F: Folder>(
         &self,
         f: &mut F,
@@ -125,7 +126,8 @@ impl BlockFiles {
         ensures steps { OnOk result (Applies (F.told f.old) (F.told f.new) (steps_over bytes.old addr changes.now)) }
         ensures prefix { AppliesPrefix (F.told f.old) (F.told f.new) (steps_over bytes.old addr changes.now) }
 
-        // At each word of an update of a record that has these bytes and checks, it still checks and has a front of the changes, and nothing else has changed.
+        // At each word of an update of a record that has these bytes and checks, it still checks and has a prefix of the changes, and nothing else has
+        // changed.
         ensures stops { ForSome (F.told f.old).files (λ from. bytes.old ≡ record_at from addr → RecordChecks addr from → Passes (F.told f.old) (F.told f.new) (IsMidUpdate from addr changes.now)) }
         ensures later { F.faults f.old ≤ F.faults f.new }
         ensures failed { OnErr result (Rises (F.faults f.old) (F.faults f.new)) }
@@ -136,9 +138,9 @@ impl BlockFiles {
 
     /// Seals the record at the front of an address's blocks: its seal becomes the hash of the bytes before it.
     ///
-    /// The record is read by one folder call, and one word is written where the seal isn't the hash yet. A record
-    /// that has too few bytes or doesn't check is a damage, and nothing is written. `Device` comes only where the
-    /// folder failed in this call; the word may then be written.
+    /// The record is read by one folder call, and one word is written where the seal isn't the hash yet. A record that
+    /// has too few bytes or doesn't check is corruption, and nothing is written. `Device` comes only where the folder
+    /// failed in this call; the word may then be written.
     pub fn seal<F: Folder>(&self, f: &mut F, addr: Addr) -> Result<(), Fault>
         requires stands { IsTrue (stands_among self.now addr) }
         requires begins { BeginsWithRecord addr }

@@ -1,4 +1,4 @@
-// Addresses that stand in the linked block files.
+// Valid addresses in the linked block files.
 ghost use Rattle.std.specs.Prelude.{IfSome, IsTrue, ◌≡◌, ◌≢◌, ◌+◌, ◌*◌, ◌^◌, ◌<◌, ◌==◌, Some, None, length, slice_get, if◌then◌else◌};
 ghost use Rattle.std.specs.Option.{option_map};
 ghost use Rattle.spec_image.specs.Image.{Image};

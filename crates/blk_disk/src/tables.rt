@@ -29,7 +29,7 @@ pub struct BlockFiles {
     lengths: [u64; BLOCK_FILES],
     ghost all_blocks: { length blocks ≡ 256 },
     ghost all_lengths: { length lengths ≡ 256 },
-    // No number stands twice, in one kind or in two.
+    // No number occurs twice, in one kind or in two.
     ghost once: { IsDistinct (λ m n. m == n) (rankings.items ++ b256.items ++ b1k.items ++ b4k.items) } by { Prim.hlevel props },
     // Each linked file has a number of blocks that files may have.
     ghost counts: { (n : ℕ) → is_among (rankings.items ++ b256.items ++ b1k.items ++ b4k.items) n ≡ true → is_block_count (slice_index blocks n) ≡ true },

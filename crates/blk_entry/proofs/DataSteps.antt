@@ -38,7 +38,7 @@ agrees_outside files a b n at bytes part agrees =
     kept : (from : Image) → Agrees files from → (image : Image) → SameOutside (range (External n) at (length bytes)) from image → Agrees files image
     kept from was image same = agrees_still (range (External n) at (length bytes)) from image spares same files (λ m. refl) was
 
--- after a write of bytes there is still room for one more behind them
+-- after a write of bytes there is still space for one more after them
 pub room_kept : (a b : Told) (w at : ℕ) (bytes : List ℕ) → Applies a b (data_steps w at bytes) → ForSome a.files (IsInFile w at (length bytes + 1)) → ForSome b.files (IsInFile w (at + length bytes) 1)
 unfolding data_steps
 room_kept a b w at bytes grown inside =

@@ -81,7 +81,7 @@ head_word image w q window kind inside read =
     let size : record_size w ≡ 96 = entry_bytes w kind in
     ap (λ (l : List ℕ). word_at (content l) q) (record_read image w 96 window (sym size) read) ∙ record_word image w q (omega (arith, size, inside))
 
--- four words of it that lie one behind the other
+-- four words of it that lie one after the other
 four_words : (image : Image) (w q : ℕ) (window : List ℕ) → kind_of w ≡ blocks_256 → q + 16 ≤ 96 → window ≡ range_at (byte image (Block (file_selector w))) (place w + 0) 96 → words_at (content window) q 4 ≡ words_at (byte image (Block (file_selector w))) (place w + q) 4
 unfolding words_at
 four_words image w q window kind inside read = λ i. word 0 q (place w + q) (omega arith) (omega arith) (omega arith) i ∷ word 4 (q + 4) (place w + q + 4) (omega arith) (omega arith) (omega arith) i ∷ word 8 (q + 4 + 4) (place w + q + 4 + 4) (omega arith) (omega arith) (omega arith) i ∷ word 12 (q + 4 + 4 + 4) (place w + q + 4 + 4 + 4) (omega arith) (omega arith) (omega arith) i ∷ []
@@ -126,7 +126,7 @@ short_blocks k short =
         clash : false ≡ true → ⊥
         clash h = cc
 
--- a key in its record, and a zero byte behind it
+-- a key in its record, and a zero byte after it
 pub short_room : (w k : ℕ) → kind_of w ≡ blocks_256 → block_count w ≡ entry_blocks k → k ≤ 927 → 96 + k < byte_size w
 short_room w k kind blocks short =
     let room_is : byte_size w ≡ 256 * entry_blocks k = entry_room w kind ∙ ap (λ (n : ℕ). 256 * n) blocks in

@@ -89,7 +89,7 @@ sealed-alike f g i mark a dirty below seal =
       self_hash = 0;
     }
 
--- a node that stands and whose record checks is a good one
+-- a node that is there and whose record checks is a good one
 node_good : (image : Image) (w mark : ℕ) → AreBytes image → stands_in image w ≡ true → kind_of w ≡ rankings → RecordChecks w image → IsNode image w
 unfolding list_of checks_at
 node_good image w mark below standing kind good =
@@ -112,7 +112,7 @@ module _ (from image : Image) (w mark : ℕ) (kind : kind_of w ≡ rankings) (sm
   here : (i : Image) (q : ℕ) → q + 4 ≤ 36 → word_at (content (record_at i w)) q ≡ word i (Block (file_selector w)) (place w + q)
   here i q inside = let size : record_size w ≡ 36 = node_bytes w kind in record_word i w q (omega (arith, size, inside))
 
-  -- a moment of a sealed update of the dirty word of a node that stands
+  -- a moment of a sealed update of the dirty word of a node that is there
   pub marking_at : (files : BlockFiles) → Agrees files from → stands_among files w ≡ true → is_address w ≡ true → AreBytes from → RecordChecks w from → IsMidUpdate from w (dirty_change mark) image → SetsDirtyInProgress from w mark image
   unfolding node_in
   marking_at files agrees st address below good moment = record {

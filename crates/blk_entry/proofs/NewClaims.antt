@@ -1,4 +1,4 @@
--- The places of a new entry are covered by its claims.
+-- The places of a new entry are covered by its used blocks.
 use Rattle.std.proofs.Common.{◌≡◌, ◌≢◌, inl, ⊎_elim, ℕ, ◌+◌, ◌/◌, ◌≤◌, Bool, true, false, List, [], ◌∷◌, ◌++◌, length, Option, None, Some, unwrap_or, sym, ◌∙◌, arith}
 use Rattle.std.specs.Prelude.{◌==◌}
 use Rattle.std.proofs.lemmas.Bool.{and_parts, cases_Bool, or_left, or_right, eqb-true}
@@ -26,7 +26,7 @@ use Rattle.blk_entry.proofs.NewShown.{stands_here}
 use Rattle.blk_entry.proofs.NewImages.{long_storage}
 use Rattle.blk_entry.proofs.Windows.{not_external}
 
--- claims among those of an entry
+-- used blocks among those of an entry
 node-claims : (new : NewEntry) (key : List ℕ) (claim : Claim) → has_claim (claims_of new.node) claim ≡ true → has_claim (all_claims (loaded_new new key)) claim ≡ true
 unfolding all_claims
 node-claims new key claim e = claim-append (claims_of new.node) (record_claims (loaded_new new key)) claim ∙ or_left (has_claim (claims_of new.node) claim) (has_claim (record_claims (loaded_new new key)) claim) e
@@ -42,7 +42,7 @@ long-claims new key claim e =
     ∙ or_right (has_claim (claims_of new.entry) claim) (has_claim (claims_of l ++ rest) claim)
     (claim-append (claims_of l) rest claim ∙ or_left (has_claim (claims_of l) claim) (has_claim rest claim) e))
 
--- an external file's claim
+-- what an external file uses
 external-claim : (w : ℕ) (claim : Claim) → is_address w ≡ true → kind_of w ≡ external → same_claim claim (ExternalOf (external_number w)) ≡ true → has_claim (claims_of w) claim ≡ true
 unfolding claims_of has_claim is_address is_initialized
 external-claim w claim address is e =
@@ -66,7 +66,7 @@ module _ (files : BlockFiles) (new : NewEntry) (key : List ℕ) (image : Image) 
   touched : Claim → Bool
   touched = has_claim (all_claims (loaded_new new key))
 
-  -- a range among the blocks of an address of which the claims are the entry's
+  -- a range among the blocks of an address of which the used blocks are the entry's
   in-blocks : (w p n : ℕ) → is_address w ≡ true → kind_of w ≢ external → stands_among files w ≡ true → place w ≤ p → p + n ≤ place w + byte_size w → ((claim : Claim) → has_claim (claims_of w) claim ≡ true → touched claim ≡ true)
       → Covers image (range (Block (file_selector w)) p n) touched
   in-blocks w p n address block_kind st low high more =

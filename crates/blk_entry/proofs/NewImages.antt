@@ -344,7 +344,7 @@ module _ (files : BlockFiles) (new : NewEntry) (key : List ℕ) (moment : ℕ) (
           after-append (one ++ two) (three ++ four) from ∙ after-append three four (after (one ++ two) from) ∙ ap (λ (i : Image). after four (after three i)) (after-append one two from) in
           subst (IsWritten new key moment) (sym last) written_here
 
-  -- where the folder tells its files
+  -- where the folder is observable
   module _ (b c : Told) (are : AreWords new) (small : moment < 2 ^ 64) (agrees : ForSome b.files (Agrees files)) (has : ForSome b.files (HoldsLongKey new.long_key (length key))) (apart : ForSome b.files (λ _. LiesApart new.entry new.long_key)) (grown : Applies b c (entry_steps new key moment)) where
     pub written_there : ForSome c.files (IsWritten new key moment)
     written_there = told_whole (IsWritten new key moment) grown (λ from there. written_after from (agrees from there) (has from there) (apart from there) are small)

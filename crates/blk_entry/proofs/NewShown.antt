@@ -39,7 +39,7 @@ node_is_good : (new : NewEntry) (moment : ℕ) → node_checks (new_node new mom
 unfolding node_checks node_is_sealed new_node
 node_is_good new moment = or_right ((new_node new moment).self_hash == 0) _ (eq-eqb (new_node new moment).self_hash _ refl)
 
--- an address of blocks that are there stands
+-- an address of blocks that are there is valid
 pub stands_here : (files : BlockFiles) (image : Image) (w : ℕ) → Agrees files image → is_address w ≡ true → kind_of w ≢ external → stands_among files w ≡ true → stands_in image w ≡ true
 unfolding stands
 stands_here files image w agrees address block_kind st =
@@ -88,7 +88,7 @@ pub checked_loads : (store : StoreView) (node contents dirty : ℕ) (fields : Re
     → (demand fields.checks reason.Seal >>= (λ _. load_record store (unchained_rule entry_normal) node contents dirty fields)) ≡ answer
 checked_loads store node contents dirty fields answer good is = ap (λ (b : Bool). demand b reason.Seal >>= (λ _. load_record store (unchained_rule entry_normal) node contents dirty fields)) good ∙ is
 
--- data whose address is its storage, and stands
+-- data whose address is its storage, and valid
 pub stored_there : (image : Image) (size w : ℕ) → 0 < size → is_storage size w ≡ true → stands_in image w ≡ true → (kind_of w ≡ external → length_of image (External (external_number w)) ≡ size) → stored_at image size w ≡ Some (data_at image w 0 size)
 unfolding stored_at
 stored_there image size w some storage st long =

@@ -1,4 +1,4 @@
--- No two of the claims of a new entry are one.
+-- No two of the used blocks of a new entry are one.
 use Rattle.std.proofs.Common.{◌≡◌, ◌≢◌, ◌⊎◌, ⊎_elim, ℕ, zero, suc, ◌+◌, ◌/◌, ◌<◌, ◌≤◌, true, false, List, [], ◌∷◌, ◌++◌, map, Option, None, Some, unwrap_or, length, refl, sym, ◌∙◌, ap, arith, append-nil}
 use Rattle.std.specs.Prelude.{◌==◌}
 use Rattle.std.specs.List.{range_with_len}
@@ -17,7 +17,7 @@ use Rattle.blk_entry.proofs.NewImages.{long_storage, same_kind}
 use Rattle.blk_entry.proofs.NewPlaces.{key_is_inside}
 use Rattle.blk_entry.proofs.Windows.{not_external}
 
--- a claim is one of so many blocks of a file
+-- a used block is one of so many blocks of a file
 abbrev IsAmong : ℕ → ℕ → ℕ → Claim → Type 0
 IsAmong f first n (BlockOf m b) = (m ≡ f) × ((first ≤ b) × (b < first + n))
 IsAmong f first n (ExternalOf m) = ⊥
@@ -105,7 +105,7 @@ module _ (files : BlockFiles) (new : NewEntry) (key : List ℕ) (fits : FitsKey 
   entry_blocky : kind_of new.entry ≢ external
   entry_blocky = not_external new.entry fits.entry_kind
 
-  -- what is known of the claims of the long key
+  -- what is known of the used blocks of the long key
   pub long_known : (repeats (claims_of (unwrap_or new.long_key 0)) ≡ false) × (((c : Claim) → has_claim (claims_of new.entry) c ≡ true → has_claim (claims_of (unwrap_or new.long_key 0)) c ≡ true → ⊥) × ((c : Claim) → has_claim (claims_of new.node) c ≡ true → has_claim (claims_of (unwrap_or new.long_key 0)) c ≡ true → ⊥))
   long_known = by_place new.long_key fits.long lies (key_is_inside files new key fits)
     where

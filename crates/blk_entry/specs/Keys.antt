@@ -38,7 +38,7 @@ pub record IsEntryOf (key : List ℕ) (entry : ℕ) (image : Image) : Type 0 whe
   pub hash : (entry_at image entry).hash ≡ hash_of key
   pub is : key_at image entry ≡ Some key
 
--- so many bytes of a key from a place on, as many as there are and as fit, are at the front of the new buffer; behind them it is the old
+-- so many bytes of a key from a place on, as many as there are and as fit, are at the front of the new buffer; after them it is the old
 pub record IsPiece (key : List ℕ) (place : ℕ) (old new : List ℕ) (count : ℕ) : Type 0 where
   pub many : count ≡ min (length old) (length key - place)
   pub front : take count new ≡ take count (drop place key)
@@ -81,11 +81,11 @@ most_key = 32796
 unfoldable pub may_have : ℕ → ℕ → Bool
 may_have entry key_len = nat_le 1 key_len && nat_le key_len most_key && (block_count entry == entry_blocks key_len)
 
--- whether a word is the storage of data of a size, and stands where it is one of blocks
+-- whether a word is the storage of data of a size, and is valid where it is one of blocks
 unfoldable pub stores : BlockFiles → ℕ → ℕ → Bool
 stores files size w = is_storage size w && ((kind_of w == external) || stands_among files w)
 
--- whether a word may be that of a long key of so many bytes, which has one zero byte behind it
+-- whether a word may be that of a long key of so many bytes, which has one zero byte after it
 abbrev pub may_hold : BlockFiles → ℕ → ℕ → Bool
 may_hold files key_len w = stores files (key_len + 1) w
 
@@ -146,7 +146,7 @@ pub record IsCutKey (files : BlockFiles) (told : Told) (entry key_len long_key :
   pub placed : IsPlaced files entry key_len long_key
   pub cut : IsCutPiece told (key_address entry key_len long_key) (bytes_before key_len) key_len damage
 
--- the bytes of a key from a place on are read, as many as there are and as `size` has room for, and too few were given
+-- the bytes of a key from a place on are read, as many as there are and as `size` has space for, and too few were given
 pub record IsCutPart (files : BlockFiles) (told : Told) (entry key_len long_key at size : ℕ) (damage : Damage) : Type 0 where
   pub placed : IsPlaced files entry key_len long_key
   pub cut : IsCut told (key_address entry key_len long_key) (bytes_before key_len + min at key_len) (min (key_len - min at key_len) size) damage
@@ -161,7 +161,7 @@ key_len_place = 32
 abbrev pub long_key_place : ℕ
 long_key_place = 36
 
--- a damage is that of the word at a place of a record
+-- a failed check is that of the word at a place of a record
 abbrev pub IsWordOf : (entry at found : ℕ) → Damage → Type 0
 IsWordOf entry at found damage = IsOfWord (names.Block (file_selector entry)) (place entry + at) found damage
 
@@ -171,22 +171,22 @@ pub record IsLongKeyLost (files : BlockFiles) (entry key_len long_key : ℕ) : T
   pub long : is_short key_len ≡ false
   pub lost : may_hold files key_len long_key ≡ false
 
--- the record can't have a key of this length; or it can, and the word of a long key is no address that stands and stores so many bytes
+-- the record can't have a key of this length; or it can, and the word of a long key is no valid address and stores so many bytes
 abbrev pub IsMisplacedKey : BlockFiles → ℕ → ℕ → ℕ → Damage → Type 0
 IsMisplacedKey files entry key_len long_key damage =
     ((may_have entry key_len ≡ false) × IsWordOf entry key_len_place key_len damage)
     ⊎ (IsLongKeyLost files entry key_len long_key × IsWordOf entry long_key_place long_key damage)
 
--- a damage of a key where the words of its record are known: its length, and the word of a long key
+-- a failed check of a key where the words of its record are known: its length, and the word of a long key
 abbrev pub IsPlaceDamage : BlockFiles → Told → ℕ → ℕ → ℕ → Damage → Type 0
 IsPlaceDamage files told entry key_len long_key damage = IsCutKey files told entry key_len long_key damage ⊎ IsMisplacedKey files entry key_len long_key damage
 
--- a damage of a key of so many bytes, with some word of a long key
+-- a failed check of a key of so many bytes, with some word of a long key
 pub record IsWrongKey (files : BlockFiles) (told : Told) (entry key_len : ℕ) (damage : Damage) : Type 0 where
   pub long_key : ℕ
   pub wrong : IsPlaceDamage files told entry key_len long_key damage
 
--- a damage of the bytes of a key from a place on, with some length of the key and some word of a long one
+-- a failed check of the bytes of a key from a place on, with some length of the key and some word of a long one
 pub record IsWrongPart (files : BlockFiles) (told : Told) (entry at size : ℕ) (damage : Damage) : Type 0 where
   pub key_len : ℕ
   pub long_key : ℕ
@@ -198,15 +198,15 @@ pub record CanBeRead (files : BlockFiles) (entry : ℕ) (image : Image) : Type 0
   pub checks : RecordChecks entry image
   pub key : HasReadableKey entry image
 
--- a damage where the words of a record are read: too few bytes, or it doesn't check
+-- a failed check where the words of a record are read: too few bytes, or it doesn't check
 abbrev pub IsHeadDamage : Told → ℕ → Damage → Type 0
 IsHeadDamage told entry damage = IsFailedRecord told entry entry_size damage
 
--- a damage where a record is read, and its key of so many bytes
+-- a failed check where a record is read, and its key of so many bytes
 abbrev pub IsKeyDamage : BlockFiles → Told → ℕ → ℕ → Damage → Type 0
 IsKeyDamage files told entry key_len damage = IsHeadDamage told entry damage ⊎ IsWrongKey files told entry key_len damage
 
--- a damage where a record is read, and the bytes of its key from a place on
+-- a failed check where a record is read, and the bytes of its key from a place on
 abbrev pub IsPartDamage : BlockFiles → Told → ℕ → ℕ → ℕ → Damage → Type 0
 IsPartDamage files told entry at size damage = IsHeadDamage told entry damage ⊎ IsWrongPart files told entry at size damage
 
@@ -239,7 +239,7 @@ pub record IsInside (files : BlockFiles) (w before n : ℕ) : Type 0 where
 abbrev pub IsInFile : ℕ → ℕ → ℕ → Image → Type 0
 IsInFile w before n image = kind_of w ≡ external → HasRange image (External (external_number w)) before n
 
--- a fault is a damage of the word at a place of a record
+-- a fault is a failed check of the word at a place of a record
 pub record IsDamageAt (entry at found : ℕ) (fault : Fault) : Type 0 where
   pub damage : Damage
   pub is : fault ≡ Damaged damage

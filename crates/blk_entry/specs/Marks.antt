@@ -30,7 +30,7 @@ mark_steps image node mark = sealed_steps image node (dirty_change mark)
 abbrev pub plain_node : Node → Node
 plain_node n = record n { dirty = 0; self_hash = 0 }
 
--- at a moment of marking a front of the update is made: the node's dirty word is the old one or the mark, its other fields are as before, and of what is shown only what the node says has changed
+-- at a moment of marking a prefix of the update is made: the node's dirty word is the old one or the mark, its other fields are as before, and of what is shown only what the node says has changed
 pub record SetsDirtyInProgress (from : Image) (node mark : ℕ) (image : Image) : Type 0 where
   pub update : IsMidUpdate from node (dirty_change mark) image
   pub dirty : ((node_at image node).dirty ≡ (node_at from node).dirty) ⊎ ((node_at image node).dirty ≡ mark)
@@ -53,9 +53,9 @@ pub record SetsDirty {A : Type 0} (files : BlockFiles) (old new : Told) (node ma
   pub steps : OnOk result (ForSome old.files (λ from. Applies old new (mark_steps from node mark)))
   pub prefix : ForSome old.files (λ from. AppliesPrefix old new (mark_steps from node mark))
   pub stops : ForSome old.files (λ from. RecordChecks node from → Passes old new (SetsDirtyInProgress from node mark))
-  -- a damage is of the node, and nothing was written; a folder that tells its files gives one only for a node that doesn't check
+  -- a failed check is of the node, and nothing was written; an observable folder gives one only for a node that doesn't check
   pub damaged : IfDamaged result (IsFailedRecord old node (record_size node))
   pub unwritten : IfDamaged result (λ _. Stays old new)
   pub untold : ForSome old.files (RecordChecks node) → IfDamaged result (λ _. old.files ≡ None)
-  -- a folder that tells no files goes on telling none
+  -- an opaque folder stays opaque
   pub silent : old.files ≡ None → new.files ≡ None

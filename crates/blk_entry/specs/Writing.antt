@@ -22,11 +22,11 @@ use Rattle.blk_entry.specs.Steps.{ended_steps}
 
 -- The three places.
 
--- two addresses of blocks share none: the files are two, or the blocks of one lie behind those of the other
+-- two addresses of blocks share none: the files are two, or the blocks of one lie after those of the other
 abbrev pub ShareNoBlock : ℕ → ℕ → Type 0
 ShareNoBlock one other = file_selector one ≡ file_selector other → (first_block one + block_count one ≤ first_block other) ⊎ (first_block other + block_count other ≤ first_block one)
 
--- the place of a long key: there is none where the key lies in its record; else it stands, and stores the key with one zero byte
+-- the place of a long key: there is none where the key lies in its record; else it is valid, and stores the key with one zero byte
 abbrev pub IsLongPlace : BlockFiles → ℕ → Option ℕ → Type 0
 IsLongPlace files key_len None = is_short key_len ≡ true
 IsLongPlace files key_len (Some w) = (is_short key_len ≡ false) × (may_hold files key_len w ≡ true)
@@ -40,7 +40,7 @@ LiesApart entry (Some w) = kind_of w ≢ external → ShareNoBlock entry w
 abbrev pub longest_of : Bool → ℕ
 longest_of is_child = if is_child then 32796 else 32768
 
--- the three places of a new entry fit a key: they stand, and the record has so many blocks as its key asks
+-- the three places of a new entry fit a key: they are valid, and the record has so many blocks as its key asks
 pub record FitsKey (files : BlockFiles) (new : NewEntry) (key : List ℕ) : Type 0 where
   pub entry_kind : kind_of new.entry ≡ blocks_256
   pub entry_stands : stands_among files new.entry ≡ true
@@ -150,9 +150,9 @@ pub record WritesEntryInProgress (new : NewEntry) (key_len : ℕ) (from image : 
   pub well_formed : IsWellFormed from → IsWellFormed image
   pub complete : HasWholeIndex from → HasWholeIndex image
 
--- What stands there in the end.
+-- What is there in the end.
 
--- the bytes of a new entry: its record, its node, the key, and a zero byte behind it; the key's place in the record is zeros where the key lies elsewhere
+-- the bytes of a new entry: its record, its node, the key, and a zero byte after it; the key's place in the record is zeros where the key lies elsewhere
 pub record IsWritten (new : NewEntry) (key : List ℕ) (moment : ℕ) (image : Image) : Type 0 where
   pub entry : entry_at image new.entry ≡ new_record new key moment
   pub node : node_at image new.node ≡ new_node new moment

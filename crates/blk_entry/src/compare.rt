@@ -21,9 +21,9 @@ const PIECE: usize = 16_398;
 
 /// Whether an entry has this very key, and its hash.
 ///
-/// One folder call reads the record. Where its hash and length are those of the key, one more reads the
-/// key, or two where it has more than 16398 bytes; the second only where the first piece is the same. A
-/// damage is one of those that `key_piece` gives.
+/// One folder call reads the record. Where its hash and length are those of the key, one more reads the key, or two
+/// where it has more than 16398 bytes; the second only where the first piece is the same. A failed check is one of
+/// those that `key_piece` gives.
 pub fn key_equals<F: Folder>(
     f: &mut F,
     files: &BlockFiles,
@@ -43,7 +43,7 @@ pub fn key_equals<F: Folder>(
     ensures there { IfOk result (λ same. IsTrue same → ForSome (F.told f.old).files (HasKeyBytes entry 0 (length key.now))) }
     ensures stays { Stays (F.told f.old) (F.told f.new) }
 
-    // A folder that tells its files gives a damage only where the record doesn't check or has no key to read.
+    // An observable folder reports corruption only where the record doesn't check or has no key to read.
     ensures damaged { IfDamaged result (IsKeyDamage files.now (F.told f.old) entry (length key.now)) }
     ensures untold { ForSome (F.told f.old).files (CanBeRead files.now entry) → IfDamaged result (λ _. (F.told f.old).files ≡ None) }
 
@@ -59,11 +59,10 @@ pub fn key_equals<F: Folder>(
 
 /// Whether an entry has this very key, where the words of its record were read before.
 ///
-/// The record isn't read again, and its hash isn't looked at. Only where its length is that of the key
-/// is the key read: by one folder call, or by two where it has more than 16398 bytes; the second only
-/// where the first piece is the same. A damage is a read of a piece that gave too few bytes, a length
-/// that the key can't have, or the word of a long key that is no address which stands and stores the
-/// key.
+/// The record isn't read again, and its hash isn't looked at. Only where its length is that of the key is the key read:
+/// by one folder call, or by two where it has more than 16398 bytes; the second only where the first piece is the same.
+/// A failed check is a read of a piece that gave too few bytes, a length that the key can't have, or the word of a long
+/// key that isn't a valid address which stores the key.
 pub fn key_is<F: Folder>(
     f: &mut F,
     files: &BlockFiles,
@@ -83,7 +82,7 @@ pub fn key_is<F: Folder>(
     ensures there { IfOk result (λ same. IsTrue same → ForSome (F.told f.old).files (HasData (key_address entry head.now.key_len head.now.long_key) (bytes_before head.now.key_len) (length key.now))) }
     ensures stays { Stays (F.told f.old) (F.told f.new) }
 
-    // A folder that tells its files gives a damage only where the record has no key to read, or the words are others.
+    // An observable folder reports corruption only where the record has no key to read, or the words are others.
     ensures damaged { IfDamaged result (IsPlaceDamage files.now (F.told f.old) entry (length key.now) head.now.long_key) }
     ensures untold { ForSome (F.told f.old).files (CanBeRead files.now entry) → ForSome (F.told f.old).files (λ image. IsRecordHead image entry head.now) → IfDamaged result (λ _. (F.told f.old).files ≡ None) }
 

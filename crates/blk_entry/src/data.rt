@@ -17,7 +17,7 @@ use blk_io::{Failed, Fault, Folder};
 /// Reads bytes of the data of an address, from a place in it on, into the whole of `out`: of its blocks, or
 /// of its external file.
 ///
-/// One folder call reads them. Too few bytes are a damage: it has the place of the read, and finds how many
+/// One folder call reads them. Too few bytes are corruption: the error has the place of the read, and finds how many
 /// bytes there were.
 pub fn read_data<F: Folder>(
     f: &mut F,
@@ -31,7 +31,7 @@ pub fn read_data<F: Folder>(
     ensures checked { OnOk result (ForSome (F.told f.old).files (HasData addr at (length out.old))) }
     ensures stays { Stays (F.told f.old) (F.told f.new) }
 
-    // Too few bytes, which a folder that tells its files gives only where its external file is too short.
+    // Too few bytes, which an observable folder gives only where its external file is too short.
     ensures short { IfDamaged result (IsCut (F.told f.old) addr at (length out.old)) }
     ensures untold { ForSome (F.told f.old).files (Agrees files.now) → ForSome (F.told f.old).files (IsInFile addr at (length out.old)) → IfDamaged result (λ _. (F.told f.old).files ≡ None) }
 
@@ -45,7 +45,7 @@ pub fn read_data<F: Folder>(
     }
 }
 
-// Writes bytes of the data of an address, and one zero byte behind them.
+// Writes bytes of the data of an address, and one zero byte after them.
 pub(crate) fn write_ended<F: Folder>(
     f: &mut F,
     files: &BlockFiles,
@@ -69,8 +69,8 @@ pub(crate) fn write_ended<F: Folder>(
 /// Writes bytes of the data of an address, from a place in it on, one word after another: over its blocks,
 /// or over bytes of its external file.
 ///
-/// One folder call writes them. `Failed` comes only where the folder failed in this call; a front of the
-/// words has then lasted.
+/// One folder call writes them. `Failed` comes only where the folder failed in this call; a prefix of the words has
+/// then lasted.
 pub fn write_data<F: Folder>(
     f: &mut F,
     files: &BlockFiles,

@@ -21,7 +21,7 @@ use blk_record::EntryView;
 
 /// The word of an entry record at a place in bytes from its front, a multiple of 4 below 96.
 ///
-/// One folder call reads it. Too few bytes are a damage.
+/// One folder call reads it. Too few bytes are corruption.
 pub fn field<F: Folder>(f: &mut F, files: &BlockFiles, entry: Addr, at: u32) -> Result<u32, Fault>
     requires kind { kind_of entry ≡ blocks_256 }
     requires stands { IsTrue (stands_among files.now entry) }
@@ -30,7 +30,7 @@ pub fn field<F: Folder>(f: &mut F, files: &BlockFiles, entry: Addr, at: u32) -> 
     ensures checked { OnOk result (ForSome (F.told f.old).files (λ image. HasRange image (block (file_selector entry)) (place entry + at) 4)) }
     ensures stays { Stays (F.told f.old) (F.told f.new) }
 
-    // Too few bytes, which a folder that tells its files gives only where the block files don't agree with it.
+    // Too few bytes, which an observable folder gives only where the block files don't agree with it.
     ensures short { IfDamaged result (IsShort (F.told f.old) (FileId.Block (file_selector entry)) (place entry + at) 4) }
     ensures untold { ForSome (F.told f.old).files (Agrees files.now) → IfDamaged result (λ _. (F.told f.old).files ≡ None) }
 
@@ -44,8 +44,8 @@ pub fn field<F: Folder>(f: &mut F, files: &BlockFiles, entry: Addr, at: u32) -> 
 
 /// The rankings node that an entry record names.
 ///
-/// One folder call reads its word. A damage is a read that gave too few bytes, or a word that is no address
-/// of a node which stands.
+/// One folder call reads its word. A failed check is a read that gave too few bytes, or a word that is no address of a
+/// node which is there.
 pub fn node_of<F: Folder>(f: &mut F, files: &BlockFiles, entry: Addr) -> Result<Addr, Fault>
     requires kind { kind_of entry ≡ blocks_256 }
     requires stands { IsTrue (stands_among files.now entry) }
@@ -55,7 +55,7 @@ pub fn node_of<F: Folder>(f: &mut F, files: &BlockFiles, entry: Addr) -> Result<
     ensures checked { OnOk result (ForSome (F.told f.old).files (λ image. HasRange image (block (file_selector entry)) (place entry + node_place) 4)) }
     ensures stays { Stays (F.told f.old) (F.told f.new) }
 
-    // A folder that tells its files gives a damage only where the word is of no node that stands.
+    // An observable folder reports corruption only where the word is of no node that is there.
     ensures damaged { IfDamaged result (IsNodeWordDamage files.now (F.told f.old) (FileId.Block (file_selector entry)) (place entry + node_place)) }
     ensures untold { ForSome (F.told f.old).files (Agrees files.now) → ForSome (F.told f.old).files (λ image. is_node_among files.now (entry_at image entry).rankings_node ≡ true) → IfDamaged result (λ _. (F.told f.old).files ≡ None) }
 

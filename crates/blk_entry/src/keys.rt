@@ -48,7 +48,7 @@ pub struct Head {
     pub flags: u32,
 }
 
-// Where a key lies: its bytes in the data of an address, behind some others.
+// Where a key lies: its bytes in the data of an address, after some others.
 #[derive(Clone, Copy)]
 pub(crate) struct KeyPlace {
     pub(crate) addr: Addr,
@@ -59,9 +59,9 @@ pub(crate) struct KeyPlace {
 /// Copies a piece of an entry's key into the front of `out`: the bytes from a place on, as many as
 /// there are and as fit. The number of them is given, which is 0 at or past the key's end.
 ///
-/// One folder call reads the record, and one the piece. A damage is a read that gave too few bytes, a
-/// record that doesn't check, a length that the key can't have, or the word of a long key that is no
-/// address which stands and stores the key.
+/// One folder call reads the record, and one the piece. A failed check is a read that gave too few bytes, a record that
+/// doesn't check, a length that the key can't have, or the word of a long key that isn't a valid address which stores
+/// the key.
 pub fn key_piece<F: Folder>(
     f: &mut F,
     files: &BlockFiles,
@@ -83,7 +83,7 @@ pub fn key_piece<F: Folder>(
     ensures there { IfOk result (λ n. ForSome (F.told f.old).files (λ image. HasKeyBytes entry (min at (entry_at image entry).key_len) n image)) }
     ensures stays { Stays (F.told f.old) (F.told f.new) }
 
-    // A folder that tells its files gives a damage only where the record doesn't check or has no key to read.
+    // An observable folder reports corruption only where the record doesn't check or has no key to read.
     ensures damaged { IfDamaged result (keys.IsPartDamage files.now (F.told f.old) entry at (length out.old)) }
     ensures untold { ForSome (F.told f.old).files (CanBeRead files.now entry) → IfDamaged result (λ _. (F.told f.old).files ≡ None) }
 
@@ -101,7 +101,7 @@ pub fn key_piece<F: Folder>(
 
 /// Reads the words of a record that say what it is, by one folder call.
 ///
-/// A damage is a read that gave too few bytes, or a record that doesn't check.
+/// A failed check is a read that gave too few bytes, or a record that doesn't check.
 pub fn read_head<F: Folder>(f: &mut F, files: &BlockFiles, entry: Addr) -> Result<Head, Fault>
     requires kind { kind_of entry ≡ blocks_256 }
     requires stands { IsTrue (stands_among files.now entry) }
@@ -109,7 +109,7 @@ pub fn read_head<F: Folder>(f: &mut F, files: &BlockFiles, entry: Addr) -> Resul
     ensures checked { OnOk result (ForSome (F.told f.old).files (HasRecord entry)) }
     ensures stays { Stays (F.told f.old) (F.told f.new) }
 
-    // A folder that tells its files gives a damage only for a record that doesn't check.
+    // An observable folder reports corruption only for a record that doesn't check.
     ensures damaged { IfDamaged result (IsHeadDamage (F.told f.old) entry) }
     ensures untold { ForSome (F.told f.old).files (Agrees files.now) → ForSome (F.told f.old).files (RecordChecks entry) → IfDamaged result (λ _. (F.told f.old).files ≡ None) }
 
@@ -136,7 +136,7 @@ pub fn read_head<F: Folder>(f: &mut F, files: &BlockFiles, entry: Addr) -> Resul
     })
 }
 
-/// Four words of a record that lie one behind the other.
+/// Four words of a record that lie one after the other.
 pub fn four_words(view: &EntryView<'_>, at: usize) -> [u32; 4]
     requires inside { at + 16 ≤ entry_size }
     requires aligned { at % 4 ≡ 0 }
@@ -150,7 +150,7 @@ pub fn four_words(view: &EntryView<'_>, at: usize) -> [u32; 4]
     ]
 }
 
-/// The damage of a word of a record: the word at a place in it, with what was found there.
+/// The failed check of a word of a record: the word at a place in it, with what was found there.
 pub fn record_damage(entry: Addr, at: u32, found: u32) -> Fault
     requires kind { kind_of entry ≡ blocks_256 }
     requires small { at < entry_size }
@@ -217,7 +217,7 @@ pub fn long_key(files: &BlockFiles, key_len: u32, word: u32) -> Option<Addr>
     }
 }
 
-/// Whether an address is the storage of data of a size, and stands where it is one of blocks.
+/// Whether an address is the storage of data of a size, and is valid where it is one of blocks.
 pub fn stores(files: &BlockFiles, addr: Addr, size: u32) -> bool
     requires address { is_address addr ≡ true }
     requires some { 0 < size }

@@ -2,7 +2,8 @@
 ghost use Rattle.blk_entry.specs.Covering.{NewClaimsAreSingle, NewPlacesAreCovered, NewPlacesAreShownApart};
 ghost use Rattle.blk_entry.specs.Parts.{WrittenPartsLoad};
 
-/// The places of a new entry are covered by the claims of its node, its record and its long key, no two of which are one; a change inside them is shown only there.
+/// The places of a new entry are covered by the used blocks of its node, its record and its long key, no two of which are one; a change inside them is shown only
+/// there.
 pub fn new_entries_are_shown_apart()
     ensures covered { NewPlacesAreCovered }
     ensures apart { NewPlacesAreShownApart }

@@ -15,8 +15,7 @@ use blk_record::NodeView;
 /// Marks a node dirty, with a number that isn't 0.
 ///
 /// The node is read by one folder call. Then its seal becomes 0, and by one call more the mark is written and the seal
-/// behind it becomes the hash. A node that has too few bytes or doesn't check is a
-/// damage, and nothing is written.
+/// after it becomes the hash. A node that has too few bytes or doesn't check is corruption, and nothing is written.
 pub fn set_dirty<F: Folder>(
     f: &mut F,
     files: &BlockFiles,

@@ -47,11 +47,11 @@ pub struct NewEntry {
     pub next: u32,
 }
 
-/// Writes a new entry: the key with one zero byte behind it, then the record, then the node.
+/// Writes a new entry: the key with one zero byte after it, then the record, then the node.
 ///
-/// The record has no streams, and the moment is its time and both times of the node. Record and node are
-/// sealed. Four folder calls write the key, the zero byte, the record and the node, each once. Nothing is
-/// read, so no damage is found. The external file of a long key has its length already.
+/// The record has no streams, and the moment is its time and both times of the node. Record and node are sealed. Four
+/// folder calls write the key, the zero byte, the record and the node, each once. Nothing is read, so no failed check
+/// is found. The external file of a long key has its length already.
 pub fn write_entry<F: Folder>(
     f: &mut F,
     files: &BlockFiles,
@@ -109,7 +109,7 @@ fn write_places<F: Folder>(
     write_records(f, files, &new, key, moment)
 }
 
-// Writes a key at its place, and one zero byte behind it.
+// Writes a key at its place, and one zero byte after it.
 fn write_key<F: Folder>(
     f: &mut F,
     files: &BlockFiles,
@@ -193,7 +193,7 @@ fn write_node<F: Folder>(
     files.write_block(f, new.node, 0, &bytes)
 }
 
-// The bytes of the record, and zeros behind them to the end of a block.
+// The bytes of the record, and zeros after them to the end of a block.
 fn record_of(new: &NewEntry, key: &[u8], moment: u64) -> [u8; BLOCK]
     requires { length key.now ≤ 32796 }
     ensures bytes { result ≡ entry_bytes (new_record new.now key.now moment) ++ zeros key_place_bytes }

@@ -147,7 +147,7 @@ cut_bytes image file n k = (
 
 -- Freed blocks.
 
--- all places of a file behind its header
+-- all places of a file after its header
 past_header : ℕ → Footprint
 past_header n = record { bytes = λ file i. same_file (Block n) file && nat_le 8192 i; sizes = λ file. false }
 

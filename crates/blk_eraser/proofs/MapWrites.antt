@@ -106,7 +106,7 @@ pub over_zero : (test : ℕ → Bool) (file : File) (size long : ℕ) → zeros_
 unfolding zeros_over_blocks
 over_zero test file size long = refl
 
--- the zeros over the first blocks are a front of those over more
+-- the zeros over the first blocks are a prefix of those over more
 over_front : (test : ℕ → Bool) (file : File) (size long n more : ℕ) → (rest : List TrailStep) × (zeros_over_blocks test file size long (n + more) ≡ zeros_over_blocks test file size long n ++ rest)
 unfolding zeros_over_blocks
 over_front test file size long n zero =
@@ -160,7 +160,7 @@ none_before old place new file size long n is =
     early : (b : ℕ) → b < 0 + n → 80 + b / 8 < place
     early b below = omega (arith, is)
 
--- and none behind them
+-- and none after them
 pub none_behind : (old : List ℕ) (place : ℕ) (new : List ℕ) (file : File) (size long n : ℕ) → n ≡ 8 * ((place + min (length new) (8192 - place)) - 80) → place < 8192
     → zeros_over_blocks (frees old place new) file size long 64896 ≡ zeros_over_blocks (frees old place new) file size long n
 none_behind old place new file size long n is front =
@@ -170,7 +170,7 @@ none_behind old place new file size long n is front =
     late : (b : ℕ) → n ≤ b → b < n + (64896 - n) → place + length new ≤ 80 + b / 8
     late b above below = omega (arith, is, front)
 
--- a write behind the header frees nothing, and one of another file neither
+-- a write after the header frees nothing, and one of another file neither
 pub far_none : (file : File) (image : Image) (place : ℕ) (new : List ℕ) → nat_lt place 8192 ≡ false → zeros_before_write image file place new ≡ []
 far_none Index image place new far = refl
 far_none (External n) image place new far = refl

@@ -1,4 +1,4 @@
--- Zeros that are written one piece behind another.
+-- Zeros that are written one piece after another.
 use Rattle.std.proofs.Common.{◌≡◌, ℕ, zero, suc, ◌+◌, ◌-◌, ◌%◌, ◌<◌, ◌≤◌, ◌⊎◌, inl, inr, ⊎_elim, min, List, [], ◌∷◌, ◌++◌, length, take, drop, replicate, refl, sym, ◌∙◌, ap, subst, arith}
 use Rattle.std.proofs.lemmas.Bool.{cases_lt}
 use Rattle.std.proofs.lemmas.List.{append-nil}
@@ -26,7 +26,7 @@ drop-zeros zero n =
 drop-zeros (suc a) n =
     let next : suc a + n ≡ suc (a + n) = omega arith in ap (λ (m : ℕ). drop (suc a) (replicate m 0)) next ∙ drop-zeros a n
 
--- a front of zeros is zeros
+-- a prefix of zeros is zeros
 pub front_zeros : (n most : ℕ) → n ≤ most → take n (zeros most) ≡ zeros n
 front_zeros n most few =
     let all : n + (most - n) ≡ most = omega arith in sym (ap (λ (m : ℕ). take n (zeros m)) all) ∙ take-zeros n (most - n)
@@ -35,7 +35,7 @@ pub no_words : (f : File) (place : ℕ) → words f place (zeros 0) ≡ []
 unfolding words zeros
 no_words f place = refl
 
--- so many zeros, and more behind them, where a word ends or none came before
+-- so many zeros, and more after them, where a word ends or none came before
 pub words-zeros_more : (f : File) (from a n : ℕ) → ((from + a) % 4 ≡ 0) ⊎ (a ≡ 0) → words f from (zeros (a + n)) ≡ words f from (zeros a) ++ words f (from + a) (zeros n)
 words-zeros_more f from a n (inl edge) =
     let fits : a ≤ length (zeros (a + n)) = omega (arith, length-zeros (a + n)) in

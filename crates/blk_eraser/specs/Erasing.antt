@@ -43,15 +43,15 @@ zeros_before_write image Index place new = []
 zeros_before_write image (Block n) place new = zeros_over_blocks (frees (bytes_of image (Block n)) place new) (Block n) (entry_size_of (byte image (Block n))) (length_of image (Block n)) most_blocks
 zeros_before_write image (External n) place new = []
 
--- a write, behind the zeros over what it frees
+-- a write, after the zeros over what it frees
 abbrev pub write_steps : Image → File → ℕ → List ℕ → List TrailStep
 write_steps image file place new = zeros_before_write image file place new ++ words file place new
 
--- a change of the length, behind the zeros over what it cuts off
+-- a change of the length, after the zeros over what it cuts off
 abbrev pub length_steps : Image → File → ℕ → List TrailStep
 length_steps image file n = words file n (zeros (length_of image file - n)) ++ (SetLength file n ∷ [])
 
--- a deletion, behind the zeros over all bytes of the file
+-- a deletion, after the zeros over all bytes of the file
 abbrev pub delete_steps : Image → File → List TrailStep
 delete_steps image file = words file 0 (zeros (length_of image file)) ++ (Delete file ∷ [])
 

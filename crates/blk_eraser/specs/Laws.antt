@@ -81,7 +81,8 @@ UnlinkedBlocksMayBeErased = (unlinked : List ℕ) (from image : Image) (n place 
     → FreesUnlinked unlinked image n place new
     → Along (KeepsTheSame unlinked from) from (zeros_before_write image (Block n) place new)
 
--- and where the call has written before, in a folder that stays whole, what was at rest when it began is found at each of them
+-- and where the call has written before, in a folder that stays whole, the durable contents from when it began are recovered at each of
+-- them
 abbrev pub ErasingFindsTheSame : Type 0
 ErasingFindsTheSame = (unlinked : List ℕ) (from image : Image) (n place : ℕ) (new : List ℕ) → StaysWhole from image
     → FreesUnlinked unlinked image n place new

@@ -105,7 +105,7 @@ fn erase_before<F: Folder>(
     Ok(())
 }
 
-/// Writes bytes of a file, where it has the range, behind the zeros over what that frees.
+/// Writes bytes of a file, where it has the range, after the zeros over what that frees.
 pub(crate) fn write_over<F: Folder>(
     f: &mut F,
     file: FileId,

@@ -2,7 +2,7 @@
 ghost use Rattle.blk_eraser.specs.Laws.{CutBytesAreBlank, CutsChangeOneFile, FreedBlocksAreBlank, OnlyFreedBlocksChange};
 ghost use Rattle.blk_eraser.specs.Laws.{UnownedBlocksMayBeErased, UnlinkedBlocksMayBeErased, UnlinkedFilesMayBeErased, ErasingFindsTheSame};
 
-/// At each step of a write inside a header, a block that was marked and isn't is full of zeros. So a stop leaves each
+/// At each step of a write inside a header, a block that was marked and isn't is full of zeros. So a crash leaves each
 /// block that is freed marked, or erased whole.
 pub fn freed_blocks_are_blank()
     ensures { FreedBlocksAreBlank }
@@ -31,7 +31,7 @@ pub fn unowned_blocks_may_be_erased()
 
 /// Where a write to a map frees blocks of unlinked words alone, the zeros before it leave each state that a folder keeps,
 /// with the same words unlinked, and what the index counts. A call that frees sets `updating` before it writes the map,
-/// and no state is kept then; what was at rest when the call began is found at each of the zeros.
+/// and no state is kept then; the durable contents from when the call began are recovered at each of the zeros.
 pub fn unlinked_blocks_may_be_erased()
     ensures kept { UnlinkedBlocksMayBeErased }
     ensures found { ErasingFindsTheSame }

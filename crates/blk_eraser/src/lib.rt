@@ -1,6 +1,7 @@
 //! A folder that erases: what is freed, cut or deleted is overwritten by zeros before.
 //!
-//! A stop at any step leaves a block that is freed either marked, so that the next opening frees and erases it again, or full of zeros.
+//! A crash at any step leaves a block that is freed either marked, so that the next opening frees and erases it again, or full of
+//! zeros.
 #![tactic(auto)]
 
 mod eraser;

@@ -52,7 +52,7 @@ pub(crate) fn erase<F: Folder>(f: &mut F, file: FileId, from: u64, end: u64) -> 
     Ok(())
 }
 
-/// Gives a file a length, behind zeros over what that cuts off.
+/// Gives a file a length, after zeros over what that cuts off.
 pub(crate) fn cut<F: Folder>(f: &mut F, file: FileId, to: u64) -> Result<(), Failed>
     ensures steps { OnOk result (Makes (F.told f.old) (F.told f.new) (λ image. length_steps image (file_of file) to)) }
     ensures prefix { MakesPartOf (F.told f.old) (F.told f.new) (λ image. length_steps image (file_of file) to) }
@@ -62,7 +62,7 @@ pub(crate) fn cut<F: Folder>(f: &mut F, file: FileId, to: u64) -> Result<(), Fai
     f.set_len(file, to)
 }
 
-/// Removes a file, behind zeros over its bytes.
+/// Removes a file, after zeros over its bytes.
 pub(crate) fn remove<F: Folder>(f: &mut F, file: FileId) -> Result<(), Failed>
     ensures steps { OnOk result (Makes (F.told f.old) (F.told f.new) (λ image. delete_steps image (file_of file))) }
     ensures prefix { MakesPartOf (F.told f.old) (F.told f.new) (λ image. delete_steps image (file_of file)) }

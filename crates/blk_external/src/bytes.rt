@@ -18,14 +18,14 @@ use blk_io::{Damage, Failed, Fault, FileId, Folder};
 
 /// Reads bytes from a place on into the whole of `out`.
 ///
-/// Too few bytes are a damage: it has the place of the read, and finds how many bytes there were, modulo 2^32.
+/// Too few bytes are corruption: the error has the place of the read, and finds how many bytes there were, modulo 2^32.
 pub fn read<F: Folder>(f: &mut F, addr: Addr, at: u64, out: &mut [u8]) -> Result<(), Fault>
     requires kind { kind_of addr ≡ external }
     ensures bytes { OnOk result (ForSome (F.told f.old).files (λ image. out.new ≡ range_at (byte image (named_file addr)) at (length out.old))) }
     ensures checked { OnOk result (ForSome (F.told f.old).files (λ image. HasRange image (named_file addr) at (length out.old) ⊎ (length out.old ≡ 0))) }
     ensures stays { Stays (F.told f.old) (F.told f.new) }
 
-    // Too few bytes, which a folder that tells its files gives only where the file is too short.
+    // Too few bytes, which an observable folder gives only where the file is too short.
     ensures few { IfDamaged result (IsFew (F.told f.old) (external_number addr) at (length out.old)) }
     ensures untold { ForSome (F.told f.old).files (λ image. HasRange image (named_file addr) at (length out.old)) → IfDamaged result (λ _. (F.told f.old).files ≡ None) }
 

@@ -14,10 +14,10 @@ use blk_record::IndexHead;
 
 /// Makes an empty file with the first free number after the last one, and writes that number to the index.
 ///
-/// The search takes the numbers above the last one in rising order and then goes on at 1. So it begins
-/// at 1 where the index has 0, the largest number or a word that is no number. A damage is a read that
-/// gave too few bytes of the last number, or that no number is free; nothing is then written.
-/// Where the next number is free, two folder calls find it.
+/// The search takes the numbers above the last one in rising order and then goes on at 1. So it begins at 1 where the
+/// index has 0, the largest number or a word that is no number. A failed check is a read that gave too few bytes of the
+/// last number, or that no number is free; nothing is then written. Where the next number is free, two folder calls
+/// find it.
 pub fn create<F: Folder>(f: &mut F) -> Result<Addr, Fault>
     requires complete { ForSome (F.told f.old).files HasWholeIndex }
     ensures kind { IfOk result (λ addr. kind_of addr ≡ external) }
@@ -27,7 +27,8 @@ pub fn create<F: Folder>(f: &mut F) -> Result<Addr, Fault>
     ensures complete { ForSome (F.told f.new).files HasWholeIndex }
     ensures steps { IfOk result (λ addr. Applies (F.told f.old) (F.told f.new) (making (external_number addr))) }
 
-    // Where a number is free, and whatever the answer: a front of the steps, and before and after each of them all else as it was.
+    // Where a number is free, and whatever the answer: a prefix of the steps, and before and after each of them all else as it
+    // was.
     ensures prefix { ForSome (F.told f.old).files HasFreeNumber → CreatesPrefix (F.told f.old) (F.told f.new) }
     ensures stops { ForSome (F.told f.old).files (λ from. HasFreeNumber from → Passes (F.told f.old) (F.told f.new) (CreatesInProgress from)) }
 

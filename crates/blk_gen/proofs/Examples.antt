@@ -13,7 +13,7 @@ second_draw = refl
 third_draw : draw_at (value_behind 0) ≡ 1299921937
 third_draw = refl
 
--- its first turn, and the key of that
+-- its first iteration, and the key of that
 first_turn : turn_behind 0 ≡ record { key_number = 807; stream = 0; byte_count = 16945 }
 first_turn = refl
 
@@ -25,7 +25,7 @@ first_key = refl
 largest_seed : next_value (2 ^ 64 - 1) ≡ 13525302890751722018
 largest_seed = refl
 
--- the bytes of the turn 254
+-- the bytes of the iteration 254
 bytes_count_up : generated_bytes 254 4 ≡ 254 ∷ 255 ∷ 0 ∷ 1 ∷ []
 bytes_count_up = refl
 

@@ -36,7 +36,7 @@ either most false f g first second = second
 allowing : (fewer most : ℕ) (script : Counts → Script) → fewer ≤ most → Says fewer script → Says most script
 allowing fewer most script within h counts from clock = let said = h counts from clock in (said.0, omega arith)
 
--- the commands of a turn whose object is there, from the last on
+-- the commands of an iteration whose object is there, from the last on
 closed : (most : ℕ) (following : Counts → Script) → Says most following → Says (most + 1) (λ counts. asks_counted (to_close 0) counts (λ outcome. following))
 closed most following h = asked most (to_close 0) (λ outcome. following) (λ outcome. h)
 
@@ -48,7 +48,7 @@ used most number turn following h =
     asked (most + 1) (to_read 0 turn.stream 0 20001) (λ outcome. close) (λ outcome.
     closed most following h))
 
--- a turn that made its object, or ends there
+-- an iteration that made its object, or ends there
 created : (most number : ℕ) (turn : Turn) (following : Counts → Script) → Says most following → Says (most + 4) (λ counts. created_turn number turn counts following)
 created most number turn following h =
     let uses : Counts → Script = λ counts. used_turn number turn counts following in
@@ -57,7 +57,7 @@ created most number turn following h =
     asked (most + 1 + 1 + 1) (to_create 0 (generated_key turn.key_number)) behind (λ made.
     either (most + 1 + 1 + 1) (is_refused made) following uses (allowing most (most + 1 + 1 + 1) following (omega arith) h) (used most number turn following h)))
 
--- a whole turn
+-- a whole iteration
 turned : (most number : ℕ) (turn : Turn) (following : Counts → Script) → Says most following → Says (most + 5) (λ counts. turn_script number turn counts following)
 turned most number turn following h =
     let make : Counts → Script = λ counts. created_turn number turn counts following in
@@ -70,7 +70,7 @@ turned most number turn following h =
     either (most + 4) (is_refused opened) following uses (allowing most (most + 4) following (omega arith) h) (
     allowing (most + 1 + 1 + 1) (most + 4) uses (omega arith) (used most number turn following h)))))
 
--- so many turns
+-- so many iterations
 all_turns : (left number value : ℕ) → Says (5 * left) (turns_script left number value)
 unfolding turns_script turns counts_after state_after
 all_turns zero number value counts from clock = (record { text = append-nil (closing_text counts from); quiet = refl }, omega arith)

@@ -39,7 +39,7 @@ evicted_items outcome = sum_by (λ group. length (items_of_group group)) outcome
 abbrev pub with_outcome : Outcome → Counts → Counts
 with_outcome outcome counts = with_answer (answer_of outcome.reply) (evicted_items outcome) counts
 
--- the counts as 64 bits hold them: each stands still at the last number of 64 bits
+-- the counts as 64 bits hold them: each stays at the last number of 64 bits
 abbrev pub held : Counts → Counts
 held counts = record {
   commands = min counts.commands (2 ^ 64 - 1);

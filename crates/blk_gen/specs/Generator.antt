@@ -1,4 +1,4 @@
--- The script of the generator: what it asks of a cache, turn after turn.
+-- The script of the generator: what it asks of a cache, one iteration after another.
 use Rattle.std.specs.Prelude.{ℕ, ◌+◌, true, false, if◌then◌else◌, List, ◌++◌}
 use Rattle.std.proofs.Common.{zero, suc}
 use Rattle.blk_model.specs.State.{State}
@@ -14,20 +14,20 @@ use Rattle.blk_gen.specs.Counting.{no_counts, with_outcome, counts_line}
 abbrev pub asks_counted : Request → Counts → (Outcome → Counts → Script) → Script
 asks_counted request counts following = asks request (λ outcome. false) (λ outcome. following outcome (with_outcome outcome counts))
 
--- a turn whose handle names its object: a Write with cut, a Read and a Close, of which none ends the turn
+-- an iteration whose handle names its object: a Write with cut, a Read and a Close, of which none ends the iteration
 abbrev pub used_turn : ℕ → Turn → Counts → (Counts → Script) → Script
 used_turn number turn counts following =
     asks_counted (to_write 0 turn.stream 0 true (generated_bytes number turn.byte_count)) counts (λ outcome written.
     asks_counted (to_read 0 turn.stream 0 20001) written (λ outcome read.
     asks_counted (to_close 0) read (λ outcome closed. following closed)))
 
--- a turn whose object is made, where that isn't refused
+-- an iteration whose object is made, where that isn't refused
 abbrev pub created_turn : ℕ → Turn → Counts → (Counts → Script) → Script
 created_turn number turn counts following =
     asks_counted (to_create 0 (generated_key turn.key_number)) counts (λ made counted.
     if is_refused made then following counted else used_turn number turn counted following)
 
--- a turn: its object is opened, or made where it is missing; where that is refused nothing more is asked
+-- an iteration: its object is opened, or made where it is missing; where that is refused nothing more is asked
 abbrev pub turn_script : ℕ → Turn → Counts → (Counts → Script) → Script
 turn_script number turn counts following =
     asks_counted (to_open 0 (generated_key turn.key_number)) counts (λ opened counted.
@@ -39,11 +39,11 @@ turn_script number turn counts following =
 abbrev pub closing_text : Counts → State → List ℕ
 closing_text counts state = counts_line counts ++ totals_text state
 
--- so many turns, the first with this number and behind this value of the sequence; the counts go with them, and are said at the end
+-- so many iterations, the first with this number and after this value of the sequence; the counts go with them, and are said at the end
 unfoldable pub turns_script : (left number value : ℕ) → Counts → Script
 turns_script zero number value counts = says (closing_text counts) ended
 turns_script (suc left) number value counts = turn_script number (turn_behind value) counts (turns_script left (number + 1) (value_behind value))
 
--- so many turns from a seed on
+-- so many iterations from a seed on
 abbrev pub gen_script : (seed turns : ℕ) → Script
 gen_script seed turns = turns_script turns 0 seed no_counts

@@ -7,17 +7,17 @@ use Rattle.blk_gen.specs.declared.counting.Counts.{Counts}
 use Rattle.blk_gen.specs.Counting.{no_counts, with_outcome}
 use Rattle.blk_gen.specs.Generator.{closing_text, gen_script}
 
--- the counts behind commands, one after another from a state on
+-- the counts after commands, one after another from a state on
 unfoldable pub counts_after : Counts → State → List Stamped → Counts
 counts_after counts state [] = counts
 counts_after counts state (command ∷ commands) = counts_after (with_outcome (outcome_in state command) counts) (state_then state command) commands
 
--- what is printed are the counts of the commands, and the totals of the state behind them; and nothing counts as a refusal
+-- what is printed are the counts of the commands, and the totals of the state after them; and nothing counts as a refusal
 pub record SayCounts (counts : Counts) (from : State) (run : List Turn) : Type 0 where
   pub text : text_of run ≡ closing_text (counts_after counts from (commands_of run)) (state_after from (commands_of run))
   pub quiet : refuse run ≡ false
 
--- turns of the generator say what was counted of their commands
+-- iterations of the generator say what was counted of their commands
 abbrev pub TurnsSayTheirCounts : Type 0
 TurnsSayTheirCounts = (seed count : ℕ) (from : State) (clock : Readings) → SayCounts no_counts from (turns (gen_script seed count) from clock)
 

@@ -36,8 +36,7 @@ impl Counts {
         }
     }
 
-    /// Counts a command, by its answer and by how many items it evicted. A count that comes to
-    /// 2^64 - 1 stands still.
+    /// Counts a command, by its answer and by how many items it evicted. A count that comes to 2^64 - 1 stays there.
     pub fn count(&mut self, answer: &Answer, evicted: u64)
         ensures held { self.new ≡ held (with_answer answer.now evicted self.old) }
         ensures exact { AreLong (with_answer answer.now evicted self.old) → self.new ≡ with_answer answer.now evicted self.old }
@@ -50,7 +49,7 @@ impl Counts {
 
     /// Prints the counts, on a line.
     ///
-    /// Where the sink fails, a front of the line may have been printed.
+    /// Where the sink fails, a prefix of the line may have been printed.
     pub fn print_counts<K: Sink>(&self, out: &mut K) -> Result<(), Failed>
         ensures steps { OnOk result (K.written out.new ≡ option_map (λ w. w ++ counts_line self.now) (K.written out.old)) }
         ensures prefix { Appends (K.written out.old) (K.written out.new) (counts_line self.now) }

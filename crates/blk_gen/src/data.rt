@@ -1,9 +1,9 @@
-// The bytes that a turn writes.
+// The bytes that an iteration writes.
 ghost use Rattle.std.specs.Prelude.{◌≡◌, length};
 ghost use Rattle.blk_gen.specs.Draws.{generated_byte, generated_bytes};
 
-/// Fills the bytes with those that the turn with this number writes, which are counted up from the
-/// number, modulo 256.
+/// Fills the bytes with those that the iteration with this number writes, which are counted up from the number, modulo
+/// 256.
 pub fn fill(number: u32, bytes: &mut [u8])
     ensures { bytes.new ≡ generated_bytes number (length bytes.old) }
 {
@@ -12,7 +12,7 @@ pub fn fill(number: u32, bytes: &mut [u8])
     }
 }
 
-// The byte of a turn at a place.
+// The byte of an iteration at a place.
 fn byte_at(number: u32, place: usize) -> u8
     ensures { result ≡ generated_byte number place }
 {

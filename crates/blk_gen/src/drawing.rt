@@ -18,7 +18,7 @@ pub struct Draws {
     pub value: u64,
 }
 
-/// What a turn of the generator works on.
+/// What an iteration of the generator works on.
 #[derive(Clone, Copy, Debug, PartialEq, Eq)]
 pub struct Turn {
     /// The number in its key, below 1000.
@@ -46,7 +46,7 @@ impl Draws {
         (self.value >> LEFT_OUT) as u32
     }
 
-    /// What the next turn works on, by three draws.
+    /// What the next iteration works on, by three draws.
     pub fn turn(&mut self) -> Turn
         ensures value { self.new.value ≡ value_behind self.old.value }
         ensures drawn { result ≡ turn_behind self.old.value }
@@ -66,7 +66,7 @@ impl Draws {
 }
 
 impl Turn {
-    /// The key of the turn, in the front of the room: `k`, and its number in decimal.
+    /// The key of the iteration, at the start of the buffer: `k`, and its number in decimal.
     pub fn key<'a>(&self, room: &'a mut [u8; 4]) -> &'a [u8]
         requires { self.now.key_number < 1000 }
         ensures { result.now ≡ generated_key self.now.key_number }
@@ -79,7 +79,7 @@ impl Turn {
     }
 }
 
-// Puts bytes behind what stands in front, and tells where they end.
+// Puts bytes after what is in front, and tells where they end.
 fn put(room: &mut [u8], at: usize, bytes: &[u8]) -> usize
     requires { at + length bytes.now ≤ length room.old }
     ensures within { result ≡ at + length bytes.now }

@@ -1,8 +1,7 @@
 //! The generator: commands that are drawn from a number, and what is counted of them.
 //!
-//! A turn draws a key, a stream and how many bytes are written; what it asks of a cache then is
-//! the script `gen_script` of `specs/Generator`. What is drawn stands in `specs/Draws`.
-//! No call takes memory.
+//! An iteration draws a key, a stream and how many bytes are written; what it asks of a cache then is the script
+//! `gen_script` of `specs/Generator`. What is drawn is told in `specs/Draws`. No call takes memory.
 #![tactic(auto)]
 
 ghost use Rattle.blk_gen.specs.Laws.{CommandsOfTurnsAreFew, TurnsSayTheirCounts};
@@ -15,7 +14,8 @@ pub use counting::Counts;
 pub use data::fill;
 pub use drawing::{Draws, Turn};
 
-/// What a run of the generator says is what was counted of the commands that it asked; these are at most five a turn.
+/// What a run of the generator says is what was counted of the commands that it asked; these are at most five an
+/// iteration.
 pub fn turns_are_counted()
     ensures says { TurnsSayTheirCounts }
     ensures few { CommandsOfTurnsAreFew }

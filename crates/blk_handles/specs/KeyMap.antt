@@ -7,7 +7,7 @@ abbrev pub key_for : List RecordKey → ℕ → Option ℕ
 key_for [] entry = None
 key_for (item ∷ rest) entry = if item.entry == entry then Some item.key else key_for rest entry
 
--- what stands past the last item
+-- what is past the last item
 abbrev pub nowhere : RecordKey
 nowhere = record { entry = 0; key = 0 }
 

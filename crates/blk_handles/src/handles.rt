@@ -42,7 +42,7 @@ impl Handles {
     ///
     /// # Errors
     ///
-    /// `NoMemory` where there is no memory.
+    /// `NoMemory` when out of memory.
     pub fn new(alloc: Global) -> Result<Handles, NoMemory>
         ensures { IfOk result (λ handles. handles ≡ all_free) }
     {

@@ -76,7 +76,7 @@ none-named Index name e other no_block no_external = other e
 none-named (Block n) name e other no_block no_external = no_block (decimal n) e
 none-named (External n) name e other no_block no_external = no_external (hex_text 6 n) e
 
--- what is left behind a front
+-- what is left after a prefix
 pub stripped : (front name rest : List ℕ) → StripsPrefix (FindsTextPrefix front) name rest → name ≡ front ++ rest
 stripped front name rest strips = strips.1.1 ∙ ap (λ (l : List ℕ). front ++ l) (sym strips.2)
 

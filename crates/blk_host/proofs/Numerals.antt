@@ -20,7 +20,7 @@ length-zeros : (k : ℕ) (ds : List ℕ) → 0 < length ds → 0 < length (repli
 length-zeros zero ds some = some
 length-zeros (suc k) ds some = grind (arith)
 
--- no plus stands before digits
+-- there is no plus before digits
 no_plus : (ds : List ℕ) → AllDigits 16 ds → without_leading_plus ds ≡ ds
 no_plus [] all = refl
 no_plus (c ∷ cs) all = by_test (c == 43) refl

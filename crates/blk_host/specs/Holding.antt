@@ -4,6 +4,6 @@ use Rattle.std.specs.IoError.{error_kind, raw_os_error}
 use Rattle.std.specs.declared.io.Error.{Error}
 use Rattle.std.specs.declared.io.ErrorKind.TheVariants.{Unsupported}
 
--- the call isn't there (ENOSYS, EOPNOTSUPP), or there is no room for a lock (ENOLCK)
+-- the call isn't there (ENOSYS, EOPNOTSUPP), or there is no space for a lock (ENOLCK)
 abbrev pub HasNoLocks : Error → Type 0
 HasNoLocks error = (error_kind error ≡ Unsupported) ⊎ (raw_os_error error ≡ Some (pos 37))

@@ -76,7 +76,7 @@ impl OpenFile {
         Ok(())
     }
 
-    /// Writes bytes from a place on. The file is longer then, where they end behind its end.
+    /// Writes bytes from a place on. The file is longer then, where they end past its end.
     pub fn write_at(&mut self, at: u64, bytes: &[u8]) -> io::Result<()> {
         let known = self.length.take();
         self.file.write_all_at(bytes, at)?;
@@ -95,7 +95,7 @@ fn metadata_of(file: &File) -> io::Result<Metadata> {
 #[derive(Drop)]
 struct OpenFiles {
     index: Option<OpenFile>,
-    // Each block file stands at its number.
+    // Each block file is at its number.
     blocks: [Option<OpenFile>; BLOCK_FILES],
     external: Option<OpenFile>,
     // The number of the external file.
@@ -135,7 +135,7 @@ pub struct Disk<R: Files<File = File> + Drop> {
     rt: R,
     alloc: Global,
     open: OpenFiles,
-    // The lock goes behind the open files.
+    // The lock goes after the open files.
     held: Held,
 }
 

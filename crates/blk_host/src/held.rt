@@ -16,7 +16,7 @@ use std::{env, error, io, thread};
 // How many milliseconds the program sleeps between two tries at a lock that another one has.
 const PAUSE: u64 = 50;
 
-// The number of the error of a file system with no room for locks (ENOLCK). It has no kind of its own.
+// The number of the error of a file system with no space for locks (ENOLCK). It has no kind of its own.
 const NO_LOCKS: i32 = 37;
 
 /// How a program has a folder.

@@ -21,7 +21,7 @@ const PIECE: usize = 65_536;
 
 /// Reads the word of the header at a place in bytes.
 ///
-/// Too few bytes are a damage. `Device` comes only where the folder failed in this call.
+/// Too few bytes are corruption. `Device` comes only where the folder failed in this call.
 pub fn word<F: Folder>(f: &mut F, at: u64) -> Result<u32, Fault>
     requires aligned { at % 4 ≡ 0 }
     requires inside { at < header_length }
@@ -29,7 +29,7 @@ pub fn word<F: Folder>(f: &mut F, at: u64) -> Result<u32, Fault>
     ensures checked { OnOk result (ForSome (F.told f.old).files (λ image. HasRange image index at 4)) }
     ensures stays { Stays (F.told f.old) (F.told f.new) }
 
-    // Too few bytes, which a folder that tells its files gives only where the index is too short.
+    // Too few bytes, which an observable folder gives only where the index is too short.
     ensures short { IfDamaged result (IsShort (F.told f.old) FileId.Index at 4) }
     ensures untold { ForSome (F.told f.old).files HasWholeIndex → IfDamaged result (λ _. (F.told f.old).files ≡ None) }
 
@@ -41,13 +41,13 @@ pub fn word<F: Folder>(f: &mut F, at: u64) -> Result<u32, Fault>
 
 /// Reads the word of a bucket: the first address of its chain, or 0.
 ///
-/// Too few bytes are a damage. `Device` comes only where the folder failed in this call.
+/// Too few bytes are corruption. `Device` comes only where the folder failed in this call.
 pub fn bucket<F: Folder>(f: &mut F, number: u16) -> Result<u32, Fault>
     ensures word { IfOk result (λ w. ForSome (F.told f.old).files (λ image. w ≡ bucket_of (byte image index) number)) }
     ensures checked { OnOk result (ForSome (F.told f.old).files (λ image. HasRange image index (place_of_bucket number) 4)) }
     ensures stays { Stays (F.told f.old) (F.told f.new) }
 
-    // Too few bytes, which a folder that tells its files gives only where the index is too short.
+    // Too few bytes, which an observable folder gives only where the index is too short.
     ensures short { IfDamaged result (IsShort (F.told f.old) FileId.Index (place_of_bucket number) 4) }
     ensures untold { ForSome (F.told f.old).files HasWholeIndex → IfDamaged result (λ _. (F.told f.old).files ≡ None) }
 
@@ -60,7 +60,7 @@ pub fn bucket<F: Folder>(f: &mut F, number: u16) -> Result<u32, Fault>
 /// Reads the words of neighbouring buckets from one on into `out`, at most 16384 of them, by one folder call. So
 /// 4 calls read the whole table.
 ///
-/// Too few bytes are a damage. `Device` comes only where the folder failed in this call.
+/// Too few bytes are corruption. `Device` comes only where the folder failed in this call.
 pub fn buckets<F: Folder>(f: &mut F, first: u16, out: &mut [u32]) -> Result<(), Fault>
     requires few { length out.old ≤ buckets_of_piece }
     requires inside { first + length out.old ≤ table_length }
@@ -68,7 +68,7 @@ pub fn buckets<F: Folder>(f: &mut F, first: u16, out: &mut [u32]) -> Result<(), 
     ensures checked { OnOk result (ForSome (F.told f.old).files (λ image. HasRange image index (place_of_bucket first) (4 * length out.old) ⊎ (length out.old ≡ 0))) }
     ensures stays { Stays (F.told f.old) (F.told f.new) }
 
-    // Too few bytes, which a folder that tells its files gives only where the index is too short.
+    // Too few bytes, which an observable folder gives only where the index is too short.
     ensures short { IfDamaged result (IsShort (F.told f.old) FileId.Index (place_of_bucket first) (4 * length out.old)) }
     ensures untold { ForSome (F.told f.old).files HasWholeIndex → IfDamaged result (λ _. (F.told f.old).files ≡ None) }
 

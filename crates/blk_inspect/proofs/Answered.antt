@@ -43,7 +43,7 @@ answered {A} {B} r q e files is same damaged = by_fault r q e (λ s. ForSome fil
     each (scan.Damaged damage) at image there = (subst (λ (s : Result A ScanFault). IfScanDamaged s (λ d. ForSome files (IsDamagedFirst d))) at damaged) image there
     each scan.Memory at image there = tt
 
--- a damage has its cause
+-- a failed check has its cause
 pub caused : {A B : Type 0} (r : Result A ScanFault) (q : Result B InspectFault) (e : ScanFault) (P : Damage → Type 0) → r ≡ Err e → IsErrAnd q (λ (x : InspectFault). x ≡ inspect_fault e) → IfScanDamaged r P → IfInspectDamaged q P
 caused {A} {B} r q e P is same cause = by_fault r q e (λ s. IfInspectDamaged s P) is same each
   where

@@ -1,4 +1,4 @@
--- What is found in a folder, and why it is damaged.
+-- What is found in a folder, and why it is corrupt.
 use Rattle.std.proofs.Common.{◌≡◌, Bool, true, false, if◌then◌else◌, List, ℕ, Result, length, ◌++◌, inl, inr, refl, sym, ap, subst, ◌∙◌}
 use Rattle.std.specs.List.{flat_map}
 use Rattle.std.specs.Option.{ForSome}
@@ -45,7 +45,7 @@ unfinished_shown asked image un = is_true (unfinished image) ((unfinished_agrees
 pub finished_shown : (found : Findings) (asked : Question) (image : Image) → (IsUnfinished image → ⊥) → findings_text found ≡ finished_text asked image → findings_text found ≡ question_text asked image
 finished_shown found asked image finished is = is ∙ is_false (unfinished image) (λ e. finished ((unfinished_agrees image).0 e)) unfinished_line (finished_text asked image)
 
--- a damage of what is read by the block files that agree with it has its cause
+-- a failed check of what is read by the block files that agree with it has its cause
 pub reading_cause : {A : Type 0} (r : Result A ScanFault) (files : BlockFiles) (a b c : Told) → b ≡ a → c ≡ b → ForSome b.files (Agrees files) → IfScanDamaged r (IsReadDamage files c) → IfScanDamaged r (IsFinishedDamage a)
 reading_cause r files a b c before after agrees cause =
     weaker r (IsReadDamage files c) (IsFinishedDamage a)

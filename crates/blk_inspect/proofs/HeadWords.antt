@@ -106,7 +106,7 @@ pub unlinked_shown : (image : Image) (n : ℕ) → is_some (linked_as image n) �
 unfolding file_text
 unlinked_shown image n is = cond-false _ _ _ is
 
--- and of a record that stands, and of none
+-- and of a record that is there, and of none
 pub record_shown : (image : Image) (w : ℕ) → stands_as image blocks_256 w ≡ true → record_text w image ≡ words_text (record_words (entry_at image w))
 unfolding record_text
 record_shown image w is = cond-true _ _ _ is

@@ -30,11 +30,11 @@ pub then_said : {A E : Type 0} (r : Result A E) (old mid new : Option (List ℕ)
 then_said r old mid new a b first =
     on_ok_weaker r (λ is. put_whole old new (a ++ b) (put_more old mid new (a ++ b) b b [] (put_more old old mid (a ++ b) (a ++ b) a b (not_yet old (a ++ b)) refl first) (sym (append-nil b)) is))
 
--- one text, and then a front of another
+-- one text, and then a prefix of another
 pub then_front : (old mid new : Option (List ℕ)) (a b : List ℕ) → mid ≡ option_map (λ (w : List ℕ). w ++ a) old → Appends mid new b → Appends old new (a ++ b)
 then_front old mid new a b first part = put_partly old mid new (a ++ b) b b [] (put_more old old mid (a ++ b) (a ++ b) a b (not_yet old (a ++ b)) refl first) (sym (append-nil b)) part
 
--- a front of the first of two texts
+-- a prefix of the first of two texts
 pub first_front : (old new : Option (List ℕ)) (a b : List ℕ) → Appends old new a → Appends old new (a ++ b)
 first_front old new a b part = put_partly old old new (a ++ b) (a ++ b) a b (not_yet old (a ++ b)) refl part
 
@@ -46,7 +46,7 @@ lines_cut f xs i d within = ap (flat_map f) (drop-cons xs i d within) ∙ ap (λ
 pub lines_at : {X : Type 0} (f : X → List ℕ) (xs : List X) (i : ℕ) (x : X) → slice_get xs i ≡ Some x → flat_map f (drop i xs) ≡ f x ++ flat_map f (drop (i + 1) xs)
 lines_at f xs i x is = lines_cut f xs i x (slice_get_within xs i x is) ∙ ap (λ y. f y ++ flat_map f (drop (i + 1) xs)) (get_or_from_slice_get xs i x x is)
 
--- behind the last line
+-- after the last line
 pub lines_end : {X : Type 0} (f : X → List ℕ) (xs : List X) (i : ℕ) → length xs ≤ i → flat_map f (drop i xs) ≡ []
 lines_end f xs i past = ap (flat_map f) (drop_all i xs past)
 

@@ -65,7 +65,7 @@ record_more image entries i w said rows within at is are =
     let hash : said.words.hash ≡ (entry_at image w).hash = (λ j. (is.words.fields j).hash) in
     ap (λ (h : ℕ). rows ++ record { entry = w; hash = h } ∷ []) hash ∙ row_more (record_row_at image) entries i w rows within at are
 
--- a record that stands among the block files
+-- a record that is there among the block files
 pub record_parts : (files : BlockFiles) (w : ℕ) → is_record_among files w ≡ true → (kind_of w ≡ blocks_256) × (stands_among files w ≡ true)
 unfolding names_among
 record_parts files w is = let both = parts _ (kind_of w == blocks_256) (stands_among files w) is in (eqb-true (kind_of w) blocks_256 both.0, both.1)
@@ -87,7 +87,7 @@ records_shown image words rows are =
     (λ i. flat_map record_row_line (are i) ++ end_line (length (are i)))
     ∙ (λ i. flat_map-map record_row_line (record_row_at image) words i ++ end_line (length-map words (record_row_at image) i))
 
--- the records of a bucket stand where all reached records do
+-- the records of a bucket are valid where all reached records are
 pub bucket_stands : (files : BlockFiles) (reached : Reached) (bucket : ℕ) → RecordsStand files (words_reached reached) → RecordsStand files (records_of (words_reached reached) reached.ends.items bucket)
 bucket_stands files reached bucket all =
     All-take (λ w. is_record_among files w ≡ true) _ (drop (begin_of reached.ends.items bucket) (words_reached reached)) (All-drop (λ w. is_record_among files w ≡ true) (begin_of reached.ends.items bucket) (words_reached reached) all)

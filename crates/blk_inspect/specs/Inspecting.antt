@@ -31,7 +31,7 @@ inspect_fault scan.Memory = Memory
 abbrev pub IsDamagedFirst : Damage → Image → Type 0
 IsDamagedFirst damage image = (IsUnfinished image → ⊥) × (first_damage image ≡ Some (damage_of damage))
 
--- each answer, and the folders that it is given for; a failed device and want of memory say nothing of the folder
+-- each answer, and the folders that it is given for; a failed device and out of memory say nothing of the folder
 abbrev pub AnswersFor : {A : Type 0} → Result A InspectFault → Image → Type 0
 AnswersFor (Ok a) image = IsUsable image
 AnswersFor (Err Sink) image = IsUsable image
@@ -39,7 +39,7 @@ AnswersFor (Err (Damaged damage)) image = IsDamagedFirst damage image
 AnswersFor (Err Device) image = Unit {0}
 AnswersFor (Err Memory) image = Unit {0}
 
--- the text is printed, or a front of it where the sink failed, and nothing at any other answer
+-- the text is printed, or a prefix of it where the sink failed, and nothing at any other answer
 abbrev pub PrintsAt : {A : Type 0} → Result A InspectFault → List ℕ → (old new : Option (List ℕ)) → Type 0
 PrintsAt (Ok a) text old new = new ≡ option_map (λ (w : List ℕ). w ++ text) old
 PrintsAt (Err Sink) text old new = Appends old new text
@@ -63,7 +63,7 @@ IfInspectDevice (Err (Damaged damage)) P = Unit {0}
 IfInspectDevice (Err Sink) P = Unit {0}
 IfInspectDevice (Err Memory) P = Unit {0}
 
--- where the answer is a damage, the damage is so
+-- where the answer is a failed check, that check is so
 abbrev pub IfInspectDamaged : {A : Type 0} → Result A InspectFault → (Damage → Type 0) → Type 0
 IfInspectDamaged (Ok a) P = Unit {0}
 IfInspectDamaged (Err Device) P = Unit {0}
@@ -79,17 +79,17 @@ IfInspectSink (Err (Damaged damage)) P = Unit {0}
 IfInspectSink (Err Sink) P = P
 IfInspectSink (Err Memory) P = Unit {0}
 
--- The causes of damages, which hold for a folder that tells nothing too.
+-- The causes of failed checks, which hold for an opaque folder too.
 
 -- the header of the index or of a block file was read, and its bytes are too few
 abbrev pub IsHeadDamage : Told → Damage → Type 0
 IsHeadDamage told damage = IsShort told names.Index 0 header_length damage ⊎ ((n : ℕ) × IsShort told (names.Block n) 0 block_fields_length damage)
 
--- so it was, or a scan was damaged
+-- so it was, or a scan found corruption
 abbrev pub IsReadDamage : BlockFiles → Told → Damage → Type 0
 IsReadDamage files told damage = IsHeadDamage told damage ⊎ IsScanDamage files told damage
 
--- a header was read with too few bytes, or the block files couldn't be loaded, or a scan by them was damaged
+-- a header was read with too few bytes, or the block files couldn't be loaded, or a scan by them found corruption
 abbrev pub IsFinishedDamage : Told → Damage → Type 0
 IsFinishedDamage told damage = IsHeadDamage told damage ⊎ IsBlocksDamage told damage
 

@@ -32,7 +32,7 @@ unfinished_line = line (codes "unfinished" ∷ [])
 abbrev pub none_line : List ℕ
 none_line = line (codes "none" ∷ [])
 
--- so many lines stand before this one
+-- so many lines are before this one
 abbrev pub end_line : ℕ → List ℕ
 end_line n = answer_line (answer.Listed n)
 
@@ -209,7 +209,7 @@ list_text image = listed_text (node_line_at image) (completed_walk image)
 unfoldable pub chain_text : ℕ → Image → List ℕ
 chain_text bucket image = listed_text (record_line_at image) (chain (store_of image) bucket).reached
 
--- the entry record that a word names, where one stands
+-- the entry record that a word names, where there is one
 unfoldable pub record_text : ℕ → Image → List ℕ
 record_text w image = if stands_as image blocks_256 w then words_text (record_words (entry_at image w)) else none_line
 

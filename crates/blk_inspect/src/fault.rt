@@ -11,7 +11,7 @@ pub enum InspectFault {
     Damaged(Damage),
     /// The sink failed.
     Sink,
-    /// There was too little memory.
+    /// Out of memory.
     Memory,
 }
 

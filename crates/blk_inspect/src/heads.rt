@@ -128,7 +128,7 @@ fn file_words(alloc: Global, head: &BlockHead<'_>) -> Result<Vec<NamedWord>, NoM
     Ok(words)
 }
 
-/// Reads the words of the record that a word names, by one folder call, where it names one that stands.
+/// Reads the words of the record that a word names, by one folder call, where it names one that is there.
 pub(crate) fn read_record<F: Folder>(
     alloc: Global,
     f: &mut F,

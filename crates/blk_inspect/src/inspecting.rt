@@ -20,7 +20,7 @@ pub enum Part {
     File(u8),
     /// What an address word names.
     Address(u32),
-    /// The nodes of the use list, from its front on.
+    /// The nodes of the LRU list, from its front on.
     List,
     /// The records of the chain of a bucket.
     Chain(u16),
@@ -30,31 +30,31 @@ pub enum Part {
 
 /// Prints a part of a folder. Nothing is written to the folder.
 ///
-/// The headers are checked first. Of an unfinished folder `unfinished` is printed, alone. The use list is that which completing the
+/// The headers are checked first. Of an unfinished folder `unfinished` is printed, alone. The LRU list is that which completing the
 /// operation in flight would leave. Everything is read before anything is printed.
 ///
 /// # Errors
 ///
-/// `Damaged` with the first check of the headers that fails; a folder that tells its files gives no other damage. `Device` where
-/// the folder failed in this call, `Sink` where the sink did, and `Memory` where there was too little of it.
+/// `Damaged` with the first check of the headers that fails; an observable folder reports no other failed check. `Device` where
+/// the folder failed in this call, `Sink` where the sink did, and `Memory` when out of memory.
 pub fn inspect<F: Folder, K: Sink>(
     alloc: Global,
     f: &mut F,
     out: &mut K,
     part: &Part,
 ) -> Result<(), InspectFault>
-    // Exactly this text of the folder is printed, or a front of it where the sink failed.
+    // Exactly this text of the folder is printed, or a prefix of it where the sink failed.
     ensures printed { ForSome (F.told f.old).files (λ image. PrintsAt result (inspect_text part.now image) (K.written out.old) (K.written out.new)) }
 
-    // The folder decides the answer, but for failures and want of memory.
+    // The folder decides the answer, but for failures and out of memory.
     ensures answer { ForSome (F.told f.old).files (AnswersFor result) }
 
-    // Without memory, and where the folder fails or is damaged, nothing is printed.
+    // When out of memory, and where the folder fails or is corrupt, nothing is printed.
     ensures unprinted { UnlessSink result (K.written out.new ≡ K.written out.old) }
 
     ensures stays { Stays (F.told f.old) (F.told f.new) }
 
-    // The cause of a damage, which holds for a folder that tells nothing too.
+    // The cause of a failed check, which holds for an opaque folder too.
     ensures cause { IfInspectDamaged result (IsInspectDamage (F.told f.old)) }
 
     ensures later { F.faults f.old ≤ F.faults f.new }
@@ -67,29 +67,29 @@ pub fn inspect<F: Folder, K: Sink>(
     Ok(())
 }
 
-/// Prints what a folder holds: how many nodes are kept, each node that is dropped, in the order of the use list, and then each record
+/// Prints what a folder holds: how many nodes are kept, each node that is dropped, in the order of the LRU list, and then each record
 /// that no walked node names, bucket after bucket and each chain in its order, with the first reason that holds; and at last the items
 /// and bytes of what is kept. Nothing is written to the folder.
 ///
-/// The headers are checked first. Of an unfinished folder `unfinished` is printed, alone. The use list is that which completing the
+/// The headers are checked first. Of an unfinished folder `unfinished` is printed, alone. The LRU list is that which completing the
 /// operation in flight would leave. Everything is read before anything is printed.
 ///
 /// # Errors
 ///
 /// Those of [`inspect`].
 pub fn verify<F: Folder, K: Sink>(alloc: Global, f: &mut F, out: &mut K) -> Result<(), InspectFault>
-    // Exactly this text of the folder is printed, or a front of it where the sink failed.
+    // Exactly this text of the folder is printed, or a prefix of it where the sink failed.
     ensures printed { ForSome (F.told f.old).files (λ image. PrintsAt result (verify_text image) (K.written out.old) (K.written out.new)) }
 
-    // The folder decides the answer, but for failures and want of memory.
+    // The folder decides the answer, but for failures and out of memory.
     ensures answer { ForSome (F.told f.old).files (AnswersFor result) }
 
-    // Without memory, and where the folder fails or is damaged, nothing is printed.
+    // When out of memory, and where the folder fails or is corrupt, nothing is printed.
     ensures unprinted { UnlessSink result (K.written out.new ≡ K.written out.old) }
 
     ensures stays { Stays (F.told f.old) (F.told f.new) }
 
-    // The cause of a damage, which holds for a folder that tells nothing too.
+    // The cause of a failed check, which holds for an opaque folder too.
     ensures cause { IfInspectDamaged result (IsInspectDamage (F.told f.old)) }
 
     ensures later { F.faults f.old ≤ F.faults f.new }

@@ -1,4 +1,4 @@
-// The use list and the chains are read.
+// The LRU list and the chains are read.
 ghost use Rattle.std.specs.Prelude.{◌≡◌, ◌≤◌, ◌<◌, ◌++◌, ◌∷◌, [], All, IfOk, OnOk, None, true, map, length};
 ghost use Rattle.std.specs.List.{cons_option};
 ghost use Rattle.std.specs.Option.{ForSome, option_map};
@@ -22,7 +22,7 @@ use blk_disk::BlockFiles;
 use blk_io::Folder;
 use std::alloc::Global;
 
-/// Reads the nodes of the use list, as it is once its operation in flight is completed.
+/// Reads the nodes of the LRU list, as it is once its operation in flight is completed.
 pub(crate) fn read_list<F: Folder>(
     alloc: Global,
     f: &mut F,

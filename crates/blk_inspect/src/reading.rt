@@ -37,8 +37,8 @@ pub(crate) enum Question {
 ///
 /// # Errors
 ///
-/// `Damaged` with the first check of the index and of the headers of the block files that fails; a folder that tells its files
-/// gives no other damage. `Device` where the folder failed in this call, and `Memory` where there was too little of it.
+/// `Damaged` with the first check of the index and of the headers of the block files that fails; an observable folder reports
+/// no other failed check. `Device` where the folder failed in this call, and `Memory` when out of memory.
 pub(crate) fn find<F: Folder>(
     alloc: Global,
     f: &mut F,
@@ -48,10 +48,10 @@ pub(crate) fn find<F: Folder>(
     ensures checked { IfOk result (λ _. ForSome (F.told f.old).files IsUsable) }
     ensures stays { Stays (F.told f.old) (F.told f.new) }
 
-    // A folder that tells its files gives a damage only where a check of its headers fails: the first that does.
+    // An observable folder reports corruption only where a check of its headers fails: the first that does.
     ensures damaged { IfScanDamaged result (λ damage. ForSome (F.told f.old).files (IsDamagedFirst damage)) }
 
-    // The cause of a damage, which holds for a folder that tells nothing too.
+    // The cause of a failed check, which holds for an opaque folder too.
     ensures cause { IfScanDamaged result (IsInspectDamage (F.told f.old)) }
 
     ensures later { F.faults f.old ≤ F.faults f.new }

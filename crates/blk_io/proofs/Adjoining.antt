@@ -40,7 +40,7 @@ side_by_side-run word [] side = refl
 side_by_side-run word (next ∷ more) side =
     ap (λ (ws : List (ℕ × ℕ)). word ∷ ws) (ap (λ (at : ℕ). run_from at (map (λ w. w.1) (next ∷ more))) (sym side.0) ∙ side_by_side-run next more side.1)
 
--- the last of them lies behind the others
+-- the last of them lies after the others
 pub side_by_side-last : (word : ℕ × ℕ) (more : List (ℕ × ℕ)) → AreSideBySide (word ∷ more) → (get_or (word ∷ more) (length more) (0, 0)).0 ≡ word.0 + 4 * length more
 side_by_side-last word [] side = omega arith
 side_by_side-last word (next ∷ more) side =
@@ -67,12 +67,12 @@ words-together f [] arrays bytes some side aligned each all = absurd (omega arit
 words-together f (w ∷ ws) arrays bytes some side aligned each all =
     words-joined f w.0 (map (λ v. v.1) (w ∷ ws)) arrays bytes aligned (each ∙ bytes_of_words (w ∷ ws)) all ∙ ap (word_steps f) (side_by_side-run w ws side)
 
--- the steps of the words up to a place in their list, with those of a run behind it
+-- the steps of the words up to a place in their list, with those of a run after it
 pub run-more : (f : File) (ws : List (ℕ × ℕ)) (start : ℕ) (run : List (ℕ × ℕ)) → run ≡ take (length run) (drop start ws) → word_steps f (take (start + length run) ws) ≡ word_steps f (take start ws) ++ word_steps f run
 run-more f ws start run is =
     ap (word_steps f) (take-add start (length run) ws) ∙ word_steps-append f (take start ws) (take (length run) (drop start ws)) ∙ ap (λ (r : List (ℕ × ℕ)). word_steps f (take start ws) ++ word_steps f r) (sym is)
 
--- and those of the others behind these
+-- and those of the others after these
 pub run-split : (f : File) (ws : List (ℕ × ℕ)) (start : ℕ) (run : List (ℕ × ℕ)) → run ≡ take (length run) (drop start ws) → word_steps f ws ≡ (word_steps f (take start ws) ++ word_steps f run) ++ word_steps f (drop (start + length run) ws)
 run-split f ws start run is =
     ap (word_steps f) (sym (take-append-drop (start + length run) ws))

@@ -1,4 +1,4 @@
--- A fault that `?` hands on, and what only a folder that tells nothing does.
+-- A fault that `?` hands on, and what only an opaque folder does.
 use Rattle.std.proofs.Common.{◌≡◌, Option, None, Some, Result, Ok, Err, List, refl, sym, ◌∙◌, ap, subst}
 use Rattle.std.specs.Prelude.{IsErrAnd}
 use Rattle.std.specs.Option.{ForSome, option_map}
@@ -20,19 +20,19 @@ carried {A} {B} r (Err x) e P is same holds =
     of_fault Device at = tt
     of_fault (Damaged damage) at = at
 
--- what a damage says under a premise
+-- what a failed check says under a premise
 pub if_damaged : {A : Type 0} (r : Result A Fault) (B : Type 0) (P : Damage → Type 0) → (B → IfDamaged r P) → IfDamaged r (λ damage. B → P damage)
 if_damaged {A} (Ok a) B P holds = tt
 if_damaged {A} (Err Device) B P holds = tt
 if_damaged {A} (Err (Damaged damage)) B P holds = holds
 
--- what a damage says, from what it says
+-- what a failed check says, from what it says
 pub if_damaged_weaker : {A : Type 0} (r : Result A Fault) (P Q : Damage → Type 0) → ((damage : Damage) → P damage → Q damage) → IfDamaged r P → IfDamaged r Q
 if_damaged_weaker {A} (Ok a) P Q weaker holds = tt
 if_damaged_weaker {A} (Err Device) P Q weaker holds = tt
 if_damaged_weaker {A} (Err (Damaged damage)) P Q weaker holds = weaker damage holds
 
--- only a folder that tells nothing does what is impossible for one that tells
+-- only an opaque folder does what is impossible for one that is observable
 pub untold_where : (files : Option Image) → ForSome files (λ image. ⊥) → files ≡ None
 untold_where None never = refl
 untold_where (Some image) never = absurd (never image refl)
@@ -41,7 +41,7 @@ untold_where (Some image) never = absurd (never image refl)
 pub silent_part : {a b : Told} {s : List TrailStep} → AppliesPrefix a b s → a.files ≡ None → b.files ≡ None
 silent_part {a} {b} {s} part none = part.applies.files ∙ ap (option_map (after part.made)) none
 
--- what holds of the files at the end, where they are told at the start, and where a folder that tells nothing goes on so
+-- what holds of the files at the end, where they are told at the start, and where an opaque folder stays so
 pub told_at_end : (old new : Option Image) (P : Image → Type 0) → (old ≡ None → new ≡ None) → ForSome old (λ from. ForSome new P) → ForSome new P
 told_at_end None new P silent holds image there = absurd (clash (sym (silent refl) ∙ there))
   where

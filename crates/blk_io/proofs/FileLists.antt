@@ -63,7 +63,7 @@ image_of-found f (y ∷ files) (suc i) x within there named none =
     let parts = skipped f y (take i files) none in
     image_of-skip f y files parts.0 ∙ image_of-found f files i x (omega arith) there named parts.1
 
--- a change behind a file that has another name
+-- a change after a file that has another name
 deeper : (g f : File) (y : MemFile) (changed files : List MemFile) (new : MemFile) → same_file (file_of y.file) f ≡ false
     → image_of changed g ≡ with_file (image_of files) f (Some new.bytes.items) g → image_of (y ∷ changed) g ≡ with_file (image_of (y ∷ files)) f (Some new.bytes.items) g
 deeper g f y changed files new other is = by_test (same_file (file_of y.file) g) refl
@@ -89,7 +89,7 @@ image_of-set f (y ∷ files) (suc i) x new within there named none same g =
     let parts = skipped f y (take i files) none in
     deeper g f y (set files i new) files new parts.0 (image_of-set f files i x new (omega arith) there named parts.1 same g)
 
--- a file that is added behind the others
+-- a file that is added after the others
 pub image_of-push : (f : File) (files : List MemFile) (new : MemFile) → image_of files f ≡ None → (file_of new.file) ≡ f → (g : File) → image_of (files ++ new ∷ []) g ≡ with_file (image_of files) f (Some new.bytes.items) g
 image_of-push f [] new none same g = ap (λ (h : File). if same_file h g then Some new.bytes.items else None) same
 image_of-push f (y ∷ files) new none same g =
@@ -155,7 +155,7 @@ with_is n new old size = take_at new (drop (length new) old) n size
 no_some : (f : File) → IsSome (image_of [] f) → ⊥
 no_some f e = cc
 
--- files that are there stay there behind others
+-- files that are there stay there after others
 pub there-append : (f : File) (xs ys : List MemFile) → IsSome (image_of xs f) → IsSome (image_of (xs ++ ys) f)
 there-append f [] ys there = absurd (no_some f there)
 there-append f (x ∷ xs) ys there = by_test (same_file (file_of x.file) f) there (there-append f xs ys)
@@ -217,7 +217,7 @@ abbrev pub first_of : Option (List ℕ) → Option (List ℕ) → Option (List �
 first_of None other = other
 first_of (Some bytes) other = Some bytes
 
--- the files of two lists, one behind the other
+-- the files of two lists, one after the other
 pub image_of-both : (f : File) (xs ys : List MemFile) → image_of (xs ++ ys) f ≡ first_of (image_of xs f) (image_of ys f)
 image_of-both f [] ys = refl
 image_of-both f (x ∷ xs) ys = by_test (same_file (file_of x.file) f) (image_of-both f xs ys)

@@ -5,7 +5,7 @@ use Rattle.spec_image.specs.Image.{File, Image, bytes_of, length_of}
 use Rattle.spec_image.specs.Told.{GivesBytes}
 use Rattle.spec_image.proofs.Words.{range-is}
 
--- the front of what is behind a place, as a range
+-- the front of what is after a place, as a range
 front_is : (n place : ℕ) (bytes : List ℕ) (old : List ℕ) → n ≡ min (length old) (length bytes - place) → range_at (content bytes) place n ≡ take n (drop place bytes)
 unfolding range_at
 front_is zero place bytes old many = refl

@@ -16,7 +16,7 @@ no_image (Some image) file place count found few many inside =
     let long = inside image refl in
     absurd (omega (arith, given, long))
 
--- where the file has what was asked, only a folder that tells nothing gives too few bytes
+-- where the file has what was asked, only an opaque folder gives too few bytes
 pub untold_if : {A : Type 0} (r : Result A Fault) (told : Told) (file : FileId) (place count : ℕ) → IfDamaged r (IsShort told file place count) → ForSome told.files (λ image. place + count ≤ length_of image (file_of file)) → IfDamaged r (λ _. told.files ≡ None)
 untold_if (Ok a) told file place count short inside = tt
 untold_if (Err Device) told file place count short inside = tt

@@ -1,4 +1,4 @@
--- A trail that goes on with the files.
+-- A write trace that goes on with the files.
 use Rattle.std.proofs.Common.{ℕ, zero, suc, get_or, ◌≡◌, ◌+◌, ◌-◌, ◌<◌, ◌≤◌, nat_le, Bool, true, false, append_assoc, drop, take, length, arith, subst, length-append, List, [], ◌∷◌, ◌++◌, Option, None, Some, refl, sym, ◌∙◌, ap}
 use Rattle.std.specs.Option.{option_map, ForSome}
 use Rattle.blk_io.specs.declared.mem_files.MemFile.{MemFile}
@@ -45,7 +45,7 @@ kept_back (Some calls) b c call on off =
     ap (option_map steps_of) (off ∙ ap (option_map (λ (calls : List Change). take (length calls - 1) calls)) on)
     ∙ ap (λ (l : List Change). Some (steps_of l)) (take_at calls (call ∷ []) _ (omega (arith, length-append calls (call ∷ []))))
 
--- a trail and files that are as they were
+-- a write trace and files that are as they were
 pub trail_same : (start files new : List MemFile) (k k' : Option (List TrailStep)) → IsTrailOf start files k → image_of new ≡ image_of files → k' ≡ k → IsTrailOf start new k'
 trail_same start files new k k' agrees is same s there = λ file. ap (λ (image : Image). image file) is ∙ agrees s (sym same ∙ there) file
 
@@ -56,7 +56,7 @@ trail_added start files start' files' k f b agrees none is_start is_files s ther
     let same : image_of files' ≡ image_of start' = is_files ∙ ap (λ (image : Image). with_file image f b) at_files ∙ sym is_start in
     λ g. ap (λ (image : Image). image g) (same ∙ ap (λ (l : List TrailStep). after l (image_of start')) (sym (none s there)))
 
--- the first of two lists, one behind the other
+-- the first of two lists, one after the other
 pub take-append : {A : Type 0} (p : ℕ) (xs ys : List A) → take p (xs ++ ys) ≡ take p xs ++ take (p - length xs) ys
 take-append zero [] ys = refl
 take-append zero (x ∷ xs) ys =
@@ -119,7 +119,7 @@ pub steps_of-more : (calls : List Change) (i : ℕ) (call : Change) → i < leng
 steps_of-more calls i call within there =
     ap steps_of (take_more calls i call within ∙ ap (λ (x : Change). take i calls ++ x ∷ []) (sym there)) ∙ steps_of-push (take i calls) call
 
--- no step was made, where a trail is told
+-- no step was made, where a write trace is told
 pub no_steps : (start : Image) (k : Option (List TrailStep)) → ForSome (option_map (λ (s : List TrailStep). record { start = start; steps = s }) k) (λ (t : Trail). t.steps ≡ []) → ForSome k (λ s. s ≡ [])
 no_steps start k none s there = none (record { start = start; steps = s }) (ap (option_map (λ (s : List TrailStep). record { start = start; steps = s })) there)
 

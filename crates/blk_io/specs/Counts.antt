@@ -2,7 +2,7 @@
 use Rattle.std.specs.Prelude.{◌≡◌, ℕ, ◌+◌, ◌-◌, ◌^◌, ◌<◌, ◌==◌, ◌⊎◌, Bool, true, if◌then◌else◌, min, find, List, [], ◌∷◌, ◌++◌, Option, None, Some, is_some}
 use Rattle.std.specs.Option.{option_map}
 
--- the calls so far, those that wanted memory, and those that failed; the calls that are to fail, each with the words that last
+-- the calls so far, those that ran out of memory, and those that failed; the calls that are to fail, each with the words that last
 pub record Counts : Type 0 where
   pub calls : ℕ
   pub lacks : ℕ
@@ -17,7 +17,7 @@ no_calls = record { calls = 0; lacks = 0; faults = 0; listed = [] }
 abbrev pub with_listed : ℕ → ℕ → Counts → Counts
 with_listed call words counts = record { calls = counts.calls; lacks = counts.lacks; faults = counts.faults; listed = counts.listed ++ (call, words) ∷ [] }
 
--- one more, but a count that stands at the last value of a u64 stays there
+-- one more, but a count that is at the last value of a u64 stays there
 abbrev pub one_more : ℕ → ℕ
 one_more n = min (n + 1) (2 ^ 64 - 1)
 
@@ -34,12 +34,12 @@ abbrev pub lasting : Option ℕ → ℕ → ℕ
 lasting None left = left
 lasting (Some words) left = min words left
 
--- no want of memory was counted, and the count of wants doesn't stand at the last value of a u64
+-- no out-of-memory failure was counted, and their count isn't the last value of a u64
 pub record FindsMemory (old new : Counts) : Type 0 where
   pub same : new.lacks ≡ old.lacks
   pub small : new.lacks < 2 ^ 64 - 1
 
--- a call was counted, and whether it failed; it failed where it wanted memory, and otherwise exactly where it had this cause
+-- a call was counted, and whether it failed; it failed where it ran out of memory, and otherwise exactly where it had this cause
 pub record CountsCall (old new : Counts) (failed cause : Bool) : Type 0 where
   pub calls : new.calls ≡ one_more old.calls
   pub listed : new.listed ≡ old.listed
@@ -56,6 +56,6 @@ begun counts = record { calls = one_more counts.calls; lacks = counts.lacks; fau
 abbrev pub failed : Counts → Counts
 failed counts = record { calls = counts.calls; lacks = counts.lacks; faults = one_more counts.faults; listed = counts.listed }
 
--- it failed for want of memory
+-- it failed when out of memory
 abbrev pub lacking : Counts → Counts
 lacking counts = record { calls = counts.calls; lacks = one_more counts.lacks; faults = one_more counts.faults; listed = counts.listed }

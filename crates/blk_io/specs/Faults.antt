@@ -10,11 +10,11 @@ use Rattle.blk_io.specs.declared.fault.Fault.{Fault}
 use Rattle.blk_io.specs.declared.fault.Fault.TheVariants.{Device, Damaged}
 use Rattle.blk_io.specs.FileNames.{file_of}
 
--- a damage as a check of an image has it
+-- a failed check as a check of an image has it
 abbrev pub damage_of : Damage → checks.Damage
 damage_of damage = record { file = file_of damage.file; at = damage.at; found = damage.found }
 
--- where the answer is a damage, the damage is so
+-- where the answer is a failed check, that check is so
 abbrev pub IfDamaged : {A : Type 0} → Result A Fault → (Damage → Type 0) → Type 0
 IfDamaged (Ok a) P = Unit {0}
 IfDamaged (Err Device) P = Unit {0}
@@ -26,7 +26,7 @@ IfDevice (Ok a) P = Unit {0}
 IfDevice (Err Device) P = P
 IfDevice (Err (Damaged damage)) P = Unit {0}
 
--- a read of so many bytes at a place gave fewer: the damage has the place, and finds how many there were
+-- a read of so many bytes at a place gave fewer: the error has the place, and finds how many there were
 pub record IsShort (told : Told) (file : FileId) (place count : ℕ) (damage : Damage) : Type 0 where
   pub of_file : damage.file ≡ file
   pub at_place : damage.at ≡ place
@@ -37,7 +37,7 @@ pub record IsShort (told : Told) (file : FileId) (place count : ℕ) (damage : D
 abbrev pub IsShortFront : File → (count given : ℕ) → Damage → Type 0
 IsShortFront file count given damage = (given < count) × (damage_of damage ≡ record { file = file; at = 0; found = given })
 
--- a damage is that of a word at a place of a file
+-- a failed check is that of a word at a place of a file
 pub record IsOfWord (file : FileId) (place found : ℕ) (damage : Damage) : Type 0 where
   pub of_file : damage.file ≡ file
   pub at_place : damage.at ≡ place

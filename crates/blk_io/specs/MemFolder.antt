@@ -11,7 +11,7 @@ use Rattle.blk_io.specs.Calls.{counts_in}
 use Rattle.blk_io.specs.Counts.{Counts}
 use Rattle.blk_io.specs.Trail.{told_of, kept_steps, IsTrailOf}
 
--- the files at the start, the files now, and the trail
+-- the files at the start, the files now, and the write trace
 abbrev pub mem_told : MemFolder → Told
 mem_told m = told_of m.start.items m.files.items (kept_steps m.trail)
 

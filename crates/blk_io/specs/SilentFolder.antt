@@ -1,4 +1,4 @@
--- What a folder that tells nothing counts, and what it passes calls on to.
+-- What an opaque folder counts, and what it passes calls on to.
 use Rattle.std.specs.Prelude.{ℕ}
 use Rattle.blk_io.specs.declared.silent.SilentFolder.{SilentFolder}
 

@@ -1,4 +1,4 @@
--- What a folder that stops tells: what the folder inside tells.
+-- What a folder that crashes tells: what the folder inside tells.
 use Rattle.std.specs.Prelude.{◌≡◌, ℕ, ◌<◌, ◌+◌, Bool, true}
 use Rattle.blk_io.specs.declared.stop.StopFolder.{StopFolder}
 use Rattle.spec_image.specs.Told.{Told, AgreesWithTrail, TellsBytes}

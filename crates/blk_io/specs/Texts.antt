@@ -1,4 +1,4 @@
--- What is printed of files, damages and faults.
+-- What is printed of files, failed checks and faults.
 use Rattle.std.specs.Prelude.{false, ℕ, ◌-◌, List, ◌++◌, length, replicate, codes, decimal}
 use Rattle.std.specs.Fmt.{digits}
 use Rattle.spec_image.specs.Image.{File, Index, Block, External}
@@ -17,7 +17,7 @@ name_of Index = codes "index"
 name_of (Block n) = codes "data_" ++ decimal n
 name_of (External n) = codes "f_" ++ hex_text 6 n
 
--- a damage: the file, the place in decimal, the word in eight hexadecimal digits
+-- a failed check: the file, the place in decimal, the word in eight hexadecimal digits
 unfoldable pub damage_text : checks.Damage → List ℕ
 damage_text damage = codes "damaged " ++ (name_of damage.file ++ (codes " " ++ (decimal damage.at ++ (codes " " ++ hex_text 8 damage.found))))
 
@@ -25,7 +25,7 @@ damage_text damage = codes "damaged " ++ (name_of damage.file ++ (codes " " ++ (
 abbrev pub failed_text : List ℕ
 failed_text = codes "the device failed"
 
--- no memory
+-- out of memory
 abbrev pub no_memory_text : List ℕ
 no_memory_text = codes "there is no memory"
 

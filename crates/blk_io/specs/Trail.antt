@@ -1,4 +1,4 @@
--- The trail that a folder in memory keeps, a change for each call.
+-- The write trace that a folder in memory keeps, a change for each call.
 use Rattle.std.specs.Prelude.{◌≡◌, ℕ, ◌+◌, ◌-◌, ◌*◌, ◌/◌, ◌%◌, ◌≤◌, ◌==◌, if◌then◌else◌, min, List, [], ◌∷◌, ◌++◌, length, take, Option, Some, Vec}
 use Rattle.std.specs.Option.{option_map, ForSome}
 use Rattle.std.specs.declared.alloc.Global.{Global}
@@ -23,15 +23,15 @@ abbrev pub steps_of : List Change → List TrailStep
 steps_of [] = []
 steps_of (call ∷ calls) = steps_of_call call ++ steps_of calls
 
--- the calls of a trail, where it is kept
+-- the calls of a write trace, where it is kept
 abbrev pub kept_calls : Option (Vec Change Global) → Option (List Change)
 kept_calls trail = option_map (λ (calls : Vec Change Global). calls.items) trail
 
--- the steps of a trail, where it is kept
+-- the steps of a write trace, where it is kept
 abbrev pub kept_steps : Option (Vec Change Global) → Option (List TrailStep)
 kept_steps trail = option_map steps_of (kept_calls trail)
 
--- what is told of these files, with a trail from these at the start
+-- what is told of these files, with a write trace from these at the start
 abbrev pub told_of : List MemFile → List MemFile → Option (List TrailStep) → Told
 told_of start files steps = record {
   files = Some (image_of files);

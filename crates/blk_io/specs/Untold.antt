@@ -1,9 +1,9 @@
--- What a folder tells that tells nothing.
+-- What an opaque folder tells.
 use Rattle.std.specs.Prelude.{◌≡◌, None, Some}
 use Rattle.spec_image.specs.Image.{Image}
 use Rattle.spec_image.specs.Told.{Told, AgreesWithTrail, TellsBytes}
 
--- neither files nor a trail
+-- neither files nor a write trace
 abbrev pub untold : Told
 untold = record { files = None; trail = None }
 

@@ -14,7 +14,7 @@ pub(crate) struct Listed {
     words: u64,
 }
 
-// How many calls were made, wanted memory and failed, and those that are to fail.
+// How many calls were made, ran out of memory and failed, and those that are to fail.
 #[derive(Drop)]
 pub(crate) struct Calls {
     listed: Vec<Listed>,
@@ -66,7 +66,7 @@ impl Calls {
         self.made
     }
 
-    // The number of those that wanted memory.
+    // The number of those that ran out of memory.
     pub(crate) fn lacks(&self) -> u64
         ensures { result ≡ (counts_in self.now).lacks }
     {
@@ -93,7 +93,7 @@ impl Calls {
         Failed
     }
 
-    // Counts a want of memory, which is a failure too.
+    // Counts a call that ran out of memory, which is a failure too.
     pub(crate) fn lack(&mut self) -> Failed
         ensures counts { counts_in self.new ≡ lacking (counts_in self.old) }
         ensures later { self.old.faults ≤ self.new.faults }

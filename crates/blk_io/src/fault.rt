@@ -85,7 +85,7 @@ impl From<Damage> for Fault {
     }
 }
 
-/// A check of the word at a place of a file: the damage, where it doesn't hold.
+/// A check of the word at a place of a file: the failed check, where it doesn't hold.
 pub fn check(file: FileId, at: u64, found: u32, holds: bool) -> Option<Damage>
     ensures { option_map damage_of result ≡ check_found (file_of file) at found holds }
 {
@@ -103,7 +103,7 @@ pub fn check_is(file: FileId, at: u64, found: u32, wanted: u32) -> Option<Damage
     check(file, at, found, found == wanted)
 }
 
-/// The first of these checks that failed: each found a damage, or none.
+/// The first of these checks that failed: each found corruption or none.
 pub fn first_failed(checks: &[Option<Damage>]) -> Option<Damage>
     ensures { option_map damage_of result ≡ first_of (map (option_map damage_of) checks.now) }
 {

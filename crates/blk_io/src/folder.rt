@@ -77,7 +77,7 @@ impl fmt::Display for Failed {
 
 impl Error for Failed {}
 
-/// There was no memory. Nothing was changed.
+/// Out of memory. Nothing was changed.
 #[derive(Clone, Copy, Debug, PartialEq, Eq)]
 pub struct NoMemory;
 
@@ -102,9 +102,9 @@ impl From<AllocError> for NoMemory {
 
 /// A folder of cache files.
 ///
-/// A folder in memory tells its files, and its contracts say what the calls read and leave. A folder of real
-/// files tells nothing. A call that answers `Failed` is counted in `faults`; a read then gave nothing, a write
-/// may have made some of its steps, from the first on, and any other call changed nothing.
+/// A folder in memory is observable, and its contracts say what the calls read and leave. A folder of real files is
+/// opaque. A call that answers `Failed` is counted in `faults`; a read then gave nothing, a write may have made some of
+/// its steps, from the first on, and any other call changed nothing.
 pub trait Folder {
     /// What is told of the files now, and of the steps that made them.
     ghost told: { Self → Told };
@@ -165,7 +165,7 @@ pub trait Folder {
         ensures failed { OnErr result (Rises (faults self.old) (faults self.new)) };
 
     /// Whether it overwrites what goes out of use, so that a caller that cuts bytes off within a file's length has to do so too. Such a
-    /// folder tells nothing, since its zeros are steps that no caller asked for.
+    /// folder is opaque, since its zeros are steps that no caller asked for.
     fn erases(&self) -> bool
         ensures { IsTrue result → told self.now ≡ untold }
     {

@@ -18,7 +18,7 @@ use crate::mem_trail::{Change, front_of, keep, keep_write, replay, steps_in, unk
 use crate::{Failed, FileId, Folder, NoMemory};
 use std::alloc::{AllocError, Global};
 
-/// A folder in memory. It tells its files, and also the steps that made them unless it was made without a trail.
+/// A folder in memory. It tells its files, and also the steps that made them unless it was made without a write trace.
 #[derive(Drop)]
 pub struct MemFolder {
     alloc: Global,
@@ -51,7 +51,7 @@ fn is_cut(listed: Option<u64>, left: u64, steps: u64) -> bool
 impl MemFolder {
     ghost use Rattle.blk_io.specs.MemFolder.{mem_told, mem_counts, newly_told, told_with_file};
 
-    /// An empty folder, which keeps a trail.
+    /// An empty folder, which keeps a write trace.
     pub fn new(alloc: Global) -> Self
         ensures told { mem_told result ≡ newly_told empty_image }
         ensures counts { mem_counts result ≡ no_calls }
@@ -65,7 +65,7 @@ impl MemFolder {
         }
     }
 
-    /// An empty folder, which keeps no trail.
+    /// An empty folder, which keeps no write trace.
     pub fn without_trail(alloc: Global) -> Self
         ensures told { mem_told result ≡ record { files = Some empty_image; trail = None } }
         ensures counts { mem_counts result ≡ no_calls }
@@ -111,14 +111,14 @@ impl MemFolder {
         self.calls.made()
     }
 
-    /// The number of calls so far that found no memory.
+    /// The number of calls so far that ran out of memory.
     pub fn lacks(&self) -> u64
         ensures { result ≡ (mem_counts self.now).lacks }
     {
         self.calls.lacks()
     }
 
-    /// The number of steps so far, notes included, or None where no trail is kept.
+    /// The number of steps so far, notes included, or None where no write trace is kept.
     pub fn steps(&self) -> Option<u64>
         ensures { result ≡ option_map (λ trail. min (length trail.steps) (2 ^ 64 - 1)) (mem_told self.now).trail }
     {
@@ -246,7 +246,7 @@ impl Folder for MemFolder {
         ensures failed { OnErr result (Rises (mem_counts self.old).faults (mem_counts self.new).faults) }
         ensures counted { CountsCall (mem_counts self.old) (mem_counts self.new) (is_err result) (fails_next (mem_counts self.old)) }
 
-        // It fails exactly where it is listed, since it wants no memory.
+        // It fails exactly where it is listed, since it takes no memory.
         ensures exact { is_err result ≡ fails_next (mem_counts self.old) }
     {
         self.calls.pass()?;
@@ -261,7 +261,7 @@ impl Folder for MemFolder {
         ensures failed { OnErr result (Rises (mem_counts self.old).faults (mem_counts self.new).faults) }
         ensures counted { CountsCall (mem_counts self.old) (mem_counts self.new) (is_err result) (fails_next (mem_counts self.old)) }
 
-        // It fails exactly where it is listed, since it wants no memory, and then leaves `out` as it was.
+        // It fails exactly where it is listed, since it takes no memory, and then leaves `out` as it was.
         ensures exact { is_err result ≡ fails_next (mem_counts self.old) }
         ensures unfilled { OnErr result (out.new ≡ out.old) }
     {
@@ -321,7 +321,7 @@ impl Folder for MemFolder {
         ensures failed { OnErr result (Rises (mem_counts self.old).faults (mem_counts self.new).faults) }
         ensures counted { CountsCall (mem_counts self.old) (mem_counts self.new) (is_err result) (fails_next (mem_counts self.old)) }
 
-        // It fails exactly where it is listed, since it wants no memory.
+        // It fails exactly where it is listed, since it takes no memory.
         ensures exact { is_err result ≡ fails_next (mem_counts self.old) }
     {
         self.calls.pass()?;

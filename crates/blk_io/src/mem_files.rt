@@ -131,7 +131,7 @@ pub(crate) fn resize(
     Ok(())
 }
 
-// Puts a file with these bytes, for which there is room.
+// Puts a file with these bytes, for which there is space.
 pub(crate) fn put_file(files: &mut Vec<MemFile>, file: FileId, bytes: Vec<u8>)
     requires { vec_len files.old < vec_capacity files.old }
     ensures { image_of files.new.items ≡ with_file (image_of files.old.items) (file_of file) (Some bytes.items) }

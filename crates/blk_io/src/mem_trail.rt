@@ -1,4 +1,4 @@
-// The trail that a folder in memory keeps, a change for each call.
+// The write trace that a folder in memory keeps, a change for each call.
 ghost use Rattle.std.specs.Prelude.{◌≡◌, ◌-◌, ◌^◌, ◌≤◌, [], ◌∷◌, ◌++◌, length, take, min, OnOk, OnErr};
 ghost use Rattle.std.specs.Option.{option_map};
 ghost use Rattle.spec_image.specs.Image.{File};
@@ -24,7 +24,7 @@ pub enum Change {
     Noted(u64),
 }
 
-// Keeps a call in the trail, where there is one.
+// Keeps a call in the write trace, where there is one.
 pub(crate) fn keep(trail: &mut Option<Vec<Change>>, call: Change) -> Result<(), AllocFailed<Change>>
     ensures done { OnOk result (kept_steps trail.new ≡ option_map (λ s. s ++ steps_of_call call) (kept_steps trail.old)) }
     ensures calls { OnOk result (kept_calls trail.new ≡ option_map (λ calls. calls ++ call ∷ []) (kept_calls trail.old)) }
@@ -39,7 +39,7 @@ pub(crate) fn keep(trail: &mut Option<Vec<Change>>, call: Change) -> Result<(), 
     }
 }
 
-// Forgets the last call of the trail, where there is one.
+// Forgets the last call of the write trace, where there is one.
 pub(crate) fn unkeep(trail: &mut Option<Vec<Change>>)
     ensures { kept_calls trail.new ≡ option_map (λ calls. take (length calls - 1) calls) (kept_calls trail.old) }
 {
@@ -51,7 +51,7 @@ pub(crate) fn unkeep(trail: &mut Option<Vec<Change>>)
     }
 }
 
-// Keeps a write in the trail, where there is one.
+// Keeps a write in the write trace, where there is one.
 pub(crate) fn keep_write(
     alloc: Global,
     trail: &mut Option<Vec<Change>>,

@@ -1,4 +1,4 @@
-// A folder that tells nothing.
+// An opaque folder.
 ghost use Rattle.std.specs.Prelude.{◌≡◌, ◌≤◌, [], ◌∷◌, length, OnOk, OnErr, IfOk};
 ghost use Rattle.std.specs.Option.{ForSome, option_map};
 ghost use Rattle.spec_image.specs.Image.{length_of};
@@ -10,7 +10,7 @@ ghost use Rattle.blk_io.specs.FileNames.{file_of};
 
 use crate::{Failed, FileId, Folder};
 
-/// A folder that passes each call on to another, and tells nothing, as a folder of real files does.
+/// A folder that passes each call on to another, and is opaque, as a folder of real files is.
 ///
 /// No condition on its files is owed. So a write asks the folder inside for the length of the file first,
 /// which is a call more there, and fails where the file hasn't the range.

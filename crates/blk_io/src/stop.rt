@@ -1,4 +1,4 @@
-// A folder that stops after so many steps.
+// A folder that crashes after so many steps.
 ghost use Rattle.std.specs.Prelude.{◌≡◌, ◌==◌, ◌||◌, nat_lt, ◌+◌, ◌≤◌, ◌<◌, [], ◌∷◌, length, take, OnOk, OnErr, IfOk, is_err, is_ok, if◌then◌else◌};
 ghost use Rattle.std.specs.Option.{ForSome, option_map};
 ghost use Rattle.spec_image.specs.Image.{HasRange};
@@ -36,7 +36,7 @@ impl StopFolder {
         }
     }
 
-    /// The folder that was stopped.
+    /// The folder that crashed.
     pub fn into_inner(self) -> MemFolder
         ensures told { mem_told result ≡ stop_told self }
         ensures counts { mem_counts result ≡ stop_counts self }

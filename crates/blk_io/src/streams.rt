@@ -29,7 +29,7 @@ pub trait Source {
 /// Where bytes go that are printed.
 ///
 /// A sink may gather bytes, as long as it isn't flushed; those that it holds count as written. A call that answers
-/// `Failed` may have written a front of its bytes, and is counted in `faults`.
+/// `Failed` may have written a prefix of its bytes, and is counted in `faults`.
 pub trait Sink {
     /// The bytes that were written, where they are told.
     ghost written: { Self → Option (List ℕ) };
@@ -37,7 +37,7 @@ pub trait Sink {
     /// How often the sink has failed.
     ghost faults: { Self → ℕ };
 
-    /// Writes all the bytes, or a front of them where it fails.
+    /// Writes all the bytes, or a prefix of them where it fails.
     fn put(&mut self, bytes: &[u8]) -> Result<(), Failed>
         ensures steps { OnOk result (written self.new ≡ option_map (λ w. w ++ bytes.now) (written self.old)) }
         ensures prefix { Appends (written self.old) (written self.new) bytes.now }

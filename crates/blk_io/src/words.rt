@@ -26,9 +26,9 @@ pub fn write_word<F: Folder>(f: &mut F, file: FileId, at: u64, value: u32) -> Re
 // The most words that go by one call.
 const MOST_TOGETHER: usize = 8;
 
-/// Writes these words in turn, each at its place. Words that lie side by side, each behind the one before, go by one
-/// call, eight of them at the most. `Failed` comes where the folder failed; some of the words may then be written,
-/// from the first on.
+/// Writes these words in turn, each at its place. Words that lie side by side, each after the one before, go by one
+/// call, eight of them at the most. `Failed` comes where the folder failed; some of the words may then be written, from
+/// the first on.
 pub fn write_words<F: Folder>(f: &mut F, file: FileId, words: &[(u64, u32)]) -> Result<(), Failed>
     requires aligned { All (λ w. w.0 % 4 ≡ 0) words.now }
     requires inside { ForSome (F.told f.old).files (λ image. All (λ w. HasRange image (file_of file) w.0 4) words.now) }
@@ -46,7 +46,7 @@ pub fn write_words<F: Folder>(f: &mut F, file: FileId, words: &[(u64, u32)]) -> 
     Ok(())
 }
 
-// The words at the front that lie side by side, each behind the one before: eight at the most.
+// The words at the front that lie side by side, each after the one before: eight at the most.
 fn front_run(words: &[(u64, u32)]) -> &[(u64, u32)]
     requires some { 0 < length words.now }
     ensures inside { length result.now ≤ length words.now }
@@ -125,8 +125,8 @@ fn bytes_of<const N: usize>(words: &[u32; N]) -> [[u8; 4]; N]
 
 /// Reads bytes of a file into the whole of `out`.
 ///
-/// Too few bytes are a damage: it has the place of the read, and finds how many bytes there were.
-/// `Device` comes where the folder failed.
+/// Too few bytes are corruption: the error has the place of the read, and finds how many bytes there were. `Device`
+/// comes where the folder failed.
 pub fn read_exact<F: Folder>(f: &mut F, file: FileId, at: u64, out: &mut [u8]) -> Result<(), Fault>
     requires { length out.old < 2 ^ 32 }
     ensures bytes { OnOk result (ForSome (F.told f.old).files (λ image. out.new ≡ range_at (byte image (file_of file)) at (length out.old))) }
@@ -144,7 +144,7 @@ pub fn read_exact<F: Folder>(f: &mut F, file: FileId, at: u64, out: &mut [u8]) -
     Ok(())
 }
 
-/// Reads the word at a place, its low byte first. Too few bytes are a damage. `Device` comes where the folder failed.
+/// Reads the word at a place, its low byte first. Too few bytes are corruption. `Device` comes where the folder failed.
 pub fn read_word<F: Folder>(f: &mut F, file: FileId, at: u64) -> Result<u32, Fault>
     ensures word { IfOk result (λ w. ForSome (F.told f.old).files (λ image. w ≡ word image (file_of file) at)) }
     ensures inside { OnOk result (ForSome (F.told f.old).files (λ image. HasRange image (file_of file) at 4)) }

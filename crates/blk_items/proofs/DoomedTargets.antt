@@ -46,7 +46,7 @@ use Rattle.blk_items.proofs.DoomedPlaced.{doomed-on, parts-on, removed-on, whole
 use Rattle.blk_items.proofs.GroupsOut.{charged-is, loads-there, none-among, owner-is, part-is, plain-no-parts, stayed-stops}
 use Rattle.blk_items.proofs.WholeGroups.{charges-are, parent-role, parts-listed}
 
--- where nothing was done what was at rest is found
+-- where nothing was done the old durable contents are recovered
 pub stayed-either : (told now : Told) (state : State) (number : ℕ) (object : Object) (layout : Layout) (from : Image) → told.files ≡ Some from → now ≡ told → Keeps state layout [] from → Passes told now (FindsEither state (doomed number state (Some object)))
 stayed-either told now state number object layout from there same k = stayed-stops told now state (doomed number state (Some object)) layout from there same k
 
@@ -81,7 +81,7 @@ module _ {held : Bool} (state : State) (layout : Layout) (image : Image) (number
   pub placed : IsPlacedAsLive state layout number object was
   placed = record { here = t.here; live = t.live; at = t.lies.lies.here }
 
-  -- what is at rest is found
+  -- the durable contents are recovered
   pub at-rest : FindsEither state (doomed number state (Some object)) image
   at-rest = inl (k.entries.well_formed, kept-found state layout [] image k.entries)
 

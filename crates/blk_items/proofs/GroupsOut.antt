@@ -327,7 +327,7 @@ module _ (state : State) (layout : Layout) (image : Image) (found : Unpinned) (b
     pub as-out : (now : Image) → Keeps (without_items state as-goes.objects as-goes.keep) (layout_removed layout found.node entry) [] now → (charge : ℕ) → charge ≡ charge_of is.last.loaded → SameSession image now → IsGroupOut state layout (group_for is.last.item is.last.front) (record { items = 1; bytes = charge }) image now
     as-out now kept charge charged session = alone-out state layout image is.kept.entries is.last.front is.last.rest is.last.loaded b is.kind_is is.last.item is.last.goes is.last.here found.node entry before as-goes (sym is.last.node) now kept charge charged session
 
--- a listed item of a kept state is found, where it stands in its chain
+-- a listed item of a kept state is found, where it is in its chain
 module _ (state : State) (layout : Layout) (unlinked : List ℕ) (image : Image) (k : KeepsUncounted state layout unlinked image) (item : Item) (was : Loaded) (listed : is_listed state item ≡ true) (here : layout.at (layout.place item) ≡ Some was) (name : List ℕ) (is_child : Bool) (key_is : was.key ≡ name) (child_is : is_child_item item ≡ is_child) where
   found-of : (answer : Option Found) → IsAnswer name is_child answer image → IsFoundListed state layout item was answer
   found-of answer is = listed-found state layout unlinked item was answer image k listed here (subst (λ (b : Bool). IsAnswer was.key b answer image) (sym child_is) (subst (λ (n : List ℕ). IsAnswer n is_child answer image) (sym key_is) is))
@@ -341,7 +341,7 @@ module _ (state : State) (layout : Layout) (unlinked : List ℕ) (image : Image)
   pub not-none : IsAnswer name is_child None image → ⊥
   not-none is = let f = found-of None is in none-some f.found f.is
 
--- ---- stops of what did nothing
+-- ---- crashes of what did nothing
 
 pub stayed-stops : (told now : Told) (state after : State) (layout : Layout) (from : Image) → told.files ≡ Some from → now ≡ told → Keeps state layout [] from → Passes told now (FindsEither state after)
 stayed-stops told now state after layout from there same k =

@@ -58,7 +58,7 @@ first-walked nodes image rest next h = h (list-rests nodes image rest) ∙ ap fi
 
 -- ---- what is walked
 
--- the items in front of a node are passed, as many as there were turns, and their lines are printed
+-- the items in front of a node are passed, as many as there were iterations, and their lines are printed
 pub record IsListedTo (state : State) (layout : Layout) (next : Option ℕ) (turn : ℕ) (failed_before failed : Bool) (old new : Option (List ℕ)) : Type 0 where
   pub passed : List Item
   pub left : List Item
@@ -95,7 +95,7 @@ list-ended state layout turn before failed old new w = all-printed state layout 
   nothing [] is = refl
   nothing (item ∷ left) is = absurd (no-node is)
 
--- and after as many turns as there are nodes at most
+-- and after as many iterations as there are nodes at most
 pub turns-ended : (state : State) (layout : Layout) (next : Option ℕ) (turn : ℕ) (before failed : Bool) (old new : Option (List ℕ)) (image : Image) → Keeps state layout [] image → 131072 ≤ turn
     → IsListedTo state layout next turn before failed old new → Prints before failed old new (flat_map row_line (rows state))
 turns-ended state layout next turn before failed old new image k end w = all-printed state layout next turn before failed old new w (go w.left refl) where
@@ -179,7 +179,7 @@ module _ (state : State) (layout : Layout) (image : Image) (k : Keeps state layo
     pub line-in-part : PrintsInPart before old new (flat_map row_line (rows state))
     line-in-part = listed-part state layout (first_node_of (nodes_of layout it.behind)) (turn + 1) before after old new new line-printed refl
 
-    -- and the next node is the one behind
+    -- and the next node is the one after that
     pub step-listed : (next : Option ℕ) → ((prefix suffix : List ℕ) → HasListAtRest (prefix ++ node ∷ suffix) image → next ≡ first_node_of suffix) → IsListedTo state layout next (turn + 1) before after old new
     step-listed next h =
         let is : next ≡ first_node_of (nodes_of layout it.behind) = h (nodes_of layout w.passed) (nodes_of layout it.behind) (subst (λ (ns : List ℕ). HasListAtRest ns image) nodes-are (list-at-rest state layout image k)) in

@@ -35,7 +35,7 @@ printed-more key failed_before failed after w0 w1 w2 f0 f1 f2 numbers n h prints
       later = omega (arith, was, later);
     }
 
--- a front of the parts is a front of their text
+-- a prefix of the parts is a prefix of their text
 pub front-printed : (key numbers front others : List ℕ) (w0 w1 : Option (List ℕ)) → numbers ≡ front ++ others → Appends w0 w1 (text_of_parts key front) → Appends w0 w1 (text_of_parts key numbers)
 front-printed key numbers front others w0 w1 split one =
     subst (Appends w0 w1) (sym (ap (text_of_parts key) split ∙ ap (flat_map evicted_line) (map-append (part key) front others) ∙ flat_map-append evicted_line (map (part key) front) (map (part key) others)))

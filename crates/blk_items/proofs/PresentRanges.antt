@@ -37,7 +37,7 @@ use Rattle.blk_items.specs.declared.range_printing.StreamRange.{StreamRange}
 use Rattle.blk_items.specs.PresentPrinting.{HasPresent}
 use Rattle.blk_items.specs.RangePrinting.{HasBytes}
 
--- an address of blocks of records that stand is that of a record
+-- an address of blocks of records that are there is that of a record
 pub record-among : (files : BlockFiles) (w : ℕ) → is_address w ≡ true → kind_of w ≡ blocks_256 → stands_among files w ≡ true → is_record_among files w ≡ true
 unfolding names_among
 record-among files w address kind stands = let same : (kind_of w == blocks_256) ≡ true = eq-eqb (kind_of w) blocks_256 kind in rw (address, same, stands) refl
@@ -216,9 +216,9 @@ module _ (files : BlockFiles) (range : PresentRange) (image : Image) (agrees : A
   pub none-bytes : [] ≡ sparse_bytes p.object range.offset range.count
   none-bytes = sym (ap (sparse_bytes p.object range.offset) none ∙ sparse-empty p.object range.offset)
 
--- ---- damages
+-- ---- failed checks
 
--- a damage is given only by a folder that tells nothing, where any that tells its files gives none
+-- corruption is reported only by an opaque folder, where any observable one gives none
 pub by-files : {A : Type 0} (r : Result A Fault) (files : Option Image) → ((image : Image) → files ≡ Some image → IfDamaged r (λ _. files ≡ None)) → IfDamaged r (λ _. files ≡ None)
 by-files r None each = damaged_any r (◌≡◌ {A = Option Image} None None) refl
 by-files r (Some image) each = each image refl

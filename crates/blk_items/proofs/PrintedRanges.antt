@@ -58,7 +58,7 @@ module _ (files : BlockFiles) (range : StreamRange) (image : Image) (p : HasByte
     abbrev pub a-piece : HasBytes files piece image
     a-piece = record { readable = piece-reads; streams = p.streams; here = piece-here; bytes = take piece.count (drop done p.bytes); long = piece-long; bytes_are = piece-are }
 
-  -- a read into room for all of them gives them all
+  -- a read into a buffer for all of them gives them all
   pub all-read : (old new : List ℕ) (n : ℕ) → length old ≡ range.count → IsPiece (stream range.stream p.streams) range.offset old new n → (n ≡ length old) × (new ≡ p.bytes)
   all-read old new n long piece =
       let behind : List ℕ = drop range.offset (stream range.stream p.streams) in
@@ -105,7 +105,7 @@ module _ (files : BlockFiles) (range : StreamRange) (image : Image) (p : HasByte
   pub all-printed : (before failed : Bool) (old new : Option (List ℕ)) (done : ℕ) → range.count ≤ done → Prints before failed old new (encode_lower (take done p.bytes)) → Prints before failed old new (encode_lower p.bytes)
   all-printed before failed old new done all printed = subst (λ (l : List ℕ). Prints before failed old new (encode_lower l)) (take_all done p.bytes (let long = p.long in omega (arith, all, long))) printed
 
-  -- a front of them
+  -- a prefix of them
   pub some-printed : (before failed : Bool) (old between new : Option (List ℕ)) (done : ℕ) → Prints before failed old between (encode_lower (take done p.bytes)) → new ≡ between → PrintsInPart before old new (encode_lower p.bytes)
   some-printed before failed old between new done printed same =
       subst (PrintsInPart before old new) (sym (encode_lower-append (take done p.bytes) (drop done p.bytes)) ∙ ap encode_lower (take-append-drop done p.bytes))

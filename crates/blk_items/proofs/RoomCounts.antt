@@ -31,7 +31,7 @@ split-sum w p (i ∷ l) = sum_by-cons w i l ∙ go (p i) (split-sum w p l) where
   go true e = let c = sum_by-cons w i (filter p l) in omega (arith, e, c)
   go false e = let c = sum_by-cons w i (filter (λ i. not (p i)) l) in omega (arith, e, c)
 
--- the weight of one item, wherever it stands
+-- the weight of one item, wherever it is
 abbrev alone : (Item → ℕ) → Item → Item → ℕ
 alone w x i = cond (same_item x i) (w x) 0
 

@@ -1,4 +1,4 @@
--- Groups that are evicted one after another, from the back of the use list as it is then.
+-- Groups that are evicted one after another, from the back of the LRU list as it is then.
 use Rattle.std.proofs.Common.{◌≡◌, inl, inr, ℕ, ◌+◌, Bool, true, false, ◌||◌, cond, List, [], ◌∷◌, ◌++◌, Some, None, Option, refl, sym, ap, subst, ◌∙◌, reverse, append-nil, append_assoc, map, ⊎_elim}
 use mathlib.Core.List.{reverse-cons}
 use Rattle.std.specs.List.{AllByRecursion, cons_option, list_any}
@@ -58,7 +58,7 @@ unfolding groups_from_back
 stays-back stays (main key) before e = ap (λ (b : Bool). cond b (groups_from_back stays before) (whole key (reverse (parts_among key before)) ∷ groups_from_back (λ other. stays other || bytes_eq key (key_of other)) before)) e
 stays-back stays (part key n) before e = ap (λ (b : Bool). cond b (groups_from_back stays before) (single key n ∷ groups_from_back stays before)) e
 
--- and so are all behind
+-- and so are all after that
 passed : (stays : Item → Bool) (behind rest : List Item) → AllByRecursion (λ item. stays item ≡ true) behind → groups_from_back stays (reverse behind ++ rest) ≡ groups_from_back stays rest
 passed stays [] rest all = refl
 passed stays (item ∷ behind) rest all =
@@ -77,7 +77,7 @@ back-of front item behind =
     ∙ ap (λ (l : List Item). l ++ reverse front) (reverse-cons item behind)
     ∙ append_assoc (reverse behind) (item ∷ []) (reverse front)
 
--- the first group that could go is that of the last item that isn't pinned
+-- the first group that could be evicted is that of the last item that isn't pinned
 first-back : (state : State) (covered front : List Item) (item : Item) (behind : List Item) → IsLastUnpinned state covered front item behind
     → groups_from_back (is_pinned state covered) (reverse state.uses) ≡ group_for item front ∷ groups_from_back (next (is_pinned state covered) item) (reverse front)
 first-back state covered front item behind is =
@@ -114,7 +114,7 @@ unfolding evicted_until
 nothing-more enough state covered (inl e) = none-shortest (λ groups. enough (without groups state)) (groups_from_back (is_pinned state covered) (reverse state.uses)) (ap enough (without-none state) ∙ e)
 nothing-more enough state covered (inr all) = ap (shortest (λ groups. enough (without groups state)) []) (none-back (is_pinned state covered) state.uses all)
 
--- a group goes for an item that isn't pinned
+-- a group is evicted for an item that isn't pinned
 pub loose-for : (stays : Item → Bool) (item : Item) (front : List Item) → stays item ≡ false → IsLoose stays (group_for item front)
 loose-for stays (main key) front e = e
 loose-for stays (part key n) front e = e
@@ -162,7 +162,7 @@ covered-one item (other ∷ covered) P all e = ⊎_elim
     (λ (h : list_any (same_item item) covered ≡ true). covered-one item covered P all.1 h)
     (or_cases (same_item item other) (list_any (same_item item) covered) e)
 
--- behind a main item that isn't pinned are no parts of its key, where all there is pinned
+-- after a main item that isn't pinned are no parts of its key, where all there is pinned
 no-parts : (state : State) (covered : List Item) (key : List ℕ) (behind : List Item) → AreOfNamed state covered → is_pinned state [] (main key) ≡ false → AllByRecursion (λ other. is_pinned state covered other ≡ true) behind → parts_among key behind ≡ []
 no-parts state covered key [] named un all = refl
 no-parts state covered key (main other ∷ behind) named un all = no-parts state covered key behind named un all.1
@@ -197,7 +197,7 @@ last-goes state covered front (main key) behind named is = record {
   same : (other : List ℕ) → main key ≡ main other → key ≡ other
   same other e = ap key_of e
 
--- a main item that is pinned isn't in the group of an item that may go
+-- a main item that is pinned isn't in the group of an item that may be evicted
 pinned-stays : (state : State) (front : List Item) (item : Item) (behind : List Item) (key : List ℕ) → MayGo state front item behind → is_pinned state [] (main key) ≡ true → is_out (group_for item front ∷ []) (main key) ≡ false
 pinned-stays state front (part other n) behind key goes pinned = refl
 pinned-stays state front (main other) behind key goes pinned = or-none (bytes_eq other key) (⊎_elim
@@ -213,7 +213,7 @@ pub of-named-stay : CoveredPartsStayOfNamed
 of-named-stay state [] front item behind named goes = tt
 of-named-stay state (other ∷ covered) front item behind named goes = (one-of-named state front item behind other goes named.0, of-named-stay state covered front item behind named.1 goes)
 
--- an item is among those in front of it, itself, and those behind
+-- an item is among those in front of it, itself, and those after
 pub in-middle : (front : List Item) (item : Item) (rest : List Item) → is_in (front ++ item ∷ rest) item ≡ true
 in-middle [] item rest = or_left (same_item item item) (is_in rest item) (same_item_self item)
 in-middle (i ∷ front) item rest = or_right (same_item item i) (is_in (front ++ item ∷ rest) item) (in-middle front item rest)

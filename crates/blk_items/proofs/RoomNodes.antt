@@ -26,7 +26,7 @@ ends (other ∷ nodes) e = absurd (no e) where
   no : ◌≡◌ {A = Option ℕ} None (Some other) → ⊥
   no e = cc
 
--- the nodes of a list at rest are walked
+-- the nodes of an idle list are walked
 pub rest-walked : (nodes : List ℕ) (image : Image) → HasListAtRest nodes image → walked image ≡ nodes
 rest-walked nodes image rest = walk_list (list_of image) nodes rest.whole
 

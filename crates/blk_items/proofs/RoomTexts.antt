@@ -63,11 +63,11 @@ faults-on before false failed f0 f1 f2 one two le more = λ was now small. let u
 
 -- ---- fronts of texts
 
--- a front of a text is one of a longer text
+-- a prefix of a text is one of a longer text
 pub appends-longer : (w0 w1 : Option (List ℕ)) (a b : List ℕ) → Appends w0 w1 a → Appends w0 w1 (a ++ b)
 appends-longer w0 w1 a b one = record { front = one.front; rest = one.rest ++ b; split = ap (λ (l : List ℕ). l ++ b) one.split ∙ append_assoc one.front one.rest b; written = one.written }
 
--- a text was printed, and then a front of another one, or nothing where the sink failed
+-- a text was printed, and then a prefix of another one, or nothing where the sink failed
 pub appends-after : (failed_before failed : Bool) (w0 w1 w2 : Option (List ℕ)) (a b : List ℕ) → Prints failed_before failed w0 w1 a → (failed ≡ true → w2 ≡ w1) → Appends w1 w2 b → Appends w0 w2 (a ++ b)
 appends-after failed_before failed w0 w1 w2 a b one quiet more = go failed refl where
   went-on : failed ≡ false → Appends w0 w2 (a ++ b)
@@ -97,6 +97,6 @@ part-none before old new text same = record { silent = λ e. same; front = recor
 pub part-whole : (before failed : Bool) (old new : Option (List ℕ)) (text : List ℕ) → Prints before failed old new text → PrintsInPart before old new text
 part-whole before failed old new text p = record { silent = λ e. (p.silent e).1; front = p.front }
 
--- a text was printed, and then a front of another
+-- a text was printed, and then a prefix of another
 pub part-on : (before between : Bool) (w0 w1 w2 : Option (List ℕ)) (a b : List ℕ) → Prints before between w0 w1 a → PrintsInPart between w1 w2 b → PrintsInPart before w0 w2 (a ++ b)
 part-on before between w0 w1 w2 a b one two = record { silent = λ e. two.silent (one.silent e).0 ∙ (one.silent e).1; front = appends-after before between w0 w1 w2 a b one two.silent two.front }

@@ -29,7 +29,7 @@ has_index Parent = true
 has_index Plain = false
 has_index Part = false
 
--- a live object, which a handle names or none does, lies as a target: at its node with its record, behind the record before that, with an entry of its kind and its charge
+-- a live object, which a handle names or none does, lies as a target: at its node with its record, after the record before that, with an entry of its kind and its charge
 pub record LiesAsTarget (held : Bool) (state : State) (layout : Layout) (number : ℕ) (object : Object) (target : Target) : Type 0 where
   pub here : object_at state number ≡ Some object
   pub live : object.live ≡ true

@@ -54,7 +54,7 @@ ForEachListed key is_child image P =
 
 -- The group.
 
--- an item that may go lies in a kept state, with an entry of this kind and this key or name
+-- an item that may be evicted lies in a kept state, with an entry of this kind and this key or name
 pub record GoesAs (state : State) (layout : Layout) (found : Unpinned) (kind : EntryKind) (key : List ℕ) (image : Image) : Type 0 where
   pub kept : Keeps state layout [] image
   pub last : MayGoAt state layout found

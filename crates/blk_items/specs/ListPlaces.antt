@@ -1,4 +1,4 @@
--- Places of the use list as they are found in a folder, and the last item that isn't pinned.
+-- Places of the LRU list as they are found in a folder, and the last item that isn't pinned.
 use Rattle.std.specs.Prelude.{◌≡◌, ℕ, List, ◌++◌, true}
 use Rattle.std.specs.List.{AllByRecursion}
 use Rattle.std.specs.declared.option.Option.{Option}
@@ -14,7 +14,7 @@ use Rattle.blk_lru.specs.Lists.{first_node_of}
 use Rattle.blk_items.specs.declared.list_places.Unpinned.{Unpinned}
 use Rattle.blk_items.specs.RoomLaws.{AreAllPinned, IsLastUnpinned, MayGo}
 
--- these nodes are in front of a place of the list, where this node is next behind it; none is at the end
+-- these nodes are in front of a place of the list, where this node is next after it; none is at the end
 pub record AreInFront (front : List ℕ) (behind : Option ℕ) (image : Image) : Type 0 where
   pub rest : List ℕ
   pub list : HasListAtRest (front ++ rest) image
@@ -32,7 +32,7 @@ pub record IsPinnedFrom (state : State) (layout : Layout) (covered : List Item) 
   pub pinned : AllByRecursion (λ item. is_pinned state covered item ≡ true) rest
   pub next : behind ≡ first_node_of (nodes_of layout rest)
 
--- an item that may go, by its node and its record
+-- an item that may be evicted, by its node and its record
 pub record MayGoAt (state : State) (layout : Layout) (found : Unpinned) : Type 0 where
   pub front : List Item
   pub item : Item
@@ -43,7 +43,7 @@ pub record MayGoAt (state : State) (layout : Layout) (found : Unpinned) : Type 0
   pub here : layout.at (layout.place item) ≡ Some loaded
   pub entry : found.entry ≡ loaded.contents
 
--- the last item that isn't pinned, where these parts are covered; it may go, and the node next behind it is told
+-- the last item that isn't pinned, where these parts are covered; it may be evicted, and the node next after it is told
 pub record IsLastAt (state : State) (layout : Layout) (covered : List Item) (found : Unpinned) : Type 0 where
   pub goes : MayGoAt state layout found
   pub last : IsLastUnpinned state covered goes.front goes.item goes.rest

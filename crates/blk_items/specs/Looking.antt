@@ -53,18 +53,18 @@ pub record KeepsSomeState (image : Image) : Type 0 where
   pub unlinked : List ℕ
   pub kept : KeepsUncounted state layout unlinked image
 
--- Damages.
+-- Failed checks.
 
 -- a record fails its check or has too few bytes, or the word of its node names none
 abbrev pub IsEntryDamage : BlockFiles → Told → ℕ → Damage → Type 0
 IsEntryDamage files told entry damage = IsHeadDamage told entry damage ⊎ IsNodeWordDamage files told (names.Block (file_selector entry)) (place entry + node_place) damage
 
--- a record that was found and stands is so
+-- a record that was found and is valid is so
 pub record IsWrongEntry (files : BlockFiles) (told : Told) (damage : Damage) : Type 0 where
   pub entry : ℕ
   pub stands : is_record_among files entry ≡ true
   pub wrong : IsEntryDamage files told entry damage
 
--- the damages of the search for a live object
+-- the failed checks of the search for a live object
 abbrev pub IsLookDamage : BlockFiles → Told → List ℕ → Damage → Type 0
 IsLookDamage files told key damage = IsSearchDamage files told key false damage ⊎ IsWrongEntry files told damage

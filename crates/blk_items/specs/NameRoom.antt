@@ -1,4 +1,4 @@
--- The room that a session has for names.
+-- The buffers that a session has for names.
 use Rattle.std.specs.Prelude.{ℕ, ◌+◌}
 use Rattle.blk_model.specs.Sizes.{longest_key}
 use Rattle.blk_entry.specs.Keys.{most_key}

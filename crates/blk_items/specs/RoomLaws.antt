@@ -1,4 +1,4 @@
--- How groups are evicted, one after another from the back of the use list, and what one leaves.
+-- How groups are evicted, one after another from the back of the LRU list, and what one leaves.
 use Rattle.std.specs.Prelude.{◌≡◌, ◌⊎◌, ℕ, ◌+◌, Bool, true, false, List, [], ◌∷◌, ◌++◌, length, sum_by}
 use Rattle.std.specs.List.{AllByRecursion}
 use Rattle.std.specs.Option.{option_map_or}
@@ -13,12 +13,12 @@ use Rattle.blk_object.specs.Writing.{node_of_object}
 
 -- Eviction.
 
--- the group that goes for an item, where these are in front of it in the use list: a main item with its parts among them, in their order; a part alone
+-- the group that is evicted for an item, where these are in front of it in the LRU list: a main item with its parts among them, in their order; a part alone
 abbrev pub group_for : Item → List Item → Group
 group_for (main key) front = whole key (parts_among key front)
 group_for (part key n) front = single key n
 
--- an item is the last of the use list that isn't pinned
+-- an item is the last of the LRU list that isn't pinned
 pub record IsLastUnpinned (state : State) (covered front : List Item) (item : Item) (behind : List Item) : Type 0 where
   pub listed : state.uses ≡ front ++ item ∷ behind
   pub unpinned : is_pinned state covered item ≡ false
@@ -61,7 +61,7 @@ TheOthersGoFromWhatIsLeft = (enough : State → Bool) (state : State) (covered :
 abbrev pub ItemsThatStayArePinnedAsBefore : Type 0
 ItemsThatStayArePinnedAsBefore = (state : State) (covered : List Item) (groups : List Group) (item : Item) → is_out groups item ≡ false → is_pinned (without groups state) covered item ≡ is_pinned state covered item
 
--- where the covered parts are those of an object that a handle names, the last item that isn't pinned may go
+-- where the covered parts are those of an object that a handle names, the last item that isn't pinned may be evicted
 abbrev pub TheLastUnpinnedMayGo : Type 0
 TheLastUnpinnedMayGo = (state : State) (covered front : List Item) (item : Item) (behind : List Item) → AreOfNamed state covered → IsLastUnpinned state covered front item behind → MayGo state front item behind
 
@@ -80,7 +80,7 @@ pub record IsLessBy (state : State) (group : Group) : Type 0 where
   pub items_left : items state ≡ items (without (group ∷ []) state) + length (items_of_group group)
   pub bytes_left : total state ≡ total (without (group ∷ []) state) + sum_by (item_charge state) (items_of_group group)
 
--- so it is of the group of an item that may go
+-- so it is of the group of an item that may be evicted
 abbrev pub GroupsAreCountedLess : Type 0
 GroupsAreCountedLess = (state : State) (front : List Item) (item : Item) (behind : List Item) → IsValidState state → MayGo state front item behind → IsLessBy state (group_for item front)
 

@@ -4,13 +4,13 @@ use Rattle.std.specs.Option.{option_map}
 use Rattle.spec_image.specs.Told.{Rises}
 use Rattle.blk_io.specs.Streams.{Appends}
 
--- a text was printed, or a front of it where the sink failed; where it failed before, nothing was
+-- a text was printed, or a prefix of it where the sink failed; where it failed before, nothing was
 pub record Prints (failed_before failed : Bool) (old new : Option (List ℕ)) (text : List ℕ) : Type 0 where
   pub silent : failed_before ≡ true → (failed ≡ true) × (new ≡ old)
   pub whole : failed ≡ false → new ≡ option_map (λ (w : List ℕ). w ++ text) old
   pub front : Appends old new text
 
--- a front of a text was printed, and nothing where the sink had failed before
+-- a prefix of a text was printed, and nothing where the sink had failed before
 pub record PrintsInPart (failed_before : Bool) (old new : Option (List ℕ)) (text : List ℕ) : Type 0 where
   pub silent : failed_before ≡ true → new ≡ old
   pub front : Appends old new text

@@ -44,7 +44,7 @@ pub struct Target {
 
 /// Finds the live object with a key, by one folder call more than `find`. Nothing is written.
 ///
-/// A damage is one of `find`, or of the record that is found.
+/// A failed check is one of `find`, or of the record that is found.
 pub fn find_target<F: Folder>(
     f: &mut F,
     files: &BlockFiles,
@@ -75,9 +75,9 @@ pub fn find_target<F: Folder>(
 }
 
 /// Dooms a live object that a handle names, by its record and its node. Its key is read into `name`, and the names of its
-/// parts are made behind that. What is counted no longer is given: its parts.
+/// parts are made after that. What is counted no longer is given: its parts.
 ///
-/// A damage is one of `read_name`, `find_listed` or `doom_target`, or a key that is none.
+/// A failed check is one of `read_name`, `find_listed` or `doom_target`, or a key that is none.
 pub fn doom_named<F: Folder>(
     f: &mut F,
     files: &BlockFiles,
@@ -118,7 +118,7 @@ pub fn doom_named<F: Folder>(
 /// with its parts, these are freed, and its record gets the state of a doomed one; of another all goes. What is counted no
 /// longer is given: the parts of an open object, and else all its items.
 ///
-/// A damage is one of the calls below.
+/// A failed check is one of the calls below.
 pub fn doom_target<F: Folder>(
     f: &mut F,
     files: &BlockFiles,
@@ -138,7 +138,7 @@ pub fn doom_target<F: Folder>(
     requires is_open { ForSome (F.told f.old).files (IsOpen files.now) }
     ensures doomed { IfOk result (λ gone. ForSome (F.told f.old).files (λ from. ForEachWithKey is_held key.now target.now from (λ state layout number object. ForSome (F.told f.new).files (IsDoomed state layout number object gone from)))) }
 
-    // At each word what was at rest is found, or what is at rest with the object doomed.
+    // At each word the old durable contents are recovered, or those with the object doomed.
     ensures stops { ForSome (F.told f.old).files (λ from. ForEachWithKey is_held key.now target.now from (λ state layout number object. Passes (F.told f.old) (F.told f.new) (FindsEither state (doomed number state (Some object))))) }
 
     ensures is_open { ForSome (F.told f.new).files (IsOpen files.now) }

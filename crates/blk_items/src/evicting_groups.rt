@@ -38,9 +38,10 @@ use blk_record::{CHILD, EntryView};
 use blk_sparse::{Gone, remove_parent_with};
 
 /// Evicts the group of an item that isn't pinned, and prints its items: a main item with its parts, or a part alone. How
-/// many items went is given, and what they were charged.
+/// many items were evicted is given, and what they were charged.
 ///
-/// Its key or name is read into `name`. A damage is one of the reading, a key that is none, or one of the removal.
+/// Its key or name is read into `name`. A failed check is one of the reading, a key that is none, or one of the
+/// removal.
 pub fn evict_group<F: Folder, K: Sink>(
     f: &mut F,
     files: &BlockFiles,
@@ -283,7 +284,7 @@ fn remove_alone<F: Folder>(
 }
 
 // Finds the record of a listed item by its key or its name, and the one before it in its chain. Where it isn't found that
-// is a damage, of the hash of its record.
+// is corruption, of the hash of its record.
 pub(crate) fn find_listed<F: Folder>(
     f: &mut F,
     files: &BlockFiles,

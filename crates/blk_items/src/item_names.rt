@@ -41,7 +41,7 @@ pub(crate) struct Named {
 
 // Reads what an item is and what it has, and its key or name into the front of `room`: three folder calls.
 //
-// A damage is one of `read_owned` or `key_piece`.
+// A failed check is one of `read_owned` or `key_piece`.
 pub(crate) fn read_name<F: Folder>(
     f: &mut F,
     files: &BlockFiles,

@@ -31,11 +31,11 @@ use blk_object::{end_walk, entry_named};
 use blk_ranges::read_child_name;
 use blk_record::{CHILD, EntryView, NodeView};
 
-/// Prints the rows of the items of the use list, a line each, from its front on: of an object its key and the lengths of
+/// Prints the rows of the items of the LRU list, a line each, from its front on: of an object its key and the lengths of
 /// its streams, and of a part its number and how many bytes it has. Keys and names are read into `name`.
 ///
-/// One folder call finds the first item, and five more are made for each. Nothing is written. After a fault a front of the
-/// lines is printed. A list that goes on behind 131073 nodes is a damage, of the next of the last one.
+/// One folder call finds the first item, and five more are made for each. Nothing is written. After a fault a prefix of
+/// the lines is printed. A list that goes on after 131073 nodes is corruption, of the next of the last one.
 pub fn print_items<F: Folder, K: Sink>(
     f: &mut F,
     files: &BlockFiles,
@@ -98,8 +98,8 @@ fn print_row<F: Folder, K: Sink>(
     say_row(out, failed, entry, &name[..len], &head)
 }
 
-// Prints the row of an item by the words of its record and its key or name. Of a part whose name is none that is a
-// damage, of its flags.
+// Prints the row of an item by the words of its record and its key or name. Of a part whose name is none that is
+// corruption, of its flags.
 fn say_row<K: Sink>(
     out: &mut K,
     failed: &mut bool,

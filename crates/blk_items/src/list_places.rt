@@ -1,4 +1,4 @@
-// Places of the use list: the node in front of one, and an item that may go.
+// Places of the LRU list: the node in front of one, and an item that may be evicted.
 ghost use Rattle.std.specs.Prelude.{◌≡◌, ◌≤◌, ℕ, IfOk, IfSome, IsTrue, List, None};
 ghost use Rattle.std.specs.Option.{ForSome};
 ghost use Rattle.spec_image.specs.Told.{Rises, Stays};
@@ -16,7 +16,7 @@ use blk_io::{Fault, Folder};
 use blk_lru::{before, last};
 use blk_record::NodeView;
 
-/// An item that isn't pinned: its node and its record, and the node next behind it in the use list.
+/// An item that isn't pinned: its node and its record, and the node next after it in the LRU list.
 #[derive(Clone, Copy, Debug)]
 pub struct Unpinned {
     pub node: Addr,
@@ -24,7 +24,7 @@ pub struct Unpinned {
     pub behind: Option<Addr>,
 }
 
-/// The node in front of one in the use list, or the last one, by one folder call. Nothing is written.
+/// The node in front of one in the LRU list, or the last one, by one folder call. Nothing is written.
 pub fn in_front<F: Folder>(
     f: &mut F,
     files: &BlockFiles,

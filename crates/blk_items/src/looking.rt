@@ -43,7 +43,7 @@ pub(crate) struct Said {
 
 /// Finds the live object with a key, by one folder call more than `find`. Nothing is written.
 ///
-/// A damage is one of `find`, or of the record that is found.
+/// A failed check is one of `find`, or of the record that is found.
 pub fn find_live<F: Folder>(
     f: &mut F,
     files: &BlockFiles,
@@ -100,7 +100,7 @@ pub(crate) fn read_said<F: Folder>(
 
 /// Reads what the object of a record is charged as a main item, by one folder call.
 ///
-/// A damage is one of `read_head`.
+/// A failed check is one of `read_head`.
 pub fn read_charge<F: Folder>(f: &mut F, files: &BlockFiles, entry: Addr) -> Result<u64, Fault>
     requires names { IsTrue (is_record_among files.now entry) }
     ensures charge { IfOk result (λ charge. ForSome (F.told f.old).files (λ image. charge ≡ charge_at image entry)) }

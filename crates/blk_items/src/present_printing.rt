@@ -36,8 +36,8 @@ pub struct PresentRange {
 /// that have them.
 ///
 /// No folder call is made for no byte. Else two read the index and two the key, the parts are found by their names, which
-/// are made behind the longest key in `name`, and two are made for each 4096 bytes. Nothing is written. Where there is no
-/// such part nothing more is printed. After a fault a front of the line is printed.
+/// are made after the longest key in `name`, and two are made for each 4096 bytes. Nothing is written. Where there is no
+/// such part nothing more is printed. After a fault a prefix of the line is printed.
 pub fn print_present<F: Folder, K: Sink>(
     f: &mut F,
     files: &BlockFiles,
@@ -56,7 +56,7 @@ pub fn print_present<F: Folder, K: Sink>(
     ensures failed { FailsWhereItRose failed.old failed.new (K.faults out.old) (K.faults out.new) }
     ensures stays { Stays (F.told f.old) (F.told f.new) }
 
-    // A damage is a check that fails on what is read here. A folder that tells its files, with such an object, gives none.
+    // Corruption is a check that fails on what is read here. An observable folder, with such an object, gives none.
     ensures damaged { IfDamaged result (IsFailedCheck files.now (F.told f.new)) }
     ensures untold { ForSome (F.told f.old).files (HasPresent range.now) → IfDamaged result (λ _. (F.told f.old).files ≡ None) }
     ensures later { F.faults f.old ≤ F.faults f.new }

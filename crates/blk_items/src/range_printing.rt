@@ -34,8 +34,8 @@ pub struct StreamRange {
 
 /// Prints the line of bytes of a stream: their number, and then the bytes.
 ///
-/// Two folder calls are made for each 4096 bytes. Nothing is written. After a fault a front of the line is printed. A damage
-/// is one of `read`, or that the stream has become shorter.
+/// Two folder calls are made for each 4096 bytes. Nothing is written. After a fault a prefix of the line is printed. A
+/// failed check is one of `read`, or that the stream has become shorter.
 pub fn print_range<F: Folder, K: Sink>(
     f: &mut F,
     files: &BlockFiles,
@@ -62,10 +62,10 @@ pub fn print_range<F: Folder, K: Sink>(
     Ok(())
 }
 
-/// Prints the line of bytes of two streams, one behind the other: how many they are together, and then the bytes.
+/// Prints the line of bytes of two streams, one after the other: how many they are together, and then the bytes.
 ///
-/// Two folder calls are made for each 4096 bytes of either. Nothing is written. After a fault a front of the line is
-/// printed. A damage is one of `read`, or that a stream has become shorter.
+/// Two folder calls are made for each 4096 bytes of either. Nothing is written. After a fault a prefix of the line is
+/// printed. A failed check is one of `read`, or that a stream has become shorter.
 pub(crate) fn print_ranges<F: Folder, K: Sink>(
     f: &mut F,
     files: &BlockFiles,
@@ -163,7 +163,7 @@ fn print_pieces<F: Folder, K: Sink>(
     Ok(())
 }
 
-// Prints a few bytes of a stream. A damage is one of the read, or that the stream has become shorter.
+// Prints a few bytes of a stream. A failed check is one of the read, or that the stream has become shorter.
 fn print_piece<F: Folder, K: Sink>(
     f: &mut F,
     files: &BlockFiles,
@@ -224,7 +224,7 @@ fn print_through<F: Folder, K: Sink>(
     Ok(())
 }
 
-// Prints the front of a line of data, unless the sink failed before: the word, the number of bytes, and a space behind
+// Prints the front of a line of data, unless the sink failed before: the word, the number of bytes, and a space after
 // each.
 fn say_front<K: Sink>(out: &mut K, failed: &mut bool, number: u64)
     ensures prints { Prints failed.old failed.new (K.written out.old) (K.written out.new) (codes "data " ++ (number_text number ++ codes " ")) }

@@ -27,7 +27,7 @@ told_before image stays there = ap (λ (t : Told). t.files) (sym stays) ∙ ther
 pub told_now : {a m : Told} (image : Image) → m ≡ a → a.files ≡ Some image → m.files ≡ Some image
 told_now image stays there = ap (λ (t : Told). t.files) stays ∙ there
 
--- what a call gives only on a folder that tells nothing, behind calls that changed nothing: under its own premise, and under one that implies it
+-- what a call gives only on an opaque folder, after calls that changed nothing: under its own premise, and under one that implies it
 pub untold_last : {A : Type 0} (r : Result A Fault) {a m : Told} (P Q : Image → Type 0) → ((image : Image) → P image → Q image) → m ≡ a → (ForSome m.files Q → IfDamaged r (λ _. m.files ≡ None)) → ForSome a.files P → IfDamaged r (λ _. a.files ≡ None)
 untold_last r {a} {m} P Q weaker stays untold holds =
     if_damaged_weaker r (λ _. m.files ≡ None) (λ _. a.files ≡ None) (λ damage none. ap (λ (t : Told). t.files) (sym stays) ∙ none)
@@ -56,7 +56,7 @@ around node image is =
     let s = splits (walked image) node is.listed in
     (s.prefix, s.suffix, subst (λ (nodes : List ℕ). HasListAtRest nodes image) s.is is.rest)
 
--- a folder that tells nothing after a call told nothing before it
+-- a folder that is opaque after a call was opaque before it
 pub told_none : (before now : Option Image) → ((from : Image) → before ≡ Some from → (image : Image) × (now ≡ Some image)) → now ≡ None → before ≡ None
 told_none None now some none = refl
 told_none (Some from) now some none = let s = some from refl in absurd (no_some s.0 (sym none ∙ s.1))

@@ -1,4 +1,4 @@
--- Damages, as the callers see them.
+-- Failed checks, as the callers see them.
 use Rattle.blk_disk.specs.Tables.{is_node_among}
 use Rattle.std.proofs.Common.{◌⊎◌, ◌+◌, arith, ◌≡◌, ℕ, Result, Ok, Err, subst, sym, true}
 use Rattle.spec_image.specs.Told.{Told, Stays}
@@ -16,7 +16,7 @@ use Rattle.blk_disk.specs.Unsealed.{IsUnsealed}
 use Rattle.blk_lru.specs.Damages.{IsShortNode, IsWrongNode}
 use Rattle.blk_lru.proofs.NodeWords.{node_kind}
 
--- what holds of a damage may be weaker
+-- what holds of a failed check may be weaker
 pub if_damaged_weaker : {A : Type 0} {P Q : Damage → Type 0} (r : Result A Fault) → ((d : Damage) → P d → Q d) → IfDamaged r P → IfDamaged r Q
 if_damaged_weaker (Ok a) weaker holds = tt
 if_damaged_weaker (Err Device) weaker holds = tt

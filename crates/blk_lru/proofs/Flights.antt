@@ -1,4 +1,4 @@
--- The use list by the block files that are kept, and what is read of an operation in flight.
+-- The LRU list by the block files that are kept, and what is read of an operation in flight.
 use Rattle.std.proofs.Common.{⊎_elim, ◌≡◌, ◌≢◌, ℕ, ◌+◌, ◌≤◌, Bool, true, false, ◌&&◌, if◌then◌else◌, None, refl, sym, ap, subst, ◌∙◌, arith}
 use Rattle.std.specs.Prelude.{◌⊎◌}
 use Rattle.std.proofs.lemmas.Bool.{false_from_ne_true}

@@ -16,7 +16,7 @@ read_link image node at bytes found read is =
     let size : length bytes ≡ 4 = ap length read ∙ length-range 4 (place node + at) f in
     is ∙ word-from_bytes bytes (place node + at) f (take_all 4 bytes (omega arith) ∙ read)
 
--- a folder that tells its files gives no such word
+-- an observable folder gives no such word
 pub dangling_untold : (files : Option Image) (P : Image → Type 0) → ((image : Image) → files ≡ Some image → P image → ⊥) → ForSome files P → files ≡ None
 dangling_untold None P never holds = refl
 dangling_untold (Some image) P never holds = absurd (never image refl (holds image refl))

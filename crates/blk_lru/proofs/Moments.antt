@@ -1,4 +1,4 @@
--- What holds at each word of an operation, from a front of its writes.
+-- What holds at each word of an operation, from a prefix of its writes.
 use Rattle.std.proofs.Common.{◌≡◌, ℕ, false, ◌<◌, List, refl, ap, ◌∙◌}
 use Rattle.std.proofs.lemmas.Bool.{or_from}
 use Rattle.spec_image.specs.Image.{File, Index, Block, Image}

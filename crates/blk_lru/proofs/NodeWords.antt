@@ -23,7 +23,7 @@ unfolding names_among
 node_stands files w is = (and_parts (kind_of w == rankings) (stands_among files w) (and_parts (is_address w) ((kind_of w == rankings) && stands_among files w) is).1).1
 
 module _ (files : BlockFiles) (image : Image) (agrees : Agrees files image) where
-  -- what names a node stands as one in the image
+  -- what names a node is valid as one in the image
   pub stands_as_node : (w : ℕ) → is_node_among files w ≡ true → stands_as image rankings w ≡ true
   unfolding names_among stands
   stands_as_node w is =
@@ -35,7 +35,7 @@ module _ (files : BlockFiles) (image : Image) (agrees : Agrees files image) wher
       (and_from (is_address w) (if kind_of w == external then has_file image (External (external_number w)) else stands_in_blocks image w) a.0 (ap (λ (t : Bool). if t then has_file image (External (external_number w)) else stands_in_blocks image w) block_kind ∙ blocks))
       b.0
 
-  -- and what stands as one names a node
+  -- and what is valid as one names a node
   pub names_node : (w : ℕ) → stands_as image rankings w ≡ true → is_node_among files w ≡ true
   unfolding names_among stands
   names_node w st =
@@ -52,7 +52,7 @@ module _ (files : BlockFiles) (image : Image) (agrees : Agrees files image) wher
   pub names_or_zero : (w : ℕ) → (w ≡ 0) ⊎ ((list_of image).checks w ≡ true) → IsNodeOrNone files w
   names_or_zero w cases = ⊎_elim (λ (zero : w ≡ 0). inl zero) (λ (good : (list_of image).checks w ≡ true). inr (checked_names w good)) cases
 
--- the links of a node that stands
+-- the links of a node that is there
 pub next_link : (image : Image) (w : ℕ) → stands_as image rankings w ≡ true → (list_of image).next w ≡ link_at image w 16
 unfolding list_of next_at node_in
 next_link image w st = rw st refl

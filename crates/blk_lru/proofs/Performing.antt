@@ -39,7 +39,7 @@ pub record Wrote (old now : Told) (writes : List ListWrite) : Type 0 where
 abbrev pub Check : Image → List ListWrite → Type 0
 Check image writes = AreOf (λ n. (list_of image).checks n ≡ true) writes
 
--- a front of the writes was made, whose nodes checked, and these are left
+-- a prefix of the writes was made, whose nodes checked, and these are left
 pub record Reached (old now : Told) (writes left : List ListWrite) : Type 0 where
   pub done : List ListWrite
   pub split : writes ≡ done ++ left
@@ -79,7 +79,7 @@ nothing old now writes same = record {
   checked = λ from there. tt;
 }
 
--- nodes of writes, one list behind the other
+-- nodes of writes, one list after the other
 both_of : (P : ℕ → Type 0) (xs ys : List ListWrite) → AreOf P xs → AreOf P ys → AreOf P (xs ++ ys)
 both_of P [] ys h k = k
 both_of P (Next n w ∷ xs) ys h k = (h.0, both_of P xs ys h.1 k)
@@ -188,7 +188,7 @@ module _ (files : BlockFiles) (old : Told) (writes : List ListWrite) (ready : Fo
 pub wrote_part : {old now : Told} {writes : List ListWrite} → Wrote old now writes → ForSome old.files (λ from. AppliesPrefix old now (steps_of_writes writes from))
 wrote_part wrote from there = part_whole (wrote.applies from there)
 
--- the write of this number, and those behind it
+-- the write of this number, and those after it
 pub at_item : (ws : List Write) (i : ℕ) (d item : Write) → i < length ws → get_or ws i d ≡ item → map meant (drop i ws) ≡ meant item ∷ map meant (drop (i + 1) ws)
 at_item ws i d item lt is = ap (map meant) (drop_more ws i d lt) ∙ ap (λ (v : Write). meant v ∷ map meant (drop (i + 1) ws)) is
 
@@ -208,7 +208,7 @@ item_is P (w ∷ ws) (suc i) d item lt is h = item_is P ws i d item (omega arith
 pub all_done : (ws : List Write) (i : ℕ) → length ws ≤ i → map meant (drop i ws) ≡ []
 all_done ws i past = ap (map meant) (drop_all i ws past)
 
--- a folder that tells nothing in the midst of the writes told nothing before them
+-- a folder that is opaque in the midst of the writes was opaque before them
 pub back_untold : {old now : Told} {writes : List ListWrite} → Wrote old now writes → now.files ≡ None → old.files ≡ None
 back_untold {old} {now} {writes} wrote none = by_files old.files refl
   where

@@ -20,7 +20,7 @@ abbrev pub FindsNeighbours : ListView → ℕ → Usable (Option Neighbours) →
 FindsNeighbours list node Fails = links_count list node ≡ false
 FindsNeighbours list node (Counts neighbours) = (links_count list node ≡ true) × AreBeside (list.next node) (list.prev node) neighbours
 
--- the head that is found stands
+-- the head that is found is valid
 abbrev pub FoundHeadStands : BlockFiles → Usable (Option ℕ) → Type 0
 FoundHeadStands files Fails = Unit {0}
 FoundHeadStands files (Counts head) = IfSome head (λ n. is_node_among files n ≡ true)
@@ -41,6 +41,6 @@ abbrev pub FindsInFlight : ListView → Option InFlight → Type 0
 FindsInFlight list None = counts list ≡ false
 FindsInFlight list (Some found) = (counts list ≡ true) × IsInFlight list found
 
--- its node and the nodes that it goes by stand
+-- its node and the nodes that it goes by are there
 abbrev pub AreNodes : BlockFiles → InFlight → Type 0
 AreNodes files found = (is_node_among files found.node ≡ true) × StandsBy files found.operation

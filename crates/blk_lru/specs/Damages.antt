@@ -1,4 +1,4 @@
--- What is told of a damage that a call on the use list meets: it has the place that was read, and what was found there.
+-- What is told of a failed check that a call on the LRU list meets: it has the place that was read, and what was found there.
 use Rattle.std.specs.Prelude.{ℕ, ◌≡◌, ◌⊎◌, ◌+◌, true, Option, None, Some}
 use Rattle.spec_image.specs.Told.{Told, Stays}
 use Rattle.spec_format.specs.Address.{file_selector, place}
@@ -24,13 +24,13 @@ IsListTailDamage files told damage = IsNodeWordDamage files told names.Index Ind
 abbrev pub IsNodeLinkDamage : (node at : ℕ) → BlockFiles → Told → Damage → Type 0
 IsNodeLinkDamage node at files told damage = IsNodeWordDamage files told (names.Block (file_selector node)) (place node + at) damage
 
--- a node that stands was read whole: its bytes are too few, or it doesn't check
+-- a node that is there was read whole: its bytes are too few, or it doesn't check
 pub record IsWrongNode (files : BlockFiles) (told : Told) (damage : Damage) : Type 0 where
   pub node : ℕ
   pub stands : is_node_among files node ≡ true
   pub failed : IsFailedRecord told node node_size damage
 
--- an insert was damaged at the head, before it wrote, or at a node, which is as it was read
+-- an insert found corruption at the head, before it wrote, or at a node, which is as it was read
 abbrev pub IsInsertDamage : BlockFiles → (old new : Told) → Damage → Type 0
 IsInsertDamage files old new damage = (IsListHeadDamage files old damage × Stays old new) ⊎ IsWrongNode files new damage
 
@@ -38,11 +38,11 @@ IsInsertDamage files old new damage = (IsListHeadDamage files old damage × Stay
 abbrev pub IsNeighbourDamage : (node : ℕ) → BlockFiles → (old new : Told) → Damage → Type 0
 IsNeighbourDamage node files old new damage = (IsNodeLinkDamage node NodeView.NEXT files old damage ⊎ IsNodeLinkDamage node NodeView.PREV files old damage) × Stays old new
 
--- a removal was damaged at the next or the prev of the node, before it wrote, or at a node, which is as it was read
+-- a removal found corruption at the next or the prev of the node, before it wrote, or at a node, which is as it was read
 abbrev pub IsRemovalDamage : (node : ℕ) → BlockFiles → (old new : Told) → Damage → Type 0
 IsRemovalDamage node files old new damage = IsNeighbourDamage node files old new damage ⊎ IsWrongNode files new damage
 
--- a touch was damaged at the head, before it wrote, or as a removal is
+-- a touch found corruption at the head, before it wrote, or as a removal is
 abbrev pub IsTouchDamage : (node : ℕ) → BlockFiles → (old new : Told) → Damage → Type 0
 IsTouchDamage node files old new damage = (IsListHeadDamage files old damage × Stays old new) ⊎ IsRemovalDamage node files old new damage
 
@@ -50,17 +50,17 @@ IsTouchDamage node files old new damage = (IsListHeadDamage files old damage × 
 abbrev pub IsFlightDamage : Told → Damage → Type 0
 IsFlightDamage told damage = IsShort told names.Index IndexHead.TRANSACTION 4 damage ⊎ (IsShort told names.Index IndexHead.OPERATION 4 damage ⊎ IsShort told names.Index IndexHead.HEADS 4 damage)
 
--- a node that stands was read whole, and its bytes are too few
+-- a node that is there was read whole, and its bytes are too few
 pub record IsShortNode (files : BlockFiles) (told : Told) (damage : Damage) : Type 0 where
   pub node : ℕ
   pub stands : is_node_among files node ≡ true
   pub short : IsShort told (names.Block (file_selector node)) (place node) node_size damage
 
--- too few bytes were read of a word of the operation in flight, or of a node; one that doesn't check is no damage here
+-- too few bytes were read of a word of the operation in flight, or of a node; one that doesn't check is no corruption here
 abbrev pub IsPendingDamage : BlockFiles → Told → Damage → Type 0
 IsPendingDamage files told damage = IsFlightDamage told damage ⊎ IsShortNode files told damage
 
--- completing was damaged at a word of the operation in flight, or at a node; a word that names no node is no damage
+-- completing found corruption at a word of the operation in flight, or at a node; a word that names no node is no corruption
 abbrev pub IsCompletingDamage : BlockFiles → Told → Damage → Type 0
 IsCompletingDamage files told damage = IsFlightDamage told damage ⊎ IsWrongNode files told damage
 
@@ -73,6 +73,6 @@ IsFrontDamage (Some node) told damage = IsShort told (names.Block (file_selector
 abbrev pub IsEndReadDamage : Option ℕ → Told → Damage → Type 0
 IsEndReadDamage last told damage = IsFrontDamage last told damage ⊎ IsShort told names.Index IndexHead.TAILS 4 damage
 
--- the end of a list was damaged where it was read, before it was written, or at the node
+-- the end of a list was corrupt where it was read, before it was written, or at the node
 abbrev pub IsEndDamage : Option ℕ → BlockFiles → (old new : Told) → Damage → Type 0
 IsEndDamage last files old new damage = (IsEndReadDamage last old damage × Stays old new) ⊎ IsWrongNode files new damage

@@ -40,7 +40,7 @@ pub record HasNodeInFlight (files : BlockFiles) (image : Image) : Type 0 where
   pub node : HasNode files image (list_among files image).transaction
   pub operation : (list_among files image).checks (list_among files image).transaction ≡ true → HasOperation files image
 
--- what completing reads is there: the word of the node in flight, and what is read behind it
+-- what completing reads is there: the word of the node in flight, and what is read after it
 pub record HasFlight (files : BlockFiles) (image : Image) : Type 0 where
   pub word : HasRange image Index IndexHead.TRANSACTION 4
   pub in_flight : HasNodeInFlight files image

@@ -1,4 +1,4 @@
--- The use list of an image.
+-- The LRU list of an image.
 use Rattle.std.specs.Prelude.{ℕ, ◌≡◌, ◌≢◌, true, List, [], ◌∷◌, Option, None, Some}
 use Rattle.spec_image.specs.Image.{Image}
 use Rattle.spec_format.specs.BlockFiles.{is_among}
@@ -11,12 +11,12 @@ use Rattle.spec_folder.specs.View.{list_of}
 abbrev pub IsListAtRest : Image → Type 0
 IsListAtRest image = HasListAtRest (walked image) image
 
--- a node of a list at rest
+-- a node of an idle list
 pub record IsListed (node : ℕ) (image : Image) : Type 0 where
   pub rest : IsListAtRest image
   pub listed : is_among (walked image) node ≡ true
 
--- a node and both that its links name stand and check
+-- a node and both that its links name are there and check
 pub record HasGoodLinks (list : ListView) (node : ℕ) : Type 0 where
   pub good : list.checks node ≡ true
   pub next_good : list.checks (list.next node) ≡ true

@@ -1,4 +1,4 @@
--- What holds at each word that a change of the use list writes.
+-- What holds at each word that a change of the LRU list writes.
 use Rattle.std.specs.Prelude.{ℕ, nat_lt, if◌then◌else◌, List}
 use Rattle.spec_image.specs.Image.{Image}
 use Rattle.spec_folder.specs.ListView.{ListWrite}
@@ -9,7 +9,7 @@ use Rattle.spec_folder.specs.ListImages.{CompletesTo, CompletesAlike}
 use Rattle.blk_disk.specs.declared.tables.BlockFiles.{BlockFiles}
 use Rattle.blk_disk.specs.Open.{IsOpen}
 
--- at a word of an operation a front of its writes is made and nothing else is shown to change; completing gives the old nodes until the two writes
+-- at a word of an operation a prefix of its writes is made and nothing else is shown to change; completing gives the old nodes until the two writes
 -- are made that name the operation and its node, and the new nodes from then on; the index is whole, and the block files are those that are kept
 pub record IsMidOperation (files : BlockFiles) (writes : List ListWrite) (old new : List ℕ) (from image : Image) : Type 0 where
   pub partly : IsPartly from writes image
@@ -22,7 +22,7 @@ pub record IsMidTouch (files : BlockFiles) (node : ℕ) (writes : List ListWrite
   pub completes : CompletesTo (if nat_lt partly.made 2 then old else new) image
   pub is_open : IsOpen files image
 
--- at a word of a completion a front of its writes is made and nothing else is shown to change, and completing gives what it gave
+-- at a word of a completion a prefix of its writes is made and nothing else is shown to change, and completing gives what it gave
 pub record IsMidCompletion (files : BlockFiles) (from image : Image) : Type 0 where
   pub partly : IsPartly from (completion_writes (list_of from)) image
   pub alike : CompletesAlike from image

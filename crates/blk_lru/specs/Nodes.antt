@@ -26,7 +26,7 @@ IsNodeOrNone files w = (w ≡ 0) ⊎ (is_node_among files w ≡ true)
 abbrev pub HasNode : BlockFiles → Image → ℕ → Type 0
 HasNode files image w = is_node_among files w ≡ true → HasRange image (Block (file_selector w)) (place w) node_size
 
--- the use list of an image, where the nodes that stand are those of the block files that are kept
+-- the LRU list of an image, where the nodes that are there are those of the block files that are kept
 unfoldable pub list_among : BlockFiles → Image → ListView
 list_among files image = record (list_of image) {
   checks = λ w. is_node_among files w && node_checks (node_at image w);
@@ -41,7 +41,7 @@ pub record AreLinksOf (list : ListView) (w : ℕ) (links : Links) : Type 0 where
   pub next : links.next ≡ list.next w
   pub prev : links.prev ≡ list.prev w
 
--- the node that a word names is found where it stands and checks
+-- the node that a word names is found where it is there and checks
 abbrev pub FindsNode : ListView → ℕ → Option Links → Type 0
 FindsNode list w None = list.checks w ≡ false
 FindsNode list w (Some links) = AreLinksOf list w links

@@ -1,4 +1,4 @@
--- What an operation on the use list writes, by the nodes that it goes by.
+-- What an operation on the LRU list writes, by the nodes that it goes by.
 use Rattle.blk_disk.specs.Tables.{is_node_among}
 use Rattle.std.specs.Prelude.{ℕ, ◌≡◌, ◌≢◌, ◌==◌, if◌then◌else◌, Option, None, Some, List, [], ◌∷◌, ◌++◌, IfSome, true}
 use Rattle.spec_folder.specs.ListView.{ListView, ListWrite, Next, Operation, Transaction}
@@ -55,11 +55,11 @@ GoesBy list node (operations.Insert head) = word_or_zero head ≡ list.head
 GoesBy list node (operations.Remove neighbours) = AreBeside (list.next node) (list.prev node) neighbours
 GoesBy list node (operations.Move neighbours head) = AreBeside (list.next node) (list.prev node) neighbours × (word_or_zero head ≡ list.head)
 
--- the nodes beside one stand
+-- the nodes beside one are there
 abbrev pub StandBeside : BlockFiles → Neighbours → Type 0
 StandBeside files neighbours = (is_node_among files neighbours.next ≡ true) × (is_node_among files neighbours.prev ≡ true)
 
--- the nodes that an operation goes by stand
+-- the nodes that an operation goes by are there
 abbrev pub StandsBy : BlockFiles → code.Operation → Type 0
 StandsBy files (operations.Insert head) = IfSome head (λ n. is_node_among files n ≡ true)
 StandsBy files (operations.Remove neighbours) = IfSome neighbours (StandBeside files)

@@ -1,4 +1,4 @@
--- Writes into the use list, as values of the code.
+-- Writes into the LRU list, as values of the code.
 use Rattle.spec_folder.specs.ListView.{ListWrite, Next, Prev, Head, Tail, Transaction, Operation}
 use Rattle.blk_lru.specs.declared.writes.Write.{Write}
 use Rattle.blk_lru.specs.declared.writes.Write.TheVariants as code

@@ -1,4 +1,4 @@
-// Changes of the use list, each a transaction.
+// Changes of the LRU list, each a transaction.
 ghost use Rattle.std.specs.Prelude.{◌≡◌, ◌≢◌, ◌++◌, ◌∷◌, ◌≤◌, ℕ, List, IfOk, IfSome, IsTrue, None, OnOk, Some, true};
 ghost use Rattle.std.specs.Option.{ForSome};
 ghost use Rattle.spec_image.specs.Told.{Applies, MakesPartOf, Passes, Rises, Stays};
@@ -28,11 +28,10 @@ use blk_record::{NodeView, WORD_VALUES};
 
 /// Puts a node in front of the list. It is not in the list, and fewer than 131072 nodes are.
 ///
-/// The operation word and the transaction word are written, then the node's links, the link of the
-/// node that was first, or the last node where there was none, and the first node; at last the
-/// transaction ends. Of a node that is written the seal is 0 first and the hash again in the end.
-/// A head that is neither 0 nor the address of a node that stands is a damage, and so is a node that
-/// is to be written and doesn't check. This takes at most 17 folder calls.
+/// The operation word and the transaction word are written, then the node's links, the link of the node that was first,
+/// or the last node where there was none, and the first node; at last the transaction ends. Of a node that is written
+/// the seal is 0 first and the hash again in the end. A head that is neither 0 nor the address of a node that is there
+/// is corruption, and so is a node that is to be written and doesn't check. This takes at most 17 folder calls.
 pub fn insert_front<F: Folder>(f: &mut F, files: &BlockFiles, node: Addr) -> Result<(), Fault>
     requires stands { IsTrue (is_node_among files.now node) }
     requires is_open { ForSome (F.told f.old).files (IsOpen files.now) }
@@ -49,7 +48,7 @@ pub fn insert_front<F: Folder>(f: &mut F, files: &BlockFiles, node: Addr) -> Res
 
     ensures is_open { ForSome (F.told f.new).files (IsOpen files.now) }
 
-    // A folder that tells its files gives a damage only where the node can't be inserted.
+    // An observable folder reports corruption only where the node can't be inserted.
     ensures damaged { IfDamaged result (IsInsertDamage files.now (F.told f.old) (F.told f.new)) }
     ensures untold { ForSome (F.told f.old).files (λ from. CanBeInserted (list_of from) (walked from) node) → IfDamaged result (λ _. (F.told f.old).files ≡ None) }
 
@@ -63,11 +62,10 @@ pub fn insert_front<F: Folder>(f: &mut F, files: &BlockFiles, node: Addr) -> Res
 
 /// Takes a node out of the list.
 ///
-/// The operation word and the transaction word are written, then the links of the nodes beside it,
-/// or the first or the last node, and at last its own next becomes 0 and the transaction ends. Of a
-/// node that is written the seal is 0 first and the hash again in the end. A link of the node that
-/// isn't the address of a node that stands is a damage, and so is a node that is to be written and
-/// doesn't check. This takes at most 17 folder calls.
+/// The operation word and the transaction word are written, then the links of the nodes beside it, or the first or the
+/// last node, and at last its own next becomes 0 and the transaction ends. Of a node that is written the seal is 0
+/// first and the hash again in the end. A link of the node that isn't the address of a node that is there is
+/// corruption, and so is a node that is to be written and doesn't check. This takes at most 17 folder calls.
 pub fn remove<F: Folder>(f: &mut F, files: &BlockFiles, node: Addr) -> Result<(), Fault>
     requires stands { IsTrue (is_node_among files.now node) }
     requires is_open { ForSome (F.told f.old).files (IsOpen files.now) }
@@ -84,7 +82,7 @@ pub fn remove<F: Folder>(f: &mut F, files: &BlockFiles, node: Addr) -> Result<()
 
     ensures is_open { ForSome (F.told f.new).files (IsOpen files.now) }
 
-    // A folder that tells its files gives a damage only where the node isn't listed.
+    // An observable folder reports corruption only where the node isn't listed.
     ensures damaged { IfDamaged result (IsRemovalDamage node files.now (F.told f.old) (F.told f.new)) }
     ensures untold { ForSome (F.told f.old).files (IsListed node) → IfDamaged result (λ _. (F.told f.old).files ≡ None) }
 
@@ -99,10 +97,10 @@ pub fn remove<F: Folder>(f: &mut F, files: &BlockFiles, node: Addr) -> Result<()
 
 /// Moves a listed node to the front of the list, and sets its two times to a moment.
 ///
-/// The operation word and the transaction word are written, the node is taken out, the operation
-/// word becomes that of an insert, and the node is put in front; then the transaction ends. Where the
-/// node is the first one already no transaction is started. At last the times are written. Damages
-/// are those of an insert and a removal. This takes at most 36 folder calls.
+/// The operation word and the transaction word are written, the node is taken out, the operation word becomes that of
+/// an insert, and the node is put in front; then the transaction ends. Where the node is the first one already no
+/// transaction is started. At last the times are written. Failed checks are those of an insert and a removal. This
+/// takes at most 36 folder calls.
 pub fn touch<F: Folder>(f: &mut F, files: &BlockFiles, node: Addr, moment: u64) -> Result<(), Fault>
     requires stands { IsTrue (is_node_among files.now node) }
     requires is_open { ForSome (F.told f.old).files (IsOpen files.now) }
@@ -120,7 +118,7 @@ pub fn touch<F: Folder>(f: &mut F, files: &BlockFiles, node: Addr, moment: u64) 
 
     ensures is_open { ForSome (F.told f.new).files (IsOpen files.now) }
 
-    // A folder that tells its files gives a damage only where the node isn't listed.
+    // An observable folder reports corruption only where the node isn't listed.
     ensures damaged { IfDamaged result (IsTouchDamage node files.now (F.told f.old) (F.told f.new)) }
     ensures untold { ForSome (F.told f.old).files (IsListed node) → IfDamaged result (λ _. (F.told f.old).files ≡ None) }
 

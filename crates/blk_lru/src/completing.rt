@@ -42,11 +42,10 @@ pub(crate) enum Usable<T> {
 
 /// Completes the operation in flight, if there is one, and ends its transaction.
 ///
-/// An operation counts where its code is that of an insert, a removal or a move, and its node and the
-/// nodes that it goes by stand and check: the first one for an insert and a move, and those beside
-/// the node for a removal and a move. One that doesn't count is given up: its transaction alone ends.
-/// Where there is none in flight nothing is written. The list need not be whole. This takes at most
-/// 34 folder calls.
+/// An operation counts where its code is that of an insert, a removal or a move, and its node and the nodes that it
+/// goes by are there and check: the first one for an insert and a move, and those beside the node for a removal and a
+/// move. One that doesn't count is given up: its transaction alone ends. Where there is none in flight nothing is
+/// written. The list need not be whole. This takes at most 34 folder calls.
 pub fn complete<F: Folder>(f: &mut F, files: &BlockFiles) -> Result<(), Fault>
     requires is_open { ForSome (F.told f.old).files (IsOpen files.now) }
     ensures sealed { OnOk result (ForSome (F.told f.old).files (λ from. ForSome (F.told f.new).files (Seals from (completion_writes (list_of from))))) }
@@ -54,12 +53,12 @@ pub fn complete<F: Folder>(f: &mut F, files: &BlockFiles) -> Result<(), Fault>
     ensures steps { OnOk result (ForSome (F.told f.old).files (λ from. Applies (F.told f.old) (F.told f.new) (completion_steps from))) }
     ensures prefix { MakesPartOf (F.told f.old) (F.told f.new) (λ from. completion_steps from) }
 
-    // At each word completing gives what it gave at the entry, so it may be stopped and begun again; nothing but the list changes.
+    // At each word completing gives what it gave at the entry, so it may crash and be begun again; nothing but the list changes.
     ensures stops { ForSome (F.told f.old).files (λ from. Passes (F.told f.old) (F.told f.new) (IsMidCompletion files.now from)) }
 
     ensures is_open { ForSome (F.told f.new).files (IsOpen files.now) }
 
-    // A folder that tells its files never gives a damage.
+    // An observable folder never reports corruption.
     ensures damaged { IfDamaged result (IsCompletingDamage files.now (F.told f.new)) }
     ensures untold { IfDamaged result (λ _. (F.told f.old).files ≡ None) }
 
@@ -80,7 +79,7 @@ pub fn pending<F: Folder>(f: &mut F, files: &BlockFiles) -> Result<Plan, Fault>
     ensures checked { OnOk result (ForSome (F.told f.old).files (HasFlight files.now)) }
     ensures stays { Stays (F.told f.old) (F.told f.new) }
 
-    // Too few bytes, which a folder that tells its files gives only where its index is too short or the block files don't agree with it.
+    // Too few bytes, which an observable folder gives only where its index is too short or the block files don't agree with it.
     ensures damaged { IfDamaged result (IsPendingDamage files.now (F.told f.new)) }
     ensures untold { ForSome (F.told f.old).files (IsOpen files.now) → IfDamaged result (λ _. (F.told f.old).files ≡ None) }
 

@@ -1,4 +1,4 @@
-// The end of the use list.
+// The end of the LRU list.
 ghost use Rattle.std.specs.Prelude.{◌≡◌, ◌≤◌, IfOk, IfSome, None, OnOk, map, true};
 ghost use Rattle.std.specs.Option.{ForSome};
 ghost use Rattle.spec_image.specs.Told.{Applies, MakesPartOf, Rises, Stays};
@@ -25,9 +25,9 @@ use blk_record::NodeView;
 /// Makes a node the last of the list: it gets itself as its next, and the tail names it. Or, for `None`, makes the
 /// list empty: head and tail become 0.
 ///
-/// A word is written only where it differs. No operation is in flight meanwhile, and the list need not be whole. A
-/// node that is to be written and doesn't check is a damage, and so are too few bytes. This takes at most 7 folder
-/// calls, and 2 where nothing differs.
+/// A word is written only where it differs. No operation is in flight meanwhile, and the list need not be whole. A node
+/// that is to be written and doesn't check is corruption, and so are too few bytes. This takes at most 7 folder calls,
+/// and 2 where nothing differs.
 pub fn end_at<F: Folder>(f: &mut F, files: &BlockFiles, last: Option<Addr>) -> Result<(), Fault>
     requires stands { IfSome last (λ node. is_node_among files.now node ≡ true) }
     requires is_open { ForSome (F.told f.old).files (IsOpen files.now) }
@@ -37,7 +37,7 @@ pub fn end_at<F: Folder>(f: &mut F, files: &BlockFiles, last: Option<Addr>) -> R
     ensures prefix { MakesPartOf (F.told f.old) (F.told f.new) (λ from. steps_of_writes (ending_writes (list_of from) last) from) }
     ensures is_open { ForSome (F.told f.new).files (IsOpen files.now) }
 
-    // A folder that tells its files gives a damage only where the node is to be written and doesn't check.
+    // An observable folder reports corruption only where the node is to be written and doesn't check.
     ensures damaged { IfDamaged result (IsEndDamage last files.now (F.told f.old) (F.told f.new)) }
     ensures untold { ForSome (F.told f.old).files (λ from. CanBeMade from (ending_writes (list_of from) last)) → IfDamaged result (λ _. (F.told f.old).files ≡ None) }
 

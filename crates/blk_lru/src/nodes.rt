@@ -77,7 +77,7 @@ pub(crate) fn link_word<F: Folder>(
     Ok(u32::from_le_bytes(bytes))
 }
 
-// The node that a word names and its links, where it stands and checks, by at most one folder call.
+// The node that a word names and its links, where it is there and checks, by at most one folder call.
 pub(crate) fn checked<F: Folder>(
     f: &mut F,
     files: &BlockFiles,

@@ -1,4 +1,4 @@
-// What an operation on the use list writes.
+// What an operation on the LRU list writes.
 ghost use Rattle.std.specs.Prelude.{◌≡◌, ◌+◌, ◌++◌, ◌∷◌, ◌≤◌, [], length, map};
 ghost use Rattle.spec_folder.specs.Completion.{putting_in_front};
 ghost use Rattle.spec_folder.specs.ListPlans.{ending_by};
@@ -15,7 +15,7 @@ use blk_addr::Addr;
 // insert, four that put the node in front, and the end.
 const MOST_WRITES: usize = 11;
 
-/// Writes into the use list, in their order.
+/// Writes into the LRU list, in their order.
 pub type Plan = ArrayVec<Write, MOST_WRITES>;
 
 // The codes of the operations.
@@ -114,7 +114,7 @@ pub(crate) fn end_plan(last: &Option<Addr>, front: u32, tail: u32) -> Plan
     plan
 }
 
-// Adds what an operation writes behind its code and its node.
+// Adds what an operation writes after its code and its node.
 fn add_pending(plan: &mut Plan, node: Addr, operation: &Operation)
     requires room { length plan.old.items ≤ 2 }
     ensures { map meant plan.new.items ≡ map meant plan.old.items ++ pending node operation.now }

@@ -1,4 +1,4 @@
-// The order of the use list.
+// The order of the LRU list.
 ghost use Rattle.std.specs.Prelude.{◌≡◌, ◌+◌, ◌++◌, ◌∷◌, ◌≤◌, ◌<◌, ◌%◌, ◌==◌, ℕ, List, IfOk, IfSome, IsTrue, None, OnOk, Some, if◌then◌else◌};
 ghost use Rattle.std.specs.Option.{ForSome};
 ghost use Rattle.spec_image.specs.Image.{word as image_word, Block as block, Index as index, HasRange};
@@ -23,7 +23,7 @@ use blk_index::word;
 use blk_io::{Damage, Fault, FileId, Folder};
 use blk_record::{IndexHead, NodeView};
 
-/// The most nodes of a use list. A walk over one passes one more, so that it ends on any folder.
+/// The most nodes of an LRU list. A walk over one passes one more, so that it ends on any folder.
 pub const MOST_NODES: u32 = 131_072;
 
 // The places of the first and the last node in the index.
@@ -33,7 +33,7 @@ pub(crate) const TAIL: u64 = IndexHead::TAILS;
 
 /// The node that was used last, or `None` where the list is empty, by one folder call.
 ///
-/// A word that is neither 0 nor the address of a node that stands is a damage.
+/// A word that is neither 0 nor the address of a node that is there is corruption.
 pub fn first<F: Folder>(f: &mut F, files: &BlockFiles) -> Result<Option<Addr>, Fault>
     ensures node { IfOk result (λ node. ForSome (F.told f.old).files (λ image. IsListAtRest image → node ≡ first_node_of (walked image))) }
     ensures word { IfOk result (λ node. ForSome (F.told f.old).files (λ image. word_or_zero node ≡ (list_of image).head)) }
@@ -41,7 +41,7 @@ pub fn first<F: Folder>(f: &mut F, files: &BlockFiles) -> Result<Option<Addr>, F
     ensures checked { OnOk result (ForSome (F.told f.old).files (λ image. HasRange image index IndexHead.HEADS 4)) }
     ensures stays { Stays (F.told f.old) (F.told f.new) }
 
-    // Too few bytes, or a word that names no node, which no told folder gives whose list is at rest.
+    // Too few bytes, or a word that names no node, which no observable folder gives whose list is idle.
     ensures damaged { IfDamaged result (IsListHeadDamage files.now (F.told f.old)) }
     ensures untold { ForSome (F.told f.old).files HasWholeIndex → ForSome (F.told f.old).files (Agrees files.now) → ForSome (F.told f.old).files IsListAtRest → IfDamaged result (λ _. (F.told f.old).files ≡ None) }
 
@@ -53,7 +53,7 @@ pub fn first<F: Folder>(f: &mut F, files: &BlockFiles) -> Result<Option<Addr>, F
 
 /// The node that was used first, or `None` where the list is empty, by one folder call.
 ///
-/// A word that is neither 0 nor the address of a node that stands is a damage.
+/// A word that is neither 0 nor the address of a node that is there is corruption.
 pub fn last<F: Folder>(f: &mut F, files: &BlockFiles) -> Result<Option<Addr>, Fault>
     ensures node { IfOk result (λ node. ForSome (F.told f.old).files (λ image. IsListAtRest image → node ≡ last_node_of (walked image))) }
     ensures word { IfOk result (λ node. ForSome (F.told f.old).files (λ image. word_or_zero node ≡ (list_of image).tail)) }
@@ -61,7 +61,7 @@ pub fn last<F: Folder>(f: &mut F, files: &BlockFiles) -> Result<Option<Addr>, Fa
     ensures checked { OnOk result (ForSome (F.told f.old).files (λ image. HasRange image index IndexHead.TAILS 4)) }
     ensures stays { Stays (F.told f.old) (F.told f.new) }
 
-    // Too few bytes, or a word that names no node, which no told folder gives whose list is at rest.
+    // Too few bytes, or a word that names no node, which no observable folder gives whose list is idle.
     ensures damaged { IfDamaged result (IsListTailDamage files.now (F.told f.old)) }
     ensures untold { ForSome (F.told f.old).files HasWholeIndex → ForSome (F.told f.old).files (Agrees files.now) → ForSome (F.told f.old).files IsListAtRest → IfDamaged result (λ _. (F.told f.old).files ≡ None) }
 
@@ -73,7 +73,7 @@ pub fn last<F: Folder>(f: &mut F, files: &BlockFiles) -> Result<Option<Addr>, Fa
 
 /// The node before a listed one, which was used after it, or `None` before the first, by one folder call.
 ///
-/// A link that isn't the address of a node that stands is a damage.
+/// A link that isn't the address of a node that is there is corruption.
 pub fn before<F: Folder>(f: &mut F, files: &BlockFiles, node: Addr) -> Result<Option<Addr>, Fault>
     requires stands { IsTrue (is_node_among files.now node) }
     ensures node { IfOk result (λ found. ForSome (F.told f.old).files (λ image. Agrees files.now image → (prefix suffix : List ℕ) → HasListAtRest (prefix ++ node ∷ suffix) image → found ≡ last_node_of prefix)) }
@@ -82,7 +82,7 @@ pub fn before<F: Folder>(f: &mut F, files: &BlockFiles, node: Addr) -> Result<Op
     ensures checked { OnOk result (ForSome (F.told f.old).files (λ image. HasRange image (block (file_selector node)) (place node + NodeView.PREV) 4)) }
     ensures stays { Stays (F.told f.old) (F.told f.new) }
 
-    // Too few bytes, or a word that names no node, which no told folder gives in whose list the node is.
+    // Too few bytes, or a word that names no node, which no observable folder gives in whose list the node is.
     ensures damaged { IfDamaged result (IsNodeLinkDamage node NodeView.PREV files.now (F.told f.old)) }
     ensures untold { ForSome (F.told f.old).files (Agrees files.now) → ForSome (F.told f.old).files (IsListed node) → IfDamaged result (λ _. (F.told f.old).files ≡ None) }
 
@@ -93,9 +93,9 @@ pub fn before<F: Folder>(f: &mut F, files: &BlockFiles, node: Addr) -> Result<Op
     Ok(unless_same(node, other))
 }
 
-/// The node behind a listed one, which was used before it, or `None` behind the last, by one folder call.
+/// The node after a listed one, which was used before it, or `None` after the last, by one folder call.
 ///
-/// A link that isn't the address of a node that stands is a damage.
+/// A link that isn't the address of a node that is there is corruption.
 pub fn after<F: Folder>(f: &mut F, files: &BlockFiles, node: Addr) -> Result<Option<Addr>, Fault>
     requires stands { IsTrue (is_node_among files.now node) }
     ensures node { IfOk result (λ found. ForSome (F.told f.old).files (λ image. Agrees files.now image → (prefix suffix : List ℕ) → HasListAtRest (prefix ++ node ∷ suffix) image → found ≡ first_node_of suffix)) }
@@ -104,7 +104,7 @@ pub fn after<F: Folder>(f: &mut F, files: &BlockFiles, node: Addr) -> Result<Opt
     ensures checked { OnOk result (ForSome (F.told f.old).files (λ image. HasRange image (block (file_selector node)) (place node + NodeView.NEXT) 4)) }
     ensures stays { Stays (F.told f.old) (F.told f.new) }
 
-    // Too few bytes, or a word that names no node, which no told folder gives in whose list the node is.
+    // Too few bytes, or a word that names no node, which no observable folder gives in whose list the node is.
     ensures damaged { IfDamaged result (IsNodeLinkDamage node NodeView.NEXT files.now (F.told f.old)) }
     ensures untold { ForSome (F.told f.old).files (Agrees files.now) → ForSome (F.told f.old).files (IsListed node) → IfDamaged result (λ _. (F.told f.old).files ≡ None) }
 

@@ -1,4 +1,4 @@
-// Writes into the use list.
+// Writes into the LRU list.
 ghost use Rattle.std.specs.Prelude.{◌≡◌, ◌<◌, ◌≤◌, ◌^◌, ◌%◌, [], ◌∷◌, None, OnOk, map, true};
 ghost use Rattle.std.specs.Option.{ForSome};
 ghost use Rattle.spec_image.specs.Image.{Index as index};
@@ -28,10 +28,10 @@ pub(crate) const TRANSACTION: u64 = IndexHead::TRANSACTION;
 
 pub(crate) const OPERATION: u64 = IndexHead::OPERATION;
 
-/// A word of the use list becomes another one.
+/// A word of the LRU list becomes another one.
 #[derive(Clone, Copy, Debug)]
 pub enum Write {
-    /// The next of a node: the address of the node behind it, its own at the end, or 0.
+    /// The next of a node: the address of the node after it, its own at the end, or 0.
     Next(Addr, u32),
     /// The prev of a node: the address of the node before it, or its own at the front.
     Prev(Addr, u32),
@@ -45,7 +45,7 @@ pub enum Write {
     Operation(u32),
 }
 
-// Makes writes in turn, whose nodes stand. Each node is checked before it is written.
+// Makes writes in turn, whose nodes are valid. Each node is checked before it is written.
 pub(crate) fn perform<F: Folder>(
     f: &mut F,
     files: &BlockFiles,
@@ -131,7 +131,7 @@ fn set_index<F: Folder>(f: &mut F, at: u64, word: u32) -> Result<(), Fault>
 }
 
 impl Default for Write {
-    // Fills the room of plans.
+    // Fills the buffer of plans.
     fn default() -> Write {
         Write::Operation(0)
     }

@@ -1,4 +1,4 @@
--- Rows that are chosen by the objects that have them are a valid holding.
+-- Rows that are chosen by the objects that have them are a valid snapshot.
 use Rattle.std.proofs.Common.{◌≡◌, ℕ, ◌+◌, ◌<◌, ◌≤◌, Bool, true, false, ◌&&◌, ◌||◌, cond, List, [], ◌∷◌, Some, None, Option, is_some, refl, ap, sym, ◌∙◌, subst, arith, get_or}
 use Rattle.std.specs.List.{All, count_by, filter_map, cons_option}
 use Rattle.std.specs.Option.{option_and_then, option_map}
@@ -117,12 +117,12 @@ sparse_with_part object key n valid has =
       | false ↦ λ is. absurd (none_found n object.parts (valid.plain_has_no_parts is) (and_parts (object.live && bytes_eq key object.key) _ has).1)
     ] refl
 
--- a list in which each item stands at most once, and no part without its main item
+-- a list in which each item occurs at most once, and no part without its main item
 pub record IsGoodList (items : List Item) : Type 0 where
   pub once : (item : Item) → times item items ≤ 1
   pub with_main : (key : List ℕ) (n : ℕ) → 1 ≤ times (part key n) items → 1 ≤ times (main key) items
 
--- the use list of a valid state is one
+-- the LRU list of a valid state is one
 pub uses_are_good : (state : State) (valid : IsValidState state) → IsGoodList state.uses
 uses_are_good state valid = record {
   once = valid.once;
@@ -161,7 +161,7 @@ none_either_way : (b : Bool) → ◌≡◌ {A = ℕ} 0 (cond b 0 0)
 none_either_way true = refl
 none_either_way false = refl
 
--- how often an item stands among the rows that are given
+-- how often an item occurs among the rows that are given
 times_chosen : (f : Item → Option Row) → ((item : Item) (row : Row) → f item ≡ Some row → item_of row ≡ item) → (item : Item) (list : List Item) → times item (items_in (filter_map f list)) ≡ cond (is_some (f item)) (times item list) 0
 times_chosen f own item [] = none_either_way (is_some (f item))
 times_chosen f own item (j ∷ list) =
@@ -218,7 +218,7 @@ parent_of rows object (part key n) row e parent =
       | Some value ↦ λ some. let is : part_row key n value ≡ row = cc in subst (HasParent rows) is (parent key n refl)
     ] e
 
--- rows that are chosen from a good list are a valid holding
+-- rows that are chosen from a good list are a valid snapshot
 pub chosen_are_valid : (state : State) (valid : IsValidState state) (f : Item → Option Row) (keep : ℕ → Object → Bool) → ChoosesBy state f keep → (list : List Item) → IsGoodList list → IsValidHolding (filter_map f list)
 unfolding owned_by chosen_owner
 chosen_are_valid state valid f keep chooses list good =
@@ -244,7 +244,7 @@ chosen_are_valid state valid f keep chooses list good =
           let few = once (main key) in omega arith));
     }
 
--- the rows of settled objects are chosen
+-- the rows of clean objects are chosen
 pub settled_chooses : (state : State) → ChoosesBy state (settled_row state) (λ number object. object.settled)
 unfolding settled_row
 settled_chooses state = record {
@@ -258,7 +258,7 @@ row_at : (state : State) (item : Item) (o : Owner state item) → row_of state i
 unfolding row_of
 row_at state item o = ap (λ s. option_and_then (λ (x : Object). row_in x item) (option_and_then (object_at state) s)) o.found ∙ ap (λ s. option_and_then (λ (x : Object). row_in x item) s) o.here
 
--- whether an object stays through a stop
+-- whether an object stays through a crash
 abbrev pub stays_through : State → State → Bool → ℕ → Bool
 stays_through before after with number = is_safe before after number || (with && is_turned before after number)
 
@@ -270,7 +270,7 @@ picked_chooses before after with = record {
   somebody = λ item o. ap (λ s. option_and_then (picked_by before after with item) s) o.found ∙ ap (λ r. cond (stays_through before after with o.number) r None) (row_at before item o);
 }
 
--- what a valid state leaves is a valid holding
+-- what a valid state leaves is a valid snapshot
 pub rest_is_valid : (state : State) → IsValidState state → IsValidHolding (rest state)
 unfolding rest
 rest_is_valid state valid = chosen_are_valid state valid (settled_row state) _ (settled_chooses state) state.uses (uses_are_good state valid)

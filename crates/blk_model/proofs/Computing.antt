@@ -1,4 +1,4 @@
--- All that a computation with commands, holdings and stops unfolds, named once.
+-- All that a computation with commands, snapshots and crashes unfolds, named once.
 use Rattle.std.specs.Fmt.{digits}
 use Rattle.blk_model.specs.Bytes.{numbers_from}
 use Rattle.blk_model.specs.Charge.{part_name}

@@ -21,7 +21,7 @@ use Rattle.blk_model.proofs.Each.{Each-map, Each-weaker, any_has}
 use Rattle.blk_model.proofs.States.{some_of, has_main, main_owner}
 use Rattle.blk_model.proofs.Doomed.{contrary}
 
--- a group goes for an item that need not stay
+-- a group is evicted for an item that need not stay
 abbrev pub IsLoose : (Item → Bool) → Group → Type 0
 IsLoose stays (whole key parts) = stays (main key) ≡ false
 IsLoose stays (single key n) = stays (part key n) ≡ false
@@ -181,13 +181,13 @@ state_without_some state valid covered groups loose =
     most true n le = le
     most false n le = omega arith
 
--- groups of items that are not pinned may go
+-- groups of items that are not pinned may be evicted
 pub state_without : (state : State) (valid : IsValidState state) (covered : List Item) (groups : List Group) → AllByRecursion (IsLoose (is_pinned state covered)) groups → IsValidState (without groups state)
 unfolding without
 state_without state valid covered [] loose = valid
 state_without state valid covered (group ∷ groups) loose = state_without_some state valid covered (group ∷ groups) loose
 
--- the groups that could go are of items that need not stay
+-- the groups that could be evicted are of items that need not stay
 pub groups_are_loose : (stays : Item → Bool) (items : List Item) → AllByRecursion (IsLoose stays) (groups_from_back stays items)
 unfolding groups_from_back
 groups_are_loose stays [] = tt

@@ -94,7 +94,7 @@ module _ (state : State) (group : Group) (groups : List Group) where
   has_same item o stays =
       ap (slot_has_item item) (sym (left_is (group ∷ groups) item o.object stays o.has)) ∙ left_slot_has (group ∷ groups) item (Some o.object) ∙ ap (λ b. cond b false (has_item o.object item)) stays
 
-  -- the tests of a stop on its object are the same
+  -- the tests of a crash on its object are the same
   stays_same : (after : State) (with : Bool) (item : Item) (o : Owner state item) → is_out (group ∷ groups) item ≡ false → stays_through (without (group ∷ groups) state) after with o.number ≡ stays_through state after with o.number
   unfolding is_safe is_turned
   stays_same after with item o stays =
@@ -105,7 +105,7 @@ module _ (state : State) (group : Group) (groups : List Group) where
   row_same : (item : Item) (o : Owner state item) → is_out (group ∷ groups) item ≡ false → row_in (record o.object { parts = kept_parts (group ∷ groups) o.object }) item ≡ row_in o.object item
   row_same item o stays = left_row (group ∷ groups) item o.object stays (owner_key o.object item o.has)
 
-  -- an item that isn't out stays through a stop as it did
+  -- an item that isn't out stays through a crash as it did
   picked_left : (after : State) (with : Bool) (item : Item) → is_out (group ∷ groups) item ≡ false → picked (without (group ∷ groups) state) after with item ≡ picked state after with item
   unfolding left_has picked
   picked_left after with item stays = go (owner state item) refl where
@@ -119,7 +119,7 @@ module _ (state : State) (group : Group) (groups : List Group) where
         ∙ ap (λ r. cond (stays_through state after with o.number) r None) (row_same item o stays)
         ∙ sym ((picked_chooses state after with).somebody item o)
 
-  -- and is at rest as it was
+  -- and is durable as it was
   pub settled_left : (item : Item) → is_out (group ∷ groups) item ≡ false → settled_row (without (group ∷ groups) state) item ≡ settled_row state item
   unfolding left_has settled_row
   settled_left item stays = go (owner state item) refl where

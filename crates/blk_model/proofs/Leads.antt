@@ -21,8 +21,8 @@ use Rattle.blk_model.proofs.Evicted.{kept_parts, kept_part_at, map_at, state_wit
 use Rattle.blk_model.proofs.Written.{without_names}
 use Rattle.blk_model.proofs.Steps.{none_comes, room_for_is_loose}
 
--- an object keeps its key and does not come to life; what it has while it is settled it had before.
--- Where settles is false no unsettled object becomes settled, and where it is true no settled one becomes unsettled.
+-- an object keeps its key and does not come to life; what it has while it is clean it had before.
+-- Where settles is false no dirty object becomes clean, and where it is true no clean one becomes dirty.
 pub record LeadsTo (settles : Bool) (old new : Object) : Type 0 where
   pub key : new.key ≡ old.key
   pub live : new.live ≡ true → old.live ≡ true
@@ -30,7 +30,7 @@ pub record LeadsTo (settles : Bool) (old new : Object) : Type 0 where
   pub stays : settles ≡ true → new.live ≡ true → old.settled ≡ true → new.settled ≡ true
   pub items : new.live ≡ true → new.settled ≡ true → (item : Item) → has_item new item ≡ true → (has_item old item ≡ true) × (row_in new item ≡ row_in old item)
 
--- the same of a slot; an object that was not there before is unsettled and fresh
+-- the same of a slot; an object that was not there before is dirty and fresh
 abbrev pub Leads : Bool → (Object → Type 0) → Option Object → Option Object → Type 0
 Leads settles Fresh before None = Unit {0}
 Leads settles Fresh None (Some new) = (new.settled ≡ false) × Fresh new
@@ -119,7 +119,7 @@ unfolding without
 length-without [] state = refl
 length-without (group ∷ groups) state = length-map state.objects (option_and_then (left_of (group ∷ groups)))
 
--- an object that is unsettled after, with its key and no more life than before
+-- an object that is dirty after, with its key and no more life than before
 to_loose : (old new : Object) → new.key ≡ old.key → (new.live ≡ true → old.live ≡ true) → new.settled ≡ false → LeadsTo false old new
 to_loose old new key live loose = record { key = key; live = live; unturned = λ s l e. absurd (contrary loose e); stays = λ s. absurd (contrary refl s); items = λ l e. absurd (contrary loose e) }
 
@@ -175,7 +175,7 @@ sparse_written_leads state valid moment handle offset bytes bound n =
     let object = object_of state handle in
     set_leads false state.objects (number_of state handle) object (Some (sparse_after moment object offset bytes)) (ap (object_at state) named.number_is ∙ named.here ∙ ap Some (sym named.object_is)) (sparse_after_leads moment object offset bytes) n
 
--- whether a request is one that may settle an object
+-- whether a request is one that may make an object clean
 abbrev pub is_close : Request → Bool
 is_close (to_close handle) = true
 is_close _ = false

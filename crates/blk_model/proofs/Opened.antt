@@ -127,7 +127,7 @@ listed_in rows valid (part key n) =
           let none : ◌≡◌ {A = ℕ} 0 (min 1 (times (part key n) (items_in rows))) = ap (λ b. cond b 1 0) (sym missing) ∙ here in omega arith
     ] refl ∙ sym (owners_of_part key n rows rows)
 
--- a plain main row leaves room for no sparse one of its key
+-- a key with a plain main row has no sparse one
 no_sparse : (key : List ℕ) (streams : Streams) (rows : List Row) (k : ℕ) (d : Row) → k < length rows → get_or rows k d ≡ main_row key plain streams → count_by (is_sparse_main key) rows + 1 ≤ times (main key) (items_in rows)
 no_sparse key streams [] k d within e = absurd (omega arith)
 no_sparse key streams (row ∷ rows) zero d within e =

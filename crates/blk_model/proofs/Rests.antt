@@ -41,7 +41,7 @@ row_from_slot state item n object row here has few settled is =
     ap (λ o. option_and_then (λ (x : Object). cond x.settled (row_in x item) None) (option_and_then (object_at state) o)) number
     ∙ ap (λ o. option_and_then (λ (x : Object). cond x.settled (row_in x item) None) o) here ∙ ap (λ b. cond b (row_in object item) None) settled ∙ is
 
--- the item of a row stands among the items
+-- the item of a row is among the items
 stands : (item : Item) (rows : List Row) (k : ℕ) (d : Row) → k < length rows → item_of (get_or rows k d) ≡ item → 1 ≤ times item (items_in rows)
 stands item [] k d within e = absurd (omega arith)
 stands item (row ∷ rows) zero d within e =
@@ -102,7 +102,7 @@ row_back rows limits valid k d (part_row key n value) within e parent =
     row_from_slot (open_state rows limits) (part key n) slot.0 (found_object rows key (sparse place.1) place.2) (part_row key n value) slot.1
     (and_from _ _ (bytes_eq_self key) (ap is_some found)) (omega arith) refl (ap (option_map (λ v. part_row key n v)) found)
 
--- a holding that is opened and left is as it was
+-- a snapshot that is opened and left is as it was
 pub rest-open_state : (rows : List Row) (limits : Bounds) → IsValidHolding rows → rest (open_state rows limits) ≡ rows
 unfolding rest open_state
 rest-open_state rows limits valid = given_back (settled_row (open_state rows limits)) rows (λ k d within. row_back rows limits valid k d (get_or rows k d) within refl (valid.parents k d within))

@@ -72,7 +72,7 @@ gap_is_zeros : replies new (to_create 0 (codes "g") ∷ to_write 0 1 5000 false 
 unfolding computing
 gap_is_zeros = refl
 
--- a write that cuts leaves nothing behind it
+-- a write that cuts leaves nothing after it
 cut_ends_the_stream : replies new (to_create 0 (codes "g") ∷ to_write 0 0 0 false (codes "abcdef") ∷ to_write 0 0 1 true (codes "x") ∷ to_read 0 0 0 9 ∷ [])
     ≡ ok ∷ wrote 6 ∷ wrote 1 ∷ gives (codes "ax") ∷ []
 unfolding computing
@@ -103,7 +103,7 @@ made key a b c = to_create 0 key ∷ to_write 0 0 0 false (fill a) ∷ to_write 
 abbrev four : List Request
 four = made (codes "a") 39 0 0 ++ made (codes "b") 100 100 99 ++ made (codes "c") 100 100 99 ++ made (codes "d") 100 100 99
 
--- the last used go, until no more than the low-water mark is left
+-- the last used are evicted, until no more than the low-water mark is left
 last_used_are_evicted : replies (after_all small four) (to_total ∷ to_create 0 (codes "e") ∷ to_write 0 0 0 false (fill 60) ∷ to_total ∷ [])
     ≡ totals 4 940 ∷ ok ∷ (whole (codes "a") [] ∷ whole (codes "b") [] ∷ [], answered (answer.Wrote 60)) ∷ totals 3 661 ∷ []
 unfolding computing

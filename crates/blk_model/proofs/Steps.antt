@@ -37,7 +37,7 @@ none_comes (case ∷ cases) e =
     not_none : (why : Refusal) → Some why ≡ None → ⊥
     not_none why e = cc
 
--- what goes for room is not pinned
+-- what is evicted for space is not pinned
 pub room_is_loose : (state : State) (items : List Item) (bytes more : ℕ) → AllByRecursion (IsLoose (is_pinned state items)) (evicted_for (room state items bytes more))
 unfolding room
 room_is_loose state items bytes more =

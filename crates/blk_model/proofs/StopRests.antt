@@ -1,4 +1,4 @@
--- What is at rest before a command and after it is something that a stop in it may leave.
+-- The durable contents before a command and after it are something that a crash in it may leave.
 use Rattle.std.proofs.Common.{◌≡◌, ℕ, ◌+◌, ◌≤◌, Bool, true, false, not, ◌&&◌, ◌||◌, cond, List, [], ◌∷◌, Some, None, Option, refl, ap, sym, ◌∙◌, subst, arith, length}
 use Rattle.std.specs.List.{filter_map, cons_option}
 use Rattle.std.specs.Str.{bytes_eq}
@@ -38,11 +38,11 @@ pub owner_key : (object : Object) (item : Item) → has_item object item ≡ tru
 owner_key object (main key) has = same_bytes key object.key (and_parts object.live _ has).1
 owner_key object (part key n) has = same_bytes key object.key (and_parts object.live _ (and_parts (object.live && bytes_eq key object.key) _ has).0).1
 
--- the tests of a stop, of one object that is live before
+-- the tests of a crash, of one object that is live before
 stays_by : (settled live_after settled_after with : Bool) → Bool
 stays_by settled live_after settled_after with = (settled && (settled_after || not live_after)) || (with && (live_after && differ settled settled_after))
 
--- with turned objects what stays is what was settled, if no object is settled by the command
+-- with objects in transition what stays is what was clean, if no object becomes clean by the command
 turned_stay : (settled live after_settled : Bool) → (live ≡ true → after_settled ≡ true → settled ≡ true) → stays_by settled live (live && after_settled) true ≡ settled
 unfolding stays_by
 turned_stay true true true h = refl
@@ -52,7 +52,7 @@ turned_stay false true true h = sym (h refl refl)
 turned_stay false true false h = refl
 turned_stay false false after h = refl
 
--- without them the same, if no object is unsettled by the command
+-- without them the same, if no object becomes dirty by the command
 unturned_stay : (settled live after_settled : Bool) → (live ≡ true → settled ≡ true → after_settled ≡ true) → stays_by settled live (live && after_settled) false ≡ settled
 unfolding stays_by
 unturned_stay true true true h = refl
@@ -96,7 +96,7 @@ unfolding after_of
 live_and_settled_is None = refl
 live_and_settled_is (Some object) = refl
 
--- no object is settled by a command that is no Close, and none is unsettled by a Close
+-- no object becomes clean by a command that is no Close, and none becomes dirty by a Close
 none_settled : (closes : Bool) (Fresh : Object → Type 0) (old : Object) (slot : Option Object) → Leads closes Fresh (Some old) slot → closes ≡ false → is_live slot ≡ true → after_of slot ≡ true → old.settled ≡ true
 unfolding after_of
 none_settled closes Fresh old None leads no_close live settled = cc
@@ -111,7 +111,7 @@ before_stays : (closes : Bool) (Fresh : Object → Type 0) (old : Object) (slot 
 before_stays true Fresh old slot leads = unturned_stay old.settled (is_live slot) (after_of slot) (none_unsettled true Fresh old slot leads refl)
 before_stays false Fresh old slot leads = turned_stay old.settled (is_live slot) (after_of slot) (none_settled false Fresh old slot leads refl)
 
--- what is at rest before is picked from the use list before
+-- the durable contents before are picked from the LRU list before
 pub picked_before : (before after : State) (closes : Bool) → ((n : ℕ) → Leads closes (IsFresh before) (object_at before n) (object_at after n)) → (item : Item) → picked before after (not closes) item ≡ settled_row before item
 picked_before before after closes leads item =
     let picks = picked_chooses before after (not closes) in
@@ -152,7 +152,7 @@ row_or_none false false row old_row e h = refl
 nobody_is : (m n : ℕ) → Some m ≡ None → ⊥
 nobody_is m n e = cc
 
--- an item of an object that was there before is picked exactly where the object is settled after
+-- an item of an object that was there before is picked exactly where the object is clean after
 after_was : (before after : State) (valid : IsValidState before) (closes : Bool) (item : Item) (now : Owner after item) (old : Object) → object_at before now.number ≡ Some old → LeadsTo closes old now.object → picked before after closes item ≡ settled_row after item
 after_was before after valid closes item now old here leads =
     let picks = picked_chooses before after closes in
@@ -181,7 +181,7 @@ after_was before after valid closes item now old here leads =
           ∙ sym (settles.somebody item now)
     ] refl
 
--- an item of a new object is not picked, and the object is not settled
+-- an item of a new object is not picked, and the object is not clean
 after_new : (before after : State) (closes : Bool) (item : Item) (now : Owner after item) → now.object.settled ≡ false → IsFresh before now.object → picked before after closes item ≡ settled_row after item
 after_new before after closes item now loose fresh =
     let picks = picked_chooses before after closes in
@@ -191,7 +191,7 @@ after_new before after closes item now loose fresh =
       | Some m ↦ λ found. absurd (fresh_owner before item now.object now.has fresh (owner_of before item m found))
     ] refl
 
--- what is at rest after is picked from the use list after
+-- the durable contents after are picked from the LRU list after
 picked_after : (before after : State) (valid : IsValidState before) (valid_after : IsValidState after) (closes : Bool) → ((n : ℕ) → Leads closes (IsFresh before) (object_at before n) (object_at after n)) → (item : Item) → 1 ≤ times item after.uses →
     picked before after closes item ≡ settled_row after item
 picked_after before after valid valid_after closes leads item some =
@@ -203,7 +203,7 @@ picked_after before after valid valid_after closes leads item some =
       | Some old ↦ λ e was. after_was before after valid closes item now old e was
     ] refl to_now
 
--- what is at rest before a command may be left by a stop in it
+-- the durable contents before a command may be left by a crash in it
 pub rest_before : (state : State) (moment : ℕ) (request : Request) → IsValidState state → StopOutcome state moment request (step state moment request).state (rest state)
 unfolding rest pick list_after
 rest_before state moment request valid =
@@ -215,7 +215,7 @@ rest_before state moment request valid =
       picked_rows = sym (same_rows (picked state after (not (is_close request))) (settled_row state) state.uses (λ item some. picked_before state after (is_close request) (step_leads state valid moment request) item));
     }
 
--- what is at rest after a command may be left by a stop in it
+-- the durable contents after a command may be left by a crash in it
 pub rest_after : (state : State) (moment : ℕ) (request : Request) → IsValidState state → IsRequest request → StopOutcome state moment request (step state moment request).state (rest (step state moment request).state)
 unfolding rest pick list_after
 rest_after state moment request valid can =

@@ -1,4 +1,4 @@
--- Worked stops on the model, computed: the items that a stop inside a command may leave.
+-- Worked crashes on the model, computed: the items that a crash inside a command may leave.
 use Rattle.std.proofs.Common.{◌≡◌, ℕ, Bool, true, false, List, [], ◌∷◌, ◌++◌, refl, codes, length, map, ◌<◌, arith}
 use Rattle.std.specs.List.{AllByRecursion}
 use Rattle.std.proofs.lemmas.List.Elements.{All-nil, All-cons}
@@ -34,7 +34,7 @@ made key = to_create 0 key ∷ to_close 0 ∷ []
 abbrev three : State
 three = after_all new (made a ++ made b ++ made c)
 
--- the items that are left where a request is stopped after some list steps
+-- the items that are left where a request crashes after some list steps
 abbrev held : State → Request → ℕ → Bool → List Item
 held state request j with_turned = map item_of (pick state (step state 100 request).state with_turned (list_after state 100 request j))
 
@@ -61,7 +61,7 @@ closed_held : held changed (to_close 5) 0 false ∷ held changed (to_close 5) 0 
 unfolding computing
 closed_held = refl
 
--- the first write to an open settled object: it is there with what it had, or absent, in the old order or the new one
+-- the first write to an open clean object: it is there with what it had, or absent, in the old order or the new one
 abbrev opened_a : State
 opened_a = after_all three (to_open 5 a ∷ to_open 6 b ∷ [])
 
@@ -70,7 +70,7 @@ written_held : held opened_a (to_write 5 0 0 false (codes "x")) 0 true ∷ held 
 unfolding computing
 written_held = refl
 
--- a new object is never left by a stop in the command that makes it
+-- a new object is never left by a crash in the command that makes it
 created_held : held three (to_create 5 (codes "d")) 0 true ∷ held three (to_create 5 (codes "d")) 1 true ∷ [] ≡ (main c ∷ main b ∷ main a ∷ []) ∷ (main c ∷ main b ∷ main a ∷ []) ∷ []
 unfolding computing
 created_held = refl
@@ -89,7 +89,7 @@ evicted_whole : held sparse_c (to_trim 0) 0 false ∷ held sparse_c (to_trim 0) 
 unfolding computing
 evicted_whole = refl
 
--- the same with a part behind its main item, which goes alone and first
+-- the same with a part after its main item, which goes alone and first
 abbrev part_behind : State
 part_behind = after_all new (made a ++ to_create 0 c ∷ to_sparse_write 0 0 (codes "x") ∷ to_sparse_write 0 1048576 (codes "y") ∷ to_close 0 ∷ [])
 
@@ -98,7 +98,7 @@ evicted_part_first : held part_behind (to_trim 0) 0 false ∷ held part_behind (
 unfolding computing
 evicted_part_first = refl
 
--- an open changed object is not at rest, and neither are its parts
+-- an open changed object is not durable, and neither are its parts
 at_rest : map item_of (rest changed) ∷ map item_of (rest (after_all sparse_c (to_open 1 c ∷ to_sparse_write 1 7 (codes "z") ∷ []))) ∷ [] ≡ (main c ∷ main b ∷ []) ∷ [] ∷ []
 unfolding computing
 at_rest = refl
@@ -127,11 +127,11 @@ pub a_goes_first : EvictsFirst pair 100 (to_trim 0) (whole a [] ∷ []) (whole b
 unfolding computing
 a_goes_first = record { passes = refl; groups = refl }
 
--- so what is at rest without it may be left by a stop
+-- so the durable contents without it may be left by a crash
 b_alone_is_left : StopOutcome pair 100 (to_trim 0) (step pair 100 (to_trim 0)).state (rest (without (whole a [] ∷ []) pair))
 b_alone_is_left = evictions-stop pair 100 (to_trim 0) (whole a [] ∷ []) (whole b [] ∷ []) pair_is_valid a_goes_first
 
--- and so may what a stop before the second group leaves
+-- and so may what a crash before the second group leaves
 none_is_left : StopOutcome pair 100 (to_trim 0) (step pair 100 (to_trim 0)).state (pick (without (whole a [] ∷ []) pair) (step pair 100 (to_trim 0)).state true (after_steps (out (whole b []) ∷ []) (without (whole a [] ∷ []) pair).uses))
 unfolding dooms uses_of
 none_is_left = evictions-first pair 100 (to_trim 0) (whole a [] ∷ []) (whole b [] ∷ []) _ pair_is_valid a_goes_first (record { step_count = 1; within = omega arith; with_turned = true; picked_rows = refl })

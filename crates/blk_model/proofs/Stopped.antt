@@ -1,4 +1,4 @@
--- What a stop leaves is a valid holding, and what is at rest before and after a command is something that a stop in it may leave.
+-- What a crash leaves is a valid snapshot, and the durable contents before and after a command are something that a crash in it may leave.
 use Rattle.std.proofs.Common.{◌≡◌, ℕ, zero, suc, ◌≤◌, Bool, true, false, not, cond, List, [], ◌∷◌, ◌++◌, Some, None, Option, refl, ap, sym, ◌∙◌, subst, arith, length, map, take}
 use Rattle.std.proofs.lemmas.Bool.{and_parts}
 use Rattle.blk_model.specs.Items.{Item, main, part, Row, IsValidHolding, same_item, times}
@@ -15,7 +15,7 @@ use Rattle.blk_model.proofs.Same.{same_bytes, bytes_eq_self}
 use Rattle.blk_model.proofs.Times.{times-filter, times-used}
 use Rattle.blk_model.proofs.Chosen.{IsGoodList, uses_are_good, chosen_are_valid, picked_chooses}
 
--- what a step needs of the list that it is made on: a part comes to the front only where its main item stands
+-- what a step needs of the list that it is made on: a part comes to the front only where its main item is
 abbrev pub IsFit : List Item → ListStep → Type 0
 IsFit items (out group) = Unit {0}
 IsFit items (front (main key)) = Unit {0}
@@ -173,7 +173,7 @@ list_after_good : (state : State) (valid : IsValidState state) (moment : ℕ) (r
 unfolding list_after
 list_after_good state valid moment request j = steps_good (list_steps state moment request) state.uses (uses_are_good state valid) (list_steps_fit state moment request) j
 
--- each pick of a stop outcome is a valid holding
+-- each pick of a crash outcome is a valid snapshot
 pub stop_is_valid : (before : State) (moment : ℕ) (request : Request) (after : State) (held : List Row) → IsValidState before → StopOutcome before moment request after held → IsValidHolding held
 unfolding pick
 stop_is_valid before moment request after held valid outcome =

@@ -91,7 +91,7 @@ apart_from x y less =
           absurd (elim (nat_cmp x x) as (λ r. is_eq r ≡ true → is_lt r ≡ true → ⊥) [ Less ↦ λ a b. cc | Equal ↦ λ a b. cc | Greater ↦ λ a b. cc ] tied (subst (λ z. is_lt (nat_cmp x z) ≡ true) same less))
     ] refl
 
--- in a sorted list each number has the value that stands with it
+-- in a sorted list each number has the value that is with it
 later_found : (e : ℕ × PartValue) (es fs : List (ℕ × PartValue)) → below_all nat_cmp e.0 fs ≡ true → All (λ p. find nat_cmp p.0 es ≡ Some p.1) fs → All (λ p. find nat_cmp p.0 (e ∷ es) ≡ Some p.1) fs
 later_found e es [] below all = All-nil (λ (p : ℕ × PartValue). find nat_cmp p.0 (e ∷ es) ≡ Some p.1)
 later_found e es (f ∷ fs) below all =
@@ -115,7 +115,7 @@ part_counted : (same : Bool) (rest : ℕ) (o : Option PartValue) (v : PartValue)
 part_counted true rest o v e none = ap (λ n. 1 + n) (e ∙ ap (λ x. cond (is_some x) 1 0) (none refl))
 part_counted false rest o v e none = zero_plus rest _ e
 
--- how often a part stands among those of a sorted list
+-- how often a part occurs among those of a sorted list
 times_parts : (key : List ℕ) (n : ℕ) (es : List (ℕ × PartValue)) → is_sorted nat_cmp es ≡ true → times (part key n) (map (λ (p : ℕ × PartValue). part key p.0) es) ≡ cond (is_some (find nat_cmp n es)) 1 0
 times_parts key n [] sorted = refl
 times_parts key n (e ∷ es) sorted =

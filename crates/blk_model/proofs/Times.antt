@@ -1,4 +1,4 @@
--- How often an item stands in a list that changes.
+-- How often an item occurs in a list that changes.
 use Rattle.std.proofs.Common.{◌≡◌, ℕ, ◌+◌, Bool, true, false, not, ◌||◌, cond, List, [], ◌∷◌, refl, ap, sym, ◌∙◌, subst, arith}
 use Rattle.std.specs.List.{filter, list_any}
 use Rattle.std.proofs.lemmas.List.Sums.{sum_by-cons}
@@ -39,7 +39,7 @@ same_item-sym i j =
       ] refl
     ] refl
 
--- the item that is used stands once, each other as often as before
+-- the item that is used occurs once, each other as often as before
 pub times-used : (i j : Item) (items : List Item) → times i (used j items) ≡ cond (same_item i j) 1 (times i items)
 times-used i j items =
     let rest = times-filter (λ other. not (same_item j other)) i items in

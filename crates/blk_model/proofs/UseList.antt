@@ -1,4 +1,4 @@
--- The use list after the steps of a command is that of the state after it.
+-- The LRU list after the steps of a command is that of the state after it.
 use Rattle.std.proofs.Common.{◌≡◌, ℕ, Bool, true, false, not, ◌&&◌, ◌||◌, cond, List, [], ◌∷◌, ◌++◌, Some, None, Option, IfSome, refl, ap, sym, ◌∙◌, subst, arith, length, map}
 use Rattle.std.specs.List.{filter}
 use Rattle.std.proofs.lemmas.Bool.{not-false}
@@ -34,7 +34,7 @@ not_or : (a b : Bool) → (not a && not b) ≡ not (a || b)
 not_or true b = refl
 not_or false b = refl
 
--- groups that go one after another
+-- groups that are evicted one after another
 pub outs : (groups : List Group) (items : List Item) → after_steps (map out groups) items ≡ not_out groups items
 outs [] items = sym (filter_all items)
   where
@@ -56,7 +56,7 @@ fronts : (items list : List Item) → after_steps (map front items) list ≡ use
 fronts [] list = refl
 fronts (item ∷ items) list = fronts items (used item list)
 
--- groups that go, and then items that are used
+-- groups that are evicted, and then items that are used
 gone_then_used : (groups : List Group) (items : List Item) (state : State) → after_steps (map out groups ++ [] ++ map front items) state.uses ≡ used_all items (without groups state).uses
 gone_then_used groups items state =
     after_steps-append (map out groups ++ []) (map front items) state.uses
@@ -123,7 +123,7 @@ effect_uses state valid moment to_list accepted = refl
 effect_uses state valid moment (to_trim bytes) accepted = gone_then_used (evicted moment (to_trim bytes) state) [] state
 effect_uses state valid moment to_total accepted = refl
 
--- the use list after the list steps is that of the new state
+-- the LRU list after the list steps is that of the new state
 pub uses_after_steps : (state : State) (moment : ℕ) (request : Request) → IsValidState state → after_steps (list_steps state moment request) state.uses ≡ (step state moment request).state.uses
 unfolding steps_unless list_steps step outcome
 uses_after_steps state moment request valid =

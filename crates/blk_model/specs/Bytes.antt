@@ -1,7 +1,7 @@
 -- Lists of bytes, and lists of numbers.
 use Rattle.std.specs.Prelude.{ℕ, zero, suc, ◌+◌, ◌-◌, List, [], ◌∷◌, ◌++◌, length, take, drop, replicate}
 
--- old with new written over it from a place on; a gap before the place is filled with zeros, and what lies behind new stays
+-- old with new written over it from a place on; a gap before the place is filled with zeros, and what comes after new stays
 abbrev pub overwritten : List ℕ → ℕ → List ℕ → List ℕ
 overwritten old place new = take place old ++ replicate (place - length old) 0 ++ new ++ drop (place + length new) old
 

@@ -41,7 +41,7 @@ stream_of object stream = stream_in object.streams stream
 abbrev pub with_stream : Object → ℕ → List ℕ → Object
 with_stream object stream bytes = record object { streams = streams_with object.streams stream bytes }
 
--- the items with one put first, wherever it stood
+-- the items with one put first, wherever it was
 abbrev pub used : Item → List Item → List Item
 used item items = item ∷ filter (λ other. not (same_item item other)) items
 
@@ -82,7 +82,7 @@ opened handle key state = record state { uses = used (main key) state.uses; name
 abbrev pub stream_after : Bool → List ℕ → ℕ → List ℕ → List ℕ
 stream_after cut old offset bytes = if cut then overwritten_and_cut old offset bytes else overwritten old offset bytes
 
--- after Write: the stream is written, the object is unsettled, and its item is first
+-- after Write: the stream is written, the object is dirty, and its item is first
 unfoldable pub written : ℕ → ℕ → ℕ → Bool → List ℕ → State → State
 written handle stream offset cut bytes state =
     let object = object_of state handle in
@@ -136,7 +136,7 @@ abbrev pub doomed_key : State → Option ℕ → State
 doomed_key state None = state
 doomed_key state (Some number) = doomed number state (object_at state number)
 
--- an object that has lost a handle: with none left a live one is settled, and a doomed one is gone
+-- an object that has lost a handle: with none left a live one is clean, and a doomed one is gone
 abbrev pub released_slot : Bool → Object → Option Object
 released_slot is_held object = if is_held then Some object else if object.live then Some (record object { settled = true }) else None
 

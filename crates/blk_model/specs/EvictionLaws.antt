@@ -1,4 +1,4 @@
--- What a command evicts goes first: stops in it once some groups are out.
+-- What a command evicts goes first: crashes in it once some groups are out.
 use Rattle.std.specs.Prelude.{◌≡◌, ℕ, ◌≤◌, Bool, List, ◌++◌, length, map, take, None}
 use Rattle.blk_model.specs.Items.{Row}
 use Rattle.blk_model.specs.State.{State, IsValidState}
@@ -19,25 +19,25 @@ pub record EvictsFirst (state : State) (moment : ℕ) (request : Request) (first
   pub passes : refused moment request state ≡ None
   pub groups : evicted moment request state ≡ first ++ others
 
--- what a folder may hold after a stop in a command once the first groups are out: what stays of the state without them, in the order after some of the later steps
+-- what a folder may hold after a crash in a command once the first groups are out: what stays of the state without them, in the order after some of the later steps
 pub record LaterOutcome (state : State) (moment : ℕ) (request : Request) (first others : List Group) (held : List Row) : Type 0 where
   pub step_count : ℕ
   pub within : step_count ≤ length (later_steps state request others)
   pub with_turned : Bool
   pub picked_rows : held ≡ pick (without first state) (step state moment request).state with_turned (after_steps (take step_count (later_steps state request others)) (without first state).uses)
 
--- once the first groups are out, what is at rest without them may be left by a stop in the command
+-- once the first groups are out, the durable contents without them may be left by a crash in the command
 abbrev pub EvictionsMayStop : Type 0
 EvictionsMayStop =
     (state : State) (moment : ℕ) (request : Request) (first others : List Group) → IsValidState state → EvictsFirst state moment request first others
     → StopOutcome state moment request (step state moment request).state (rest (without first state))
 
--- and so may what a stop in the rest of it leaves of the state without them
+-- and so may what a crash in the rest of it leaves of the state without them
 abbrev pub EvictionsComeFirst : Type 0
 EvictionsComeFirst = (state : State) (moment : ℕ) (request : Request) (first others : List Group) (held : List Row) → IsValidState state → EvictsFirst state moment request first others → LaterOutcome state moment request first others held
     → StopOutcome state moment request (step state moment request).state held
 
--- so a stop in the same command on the state without them, where its steps are the later ones and it ends alike, is one in the whole command
+-- so a crash in the same command on the state without them, where its steps are the later ones and it ends alike, is one in the whole command
 abbrev pub RestsOfCommandsAreOfThem : Type 0
 RestsOfCommandsAreOfThem = (state : State) (moment : ℕ) (request : Request) (first others : List Group) (held : List Row) → IsValidState state → EvictsFirst state moment request first others
     → list_steps (without first state) moment request ≡ later_steps state request others → (step (without first state) moment request).state ≡ (step state moment request).state

@@ -13,7 +13,7 @@ parts_in key [] = []
 parts_in key (main_row other shape streams ∷ rows) = parts_in key rows
 parts_in key (part_row other n value ∷ rows) = cond (bytes_eq key other) (put nat_cmp n value (parts_in key rows)) (parts_in key rows)
 
--- the object of a main row, with the parts that all rows have for its key, live and settled
+-- the object of a main row, with the parts that all rows have for its key, live and clean
 unfoldable pub found_object : List Row → List ℕ → Shape → Streams → Object
 found_object all key shape streams = record {
   key = key;
@@ -30,7 +30,7 @@ objects_in all [] = []
 objects_in all (main_row key shape streams ∷ rows) = Some (found_object all key shape streams) ∷ objects_in all rows
 objects_in all (part_row key n value ∷ rows) = objects_in all rows
 
--- the state of a cache that has found a holding
+-- the state of a cache that has found a snapshot
 unfoldable pub open_state : List Row → Bounds → State
 open_state rows limits = record { objects = objects_in rows rows; uses = map item_of rows; names = replicate handle_names None; limits = limits }
 
@@ -55,10 +55,10 @@ row_of state item = option_and_then (λ object. row_in object item) (owner_objec
 unfoldable pub rows : State → List Row
 rows state = filter_map (row_of state) state.uses
 
--- a row of a settled object
+-- a row of a clean object
 unfoldable pub settled_row : State → Item → Option Row
 settled_row state item = option_and_then (λ object. cond object.settled (row_in object item) None) (owner_object state item)
 
--- what a folder holds once the cache is stopped with no command under way: the items of the settled objects
+-- what a folder holds once the cache crashes with no command under way: the items of the clean objects
 unfoldable pub rest : State → List Row
 rest state = filter_map (settled_row state) state.uses

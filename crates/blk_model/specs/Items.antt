@@ -59,7 +59,7 @@ abbrev pub signature_of : Shape → ℕ
 signature_of plain = 0
 signature_of (sparse signature) = signature
 
--- how often an item stands in a list
+-- how often an item occurs in a list
 abbrev pub times : Item → List Item → ℕ
 times item items = count_by (same_item item) items
 
@@ -122,7 +122,7 @@ abbrev pub HasParent : List Row → Row → Type 0
 HasParent rows (main_row key shape streams) = Unit {0}
 HasParent rows (part_row key n value) = count_by (is_sparse_main key) rows ≡ 1
 
--- a holding: rows of different items, the last used first
+-- a snapshot: rows of different items, the last used first
 pub record IsValidHolding (rows : List Row) : Type 0 where
   pub once : (item : Item) → times item (map item_of rows) ≤ 1
   pub each : All IsRow rows

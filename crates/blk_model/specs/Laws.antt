@@ -18,35 +18,35 @@ use Rattle.blk_model.specs.Totals.{AreSums}
 abbrev pub StepsKeepStatesValid : Type 0
 StepsKeepStatesValid = (state : State) (moment : ℕ) (request : Request) → IsValidState state → IsRequest request → IsValidState (step state moment request).state
 
--- the use list after the list steps of a command is that of the state after it
+-- the LRU list after the list steps of a command is that of the state after it
 abbrev pub ListStepsLeadToTheUseList : Type 0
 ListStepsLeadToTheUseList = (state : State) (moment : ℕ) (request : Request) → IsValidState state → after_steps (list_steps state moment request) state.uses ≡ (step state moment request).state.uses
 
--- a cache that finds a valid holding opens with a valid state
+-- a cache that finds a valid snapshot opens with a valid state
 abbrev pub OpenedStatesAreValid : Type 0
 OpenedStatesAreValid = (rows : List Row) (limits : Bounds) → IsValidHolding rows → IsValidState (open_state rows limits)
 
--- a valid holding that is found is at rest, as long as nothing is done
+-- a valid snapshot that is recovered is the durable contents, as long as nothing is done
 abbrev pub WhatIsFoundIsAtRest : Type 0
 WhatIsFoundIsAtRest = (rows : List Row) (limits : Bounds) → IsValidHolding rows → rest (open_state rows limits) ≡ rows
 
--- what is at rest in a valid state is a valid holding
+-- the durable contents in a valid state are a valid snapshot
 abbrev pub RestsAreHoldings : Type 0
 RestsAreHoldings = (state : State) → IsValidState state → IsValidHolding (rest state)
 
--- what a stop leaves is a valid holding
+-- what a crash leaves is a valid snapshot
 abbrev pub StopsLeaveHoldings : Type 0
 StopsLeaveHoldings = (before : State) (moment : ℕ) (request : Request) (after : State) (held : List Row) → IsValidState before → StopOutcome before moment request after held → IsValidHolding held
 
--- what is at rest before a command may be left by a stop in it
+-- the durable contents before a command may be left by a crash in it
 abbrev pub StopsMayLeaveWhatWas : Type 0
 StopsMayLeaveWhatWas = (state : State) (moment : ℕ) (request : Request) → IsValidState state → StopOutcome state moment request (step state moment request).state (rest state)
 
--- what is at rest after a command may be left by a stop in it
+-- the durable contents after a command may be left by a crash in it
 abbrev pub StopsMayLeaveWhatIs : Type 0
 StopsMayLeaveWhatIs = (state : State) (moment : ℕ) (request : Request) → IsValidState state → IsRequest request → StopOutcome state moment request (step state moment request).state (rest (step state moment request).state)
 
--- nothing has changed, no group was evicted and no step was made on the use list
+-- nothing has changed, no group was evicted and no step was made on the LRU list
 pub record ChangesNothing (state : State) (moment : ℕ) (request : Request) : Type 0 where
   pub state_stays : (step state moment request).state ≡ state
   pub none_evicted : (step state moment request).groups ≡ []
@@ -60,7 +60,7 @@ RefusalsChangeNothing = (state : State) (moment : ℕ) (request : Request) (why 
 abbrev pub RefusalsAreTheFirst : Type 0
 RefusalsAreTheFirst = (state : State) (moment : ℕ) (request : Request) (why : Refusal) → ((step state moment request).reply ≡ answered (answer.Refused why)) ↔ (refused moment request state ≡ Some why)
 
--- no command is refused for want of memory
+-- no command is refused for being out of memory
 abbrev pub NoneIsRefusedForMemory : Type 0
 NoneIsRefusedForMemory = (state : State) (moment : ℕ) (request : Request) → (step state moment request).reply ≢ answered (answer.Refused refusal.Memory)
 

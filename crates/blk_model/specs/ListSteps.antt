@@ -1,4 +1,4 @@
--- What a command does to the use list, one step after another.
+-- What a command does to the LRU list, one step after another.
 use Rattle.std.specs.Prelude.{ℕ, not, if◌then◌else◌, List, [], ◌∷◌, ◌++◌, length, map, filter, take, Option, Some, None}
 use Rattle.blk_model.specs.declared.Refusal.{Refusal}
 use Rattle.blk_model.specs.Items.{Item, main, part}
@@ -60,6 +60,6 @@ steps_unless moment request state None = map out (evicted moment request state) 
 unfoldable pub list_steps : State → ℕ → Request → List ListStep
 list_steps state moment request = steps_unless moment request state (refused moment request state)
 
--- the use list after the first j of the steps
+-- the LRU list after the first j of the steps
 unfoldable pub list_after : State → ℕ → Request → ℕ → List Item
 list_after state moment request j = after_steps (take j (list_steps state moment request)) state.uses

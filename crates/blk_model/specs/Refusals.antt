@@ -64,23 +64,23 @@ abbrev pub covered : Request → State → List Item
 covered (to_sparse_write handle offset bytes) state = map (part (object_of state handle).key) (covered_parts offset (length bytes))
 covered _ state = []
 
--- room for what a command adds to the total and to the number of items; a fall counts as nothing
+-- space for what a command adds to the total and to the number of items; a fall counts as nothing
 unfoldable pub room_for : ℕ → Request → State → Room
 room_for moment request state =
     let grown = effect moment request state in
     room state (covered request state) (total grown - total state) (items grown - items state)
 
--- whether there is no room
+-- whether there is no space
 abbrev pub is_full : Room → Bool
 is_full full = true
 is_full (after groups) = false
 
--- the groups that are evicted to make room
+-- the groups that are evicted to make space
 abbrev pub evicted_for : Room → List Group
 evicted_for full = []
 evicted_for (after groups) = groups
 
--- whether there is no room for what a command adds
+-- whether there is no space for what a command adds
 abbrev pub no_room : ℕ → Request → State → Bool
 no_room moment request state = is_full (room_for moment request state)
 

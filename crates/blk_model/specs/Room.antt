@@ -1,4 +1,4 @@
--- Totals, pins, and what is evicted to make room.
+-- Totals, pins, and what is evicted to make space.
 use Rattle.std.specs.Prelude.{ℕ, ◌+◌, ◌-◌, ◌/◌, Bool, false, not, ◌&&◌, ◌||◌, ◌==◌, nat_lt, nat_le, if◌then◌else◌, List, [], ◌∷◌, ◌++◌, length, map, filter, filter_map, reverse, sum_by, Option, Some, None, option_and_then}
 use Rattle.std.specs.Option.{option_map_or}
 use Rattle.std.specs.List.{list_any}
@@ -8,7 +8,7 @@ use Rattle.blk_model.specs.Items.{Item, main, part, same_item, key_of, signature
 use Rattle.blk_model.specs.Charge.{main_charge, part_charge}
 use Rattle.blk_model.specs.State.{Object, State, is_named, live_with}
 
--- a group goes at once: a main item with its parts in list order, or one part
+-- a group is evicted at once: a main item with its parts in list order, or one part
 pub data Group : Type 0 where
   whole : List ℕ → List ℕ → Group
   single : List ℕ → ℕ → Group
@@ -60,7 +60,7 @@ total state = total_of state.objects
 abbrev pub items : State → ℕ
 items state = count_of state.objects
 
--- the low-water mark: once items are evicted, as many go as leave no more bytes
+-- the low-water mark: once items are evicted, as many are evicted as leave no more bytes
 abbrev pub low : State → ℕ
 low state = state.limits.max_bytes - state.limits.max_bytes / free_share
 
@@ -94,7 +94,7 @@ part_number key (part other n) = if bytes_eq key other then Some n else None
 abbrev pub parts_among : List ℕ → List Item → List ℕ
 parts_among key items = filter_map (part_number key) items
 
--- the groups that could go, the items given from the back of the use list: each that need not stay, a main item with its parts in front of it (those behind it went alone before)
+-- the groups that could be evicted, the items given from the back of the LRU list: each that need not stay, a main item with its parts in front of it (those after it went alone before)
 unfoldable pub groups_from_back : (Item → Bool) → List Item → List Group
 groups_from_back stays [] = []
 groups_from_back stays (main key ∷ before) =
@@ -119,7 +119,7 @@ unfoldable pub without : List Group → State → State
 without [] state = state
 without (group ∷ groups) state = record state { objects = map (option_and_then (left_of (group ∷ groups))) state.objects; uses = not_out (group ∷ groups) state.uses }
 
--- the shortest front of the groups after which there is enough, or all of them; done are those that go in any case
+-- the shortest prefix of the groups after which there is enough, or all of them; done are those that go in any case
 abbrev pub shortest : (List Group → Bool) → List Group → List Group → List Group
 shortest enough done [] = done
 shortest enough done (group ∷ groups) = if enough done then done else shortest enough (done ++ group ∷ []) groups
@@ -132,12 +132,12 @@ evicted_until enough state covered = shortest (λ groups. enough (without groups
 abbrev pub fits : ℕ → ℕ → ℕ → State → Bool
 fits most bytes more state = nat_le (total state + bytes) most && nat_le (items state + more) state.limits.max_items
 
--- room for so many bytes and items: none, or what is evicted for it
+-- space for so many bytes and items: none, or what is evicted for it
 pub data Room : Type 0 where
   full : Room
   after : List Group → Room
 
--- nothing is evicted where nothing is added or all fits; there is no room where what is pinned and what is added exceed a limit; else items go down to the low-water mark
+-- nothing is evicted where nothing is added or all fits; there is no space where what is pinned and what is added exceed a limit; else items are evicted down to the low-water mark
 unfoldable pub room : State → List Item → ℕ → ℕ → Room
 room state covered bytes more =
     if bytes == 0 && more == 0 then after []

@@ -21,7 +21,7 @@ stream_count = 3
 abbrev pub stream_share : ℕ
 stream_share = 8
 
--- room is made until this share of the bytes that a cache keeps is free
+-- space is made until this share of the bytes that a cache keeps is free
 abbrev pub free_share : ℕ
 free_share = 16
 

@@ -74,7 +74,7 @@ byte_in place value = if is_present_in value.presence place then Some (slice_ind
 abbrev pub byte_at : Object → ℕ → Option ℕ
 byte_at object offset = option_and_then (byte_in (offset % part_size)) (part_at object (offset / part_size))
 
--- what stands before the first that is missing
+-- what comes before the first that is missing
 abbrev pub up_to_missing : List (Option ℕ) → List ℕ
 up_to_missing [] = []
 up_to_missing (None ∷ rest) = []

@@ -7,7 +7,7 @@ use Rattle.std.specs.FinMap.{find, is_sorted}
 use Rattle.blk_model.specs.Sizes.{handle_names, part_count, signatures}
 use Rattle.blk_model.specs.Items.{Item, main, part, Shape, Streams, PartValue, IsPartValue, IsKey, IsStreams, HasOneStream, is_sparse, signature_of, times}
 
--- an object: live or doomed, settled or not; its parts by number, rising
+-- an object: live or doomed, clean or not; its parts by number, rising
 pub record Object : Type 0 where
   pub key : List ℕ
   pub shape : Shape
@@ -83,10 +83,10 @@ pub record IsValidState (state : State) : Type 0 where
   -- there are so many handle names, and each that is bound names one of the objects
   pub names : length state.names ≡ handle_names
   pub bound : (name : ℕ) → IfSome (named_by state name) (λ number. IsSome (object_at state number))
-  -- the use list has exactly the items of the live objects, each once; so no two live objects have one key
+  -- the LRU list has exactly the items of the live objects, each once; so no two live objects have one key
   pub listed : (item : Item) → times item state.uses ≡ owners item state.objects
   pub once : (item : Item) → times item state.uses ≤ 1
-  -- each object that is doomed or unsettled is named by a handle
+  -- each object that is doomed or dirty is named by a handle
   pub held : (number : ℕ) → IfSome (object_at state number) (λ object. (object.live && object.settled ≡ false) → is_named state number ≡ true)
 
 -- the number of the first object in the slots, counted from a number on, that has an item

@@ -35,7 +35,7 @@ pub record Outcome : Type 0 where
   pub reply : Reply
   pub state : State
 
--- a refusal changes nothing; else the groups go, and then the command has its effect
+-- a refusal changes nothing; else the groups are evicted, and then the command has its effect
 unfoldable pub outcome : ℕ → Request → State → Option Refusal → Outcome
 outcome moment request state (Some why) = record { groups = []; reply = answered (answer.Refused why); state = state }
 outcome moment request state None =

@@ -1,4 +1,4 @@
--- What a folder may hold after a stop in the midst of a command.
+-- What a folder may hold after a crash in the midst of a command.
 use Rattle.std.specs.Prelude.{◌≡◌, ℕ, ◌≤◌, Bool, false, not, ◌&&◌, ◌||◌, cond, List, length, filter_map, Option, Some, None, option_and_then}
 use Rattle.blk_model.specs.Items.{Item, Row}
 use Rattle.blk_model.specs.State.{Object, State, object_at}
@@ -11,12 +11,12 @@ abbrev pub is_live : Option Object → Bool
 is_live None = false
 is_live (Some object) = object.live
 
--- whether an object is there, live and settled
+-- whether an object is there, live and clean
 abbrev pub is_live_and_settled : Option Object → Bool
 is_live_and_settled None = false
 is_live_and_settled (Some object) = object.live && object.settled
 
--- an object is safe where it is settled before, and after it is settled or no longer live
+-- an object is safe where it is clean before, and after it is clean or no longer live
 unfoldable pub is_safe : State → State → ℕ → Bool
 is_safe before after number = is_live_and_settled (object_at before number) && (is_live_and_settled (object_at after number) || not (is_live (object_at after number)))
 
@@ -24,12 +24,12 @@ is_safe before after number = is_live_and_settled (object_at before number) && (
 abbrev pub differ : Bool → Bool → Bool
 differ a b = (a && not b) || (not a && b)
 
--- an object is turned where it stays live and is settled either before or after
+-- an object is in transition where it stays live and is clean either before or after
 unfoldable pub is_turned : State → State → ℕ → Bool
 is_turned before after number =
     is_live (object_at before number) && is_live (object_at after number) && differ (is_live_and_settled (object_at before number)) (is_live_and_settled (object_at after number))
 
--- an item of a state with its value, if it stays through a stop; with says whether turned objects do
+-- an item of a state with its value, if it stays through a crash; with says whether objects in transition do
 unfoldable pub picked_by : State → State → Bool → Item → ℕ → Option Row
 picked_by before after with item number = cond (is_safe before after number || (with && is_turned before after number)) (row_of before item) None
 
@@ -41,7 +41,7 @@ picked before after with item = option_and_then (picked_by before after with ite
 unfoldable pub pick : State → State → Bool → List Item → List Row
 pick before after with items = filter_map (picked before after with) items
 
--- what a folder may hold where a command was stopped between two states: what stays, in the order after some of the list steps
+-- what a folder may hold where a command crashed between two states: what stays, in the order after some of the list steps
 pub record StopOutcome (before : State) (moment : ℕ) (request : Request) (after : State) (held : List Row) : Type 0 where
   pub step_count : ℕ
   pub within : step_count ≤ length (list_steps before moment request)

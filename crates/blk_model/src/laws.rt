@@ -38,30 +38,30 @@ pub fn steps_keep_states_valid()
     ensures { StepsKeepStatesValid }
 {}
 
-/// The use list after the list steps of a command is that of the state after it.
+/// The LRU list after the list steps of a command is that of the state after it.
 pub fn list_steps_lead_to_the_use_list()
     ensures { ListStepsLeadToTheUseList }
 {}
 
-/// A cache that finds a valid holding opens with a valid state, and that holding is what is at rest in it.
+/// A cache that finds a valid snapshot opens with a valid state, and that snapshot is the durable contents of it.
 pub fn opened_states_are_valid()
     ensures valid { OpenedStatesAreValid }
     ensures at_rest { WhatIsFoundIsAtRest }
 {}
 
-/// What is at rest in a valid state is a valid holding, and so is whatever a stop leaves.
+/// The durable contents in a valid state are a valid snapshot, and so is whatever a crash leaves.
 pub fn stops_leave_holdings()
     ensures rests { RestsAreHoldings }
     ensures stops { StopsLeaveHoldings }
 {}
 
-/// What is at rest before a command, and what is at rest after it, may be left by a stop in it.
+/// The durable contents before a command, and those after it, may be left by a crash in it.
 pub fn stops_may_leave_what_is_at_rest()
     ensures before { StopsMayLeaveWhatWas }
     ensures after { StopsMayLeaveWhatIs }
 {}
 
-/// A refused command changes nothing; its refusal is the first that holds, and never for want of memory.
+/// A refused command changes nothing; its refusal is the first that holds, and never for being out of memory.
 pub fn refusals_change_nothing()
     ensures nothing { RefusalsChangeNothing }
     ensures first { RefusalsAreTheFirst }
@@ -73,7 +73,8 @@ pub fn totals_are_sums()
     ensures { TotalsAreSums }
 {}
 
-/// What a command evicts goes first: what is at rest without the first groups may be left by a stop in it, and so may what a stop in the rest of it leaves.
+/// What a command evicts goes first: the durable contents without the first groups may be left by a crash in it, and so may what a crash in the rest of it
+/// leaves.
 pub fn evictions_come_first()
     ensures stops { EvictionsMayStop }
     ensures later { EvictionsComeFirst }

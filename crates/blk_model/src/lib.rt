@@ -1,8 +1,8 @@
 //! The cache as a map: its commands, its answers, and what each command does to its state.
 //!
-//! The state and the steps are definitions in `specs/`, and the crates above meet them. What stands
-//! here as code are the types that clients see and the limits that a cache is made with. The laws
-//! over the definitions are the contracts of the functions in `laws`.
+//! The state and the steps are definitions in `specs/`, and the crates above meet them. What is here as code are the
+//! types that clients see and the limits that a cache is made with. The laws over the definitions are the contracts of
+//! the functions in `laws`.
 #![tactic(auto)]
 
 ghost use Rattle.std.specs.Prelude.{◌≡◌};
@@ -112,9 +112,9 @@ pub enum Refusal {
     RangeEnd = 9,
     /// The object is doomed.
     Doomed = 10,
-    /// What is pinned leaves no room.
+    /// What is pinned leaves no space.
     Full = 11,
-    /// There is no memory. The map model never says so.
+    /// Out of memory. The map model never says so.
     Memory = 12,
     /// The key has no byte, or too many.
     BadKey = 13,

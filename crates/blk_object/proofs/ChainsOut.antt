@@ -44,7 +44,7 @@ without-one : (xs : List ℕ) (w : ℕ) (ys : List ℕ) → is_among (xs ++ ys) 
 without-one [] w ys none = let h : (w == w) ≡ true = eq-eqb w w refl in rw h (lacks-one ys w none)
 without-one (x ∷ xs) w ys none = let parts = or_parts (x == w) (is_among (xs ++ ys) w) none in let h = parts.0 in rw h (ap (λ (zs : List ℕ). x ∷ zs) (without-one xs w ys parts.1))
 
--- the one after which it stands
+-- the one after which it is
 pub in_front : Option ℕ → ℕ → ℕ
 in_front None w = w
 in_front (Some v) w = v

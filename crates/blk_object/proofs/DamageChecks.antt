@@ -61,7 +61,7 @@ few-handed r q e old new file start count stays is same holds =
 pub checked-after : {A : Type 0} (r : Result A Fault) (files : BlockFiles) (old new : Told) → Stays old new → IfDamaged r (IsFailedCheck files old) → IfDamaged r (IsFailedCheck files new)
 checked-after r files old new stays holds = subst (λ (t : Told). IfDamaged r (IsFailedCheck files t)) (sym stays) holds
 
--- where a damage says that nothing was written, what failed before failed on the files as they are
+-- where a failed check says that nothing was written, what failed before failed on the files as they are
 pub checked-where-stays : {A : Type 0} (r : Result A Fault) (files : BlockFiles) (old new : Told) (P : Damage → Type 0) → ((damage : Damage) → P damage → IsFailedCheck files old damage)
     → IfDamaged r (λ _. Stays old new) → IfDamaged r P → IfDamaged r (IsFailedCheck files new)
 checked-where-stays (Ok a) files old new P checks stays holds = tt
@@ -131,14 +131,14 @@ part-checked files told entry at size damage kind stands (inr wrong) = go wrong.
     go (inl cut) = cut-checked files told _ _ _ damage cut.cut
     go (inr misplaced) = within-checked files told entry damage kind stands (WrongKey wrong.key_len wrong.long_key misplaced)
 
--- a record that is taken out of its chain, behind one before it or at the front
+-- a record that is taken out of its chain, after one before it or at the front
 pub unlink-checked : (files : BlockFiles) (told : Told) (entry : ℕ) (before : Option ℕ) (damage : Damage) → ((w : ℕ) → before ≡ Some w → (kind_of w ≡ blocks_256) × (stands_among files w ≡ true)) → IsUnlinkDamage told entry before damage → IsFailedCheck files told damage
 unlink-checked files told entry None damage good (inl short) = short-checked files told _ _ _ damage short
 unlink-checked files told entry None damage good (inr short) = short-checked files told _ _ _ damage short
 unlink-checked files told entry (Some w) damage good (inl short) = short-checked files told _ _ _ damage short
 unlink-checked files told entry (Some w) damage good (inr failed) = record-checked files told w (record_size w) damage (inr (good w refl).0) (good w refl).1 failed
 
--- a node that stands
+-- a node that is there
 pub node-checked : (files : BlockFiles) (told : Told) (damage : Damage) → IsWrongNode files told damage → IsFailedCheck files told damage
 node-checked files told damage wrong = record-checked files told wrong.node _ damage (inl (node_kind files wrong.node wrong.stands)) (node_stands files wrong.node wrong.stands) wrong.failed
 
@@ -146,7 +146,7 @@ node-checked files told damage wrong = record-checked files told wrong.node _ da
 pub moved : (files : BlockFiles) (old new : Told) (damage : Damage) → Stays old new → IsFailedCheck files old damage → IsFailedCheck files new damage
 moved files old new damage stays failed = subst (λ (t : Told). IsFailedCheck files t damage) (sym stays) failed
 
--- the calls on the use list
+-- the calls on the LRU list
 pub insert-checked : (files : BlockFiles) (old new : Told) (damage : Damage) → IsInsertDamage files old new damage → IsFailedCheck files new damage
 insert-checked files old new damage (inl read) = moved files old new damage read.1 (node-word-checked files old _ _ damage read.0)
 insert-checked files old new damage (inr wrong) = node-checked files new damage wrong
@@ -234,7 +234,7 @@ lost-checked files old new entry at found damage kind stands stays there lost =
 
 -- The key of a record.
 
--- what was read of a key is all of it, where the room is that of the longest
+-- what was read of a key is all of it, where the buffer is that of the longest
 pub whole-key : (files : BlockFiles) (image : Image) (entry : ℕ) (old new : List ℕ) (n : ℕ) → IsPiece (key_bytes image entry) 0 old new n → HasKeyPlace files entry image → 32796 ≤ length old → take n new ≡ key_bytes image entry
 unfolding key_bytes may_have
 whole-key files image entry old new n piece placed room =

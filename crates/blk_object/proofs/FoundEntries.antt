@@ -37,7 +37,7 @@ can-be-searched state layout unlinked image key k =
       keys = λ w among. let h = s.keys w among in readable image w h.fields h.key h.here h.long h.is;
     }
 
--- a record that stands in a chain is among its records
+-- a record that is in a chain is among its records
 pub standing-among : (words : List ℕ) (w : ℕ) (before : Option ℕ) (prefix suffix : List ℕ) → StandsBehind words w before prefix suffix → is_among words w ≡ true
 standing-among words w None prefix suffix stands = ap (λ (xs : List ℕ). is_among xs w) stands.1 ∙ among-front [] w suffix
 standing-among words w (Some v) prefix suffix stands = ap (λ (xs : List ℕ). is_among xs w) (stands ∙ sym (append_assoc prefix (v ∷ []) (w ∷ suffix))) ∙ among-front (prefix ++ v ∷ []) w suffix

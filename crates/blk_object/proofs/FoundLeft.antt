@@ -161,7 +161,7 @@ module _ (state : State) (layout : Layout) (keep : Item → Bool) (chains : ℕ 
     child-is : is_part was ≡ is_child_item item
     child-is = sym (child-said was.key was.streams was.role) ∙ ap is_child_item (item-of state layout k.lies.laid item was listed here)
 
-    -- its record stands in the chain, with its key
+    -- its record is in the chain, with its key
     has-key : HasKey (store_of image) was.key (is_child_item item) was.contents
     has-key = load-then (store_of image) (rule_of layout (layout.place item)) (layout.place item) was (loads item was listed stays here) (λ n e f. record {
       fields = e;

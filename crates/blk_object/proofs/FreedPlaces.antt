@@ -51,7 +51,7 @@ place-out state layout keep chains w unlinked from image r k = by r.removed wher
   by (inl blocks) = blocks-freed state layout keep chains w unlinked from image k blocks
   by (inr file) = files-deleted state layout keep chains w unlinked from image k file
 
--- a file of which blocks stand is linked
+-- a file of which blocks are valid is linked
 linked-is : (image : Image) (w : ℕ) → stands_in image w ≡ true → kind_of w ≢ external → is_some (linked_as image (file_selector w)) ≡ true
 unfolding stands_as_blocks
 linked-is image w st blocks = go (linked_as image (file_selector w)) (and_parts (is_linked_as (linked_as image (file_selector w)) (kind_of w)) _ (and_parts (is_linked_as (linked_as image (file_selector w)) (kind_of w) && _) _ (stands-blocks image w st blocks)).0).0 where
@@ -102,7 +102,7 @@ pub all-freed : (words others : List ℕ) (from between image : Image) → Remov
 all-freed [] others from between image is rest_of = subst (λ (i : Image). Removes others i image) is rest_of
 all-freed (w ∷ words) others from between image r rest_of = (r.0, (r.1.0, all-freed words others r.0 between image r.1.1 rest_of))
 
--- of words that may be freed a front may be, and the others once it is
+-- of words that may be freed a prefix may be, and the others once it is
 pub front-may : (words others : List ℕ) (from : Image) → AreFreeable (words ++ others) from → AreFreeable words from
 front-may words others from a = record { state = a.state; layout = a.layout; keep = a.keep; chains = a.chains; others = others ++ a.others; kept = subst (λ (ws : List ℕ). KeepsPartlyOut a.state a.layout a.keep a.chains ws from) (append_assoc words others a.others) a.kept }
 

@@ -121,7 +121,7 @@ module _ (state : State) (layout : Layout) (keep : Item → Bool) (chains : ℕ 
 
 -- ---- what is told
 
--- of a folder that is told, read without a change, then changed by the call that takes out
+-- of an observable folder, read without a change, then changed by the call that takes out
 module _ (a r m : Told) (stays : r ≡ a) (state : State) (layout : Layout) (keep : Item → Bool) (chains : ℕ → List ℕ) (unlinked : List ℕ) (item : Item) (node entry : ℕ) (before : Option ℕ) (from : Image) (there : a.files ≡ Some from) (k : KeepsPartlyOut state layout keep chains unlinked from)
     (p : LiesNext state layout keep chains item node entry before) (stops : ForSome r.files (λ at. MayGoOut node entry before at → Passes r m (IsGoingOut node entry before at))) where
   still-there : r.files ≡ Some from
@@ -202,7 +202,7 @@ part-going state layout keep chains unlinked number object n node entry before f
 
 -- ---- counted no longer
 
--- of a folder that is told, in which an item went, and then is counted no longer
+-- of an observable folder, in which an item went, and then is counted no longer
 module _ (a m b : Told) (state : State) (layout : Layout) (keep : Item → Bool) (chains : ℕ → List ℕ) (unlinked : List ℕ) (item : Item) (node entry : ℕ) (before : Option ℕ) (from : Image) (there : a.files ≡ Some from) (charge : ℕ)
     (first : Passes a m (IsGoingNext state layout keep chains unlinked item node entry before from)) (out : ForSome m.files (IsOutUncounted state layout keep chains unlinked item entry charge from)) where
   gone-on : IsTold m (IsGoingNext state layout keep chains unlinked item node entry before from)
@@ -238,7 +238,7 @@ module _ (a m b : Told) (state : State) (layout : Layout) (keep : Item → Bool)
 
 -- ---- a main item that goes before its parts
 
--- of a folder that is told, in which it goes out, and then is counted no longer
+-- of an observable folder, in which it goes out, and then is counted no longer
 module _ (a m b : Told) (state : State) (layout : Layout) (unlinked : List ℕ) (number : ℕ) (object : Object) (node entry : ℕ) (before : Option ℕ) (from : Image) (there : a.files ≡ Some from) (k : KeepsUncounted state layout unlinked from) (at : object_at state number ≡ Some object) (live : object.live ≡ true)
     (p : LiesAsFound state layout object.key node entry before) (stops : ForSome a.files (λ i. MayGoOut node entry before i → Passes a m (IsGoingOut node entry before i))) where
   begins : KeepsPartlyOut state layout (λ item. true) layout.chains unlinked from

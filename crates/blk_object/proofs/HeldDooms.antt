@@ -169,7 +169,7 @@ module _ (state : State) (layout : Layout) (number : ℕ) (object : Object) (loa
 pub open-writable : (files : BlockFiles) (from : Image) → AreBytes from → IsOpen files from → IsWritable from
 open-writable files from bytes open_folder = record { bytes = bytes; has_header = subst (λ (n : ℕ). header_length ≤ n) (sym open_folder.whole_index) (lit≤ tt) }
 
--- of a folder that is told
+-- of an observable folder
 pub doomed-told : (files : BlockFiles) (a b : Told) (entry : ℕ) → TellsBytes a → ForSome a.files (IsOpen files) → ForSome a.files (λ from. Applies a b (sealed_steps from entry doomed_change))
     → ForSome a.files (λ from. ForEachOut entry from (λ state layout number object loaded chains unlinked. ForSome b.files (IsDoomedOut state layout number object loaded chains unlinked from)))
 doomed-told files a b entry bytes open_folder steps from there state layout number object loaded chains unlinked o =

@@ -68,7 +68,7 @@ nothing : (w m : ℕ) → (w == 0) ≡ true → has_claim (claims_of w) (Externa
 unfolding claims_of
 nothing w m z = rw z (no-claim (ExternalOf m))
 
--- a word claims one number at most, and none where it names blocks
+-- a word uses one number at most, and none where it names blocks
 word-once : (w n : ℕ) → tally (λ m. has_claim (claims_of w) (ExternalOf m)) n ≤ cond (kind_of w == external) 1 0
 word-once w n = ⊎_elim
     (λ (e : (kind_of w == external) ≡ true).

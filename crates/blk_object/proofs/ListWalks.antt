@@ -1,4 +1,4 @@
--- A walk over the use list, node by node.
+-- A walk over the LRU list, node by node.
 use Rattle.std.proofs.Common.{◌≡◌, ◌≢◌, inr, ◌+◌, ◌≤◌, ℕ, List, [], ◌∷◌, ◌++◌, length, length-append, refl, sym, ◌∙◌, subst, arith, Option, None, Some, IsTrue, true}
 use Rattle.std.specs.Prelude.{IfSome}
 use Rattle.std.specs.Option.{ForSome}
@@ -20,7 +20,7 @@ use Rattle.blk_object.specs.ListWalks.{Follows, GoesTo, HasPassedNodes, IsWordBe
 pub block-kind : (w : ℕ) → kind_of w ≡ rankings → kind_of w ≢ external
 block-kind w kind same = let z : ◌≡◌ {A = ℕ} 1 0 = sym kind ∙ same in cc
 
--- nodes that stand are nodes
+-- nodes that are there are nodes
 pub nodes-kinds : (files : BlockFiles) (o : Option ℕ) → IfSome o (λ n. IsTrue (is_node_among files n)) → IfSome o (λ n. kind_of n ≡ rankings)
 nodes-kinds files None stands = tt
 nodes-kinds files (Some n) stands = node_kind files n stands
@@ -43,7 +43,7 @@ node-passed files at from before count image node has goes stands = record {
   follows = follows-on files at image from has.nodes node has.follows (subst (λ (o : Option ℕ). GoesTo at image o (Some node)) (sym has.last) goes) stands;
 }
 
--- a walk ends where nothing is behind the last node
+-- a walk ends where nothing is after the last node
 pub walk-ends : (files : BlockFiles) (at : ℕ) (from before next : Option ℕ) (count : ℕ) (image : Image) → HasPassedNodes files at from before count image → GoesTo at image before next → next ≡ None → WalkEnds files at from image
 walk-ends files at from before next count image has goes none = record { before = before; count = count; passed = has; ends = subst (λ (o : Option ℕ). GoesTo at image before o) none goes }
 
@@ -52,12 +52,12 @@ last-some from [] some none = absurd (omega (arith, some))
 last-some from (w ∷ []) some none = let z : ◌≡◌ {A = Option ℕ} (Some w) None = none in cc
 last-some from (w ∷ v ∷ nodes) some none = last-some (Some w) (v ∷ nodes) (omega arith) none
 
--- so it does behind some nodes of which nothing more is known
+-- so it does after some nodes of which nothing more is known
 pub walk-over : (files : BlockFiles) (at : ℕ) (from before next : Option ℕ) (count : ℕ) (image : Image) → 1 ≤ count → HasPassedNodes files at from before count image → GoesTo at image before next → IfSome before (λ _. next ≡ None) → WalkEnds files at from image
 walk-over files at from None next count image some has goes ended = absurd (last-some from has.nodes (let many = has.many in omega (arith, many, some)) has.last)
 walk-over files at from (Some last) next count image some has goes ended = walk-ends files at from (Some last) next count image has goes ended
 
--- a walk that goes on behind more nodes than a list has is too long
+-- a walk that goes on after more nodes than a list has is too long
 pub walk-too-long : (files : BlockFiles) (told : Told) (at : ℕ) (from before next : Option ℕ) (count : ℕ) (damage : Damage) → IsLinkPlace at → count ≡ most_nodes + 1
     → IfSome before (λ n. IsTrue (is_node_among files n)) → IfSome next (λ n. IsTrue (is_node_among files n))
     → ForSome told.files (HasPassedNodes files at from before count) → ForSome told.files (λ image. GoesTo at image before next) → IsWordBehind before at next damage → IsFailedCheck files told damage

@@ -1,4 +1,4 @@
--- An entry that is written comes into the use list and in front of its chain.
+-- An entry that is written comes into the LRU list and in front of its chain.
 use Rattle.std.proofs.Common.{◌≡◌, ◌⊎◌, ℕ, List, ◌∷◌, ◌++◌, Option, None, Some, sym, ◌∙◌, ap, subst, true, ⊎_elim}
 use Rattle.std.specs.Prelude.{◌==◌}
 use Rattle.std.specs.Option.{ForSome, option_map}
@@ -28,7 +28,7 @@ use Rattle.blk_object.proofs.KeptNewEntries.{new-can-be-linked}
 use Rattle.blk_object.specs.Making.{CanBeListed, FindsUntilListed, IsListed}
 use Rattle.blk_object.proofs.MakingTaken.{none-before, told-mid}
 
--- what is among the records is one that stands
+-- what is among the records is one that is there
 pub record-parts : (files : BlockFiles) (w : ℕ) → is_record_among files w ≡ true → (kind_of w ≡ blocks_256) × (stands_among files w ≡ true)
 unfolding names_among
 record-parts files w e =
@@ -97,6 +97,6 @@ module _ (a b : Told) (files : BlockFiles) (entry node : ℕ) where
             entries-kept state layout unlinked key loaded handle from mid.0 image q.kept q.entry q.valid (subst (λ (n : ℕ). IsInsertDone from n mid.0) (sym rn) (inserted from mid.0 there mid.1 c))
             (subst (λ (w : ℕ). HasRecordInFront mid.0 w image) (sym re) (in-front entry mid.0 image (linked mid.0 mid.1 (can-link from mid.0 there mid.1 c) image now)))
 
--- a folder that tells nothing after a part of some steps told nothing before
+-- a folder that is opaque after a part of some steps was opaque before
 pub part-tells : (a b : Told) (steps_on : Image → List TrailStep) → MakesPartOf a b steps_on → b.files ≡ None → a.files ≡ None
 part-tells a b steps_on part = none-before a b (λ from there. let made = part.made from there in (after made.made from, made.applies.files ∙ ap (option_map (after made.made)) there))

@@ -38,7 +38,7 @@ pub among-names : (files : BlockFiles) (kind w : ℕ) → is_address w ≡ true 
 unfolding names_among
 among-names files kind w address is stands = let k : (kind_of w == kind) ≡ true = eq-eqb (kind_of w) kind is in rw (address, k, stands) refl
 
--- ---- room
+-- ---- space
 
 pub room-three : (key : List ℕ) (mark : ℕ) (image : Image) → HasRoomForNew key mark image → LeavesRoom 3 image
 room-three key mark image r = record { state = r.state; layout = r.layout; unlinked = []; kept = r.kept.entries; few = r.can.few; room = lit≤ tt }

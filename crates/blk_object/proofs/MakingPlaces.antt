@@ -96,7 +96,7 @@ module _ (a b d : Told) (n one two : ℕ)
           stored = stored-then (one ∷ []) from mid.0 late taken.kept taken.stored more.stored;
         }
 
--- room for one more, once two words are taken
+-- space for one more, once two words are taken
 two-less : (one two : ℕ) (from late : Image) → LeavesRoom 3 from → Takes (two ∷ one ∷ []) from late → LeavesRoom 1 late
 two-less one two from late r taken = record { state = r.state; layout = r.layout; unlinked = two ∷ one ∷ r.unlinked; kept = taken.kept r.state r.layout r.unlinked r.kept; few = r.few; room = let room = r.room in bound (length r.unlinked) room }
   where

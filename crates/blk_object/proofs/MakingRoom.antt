@@ -1,4 +1,4 @@
--- A state that has fewer items than a cache may have leaves room: in its list, in the maps, and among the external files.
+-- A state that has fewer items than a cache may have leaves space: in its list, in the maps, and among the external files.
 use Rattle.std.proofs.Common.{◌≡◌, ℕ, suc, ◌+◌, ◌*◌, ◌<◌, ◌≤◌, List, [], ◌∷◌, length, Option, None, Some, refl, ap, arith, true}
 use Rattle.std.specs.List.{cons_option, filter_map}
 use Rattle.std.proofs.lemmas.Bool.{or_left, or_right}
@@ -43,7 +43,7 @@ uses-few state layout unlinked image k =
     let long : length (rows state) ≡ length state.uses = rows-long state layout unlinked image k in
     omega (arith, total, long)
 
--- ---- room in the maps, and a free number
+-- ---- space in the maps, and a free number
 
 pub counted-with-room : (n : ℕ) (files : BlockFiles) (kind : ℕ) (image : Image) → LeavesRoom (suc n) image → Agrees files image → is_block_kind kind ≡ true → AreCounted files kind image
 counted-with-room n files kind image r agrees block =

@@ -73,7 +73,7 @@ counters-then from mid image a b = record { sizes = b.sizes ∙ a.sizes; num_ent
 
 -- ---- what is stored
 
--- the claims of a word are among those of all
+-- the used blocks of a word are among those of all
 pub of-all : (words : List ℕ) (w : ℕ) (c : Claim) → is_among words w ≡ true → has_claim (claims_of w) c ≡ true → has_claim (claims_of_all words) c ≡ true
 of-all [] w c among has = absurd (let z : false ≡ true = among in cc)
 of-all (x ∷ words) w c among has = claim-append (claims_of x) (claims_of_all words) c ∙ go (x == w) refl among (of-all words w c) where
@@ -85,7 +85,7 @@ of-all (x ∷ words) w c among has = claim-append (claims_of x) (claims_of_all w
 same-stored : (touched : Claim → Bool) (from image : Image) → AgreeBut touched from image → (size w : ℕ) (bytes : List ℕ) → IsClear touched w → (store_of from).stored size w ≡ Some bytes → (store_of image).stored size w ≡ Some bytes
 same-stored touched from image agree size w bytes clear is = sym ((agreeing-views touched from image agree).store.stored size w clear) ∙ is
 
--- block files that grow leave what stands
+-- block files that grow leave what is valid
 pub growth-stored : (from image : Image) → HaveGrown from image → KeepsStored from image
 growth-stored from image grown state layout unlinked k size w bytes among is =
     same-stored (is_absent from) from image (growth-absent from image grown) size w bytes

@@ -1,4 +1,4 @@
--- Places that are taken: at each word what was at rest is found, and in the end their words are unlinked.
+-- Places that are taken: at each word the old durable contents are recovered, and in the end their words are unlinked.
 use Rattle.std.proofs.Common.{◌≡◌, ◌≢◌, inl, inr, ℕ, suc, ◌+◌, ◌<◌, ◌≤◌, List, [], ◌∷◌, ◌++◌, length, Option, None, Some, refl, sym, ◌∙◌, ap, subst, arith, true, false, Result, Ok, Err, IfOk}
 use Rattle.std.specs.Prelude.{◌==◌, is_some, unwrap_or, IsTrue}
 use Rattle.std.specs.Option.{ForSome, option_map}
@@ -61,11 +61,11 @@ told-before (Some first) b last silent now = (first, refl)
 pub told-mid : {P Q : Image → Type 0} (a b : Told) (from : Image) → a.files ≡ Some from → PassesTo a b P Q → (mid : Image) × (b.files ≡ Some mid)
 told-mid {P} {Q} a b from there p = (after p.steps from, p.applies.files ∙ ap (option_map (after p.steps)) there)
 
--- a folder that tells its files in the middle, wherever it did at the start, told none if it tells none then
+-- a folder that is opaque in the middle was opaque at the start, where one that was observable is so in the middle
 pub none-before : (a b : Told) → ((from : Image) → a.files ≡ Some from → (mid : Image) × (b.files ≡ Some mid)) → b.files ≡ None → a.files ≡ None
 none-before a b mid none = untold_where a.files (λ from there. no-some (sym none ∙ (mid from there).1))
 
--- a call that stays comes behind
+-- a call that stays comes after that
 pub then-stays : {P Q : Image → Type 0} (a b c : Told) → c ≡ b → PassesTo a b P Q → PassesTo a c P Q
 then-stays {P} {Q} a b c same p = subst (λ (t : Told). PassesTo a t P Q) (sym same) p
 
@@ -140,7 +140,7 @@ module _ (a b : Told) (files : BlockFiles) (kind count : ℕ) (block : is_block_
 
 -- ---- an external file
 
--- the claims of the word of an external file
+-- the used blocks of the word of an external file
 pub its-own : (w : ℕ) → (w == 0) ≡ false → kind_of w ≡ external → (claim : Claim) → same_claim claim (ExternalOf (external_number w)) ≡ true → has_claim (claims_of_all (w ∷ [])) claim ≡ true
 its-own w some kind claim same =
     claim-append (claims_of w) [] claim
@@ -211,18 +211,18 @@ file-open w files a b c is_open steps complete sizing silent image now =
 
 -- ---- one after another
 
--- what was at rest is found after words were taken too
+-- the old durable contents are recovered after words were taken too
 pub then-finds : (before : List ℕ) (from mid image : Image) → KeepsWith [] before from mid → StillFinds [] mid image → StillFinds [] from image
 then-finds before from mid image more finds state layout unlinked k = finds state layout (before ++ unlinked) (more state layout unlinked k)
 
--- a folder that had room for more has less, once a word is taken
+-- a folder that had space for more has less, once a word is taken
 pub less-room : (n : ℕ) (w : ℕ) (from mid : Image) → LeavesRoom (suc n) from → Takes (w ∷ []) from mid → LeavesRoom n mid
 less-room n w from mid r taken = record { state = r.state; layout = r.layout; unlinked = w ∷ r.unlinked; kept = taken.kept r.state r.layout r.unlinked r.kept; few = r.few; room = let room = r.room in bound (length r.unlinked) room }
   where
     bound : (u : ℕ) → u + suc n ≤ 7 → suc u + n ≤ 7
     bound u room = omega (arith, room)
 
--- room for more is room for one
+-- space for more is space for one
 pub room-for-one : (n : ℕ) (image : Image) → LeavesRoom (suc n) image → LeavesRoom 1 image
 room-for-one n image r = record { state = r.state; layout = r.layout; unlinked = r.unlinked; kept = r.kept; few = r.few; room = let room = r.room in bound (length r.unlinked) room }
   where

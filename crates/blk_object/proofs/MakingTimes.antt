@@ -157,7 +157,7 @@ times-same entry node moment from image nodes records t = record {
 
 -- ---- while the entry is listed
 
--- the record of an address that stands among the files is another file than those of nodes
+-- the record of a valid address among the files is another file than those of nodes
 other-file : (files : BlockFiles) (from : Image) (entry w : ℕ) → Agrees files from → is_record_among files entry ≡ true → (list_of from).checks w ≡ true → same_file (Block (file_selector w)) (Block (file_selector entry)) ≡ false
 unfolding names_among stands
 other-file files from entry w agrees among good =

@@ -1,4 +1,4 @@
--- One item more is taken out, while others of its object may be out already: what holds as its record goes, and in the end, where the seals of what is left stand.
+-- One item more is taken out, while others of its object may be out already: what holds as its record goes, and in the end, where the seals of what is left hold.
 use Rattle.std.proofs.Common.{◌≡◌, ℕ, List, ◌∷◌, ◌++◌, refl, ap, sym, ◌∙◌, subst, arith, Bool, true, false, Option, Some, None, Ok, inl, inr, ⊎_elim, append_assoc}
 use Rattle.std.specs.Prelude.{◌&&◌, ◌||◌, ◌==◌, filter, if◌then◌else◌, not}
 use Rattle.std.specs.Option.{option_map_or}
@@ -185,7 +185,7 @@ module _ (state : State) (layout : Layout) (keep : Item → Bool) (chains : ℕ 
       (cases_Bool (has_claim (claims_of unlinking.word) c))))
       (cases_Bool (l.contents == unlinking.word)))
 
-  -- so what is at rest with its object doomed is found
+  -- so the durable contents with its object doomed are recovered
   pub out-finds : (number : ℕ) (object : Object) → object_at state number ≡ Some object → LeavesOtherKeys object.key less → Finds (rest (doomed number state (Some object))) image
   out-finds number object at others = out-doomed state (record layout { chains = chains_but chains was.contents }) number object less image k.valid at (record {
     well_formed = unlinking.well_formed (unlisted.partly.well_formed k.well_formed);

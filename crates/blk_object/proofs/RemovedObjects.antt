@@ -119,7 +119,7 @@ removed-whole state after layout unlinked node entry charge mid image g counted 
 
 -- ---- what is told
 
--- of a folder that is told, read without a change, then changed by the call that takes out
+-- of an observable folder, read without a change, then changed by the call that takes out
 module _ (a r m : Told) (stays : r ≡ a) (state : State) (layout : Layout) (unlinked : List ℕ) (objects : List (Option Object)) (keep : Item → Bool) (item : Item) (node entry : ℕ) (before : Option ℕ) (from : Image) (there : a.files ≡ Some from) (k : Keeps state layout unlinked from) (p : GoesAlone state layout objects keep item node entry before)
     (stops : ForSome r.files (λ at. MayGoOut node entry before at → Passes r m (IsGoingOut node entry before at))) where
   still-there : r.files ≡ Some from

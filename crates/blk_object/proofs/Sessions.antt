@@ -48,7 +48,7 @@ counted-session charge from image l =
     (index-words l.written.first l.written.second 12 refl (lit≤ tt) refl refl refl l.written.bytes_written.outside).session)
     (index-words l.written.second image 268 refl (lit≤ tt) refl refl refl l.written.size_written.outside).session
 
--- of a folder that is told, in which an item went out, and then is counted no longer
+-- of an observable folder, in which an item went out, and then is counted no longer
 pub counted-then : (a m b : Told) (from : Image) (P : Image → Type 0) (charge : ℕ) → a.files ≡ Some from → Passes a m P → ForSome m.files (SameSession from) → ForSome m.files (λ at. ForSome b.files (AreCountedLess charge at)) → ForSome b.files (SameSession from)
 counted-then a m b from P charge there first same less image is =
     let mid = told_then a m from P there first in

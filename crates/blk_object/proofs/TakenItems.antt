@@ -146,7 +146,7 @@ module _ (state : State) (layout : Layout) (unlinked : List ℕ) (item : Item) (
     stands : StandsBehind (layout.chains (bucket_at between was.contents)) was.contents before lies.prefix lies.suffix
     stands = subst (λ (b : ℕ). StandsBehind (layout.chains b) was.contents before lies.prefix lies.suffix) (sym (bucket-is layout node node was from between loads done)) lies.stands
 
-    -- the record before is that of a listed item, so seals stand where its own does
+    -- the record before is that of a listed item, so seals hold where its own does
     seals : (image : Image) (o : Option ℕ) → StandsBehind (layout.chains its_bucket) was.contents o lies.prefix lies.suffix → IsUnlinked between was.contents o image → IsSealedAgain between was.contents o image → AreBytes image
         → (other : ℕ) (loaded : Loaded) → layout.at other ≡ Some loaded → AreSealed between loaded → AreSealed image loaded
     seals image None there u sealed bytes other loaded is = table-sealed between image (bucket_at between was.contents) loaded u.keeps.outside

@@ -1,4 +1,4 @@
--- A removal from the use list, and then an unlinking.
+-- A removal from the LRU list, and then an unlinking.
 use Rattle.std.proofs.Common.{◌≡◌, ◌⊎◌, inl, inr, ℕ, [], ◌∷◌, List, ◌++◌, Option, None, Some, refl, ap, sym, ◌∙◌, subst}
 use Rattle.std.specs.Option.{ForSome, option_map}
 use Rattle.spec_image.specs.Image.{Image}
@@ -89,7 +89,7 @@ module _ (files : BlockFiles) (node entry : ℕ) (before : Option ℕ) (a m b : 
   pub before-good : ForSome m.files (BeforeChecks before)
   before-good between is = subst (BeforeChecks before) (some_inj (sym on.is ∙ is)) (may.chained on.image (bytes_between on.image on.is) done).1
 
--- ---- damages
+-- ---- failed checks
 
 -- a node amid the list is listed
 pub amid-listed : (node : ℕ) (image : Image) → IsAmidList node image → IsListed node image
@@ -101,7 +101,7 @@ amid-listed node image a =
 some-none : {A : Type 0} {x : A} → ◌≡◌ {A = Option A} (Some x) None → ⊥
 some-none e = cc
 
--- a folder that tells nothing after some steps told nothing before
+-- a folder that is opaque after some steps was opaque before
 pub part-back : (a m : Told) (steps : Image → List TrailStep) → MakesPartOf a m steps → m.files ≡ None → a.files ≡ None
 part-back a m steps part none = by a.files refl where
   by : (o : Option Image) → a.files ≡ o → a.files ≡ None

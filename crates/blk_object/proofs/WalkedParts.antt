@@ -1,4 +1,4 @@
--- The use list is walked in search of a part of a key.
+-- The LRU list is walked in search of a part of a key.
 use Rattle.std.proofs.Common.{◌≡◌, ◌+◌, ◌≤◌, ℕ, List, [], ◌∷◌, ◌++◌, length, length-append, append_assoc, append-nil, refl, ap, sym, ◌∙◌, subst, arith, Bool, true, false, Option, None, Some}
 use Rattle.std.specs.Prelude.{◌||◌, filter, is_some, if◌then◌else◌}
 use Rattle.std.specs.Str.{bytes_eq}
@@ -220,7 +220,7 @@ module _ (state : State) (layout : Layout) (keep : Item → Bool) (chains : ℕ 
   pub step-listed : IsListed node image
   step-listed = listed-amid layout all w.before it.behind it.item node image k.list whole-is it.place
 
-  -- the item is no part of the key, and the next one is that behind it
+  -- the item is no part of the key, and the next one is that after it
   pub step-walks : (next : Option ℕ) → ((loaded : Loaded) → LoadsAt node loaded image → None ≡ part_loaded key node loaded) → ((prefix suffix : List ℕ) → HasListAtRest (prefix ++ node ∷ suffix) image → next ≡ first_node_of suffix)
       → IsWalkedTo layout key all items next (turn + 1)
   step-walks next nothing h = record {
@@ -260,7 +260,7 @@ walk-ended layout key whole items turn w = subst (HaveNoPart key) (sym (w.split 
   nothing [] is = refl
   nothing (item ∷ left) is = absurd (none-some is)
 
--- nor is anything after as many turns as there are nodes at most
+-- nor is anything after as many iterations as there are nodes at most
 pub turns-ended : (layout : Layout) (key : List ℕ) (all items : List Item) (next : Option ℕ) (turn : ℕ) (image : Image) → HasListAtRest (nodes_of layout all) image → 131072 ≤ turn → IsWalkedTo layout key all items next turn → HaveNoPart key items
 turns-ended layout key all items next turn image rest end w = go w.left refl where
   go : (left : List Item) → w.left ≡ left → HaveNoPart key items

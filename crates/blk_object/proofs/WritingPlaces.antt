@@ -154,7 +154,7 @@ module _ (files kept : BlockFiles) (w : ℕ) (from taken : Image) where
           changed-stored (λ claim. same_claim claim (ExternalOf (external_number w))) (w ∷ []) taken image (its-own w (some-address w t.address) t.external_kind)
           (external-writes taken image (external_number w) (file-same t) (there t.external_kind ∙ sym (ap is_some t.made.file))) state layout unlinked kept_so size v bytes among before
 
--- at each word of it what was at rest is found
+-- at each word of it the old durable contents are recovered
 pub filling-finds : FillingFindsTheSame
 filling-finds files kept from image agreed (inl takes) = taking-finds from image takes
 filling-finds files kept from image agreed (inr fills) = λ state layout unlinked k.

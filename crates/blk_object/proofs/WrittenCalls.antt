@@ -66,7 +66,7 @@ module _ (a b : Told) (files kept : BlockFiles) (entry i offset : ℕ) (cut : Bo
       subst (λ (e : ℕ). CanBeWritten files e i (size_after cut (size_word from e i) offset (length bytes)) from) t.record_is
       (can-be-written state layout unlinked from t.kept (node_of_object layout number object) was t.lies (node-among state layout unlinked from t.kept number object t.here was t.lies) files i (size_after cut (size_word from was.contents i) offset (length bytes)) (open_folder from there).agrees (tells from there) t.few t.room)
 
-  -- at each word what was at rest is found
+  -- at each word the old durable contents are recovered
   pub object-finds : ForSome a.files (λ from. CanBeWritten files entry i (size_after cut (size_word from entry i) offset (length bytes)) from → Passes a b (WritesByStage files kept entry i (size_after cut (size_word from entry i) offset (length bytes)) offset bytes from))
       → ForSome a.files (λ from. ForEachUnsettled entry i offset cut bytes from (λ state layout unlinked number object was. Passes a b (Finds (rest state))))
   object-finds stages from there state layout unlinked number object was t = passes_weaker (stages from there (can from there state layout unlinked number object was t)) finds finds where
@@ -94,7 +94,7 @@ module _ (a b : Told) (files kept : BlockFiles) (entry i offset : ℕ) (cut : Bo
           → IsWrittenUncounted state layout unlinked number object was i offset cut bytes from image) same
           (λ st w s seal. object-stages-end state layout unlinked number object was i offset cut bytes few from (kept-so state layout unlinked number object was entry i offset cut bytes from t) files kept st (open_folder from there).agrees image (agrees image now) s seal w)
 
-  -- a folder that tells its files, with such an object, gives no damage
+  -- an observable folder, with such an object, reports no corruption
   pub object-untold : {A : Type 0} (r : Result A Fault) → (ForSome a.files (λ from. CanBeWritten files entry i (size_after cut (size_word from entry i) offset (length bytes)) from) → IfDamaged r (λ _. a.files ≡ None))
       → ForSome a.files (λ from. ForEachUnsettled entry i offset cut bytes from (λ state layout unlinked number object was. IfDamaged r (λ _. a.files ≡ None)))
   object-untold {A} r untold from there state layout unlinked number object was t =
@@ -135,7 +135,7 @@ module _ (a b : Told) (files kept : BlockFiles) (entry i offset : ℕ) (cut : Bo
       subst (λ (e : ℕ). CanBeWritten files e i (size_after cut (size_word from e i) offset (length bytes)) from) t.record_is
       (can-be-written state layout unlinked from t.kept (layout.place (part object.key n)) was t.lies (part-among state layout unlinked from t.kept number object t.here t.live n t.old t.has was t.lies) files i (size_after cut (size_word from was.contents i) offset (length bytes)) (open_folder from there).agrees (tells from there) t.few t.room)
 
-  -- at each word what was at rest is found
+  -- at each word the old durable contents are recovered
   pub part-finds : ForSome a.files (λ from. CanBeWritten files entry i (size_after cut (size_word from entry i) offset (length bytes)) from → Passes a b (WritesByStage files kept entry i (size_after cut (size_word from entry i) offset (length bytes)) offset bytes from))
       → ForSome a.files (λ from. ForEachPartUnsettled entry i offset cut bytes from (λ state layout unlinked number object n value was role. Passes a b (Finds (rest state))))
   part-finds stages from there state layout unlinked number object n value was role t = passes_weaker (stages from there (can-part from there state layout unlinked number object n value was role t)) finds finds where
@@ -173,7 +173,7 @@ module _ (a b : Told) (files kept : BlockFiles) (entry i offset : ℕ) (cut : Bo
             session = changed.session;
           })
 
-  -- a folder that tells its files, with such a part, gives no damage
+  -- an observable folder, with such a part, reports no corruption
   pub part-untold : {A : Type 0} (r : Result A Fault) → (ForSome a.files (λ from. CanBeWritten files entry i (size_after cut (size_word from entry i) offset (length bytes)) from) → IfDamaged r (λ _. a.files ≡ None))
       → ForSome a.files (λ from. ForEachPartUnsettled entry i offset cut bytes from (λ state layout unlinked number object n value was role. IfDamaged r (λ _. a.files ≡ None)))
   part-untold {A} r untold from there state layout unlinked number object n value was role t =

@@ -124,7 +124,7 @@ module _ (from : Image) (entry i w : ℕ) (kind : kind_of entry ≡ blocks_256) 
     at_length : {a b : Option (List ℕ)} → a ≡ b → length_of (λ file. a) Index ≡ length_of (λ file. b) Index
     at_length e = ap (λ (o : Option (List ℕ)). length_of (λ file. o) Index) e
 
-    -- a word of blocks stands as before
+    -- a word of blocks is valid as before
     pub written-stands : (u : ℕ) → kind_of u ≢ external → stands_in image u ≡ stands_in from u
     written-stands u blocks = stands-if_clear print from image (touched_of entry w) same (covers-either from (stream_words entry i) (data_at_place w) (touched_of entry w) words-covered place-covered) u (λ e. absurd (blocks e))
 

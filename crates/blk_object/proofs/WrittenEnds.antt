@@ -51,7 +51,7 @@ front-distinct : (xs ys : List ℕ) → Distinct (xs ++ ys) → Distinct xs
 front-distinct [] ys once = tt
 front-distinct (x ∷ xs) ys once = ((or_parts (is_among xs x) (is_among ys x) (sym (is_among-append xs ys x) ∙ once.0)).0, front-distinct xs ys once.1)
 
--- a state is kept, with an object that isn't settled, of which a stream may be written
+-- a state is kept, with a dirty object, of which a stream may be written
 pub record IsKeptUnsettled (state : State) (layout : Layout) (unlinked : List ℕ) (number : ℕ) (object : Object) (was : Loaded) (i offset : ℕ) (cut : Bool) (bytes : List ℕ) (image : Image) : Type 0 where
   pub kept : KeepsUncounted state layout unlinked image
   pub here : object_at state number ≡ Some object

@@ -66,7 +66,7 @@ use Rattle.blk_model.specs.Holding as model
 abbrev pub KeepsRole : Loaded → Role → List (List ℕ) → Type 0
 KeepsRole was role streams = (e d : RecordFields) → IsStreamChange e d → role_of e was.key was.streams ≡ Some was.role → role_of d was.key streams ≡ Some role
 
--- ---- the words of what lies at a node claim different things
+-- ---- the words of what lies at a node use different things
 
 pub both-claimed : (xs : List ℕ) (i j : ℕ) (c : Claim) → i ≢ j → repeats (flat_map claims_of xs) ≡ false → has_claim (claims_of (slice_index xs i)) c ≡ true → has_claim (claims_of (slice_index xs j)) c ≡ true → ⊥
 both-claimed [] i j c other once one two = let z : true ≡ false = sym one ∙ clear-zero (has_claim (claims_of 0)) c one in cc
@@ -83,7 +83,7 @@ none-storage : (size w : ℕ) → size ≡ 0 → is_storage size w ≡ true → 
 unfolding is_storage
 none-storage size w none e = eqb-true w 0 (let z : is_storage 0 w ≡ true = ap (λ (n : ℕ). is_storage n w) (sym none) ∙ e in z)
 
--- a place that is some, and stores something, stands
+-- a place that is some, and stores something, is valid
 some_there : (image : Image) (size w : ℕ) (bytes : List ℕ) → w ≢ 0 → stored_at image size w ≡ Some bytes → stands_in image w ≡ true
 unfolding stored_at is_storage
 some_there image size w bytes some e = go (is_storage size w) (size == 0) (stands_in image w) refl refl refl e where
@@ -133,7 +133,7 @@ module _ (state : State) (layout : Layout) (unlinked : List ℕ) (from : Image) 
   record-apart : (m : ℕ) (c : Claim) → has_claim (claims_of was.contents) c ≡ true → has_claim (claims_of (slice_index was.others m)) c ≡ true → ⊥
   record-apart m c one two = let z : true ≡ false = sym one ∙ others-clear was once m c two in cc
 
-  -- its record stands, as it loads
+  -- its record is valid, as it loads
   pub stands-so : stands_as from blocks_256 was.contents ≡ true
   stands-so = (standing-loaded from layout node was loads).record_
 
@@ -326,7 +326,7 @@ module _ (state : State) (layout : Layout) (unlinked : List ℕ) (from : Image) 
 
 -- ---- what may be written so
 
--- what lies at a node may have other streams and another role: while it changes inside what was at rest is found, and once it has them the next state is kept
+-- what lies at a node may have other streams and another role: while it changes inside the old durable contents are recovered, and once it has them the next state is kept
 pub record MayBecome (state after : State) (layout : Layout) (node : ℕ) (was : Loaded) (role : Role) (streams : List (List ℕ)) : Type 0 where
   pub lies : layout.at node ≡ Some was
   pub among : (unlinked : List ℕ) (from : Image) (k : KeepsUncounted state layout unlinked from) → is_among (all_nodes state layout k.numbers) node ≡ true

@@ -1,4 +1,4 @@
--- A stream of an object that isn't settled is written: what lies at its node.
+-- A stream of a dirty object is written: what lies at its node.
 use Rattle.std.proofs.Common.{◌≡◌, ℕ, ◌+◌, ◌<◌, List, ◌++◌, refl, ap, sym, ◌∙◌, subst, Bool, true, false, Ok, Option, Some, map}
 use Rattle.std.specs.Prelude.{◌==◌, IfSome, if◌then◌else◌}
 use Rattle.std.specs.List.Sorted.{IsPermutation}
@@ -95,7 +95,7 @@ module _ (state : State) (layout : Layout) (unlinked : List ℕ) (from : Image) 
   roles : KeepsRole was was.role (stored_streams_with i new was.streams)
   roles e d change is = role-written e d change was.key object.key object.shape object.streams was.role i new was.streams first said.row is
 
-  -- while it isn't settled, what was at rest is found
+  -- while it is dirty, the old durable contents are recovered
   finds-same : (touched : Claim → Bool) (us : List ℕ) (old image : Image) → KeepsUncounted state layout us old → ChangesOnly touched old image → IsInsideNode touched (view_of old) (view_of image) layout node-here was → Finds (model.rest state) image
   finds-same touched us old image kept only inside = go object.live refl where
     go : (b : Bool) → object.live ≡ b → Finds (model.rest state) image

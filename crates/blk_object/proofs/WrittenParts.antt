@@ -1,4 +1,4 @@
--- A stream of a part of an object that isn't settled is written: what lies at its node.
+-- A stream of a part of a dirty object is written: what lies at its node.
 use Rattle.std.proofs.Common.{◌≡◌, ℕ, List, ◌++◌, refl, ap, sym, ◌∙◌, subst, arith, Bool, true, false, cond, Some}
 use Rattle.std.specs.List.Sorted.{IsPermutation}
 use Rattle.std.proofs.lemmas.Bool.{or_left}

@@ -1,4 +1,4 @@
--- What lies at a node while a stream of it is written, stage by stage: what was at rest is found at each word, and the next state is kept in the end.
+-- What lies at a node while a stream of it is written, stage by stage: the old durable contents are recovered at each word, and the next state is kept in the end.
 use Rattle.std.proofs.Common.{◌≡◌, ◌≢◌, ⊎_elim, inl, inr, ℕ, ◌+◌, ◌<◌, ◌≤◌, List, [], ◌∷◌, ◌++◌, length, refl, ap, ap₂, sym, ◌∙◌, subst, arith, Bool, true, false, Option, Some, None}
 use Rattle.std.specs.Prelude.{◌⊎◌, ◌==◌, not, unwrap_or, if◌then◌else◌}
 use Rattle.std.specs.List.Sorted.{IsPermutation}
@@ -237,7 +237,7 @@ module _ (state after : State) (layout : Layout) (node : ℕ) (was : Loaded) (i 
       named-finds : Finds (rest state) named
       named-finds = naming-finds state after layout node was i offset cut bytes few role m (long_word place ++ unlinked) filled kept-filled files kept stands_files named (record { names = names.names; shown = sealed-checks (entry_at named was.contents) names.sealed })
 
-      -- the same is at rest in the state that is kept then
+      -- the durable contents are the same in the state that is kept then
       same-rest : rest after ≡ rest state
       same-rest = sym (kept-found after (layout_after layout node named-now) (nonzero (old ∷ []) ++ unlinked) named named-is.kept) ∙ named-finds.1
 
@@ -281,7 +281,7 @@ module _ (state after : State) (layout : Layout) (node : ℕ) (was : Loaded) (i 
             session = session-then from named image named-session (freed-session (old ∷ []) named image removes);
           }
 
-  -- at each word what was at rest is found
+  -- at each word the old durable contents are recovered
   pub stage-finds : (image : Image) → WritesByStage files kept was.contents i after-size offset bytes from image → Finds (rest state) image
   stage-finds image (inl p) = here-finds image p
   stage-finds image (inr (inl fills)) = filling-finds files kept from image agrees fills state layout unlinked k

@@ -19,7 +19,7 @@ use Rattle.blk_stream.specs.Streams.{address_word, may_keep, size_word}
 use Rattle.blk_stream.proofs.PlacesFreed.{blocky_of}
 use Rattle.blk_stream.proofs.StreamPlaces.{may_parts, stored_some}
 
--- data of a size that an address which stands is the storage of
+-- data of a size that a valid address is the storage of
 module _ (files : BlockFiles) (image : Image) (size w : ℕ) (keep : may_keep files size w ≡ true) (st : w ≢ 0 → stands_in image w ≡ true) (long : HasPlaceLength w size image) where
   storage : is_storage size w ≡ true
   unfolding stores

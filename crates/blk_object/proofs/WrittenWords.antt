@@ -85,7 +85,7 @@ pub four-words : (image : Image) (w : ℕ) → (entry_at image w).data_addr ≡ 
 unfolding words_at entry_in
 four-words image w = refl
 
--- a file of which blocks stand is linked
+-- a file of which blocks are valid is linked
 linked-is : (image : Image) (w : ℕ) → stands_in image w ≡ true → kind_of w ≢ external → is_some (linked_as image (file_selector w)) ≡ true
 unfolding stands_as_blocks
 linked-is image w st blocks = go (linked_as image (file_selector w)) (and_parts (is_linked_as (linked_as image (file_selector w)) (kind_of w)) _ (and_parts (is_linked_as (linked_as image (file_selector w)) (kind_of w) && _) _ (stands-blocks image w st blocks)).0).0 where

@@ -33,7 +33,7 @@ pub record LiesFreeable (entry : ℕ) (loaded : Loaded) (image : Image) : Type 0
 abbrev pub HasFreeable : ℕ → Image → Type 0
 HasFreeable entry image = (loaded : Loaded) × LiesFreeable entry loaded image
 
--- all places of what lies there with a record are freed, where they may be; at each word those of a front are, and the next one is on its way
+-- all places of what lies there with a record are freed, where they may be; at each word those of a prefix are, and the next one is on its way
 pub record FreesAll {A : Type 0} (old new : Told) (entry : ℕ) (result : Result A Fault) : Type 0 where
   pub freed : OnOk result (ForSome old.files (λ from. (loaded : Loaded) → LiesFreeable entry loaded from → ForSome new.files (Removes (words_of loaded) from)))
   pub stops : ForSome old.files (λ from. (loaded : Loaded) → LiesFreeable entry loaded from → Passes old new (AreGoing (words_of loaded) from))

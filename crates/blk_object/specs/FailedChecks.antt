@@ -1,4 +1,4 @@
--- Why a call answers that a folder is damaged: a check that fails, on what is read in the call.
+-- Why a call answers that a folder is corrupt: a check that fails, on what is read in the call.
 use Rattle.std.specs.Prelude.{◌≡◌, ◌≢◌, ◌⊎◌, ◌+◌, ◌-◌, ◌%◌, ◌^◌, ◌<◌, ℕ, List, Bool, Option, None, Some, false, min, true}
 use Rattle.std.specs.Option.{ForSome}
 use Rattle.spec_image.specs.Image.{Block, Index, length_of, word}
@@ -42,7 +42,7 @@ pub record ReadsTooFew (told : Told) (damage : Damage) : Type 0 where
   pub count : ℕ
   pub short : IsShort told file start count damage
 
--- a read of a stream of a record gave fewer bytes than were asked: the damage has the place of its size, and finds how many there were
+-- a read of a stream of a record gave fewer bytes than were asked: the error has the place of its size, and finds how many there were
 pub record EndsTooSoon (told : Told) (entry : ℕ) (damage : Damage) : Type 0 where
   pub stream : ℕ
   pub offset : ℕ
@@ -51,7 +51,7 @@ pub record EndsTooSoon (told : Told) (entry : ℕ) (damage : Damage) : Type 0 wh
   pub few : damage.found < count
   pub many : ForSome told.files (λ image. damage.found ≡ min count (size_word image entry stream - offset))
 
--- the index has another length: the damage has the place of its end, and finds the length as a word
+-- the index has another length: the error has the place of its end, and finds the length as a word
 pub record HasOtherLength (told : Told) (damage : Damage) : Type 0 where
   pub of_file : damage.file ≡ names.Index
   pub at_end : damage.at ≡ index_length
@@ -60,14 +60,14 @@ pub record HasOtherLength (told : Told) (damage : Damage) : Type 0 where
 
 -- Words that aren't what they have to be.
 
--- the word at a place of a file was to name a record, and names none that stands: the damage has the place, and finds the word
+-- the word at a place of a file was to name a record, and names none that is there: the error has the place, and finds the word
 pub record NamesNoRecord (files : BlockFiles) (told : Told) (file : FileId) (at : ℕ) (damage : Damage) : Type 0 where
   pub of_file : damage.file ≡ file
   pub at_place : damage.at ≡ at
   pub unlike : is_record_among files damage.found ≡ false
   pub there : ForSome told.files (λ image. damage.found ≡ word image (file_of file) at)
 
--- a word of a record isn't 0, and no address of an external file, or of blocks that are there: the damage has its place, and finds it
+-- a word of a record isn't 0, and no address of an external file, or of blocks that are there: the error has its place, and finds it
 pub record IsLostWord (files : BlockFiles) (entry at found : ℕ) (damage : Damage) : Type 0 where
   pub of_word : IsWordOf entry at found damage
   pub some : found ≢ 0
@@ -97,7 +97,7 @@ pub record HasNoMap (told : Told) (entry : ℕ) (damage : Damage) : Type 0 where
   pub of_word : IsWordOf entry flags_place child damage
   pub unlike : ForSome told.files (λ image. read_part_index (stream_bytes image entry 2) ≡ None)
 
--- the key of an object's record has a length that no object's has: the damage finds this length
+-- the key of an object's record has a length that no object's has: the error finds this length
 pub record HasWrongLength (told : Told) (entry : ℕ) (damage : Damage) : Type 0 where
   pub of_word : IsWordOf entry key_len_place damage.found damage
   pub unlike : (damage.found ≡ 0) ⊎ (longest_key < damage.found)
@@ -110,7 +110,7 @@ pub record IsOfSamePart (bytes name : List ℕ) : Type 0 where
   pub signature : ℕ
   pub printed : name ≡ child_name read.key signature read.part
 
--- a record isn't found by its key, or by the name of the part that it is: the damage has the place of its hash, and finds the word 0, at which the chain ends
+-- a record isn't found by its key, or by the name of the part that it is: the error has the place of its hash, and finds the word 0, at which the chain ends
 pub record IsInNoChain (files : BlockFiles) (told : Told) (entry : ℕ) (damage : Damage) : Type 0 where
   pub key : List ℕ
   pub is_child : Bool
@@ -130,21 +130,21 @@ pub data IsWrongWithin (files : BlockFiles) (told : Told) (entry : ℕ) (damage 
   WrongChain : IsInNoChain files told entry damage → IsWrongWithin files told entry damage
   WrongSize : EndsTooSoon told entry damage → IsWrongWithin files told entry damage
 
--- a word of a record that stands is wrong
+-- a word of a record that is there is wrong
 pub record IsWrongInRecord (files : BlockFiles) (told : Told) (damage : Damage) : Type 0 where
   pub entry : ℕ
   pub kind : kind_of entry ≡ blocks_256
   pub stands : stands_among files entry ≡ true
   pub wrong : IsWrongWithin files told entry damage
 
--- the place of a long key shares a block with its record: the damage has the place of its word, and finds it
+-- the place of a long key shares a block with its record: the error has the place of its word, and finds it
 pub record IsSharedKey (entry : ℕ) (long_key : Option ℕ) (damage : Damage) : Type 0 where
   pub word : ℕ
   pub is : long_key ≡ Some word
   pub of_word : IsWordOf entry long_key_place word damage
   pub shared : LiesApart entry long_key → ⊥
 
--- blocks were given twice, to a record that stands and to its long key
+-- blocks were given twice, to a record that is there and to its long key
 pub record IsGivenTwice (files : BlockFiles) (damage : Damage) : Type 0 where
   pub entry : ℕ
   pub long_key : Option ℕ
@@ -162,20 +162,20 @@ pub data IsWrongWord (files : BlockFiles) (told : Told) (damage : Damage) : Type
 
 -- Records, walks, and files.
 
--- a node or a record that stands was read whole, and doesn't check
+-- a node or a record that is there was read whole, and doesn't check
 pub record IsReadUnsealed (files : BlockFiles) (told : Told) (damage : Damage) : Type 0 where
   pub address : ℕ
   pub begins : BeginsWithRecord address
   pub stands : stands_among files address ≡ true
   pub unsealed : IsUnsealed told address damage
 
--- a chain would be followed behind as many records as are searched
+-- a chain would be followed after as many records as are searched
 pub record IsWalkTooLong (files : BlockFiles) (told : Told) (damage : Damage) : Type 0 where
   pub key : List ℕ
   pub is_child : Bool
   pub long : IsTooLong files told key is_child damage
 
--- all files of a kind refused, and there were the most: what stood among them stands
+-- all files of a kind refused, and there were the most: what was valid among them still is
 pub record IsSomeKindFull (files : BlockFiles) (told : Told) (damage : Damage) : Type 0 where
   pub kind : ℕ
   pub before : BlockFiles
@@ -191,7 +191,7 @@ pub record IsSomeCounterDamage (files : BlockFiles) (told : Told) (damage : Dama
   pub among : is_among (all_files files) file ≡ true
   pub counter : IsCounterDamage told file start count used damage
 
--- a counter of a block file counts a group that one round of its map didn't have: what stood among the files then stands
+-- a counter of a block file counts a group that one round of its map didn't have: what was valid among the files then is valid
 pub record IsSomeMiscount (files : BlockFiles) (told : Told) (damage : Damage) : Type 0 where
   pub file : ℕ
   pub before : BlockFiles

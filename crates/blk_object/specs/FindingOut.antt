@@ -21,7 +21,7 @@ abbrev pub is_child_item : Item → Bool
 is_child_item (main key) = false
 is_child_item (part key n) = true
 
--- a search finds the record of an item that isn't out, behind this one in its chain, of the chains as they are, or as the first
+-- a search finds the record of an item that isn't out, after this one in its chain, of the chains as they are, or as the first
 pub record IsFoundLeft (state : State) (layout : Layout) (keep : Item → Bool) (chains : ℕ → List ℕ) (item : Item) (was : Loaded) (answer : Option Found) : Type 0 where
   pub found : Found
   pub is : answer ≡ Some found
@@ -35,7 +35,7 @@ LeftItemsAreFound =
     → KeepsPartlyOut state layout keep chains unlinked image → is_listed state item ≡ true → keep item ≡ true → layout.at (layout.place item) ≡ Some was
     → IsAnswer was.key (is_child_item item) answer image → IsFoundLeft state layout keep chains item was answer
 
--- a search finds the record of a listed item of a kept state, behind this one in its chain, or as the first
+-- a search finds the record of a listed item of a kept state, after this one in its chain, or as the first
 pub record IsFoundListed (state : State) (layout : Layout) (item : Item) (was : Loaded) (answer : Option Found) : Type 0 where
   pub found : Found
   pub is : answer ≡ Some found

@@ -59,7 +59,7 @@ abbrev pub IsNextGoing : List ℕ → Image → Image → Type 0
 IsNextGoing [] from image = image ≡ from
 IsNextGoing (w ∷ words) from image = (image ≡ from) ⊎ IsPlaceGoing w from image
 
--- the places of a front of some words are freed, and the next one is on its way
+-- the places of a prefix of some words are freed, and the next one is on its way
 pub record AreGoing (words : List ℕ) (from image : Image) : Type 0 where
   pub front : List ℕ
   pub left : List ℕ
@@ -91,11 +91,11 @@ FreedWordsLeaveCounters = (words : List ℕ) (from image : Image) → Removes wo
 abbrev pub FreedWordsLeaveSession : Type 0
 FreedWordsLeaveSession = (words : List ℕ) (from image : Image) → Removes words from image → SameSession from image
 
--- at each word what was at rest is found
+-- at each word the old durable contents are recovered
 abbrev pub GoingWordsFindTheSame : Type 0
 GoingWordsFindTheSame = (words : List ℕ) (from image : Image) → AreGoing words from image → StillFinds words from image
 
--- and where some items of an object are out, what is at rest with it doomed
+-- and where some items of an object are out, the durable contents with it doomed
 abbrev pub GoingWordsFindDoomed : Type 0
 GoingWordsFindDoomed = (state : State) (layout : Layout) (number : ℕ) (object : Object) (keep : Item → Bool) (chains : ℕ → List ℕ) (words unlinked : List ℕ) (from image : Image) → object_at state number ≡ Some object → LeavesOtherKeys object.key keep
     → KeepsPartlyOut state layout keep chains (words ++ unlinked) from → AreGoing words from image → Finds (rest (doomed number state (Some object))) image

@@ -16,7 +16,7 @@ use Rattle.law_state.specs.Changes.{AddsAllocation, RemovesAllocation, StillFind
 
 -- Any call.
 
--- where the folder stays whole at each word, what was at rest is found at each, with whatever words unlinked
+-- where the folder stays whole at each word, the old durable contents are recovered at each, with whatever words unlinked
 abbrev pub WholeFoldersFindTheSame : Type 0
 WholeFoldersFindTheSame = (words : List ℕ) (old new : Told) → ForSome old.files (λ from. Passes old new (StaysWhole from)) → ForSome old.files (λ from. Passes old new (StillFinds words from))
 

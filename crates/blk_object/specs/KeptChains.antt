@@ -20,7 +20,7 @@ KeptRecordsCanBeUnlinked =
     → StandsBehind (layout.chains (bucket_at between was.contents)) was.contents before prefix suffix
     → CanBeUnlinked was.contents before between × BeforeChecks before between
 
--- once the record of an item whose node is out of the list is unlinked, from behind another record or as the first one of its bucket, it is out of its chain, and all else is in its own
+-- once the record of an item whose node is out of the list is unlinked, from its place after another record or as the first one of its bucket, it is out of its chain, and all else is in its own
 abbrev pub UnlinkedRecordsAreOut : Type 0
 UnlinkedRecordsAreOut =
     (state : State) (layout : Layout) (unlinked : List ℕ) (from between image : Image) (node : ℕ) (was : Loaded) (before : Option ℕ) (prefix suffix : List ℕ)
@@ -29,7 +29,7 @@ UnlinkedRecordsAreOut =
     → IsUnlinked between was.contents before image
     → IsUnlinking layout (chains_without layout was.contents) between image
 
--- and the files are left as they stand
+-- and the files are left as they are
 abbrev pub UnlinkedRecordsLeaveFiles : Type 0
 UnlinkedRecordsLeaveFiles =
     (state : State) (layout : Layout) (unlinked : List ℕ) (from between image : Image) (node : ℕ) (was : Loaded) (before : Option ℕ) (prefix suffix : List ℕ)

@@ -36,7 +36,7 @@ WritingEntriesKeepsStates =
     → ForSome old.files (λ from. Passes old now (WritesEntryInProgress new (length key) from))
     → ForSome old.files (λ from. Passes old now (KeepsWith (words_of (loaded_new new key)) (words_of (loaded_new new key)) from))
 
--- once a plain one is written, it is a new entry of each state that was kept with its words unlinked, whose list has room for it and in which no live object has its key: where its dirty word is the number of the session, and its next the word of its bucket
+-- once a plain one is written, it is a new entry of each state that was kept with its words unlinked, whose list has space for it and in which no live object has its key: where its dirty word is the number of the session, and its next the word of its bucket
 abbrev pub WrittenEntriesAreNew : Type 0
 WrittenEntriesAreNew =
     (files : BlockFiles) (new : NewEntry) (key : List ℕ) (moment : ℕ) (state : State) (layout : Layout) (unlinked : List ℕ) (old now : Told) → FitsKey files new key → AreWords new → ForSome old.files (Agrees files)

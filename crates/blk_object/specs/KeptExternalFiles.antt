@@ -22,7 +22,7 @@ use Rattle.law_state.specs.Keeping.{KeepsUncounted}
 abbrev pub KeptStatesHaveFreeNumbers : Type 0
 KeptStatesHaveFreeNumbers = (state : State) (layout : Layout) (unlinked : List ℕ) (image : Image) → KeepsUncounted state layout unlinked image → most_words * items state + length unlinked < most_number → HasFreeNumber image
 
--- at each word of it what was at rest is found, whatever is unlinked
+-- at each word of it the old durable contents are recovered, whatever is unlinked
 abbrev pub CreationsFindTheSame : Type 0
 CreationsFindTheSame = (old new : Told) → ForSome old.files HasFreeNumber → ForSome old.files (λ from. HasFreeNumber from → Passes old new (CreatesInProgress from)) → ForSome old.files (λ from. Passes old new (StillFinds [] from))
 
@@ -34,7 +34,7 @@ CreationsAdd =
 
 -- Delete.
 
--- at each word of the deletion of an unlinked file, and of a change of it, what was at rest is found
+-- at each word of the deletion of an unlinked file, and of a change of it, the old durable contents are recovered
 abbrev pub DeletionsFindTheSame : Type 0
 DeletionsFindTheSame =
     (w : ℕ) (old new : Told) → kind_of w ≡ external → ForSome old.files (λ from. Passes old new (ChangesExternal (whole (named_file w)) (external_number w) from))

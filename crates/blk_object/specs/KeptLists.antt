@@ -1,4 +1,4 @@
--- Nodes that come into the use list, go out of it and are touched, as `insert_front`, `remove` and `touch` promise it, and what the laws on a kept state ask of that.
+-- Nodes that come into the LRU list, go out of it and are touched, as `insert_front`, `remove` and `touch` promise it, and what the laws on a kept state ask of that.
 use Rattle.std.specs.Prelude.{◌≡◌, ℕ, List, ◌∷◌, ◌++◌, true}
 use Rattle.std.specs.Option.{ForSome}
 use Rattle.spec_image.specs.Image.{Image}
@@ -27,19 +27,19 @@ use Rattle.law_state.specs.RemovalLaws.{IsRemovalDone}
 abbrev pub NewNodesCanBeInserted : Type 0
 NewNodesCanBeInserted = (state : State) (layout : Layout) (unlinked key : List ℕ) (loaded : Loaded) (from : Image) → KeepsUncounted state layout unlinked from → IsNewEntryOf state layout key loaded from → CanBeInserted (list_of from) (walked from) loaded.node
 
--- the nodes before and behind one in a list at rest
+-- the nodes before and after one in an idle list
 pub record IsAmidList (node : ℕ) (image : Image) : Type 0 where
   pub prefix : List ℕ
   pub suffix : List ℕ
   pub rest : HasListAtRest (prefix ++ node ∷ suffix) image
 
--- and the node of a listed item is in the list, which is at rest
+-- and the node of a listed item is in the list, which is idle
 abbrev pub ListedNodesAreInTheList : Type 0
 ListedNodesAreInTheList = (state : State) (layout : Layout) (unlinked : List ℕ) (image : Image) (item : Item) → KeepsUncounted state layout unlinked image → is_listed state item ≡ true → IsAmidList (layout.place item) image
 
 -- Inserts.
 
--- at each word of an insert a front of its writes is made
+-- at each word of an insert a prefix of its writes is made
 abbrev pub InsertsArePartly : Type 0
 InsertsArePartly =
     (files : BlockFiles) (node : ℕ) (old new : Told) → ForSome old.files (λ from. CanBeInserted (list_of from) (walked from) node)
@@ -54,7 +54,7 @@ InsertsAreDone =
 
 -- Removals.
 
--- at each word of a removal of a node that is in the list a front of its writes is made
+-- at each word of a removal of a node that is in the list a prefix of its writes is made
 abbrev pub RemovalsArePartly : Type 0
 RemovalsArePartly =
     (files : BlockFiles) (node : ℕ) (old new : Told) → ForSome old.files (IsAmidList node)
@@ -69,7 +69,7 @@ RemovalsAreDone =
 
 -- Touches.
 
--- at each word of a touch a front of its writes is made, or its times
+-- at each word of a touch a prefix of its writes is made, or its times
 abbrev pub TouchesArePartly : Type 0
 TouchesArePartly =
     (files : BlockFiles) (node : ℕ) (old new : Told) → ForSome old.files (IsAmidList node)

@@ -1,4 +1,4 @@
--- A walk over the use list, from node to node: where it ends, and where it goes on behind more nodes than a list has.
+-- A walk over the LRU list, from node to node: where it ends, and where it goes on after more nodes than a list has.
 use Rattle.std.specs.Prelude.{◌≡◌, ℕ, ◌+◌, ◌==◌, List, [], ◌∷◌, length, Option, None, Some, if◌then◌else◌, true}
 use Rattle.std.specs.Option.{ForSome}
 use Rattle.spec_image.specs.Image.{Image}
@@ -20,17 +20,17 @@ use Rattle.blk_chain.specs.Finding.{last_passed}
 abbrev pub end_word : (at : ℕ) → ListView → ℕ
 end_word at list = if at == NodeView.NEXT then list.head else list.tail
 
--- behind a node a walk goes on at the word at this place of it, or nowhere where the node names itself; without a node it begins at the end of the list, or nowhere where this is 0
+-- after a node a walk goes on at the word at this place of it, or nowhere where the node names itself; without a node it begins at the end of the list, or nowhere where this is 0
 abbrev pub GoesTo : (at : ℕ) → Image → (before next : Option ℕ) → Type 0
 GoesTo at image None next = word_or_zero next ≡ end_word at (list_of image)
 GoesTo at image (Some node) next = next ≡ (if link_at image node at == node then None else Some (link_at image node at))
 
--- a walk passes these nodes, one behind the other, each of which stands
+-- a walk passes these nodes, one after the other, each of which is there
 abbrev pub Follows : BlockFiles → (at : ℕ) → Image → (from : Option ℕ) → List ℕ → Type 0
 Follows files at image from [] = Unit {0}
 Follows files at image from (node ∷ nodes) = GoesTo at image from (Some node) × ((is_node_among files node ≡ true) × Follows files at image (Some node) nodes)
 
--- a walk that began behind a node, or at the end of the list, has passed so many nodes, the last of which is `before`
+-- a walk that began after a node, or at the end of the list, has passed so many nodes, the last of which is `before`
 pub record HasPassedNodes (files : BlockFiles) (at : ℕ) (from before : Option ℕ) (count : ℕ) (image : Image) : Type 0 where
   pub nodes : List ℕ
   pub many : length nodes ≡ count
@@ -46,14 +46,14 @@ pub record WalkEnds (files : BlockFiles) (at : ℕ) (from : Option ℕ) (image :
 
 -- Where it would go on too long.
 
--- behind this node there is another one: the damage has the place of the word at `at` of the node, and finds the other one
+-- after this node there is another one: the error has the place of the word at `at` of the node, and finds the other one
 pub record IsWordBehind (before : Option ℕ) (at : ℕ) (next : Option ℕ) (damage : Damage) : Type 0 where
   pub last : ℕ
   pub is_last : before ≡ Some last
   pub is_next : next ≡ Some damage.found
   pub of_word : IsWordOf last at damage.found damage
 
--- a walk has passed one node more than a list has, and goes on: the damage has the place of the next or the prev of the last one, and finds the node that would be followed
+-- a walk has passed one node more than a list has, and goes on: the error has the place of the next or the prev of the last one, and finds the node that would be followed
 pub record IsListTooLong (files : BlockFiles) (told : Told) (damage : Damage) : Type 0 where
   pub at : ℕ
   pub link : IsLinkPlace at

@@ -1,4 +1,4 @@
--- The parts of a key in the use list, and the first of them.
+-- The parts of a key in the LRU list, and the first of them.
 use Rattle.std.specs.Prelude.{◌≡◌, ℕ, ◌<◌, List, [], ◌∷◌, ◌++◌, Bool, Option, None, Some, Ok, false, filter, true, if◌then◌else◌}
 use Rattle.std.specs.List.{AllByRecursion}
 use Rattle.std.specs.Option.{option_map}
@@ -87,7 +87,7 @@ abbrev pub IsFoundPart : Layout → List ℕ → List Item → Option ListedPart
 IsFoundPart layout key items None = HaveNoPart key items
 IsFoundPart layout key items (Some found) = IsFirstPart layout key items found
 
--- these of some items are searched: all, or those behind the one that lies at a node
+-- these of some items are searched: all, or those after the one that lies at a node
 abbrev pub AreSearched : Layout → Option ℕ → (all items : List Item) → Type 0
 AreSearched layout None all items = all ≡ items
 AreSearched layout (Some node) all items = (first : List Item) × (item : Item) × (all ≡ first ++ item ∷ items) × (layout.place item ≡ node)

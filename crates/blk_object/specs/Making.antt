@@ -27,7 +27,7 @@ use Rattle.law_state.specs.NewEntryLaws.{IsNewEntryOf}
 use Rattle.blk_object.specs.declared.making.Made.{Made}
 use Rattle.blk_object.specs.declared.making_places.Places.{Places}
 
--- Room.
+-- Space.
 
 -- a folder keeps some state that has fewer items than a cache may have, and may get so many unlinked words more
 pub record LeavesRoom (more : ℕ) (image : Image) : Type 0 where
@@ -102,7 +102,7 @@ IsEntryOfKept places mark key from image =
     (state : State) (layout : Layout) (unlinked : List ℕ) (handle : ℕ) → KeepsUncounted state layout (words_of_places places ++ unlinked) from → CanHaveNew state handle key → this_id_of (byte from Index) ≡ mark
     → IsToBeListed state layout unlinked handle key (new_loaded places mark key) image
 
--- whatever was kept with an entry of this record and node to be listed, what was at rest is found
+-- whatever was kept with an entry of this record and node to be listed, the old durable contents are recovered
 abbrev pub FindsUntilListed : (entry node : ℕ) → Image → Image → Type 0
 FindsUntilListed entry node from image =
     (state : State) (layout : Layout) (unlinked : List ℕ) (handle : ℕ) (key : List ℕ) (loaded : Loaded) → IsToBeListed state layout unlinked handle key loaded from → loaded.contents ≡ entry → loaded.node ≡ node
@@ -148,7 +148,7 @@ pub record HasRoomForNew (key : List ℕ) (mark : ℕ) (image : Image) : Type 0 
   pub session : this_id_of (byte image Index) ≡ mark
   pub can : CanHaveNew state handle key
 
--- of each state that was kept and can have it, what was at rest is found
+-- of each state that was kept and can have it, the old durable contents are recovered
 abbrev pub FindsWhileMade : (key : List ℕ) → Image → Image → Type 0
 FindsWhileMade key from image = (state : State) (layout : Layout) (handle : ℕ) → Keeps state layout [] from → CanHaveNew state handle key → Finds (rest state) image
 

@@ -19,7 +19,7 @@ use Rattle.blk_object.specs.RemovingNext.{CountsLeft}
 use Rattle.blk_object.specs.RemovingParts.{LiesLeft}
 use Rattle.blk_object.specs.UnlinkedLoads.{KeepsUnlinked, LiesUnlinked}
 
--- an item that isn't out lies at this node with this record, which stands in its chain, of the chains as they are, behind this one, or is the first
+-- an item that isn't out lies at this node with this record, which is in its chain, of the chains as they are, after this one, or is the first
 pub record LiesNext (state : State) (layout : Layout) (keep : Item → Bool) (chains : ℕ → List ℕ) (item : Item) (node entry : ℕ) (before : Option ℕ) : Type 0 where
   pub was : Loaded
   pub lies : LiesLeft state layout keep chains item was before

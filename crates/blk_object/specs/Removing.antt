@@ -1,4 +1,4 @@
--- An object goes: the node of an item is taken out of the use list, and its record out of its chain.
+-- An object goes: the node of an item is taken out of the LRU list, and its record out of its chain.
 use Rattle.std.specs.Prelude.{◌≡◌, ◌⊎◌, ℕ, List, Option, None, Some, true}
 use Rattle.spec_image.specs.Image.{AreBytes, Image}
 use Rattle.blk_model.specs.Items.{Item}
@@ -20,12 +20,12 @@ use Rattle.blk_object.specs.KeptLists.{IsAmidList}
 
 -- What the call does.
 
--- an item may go out, by its node, its record and the record before that: the node is in the use list, and once it is out the record can be unlinked, and the record before it checks
+-- an item may go out, by its node, its record and the record before that: the node is in the LRU list, and once it is out the record can be unlinked, and the record before it checks
 pub record MayGoOut (node entry : ℕ) (before : Option ℕ) (from : Image) : Type 0 where
   pub listed : IsAmidList node from
   pub chained : (between : Image) → AreBytes between → IsRemovalDone from node between → CanBeUnlinked entry before between × BeforeChecks before between
 
--- the node is out of the use list, the record is out of its chain, and the record before it is sealed
+-- the node is out of the LRU list, the record is out of its chain, and the record before it is sealed
 pub record IsTakenOut (node entry : ℕ) (before : Option ℕ) (from image : Image) : Type 0 where
   pub between : Image
   pub unlisted : IsRemovalDone from node between
@@ -38,19 +38,19 @@ abbrev pub IsYetLinked : Image → ℕ → Option ℕ → Image → Type 0
 IsYetLinked between entry None image = image ≡ between
 IsYetLinked between entry (Some before) image = IsStillLinked between entry (Some before) image
 
--- the node is out of the use list, and the record is in its chain yet, or out of it
+-- the node is out of the LRU list, and the record is in its chain yet, or out of it
 pub record IsBeingUnlinked (node entry : ℕ) (before : Option ℕ) (from image : Image) : Type 0 where
   pub between : Image
   pub unlisted : IsRemovalDone from node between
   pub moment : IsYetLinked between entry before image ⊎ IsUnlinked between entry before image
 
--- a front of the writes of the removal from the use list is made, or the record is being unlinked
+-- a prefix of the writes of the removal from the LRU list is made, or the record is being unlinked
 abbrev pub IsGoingOut : ℕ → ℕ → Option ℕ → Image → Image → Type 0
 IsGoingOut node entry before from image = IsPartly from (writes_of remove node (list_of from)) image ⊎ IsBeingUnlinked node entry before from image
 
 -- What it is to the state that was kept.
 
--- a listed item lies at its node, and its record stands in its chain behind this one, or is the first
+-- a listed item lies at its node, and its record is in its chain after this one, or is the first
 pub record LiesBehind (state : State) (layout : Layout) (item : Item) (was : Loaded) (before : Option ℕ) : Type 0 where
   pub listed : is_listed state item ≡ true
   pub here : layout.at (layout.place item) ≡ Some was

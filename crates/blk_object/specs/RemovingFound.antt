@@ -13,7 +13,7 @@ use Rattle.blk_object.specs.Removing.{LiesBehind}
 abbrev pub KeptStatesCanBeSearched : Type 0
 KeptStatesCanBeSearched = (state : State) (layout : Layout) (unlinked : List ℕ) (image : Image) (key : List ℕ) → KeepsUncounted state layout unlinked image → CanBeSearched key image
 
--- the main item of a key lies at this node with this record, behind this one in its chain
+-- the main item of a key lies at this node with this record, after this one in its chain
 pub record LiesAsFound (state : State) (layout : Layout) (key : List ℕ) (node entry : ℕ) (before : Option ℕ) : Type 0 where
   pub was : Loaded
   pub lies : LiesBehind state layout (main key) was before

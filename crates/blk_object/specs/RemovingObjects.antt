@@ -19,7 +19,7 @@ use Rattle.blk_object.specs.Removing.{LiesBehind}
 use Rattle.blk_object.specs.Counters.{IsOneItemLess}
 use Rattle.blk_object.specs.declared.owning.Owned.{Owned}
 
--- a state is left without an item, by its objects then and the items that stay; the item lies at this node with this record, which stands in its chain behind this one, or is the first
+-- a state is left without an item, by its objects then and the items that stay; the item lies at this node with this record, which is in its chain after this one, or is the first
 pub record GoesAlone (state : State) (layout : Layout) (objects : List (Option Object)) (keep : Item → Bool) (item : Item) (node entry : ℕ) (before : Option ℕ) : Type 0 where
   pub without : IsWithout state objects keep item
   pub was : Loaded
@@ -44,7 +44,7 @@ pub record IsOwnedBy (entry : ℕ) (owned : Owned) (image : Image) : Type 0 wher
   pub words : (loaded : Loaded) → LoadsWith entry loaded image → words_at owned.places ≡ words_of loaded
   pub charge : (loaded : Loaded) → LoadsWith entry loaded image → owned.charge ≡ charge_of loaded
 
--- what is at rest in one state is found, or what is at rest in another
+-- the durable contents in one state are recovered, or those in another
 abbrev pub FindsEither : (state after : State) → Image → Type 0
 FindsEither state after image = Finds (rest state) image ⊎ Finds (rest after) image
 

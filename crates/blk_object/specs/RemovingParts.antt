@@ -17,7 +17,7 @@ use Rattle.law_state.specs.PartlyOut.{KeepsPartlyOut, chains_but, keeps_but}
 use Rattle.law_state.specs.PartlyOutStops.{LeavesOtherKeys}
 use Rattle.blk_object.specs.Removing.{IsBeingUnlinked, IsGoingOut, IsTakenOut, LiesBehind, MayGoOut}
 
--- an item that isn't out lies at its node, and its record stands in its chain, of the chains as they are, behind this one, or is the first
+-- an item that isn't out lies at its node, and its record is in its chain, of the chains as they are, after this one, or is the first
 pub record LiesLeft (state : State) (layout : Layout) (keep : Item → Bool) (chains : ℕ → List ℕ) (item : Item) (was : Loaded) (before : Option ℕ) : Type 0 where
   pub stays : keep item ≡ true
   pub lies : LiesBehind state (record layout { chains = chains }) item was before
@@ -43,7 +43,7 @@ TakenOutItemsLoad =
     → KeepsPartlyOut state layout keep chains unlinked from → LiesLeft state layout keep chains item was before
     → IsTakenOut (layout.place item) was.contents before from image → (load (store_of image) (unchained_rule entry_normal) (layout.place item) ≡ Ok was) × AreSealed image was
 
--- while the record of an item of an object is unlinked, and without the item no main item of its key is left, what is at rest with the object doomed is found
+-- while the record of an item of an object is unlinked, and without the item no main item of its key is left, the durable contents with the object doomed are recovered
 abbrev pub UnlinkedItemsFindDoomed : Type 0
 UnlinkedItemsFindDoomed =
     (state : State) (layout : Layout) (keep : Item → Bool) (chains : ℕ → List ℕ) (unlinked : List ℕ) (item : Item) (was : Loaded) (before : Option ℕ) (number : ℕ) (object : Object) (from image : Image)
@@ -57,12 +57,12 @@ GoingPartsFindDoomed =
     → KeepsPartlyOut state layout keep chains unlinked from → LiesLeft state layout keep chains (part object.key n) was before → object_at state number ≡ Some object → LeavesOtherKeys object.key keep
     → IsGoingOut (layout.place (part object.key n)) was.contents before from image → Finds (rest (doomed number state (Some object))) image
 
--- and where the main item of a live object goes out first, whatever parts and handles it has, what was at rest is found, or what is at rest with the object doomed
+-- and where the main item of a live object goes out first, whatever parts and handles it has, the old durable contents are recovered, or those with the object doomed
 abbrev pub GoingMainsFindEither : Type 0
 GoingMainsFindEither = (state : State) (layout : Layout) (unlinked : List ℕ) (was : Loaded) (before : Option ℕ) (number : ℕ) (object : Object) (from image : Image) → KeepsUncounted state layout unlinked from → LiesBehind state layout (main object.key) was before
     → object_at state number ≡ Some object → object.live ≡ true → IsGoingOut (layout.place (main object.key)) was.contents before from image → Finds (rest state) image ⊎ Finds (rest (doomed number state (Some object))) image
 
--- and where a part goes alone, what was at rest is found, or what is at rest without the part
+-- and where a part goes alone, the old durable contents are recovered, or those without the part
 abbrev pub GoingLonePartsFindEither : Type 0
 GoingLonePartsFindEither = (state : State) (layout : Layout) (unlinked : List ℕ) (n : ℕ) (was : Loaded) (before : Option ℕ) (number : ℕ) (object : Object) (from image : Image) → KeepsUncounted state layout unlinked from → LiesBehind state layout (part object.key n) was before
     → object_at state number ≡ Some object → object.live ≡ true → is_some (part_at object n) ≡ true → IsGoingOut (layout.place (part object.key n)) was.contents before from image → Finds (rest state) image ⊎ Finds (rest (without (single object.key n ∷ []) state)) image

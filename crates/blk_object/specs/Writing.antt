@@ -35,7 +35,7 @@ node_of_object layout number object = if object.live then layout.place (main obj
 abbrev pub with_written : State → ℕ → Object → (at offset : ℕ) → Bool → List ℕ → State
 with_written state number object at offset cut bytes = with_slot number (Some (after_write object at offset cut bytes)) state
 
--- a state is kept, in which an object that isn't settled lies at its node, with this record; it may have its stream written, and there is room for one more place
+-- a state is kept, in which a dirty object lies at its node, with this record; it may have its stream written, and there is space for one more place
 pub record IsToBeWritten (state : State) (layout : Layout) (unlinked : List ℕ) (number : ℕ) (object : Object) (was : Loaded) (entry at offset : ℕ) (cut : Bool) (bytes : List ℕ) (image : Image) : Type 0 where
   pub kept : KeepsUncounted state layout unlinked image
   pub here : object_at state number ≡ Some object
@@ -89,7 +89,7 @@ pub record IsWrittenUncounted (state : State) (layout : Layout) (unlinked : List
 
 -- A part.
 
--- a state is kept, in which a live object that isn't settled has a part, which lies at its node with this record; with a stream of it written it is that part with another value, and there is room for one more place
+-- a state is kept, in which a dirty live object has a part, which lies at its node with this record; with a stream of it written it is that part with another value, and there is space for one more place
 pub record IsPartToBeWritten (state : State) (layout : Layout) (unlinked : List ℕ) (number : ℕ) (object : Object) (n : ℕ) (value : PartValue) (was : Loaded) (role : Role) (entry at offset : ℕ) (cut : Bool) (bytes : List ℕ) (image : Image) : Type 0 where
   pub kept : KeepsUncounted state layout unlinked image
   pub here : object_at state number ≡ Some object

@@ -9,7 +9,7 @@ use Rattle.law_state.specs.Changes.{SameCounters, StillFinds}
 use Rattle.blk_object.specs.Freeing.{RemovesPlace}
 use Rattle.blk_object.specs.Making.{Takes, long_word}
 
--- while a place is taken and filled, what was at rest is found
+-- while a place is taken and filled, the old durable contents are recovered
 abbrev pub FillingFindsTheSame : Type 0
 FillingFindsTheSame = (files kept : BlockFiles) (from image : Image) → Agrees files from → FillsByStage files kept from image → StillFinds [] from image
 

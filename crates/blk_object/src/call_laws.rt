@@ -6,7 +6,8 @@ ghost use Rattle.blk_object.specs.KeptEntries.{NewEntriesChangeTheirOwn, Writing
 ghost use Rattle.blk_object.specs.KeptChains.{KeptRecordsCanBeUnlinked, UnlinkedRecordsAreOut, UnlinkedRecordsLeaveFiles, UnlinkingsChangeLinks};
 ghost use Rattle.blk_object.specs.KeptBlocks.{AllocationsAdd, AllocationsStayWhole, FreesRemove, FreesStayWhole, KeptFilesAreCounted, WholeFoldersFindTheSame};
 
-/// A folder that stays whole at each word of a call, as in an allocation and a free, has what was at rest found at each, whatever is unlinked.
+/// A folder that stays whole at each word of a call, as in an allocation and a free, has the old durable contents recovered at each, whatever
+/// is unlinked.
 pub fn whole_folders_find_the_same()
     ensures { WholeFoldersFindTheSame }
 {}
@@ -24,20 +25,23 @@ pub fn allocated_blocks_are_added()
     ensures added { AllocationsAdd }
 {}
 
-/// Where a state is kept an external number is free. At each word of a creation what was at rest is found, and once it is done the file is made.
+/// Where a state is kept an external number is free. At each word of a creation the old durable contents are recovered, and once it is done the
+/// file is made.
 pub fn external_files_are_added()
     ensures free { KeptStatesHaveFreeNumbers }
     ensures find { CreationsFindTheSame }
     ensures added { CreationsAdd }
 {}
 
-/// At each word of a deletion of an unlinked external file what was at rest is found, and once it is done the file is removed.
+/// At each word of a deletion of an unlinked external file the old durable contents are recovered, and once it is done the
+/// file is removed.
 pub fn external_files_are_gone()
     ensures find { DeletionsFindTheSame }
     ensures removed { DeletionsRemove }
 {}
 
-/// Where a state is kept the node of a new entry can be inserted, and that of a listed item is in the list. At each word of an insert, a removal and a touch a front of its writes is made, and in the end it is done.
+/// Where a state is kept the node of a new entry can be inserted, and that of a listed item is in the list. At each word of an insert, a removal and a touch a prefix of its writes is made, and in the end it is
+/// done.
 pub fn nodes_are_listed()
     ensures new { NewNodesCanBeInserted }
     ensures listed { ListedNodesAreInTheList }

@@ -24,7 +24,7 @@ pub(crate) struct Counters {
     pub entries: u32,
     /// The sum of their charges.
     pub bytes: u32,
-    /// The nodes of the use list.
+    /// The nodes of the LRU list.
     pub size: u32,
 }
 

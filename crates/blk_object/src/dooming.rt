@@ -29,7 +29,7 @@ const DOOMED: u32 = 2;
 /// Gives the record of an object that a handle names, all of whose items are out, the state of a doomed one, by a
 /// sealed update: one folder call reads it, and three write.
 ///
-/// A damage is a record that has too few bytes or doesn't check, and nothing is written then.
+/// A failed check is a record that has too few bytes or doesn't check, and nothing is written then.
 pub fn doom_record<F: Folder>(f: &mut F, files: &BlockFiles, entry: Addr) -> Result<(), Fault>
     requires kind { kind_of entry ≡ blocks_256 }
     requires stands { IsTrue (stands_among files.now entry) }
@@ -38,15 +38,15 @@ pub fn doom_record<F: Folder>(f: &mut F, files: &BlockFiles, entry: Addr) -> Res
     // Where it loads yet, by itself, it loads as a doomed object in the end: so the state with it doomed is kept, with its words in it.
     ensures doomed { OnOk result (ForSome (F.told f.old).files (λ from. ForEachOut entry from (λ state layout number object loaded chains unlinked. ForSome (F.told f.new).files (IsDoomedOut state layout number object loaded chains unlinked from)))) }
 
-    // At each word what is at rest with it doomed is found.
+    // At each word the durable contents with it doomed are recovered.
     ensures stops { ForSome (F.told f.old).files (λ from. ForEachOut entry from (λ state layout number object loaded chains unlinked. Passes (F.told f.old) (F.told f.new) (Finds (rest (doomed number state (Some object)))))) }
 
     ensures is_open { ForSome (F.told f.new).files (IsOpen files.now) }
 
-    // A damage is a check that fails on what is read here; nothing is written after it.
+    // Corruption is a check that fails on what is read here; nothing is written after it.
     ensures damaged { IfDamaged result (IsFailedCheck files.now (F.told f.new)) }
 
-    // A folder that tells its files, with such an object, gives no damage.
+    // An observable folder, with such an object, reports no corruption.
     ensures untold { ForSome (F.told f.old).files (λ from. ForEachOut entry from (λ state layout number object loaded chains unlinked. IfDamaged result (λ _. (F.told f.old).files ≡ None))) }
 
     ensures silent { (F.told f.old).files ≡ None → (F.told f.new).files ≡ None }
@@ -56,11 +56,11 @@ pub fn doom_record<F: Folder>(f: &mut F, files: &BlockFiles, entry: Addr) -> Res
     files.update_sealed(f, entry, &[(EntryView::STATE, DOOMED)])
 }
 
-/// Dooms a live object without parts that a handle names: its main item is taken out of the use list and of its chain,
+/// Dooms a live object without parts that a handle names: its main item is taken out of the LRU list and of its chain,
 /// its record gets the state of a doomed one, and the index counts one entry less, with its charge, in bytes. Nothing
 /// is freed: its places stay its until the last handle is closed.
 ///
-/// Its record stands in its chain behind the record before, or is the first; and it names this node. This takes as many
+/// Its record is in its chain after the record before, or is the first; and it names this node. This takes as many
 /// folder calls as `take_out`, four for the record, and five for the counters.
 pub fn doom_plain<F: Folder>(
     f: &mut F,
@@ -79,7 +79,7 @@ pub fn doom_plain<F: Folder>(
     // Where all items are counted, and this is its charge, the state with it doomed is kept and counted in the end, with the same words unlinked.
     ensures doomed { OnOk result (ForSome (F.told f.old).files (λ from. ForEachHeld node found.now.entry found.now.before from (λ state layout unlinked number object loaded. CountsItems from state layout → charge ≡ charge_of loaded → ForSome (F.told f.new).files (Keeps (doomed number state (Some object)) (layout_held layout number object loaded) unlinked)))) }
 
-    // At each word what was at rest is found, or what is at rest with it doomed.
+    // At each word the old durable contents are recovered, or those with it doomed.
     ensures stops { ForSome (F.told f.old).files (λ from. ForEachHeld node found.now.entry found.now.before from (λ state layout unlinked number object loaded. Passes (F.told f.old) (F.told f.new) (FindsEither state (doomed number state (Some object))))) }
 
     // The session is the same then.
@@ -87,10 +87,10 @@ pub fn doom_plain<F: Folder>(
 
     ensures is_open { ForSome (F.told f.new).files (IsOpen files.now) }
 
-    // A damage is a check that fails on what is read here; nothing is written after it.
+    // Corruption is a check that fails on what is read here; nothing is written after it.
     ensures damaged { IfDamaged result (IsFailedCheck files.now (F.told f.new)) }
 
-    // A folder that tells its files, with such an object, gives no damage.
+    // An observable folder, with such an object, reports no corruption.
     ensures untold { ForSome (F.told f.old).files (λ from. ForEachHeld node found.now.entry found.now.before from (λ state layout unlinked number object loaded. IfDamaged result (λ _. (F.told f.old).files ≡ None))) }
 
     ensures silent { (F.told f.old).files ≡ None → (F.told f.new).files ≡ None }

@@ -18,8 +18,8 @@ use blk_io::{Failed, Fault, Folder};
 
 /// Frees places, one after another: of blocks the allocation, of an external file the file.
 ///
-/// For each place of blocks this takes seven folder calls at most, and for each external file one. A damage is one of
-/// a block file's header.
+/// For each place of blocks this takes seven folder calls at most, and for each external file one. A failed check is
+/// one of a block file's header.
 pub fn free_places<F: Folder>(
     f: &mut F,
     files: &BlockFiles,
@@ -28,16 +28,16 @@ pub fn free_places<F: Folder>(
     requires stand { All (IsPlaceAmong files.now) places.now }
     requires is_open { ForSome (F.told f.old).files (IsOpen files.now) }
 
-    // Places that are nobody's are freed. At each word those of a front are, and the next one is on its way.
+    // Places that are nobody's are freed. At each word those of a prefix are, and the next one is on its way.
     ensures freed { OnOk result (ForSome (F.told f.old).files (λ from. AreFreeable (words_at places.now) from → ForSome (F.told f.new).files (Removes (words_at places.now) from))) }
     ensures stops { ForSome (F.told f.old).files (λ from. AreFreeable (words_at places.now) from → Passes (F.told f.old) (F.told f.new) (AreGoing (words_at places.now) from)) }
 
     ensures is_open { ForSome (F.told f.new).files (IsOpen files.now) }
 
-    // A damage is a check that fails on what is read here; nothing is written after it.
+    // Corruption is a check that fails on what is read here; nothing is written after it.
     ensures damaged { IfDamaged result (IsFailedCheck files.now (F.told f.new)) }
 
-    // A folder that tells its files gives a damage only for a place that is somebody's.
+    // An observable folder reports corruption only for a place that is somebody's.
     ensures untold { ForSome (F.told f.old).files (AreFreeable (words_at places.now)) → IfDamaged result (λ _. (F.told f.old).files ≡ None) }
 
     ensures silent { (F.told f.old).files ≡ None → (F.told f.new).files ≡ None }

@@ -1,4 +1,4 @@
-// The words of nodes by which a walk over the use list goes, and the end of such a walk.
+// The words of nodes by which a walk over the LRU list goes, and the end of such a walk.
 ghost use Rattle.std.specs.Prelude.{◌≡◌, IfSome, None, OnOk};
 ghost use Rattle.spec_format.specs.Address.{kind_of, rankings};
 ghost use Rattle.blk_io.specs.Faults.{IfDamaged, IfDevice};
@@ -10,10 +10,10 @@ use blk_disk::file_of;
 use blk_io::{Damage, Fault};
 use blk_record::{BlockHead, NodeView, Record};
 
-/// The end of a walk over the use list that has passed one node more than a list has: none may lie behind the last one.
+/// The end of a walk over the LRU list that has passed one node more than a list has: none may lie after the last one.
 ///
-/// One that does is a damage, of the word by which it would be followed: the word at `at`, its next or its prev, of the
-/// last node.
+/// One that does is corruption, of the word by which it would be followed: the word at `at`, its next or its prev, of
+/// the last node.
 pub fn end_walk(last: Option<Addr>, at: u32, next: Option<Addr>) -> Result<(), Fault>
     requires kind { IfSome last (λ node. kind_of node ≡ rankings) }
     ensures ended { OnOk result (IfSome last (λ _. next ≡ None)) }
@@ -29,7 +29,7 @@ pub fn end_walk(last: Option<Addr>, at: u32, next: Option<Addr>) -> Result<(), F
     Err(node_damage(node, at, found.word()))
 }
 
-/// The damage of a word of a node: the word at a place in it, with what was found there.
+/// The failed check of a word of a node: the word at a place in it, with what was found there.
 pub fn node_damage(node: Addr, at: u32, found: u32) -> Fault
     requires kind { kind_of node ≡ rankings }
     ensures { IsDamageAt node at found result }

@@ -1,4 +1,4 @@
-// The parts of a key in the use list.
+// The parts of a key in the LRU list.
 ghost use Rattle.std.specs.Prelude.{◌≡◌, ◌≤◌, ℕ, List, ◌<◌, IfOk, IfSome, IsTrue, None, length, true};
 ghost use Rattle.std.specs.Option.{ForSome};
 ghost use Rattle.spec_image.specs.Told.{Rises, Stays};
@@ -25,7 +25,7 @@ use blk_lru::{MOST_NODES, after, first};
 use blk_ranges::{KEY_OF_NAME, read_child_name};
 use blk_record::{CHILD, NodeView};
 
-/// A part in the use list: its node, its record, and its number.
+/// A part in the LRU list: its node, its record, and its number.
 #[derive(Clone, Copy, Debug, PartialEq, Eq)]
 pub struct ListedPart {
     pub node: Addr,
@@ -33,10 +33,10 @@ pub struct ListedPart {
     pub number: u32,
 }
 
-/// The first part of a key in the use list, from its front on, or behind the node of an item; `None` where there is none.
+/// The first part of a key in the LRU list, from its front on, or after the node of an item; `None` where there is none.
 ///
 /// Nothing is changed. This takes three folder calls for each item, and two more for a part, of which the name is read
-/// into `room`. A walk that goes on behind 131073 nodes is a damage, of the next of the last one.
+/// into `room`. A walk that goes on after 131073 nodes is corruption, of the next of the last one.
 pub fn next_part<F: Folder>(
     f: &mut F,
     files: &BlockFiles,
@@ -48,7 +48,7 @@ pub fn next_part<F: Folder>(
     requires room { most_key ≤ length room.old }
     requires is_open { ForSome (F.told f.old).files (IsOpen files.now) }
 
-    // Where some items are out, or none, it is the first part of the key among the others, or behind that one; and there is none exactly where none is found.
+    // Where some items are out, or none, it is the first part of the key among the others, or after that one; and there is none exactly where none is found.
     ensures part { IfOk result (λ found. ForSome (F.told f.old).files (λ image. ForEachSearch from image (λ layout items. IsFoundPart layout key.now items found))) }
     ensures there { IfOk result (λ found. IfSome found (IsPartThere files.now)) }
 
@@ -63,10 +63,10 @@ pub fn next_part<F: Folder>(
 
     ensures stays { Stays (F.told f.old) (F.told f.new) }
 
-    // A damage is a check that fails on what is read here; nothing is written after it.
+    // Corruption is a check that fails on what is read here; nothing is written after it.
     ensures damaged { IfDamaged result (IsFailedCheck files.now (F.told f.new)) }
 
-    // A folder that tells its files, in which a state is so, gives no damage.
+    // An observable folder, in which a state is so, reports no corruption.
     ensures untold { ForSome (F.told f.old).files (λ image. ForEachSearch from image (λ layout items. IfDamaged result (λ _. (F.told f.old).files ≡ None))) }
 
     ensures later { F.faults f.old ≤ F.faults f.new }
@@ -89,7 +89,7 @@ pub fn next_part<F: Folder>(
     Ok(None)
 }
 
-// The first node of the list, or the one behind a node.
+// The first node of the list, or the one after a node.
 fn node_behind<F: Folder>(
     f: &mut F,
     files: &BlockFiles,
@@ -145,7 +145,7 @@ fn part_at<F: Folder>(
 
 /// The record that a node names, by one folder call. Nothing is written.
 ///
-/// A damage is a read that gave too few bytes, or a word that names no record which is there.
+/// A failed check is a read that gave too few bytes, or a word that names no record which is there.
 pub fn entry_named<F: Folder>(f: &mut F, files: &BlockFiles, node: Addr) -> Result<Addr, Fault>
     requires node { IsTrue (is_node_among files.now node) }
     ensures entry { IfOk result (λ entry. ForSome (F.told f.old).files (λ image. entry ≡ (node_at image node).contents)) }

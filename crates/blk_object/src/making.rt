@@ -42,9 +42,9 @@ pub struct Made {
 /// Makes a new object without streams, with a key that no other has.
 ///
 /// Its places are taken first, and its entry is written there, with the number of the session as its mark. Then its
-/// node comes in front of the use list, its record in front of its chain, and the index counts it. A damage is
-/// one that the calls below find, an index that hasn't its length, or blocks that were given twice. A key that
-/// lies in its record takes at most 70 folder calls where no file grows.
+/// node comes in front of the LRU list, its record in front of its chain, and the index counts it. A failed check is
+/// one that the calls below find, an index that hasn't its length, or blocks that were given twice. A key that lies in
+/// its record takes at most 70 folder calls where no file grows.
 pub fn make_entry<F: Folder>(
     f: &mut F,
     files: &mut BlockFiles,
@@ -62,18 +62,18 @@ pub fn make_entry<F: Folder>(
     // It was made, used and changed at the moment.
     ensures times { IfOk result (λ made. ForSome (F.told f.new).files (HasTimes made.entry made.node moment)) }
 
-    // At each word what was at rest is found: the new object is dirty, and so it isn't.
+    // At each word the old durable contents are recovered: the new object is dirty, and so it isn't durable.
     ensures stops { ForSome (F.told f.old).files (λ from. HasRoomForNew key.now mark from → Passes (F.told f.old) (F.told f.new) (FindsWhileMade key.now from)) }
 
-    // What stood still does, and so do the record and the node.
+    // What was valid still is, and so are the record and the node.
     ensures keeps { KeepsStanding files.old files.new }
     ensures stands { IfOk result (λ made. IsTrue (is_record_among files.new made.entry) × IsTrue (is_node_among files.new made.node)) }
     ensures is_open { OnOk result (ForSome (F.told f.new).files (IsOpen files.new)) }
 
-    // A damage is a check that fails on what is read here; nothing is written after it.
+    // Corruption is a check that fails on what is read here; nothing is written after it.
     ensures damaged { IfDamaged result (IsFailedCheck files.new (F.told f.new)) }
 
-    // A folder that tells its files, and keeps such a state, gives no damage.
+    // An observable folder that keeps such a state reports no corruption.
     ensures untold { ForSome (F.told f.old).files (HasRoomForNew key.now mark) → IfDamaged result (λ _. (F.told f.old).files ≡ None) }
     ensures silent { (F.told f.old).files ≡ None → (F.told f.new).files ≡ None }
     ensures later { F.faults f.old ≤ F.faults f.new }
@@ -126,7 +126,7 @@ fn write_new<F: Folder>(
     write_entry(f, files, &new, key, moment)
 }
 
-// Puts the node of an entry that is written in front of the use list, and then its record in front of its chain.
+// Puts the node of an entry that is written in front of the LRU list, and then its record in front of its chain.
 fn list_entry<F: Folder>(
     f: &mut F,
     files: &BlockFiles,

@@ -13,7 +13,7 @@ use blk_disk::BlockFiles;
 use blk_entry::{set_clean, set_dirty};
 use blk_io::{Fault, Folder};
 
-/// Makes the dirty word of a node this number, where 0 says that its object is settled: one folder call reads the node,
+/// Makes the dirty word of a node this number, where 0 says that its object is clean: one folder call reads the node,
 /// and two write.
 pub fn set_mark<F: Folder>(
     f: &mut F,
@@ -26,7 +26,7 @@ pub fn set_mark<F: Folder>(
     ensures sets { SetsDirty files.now (F.told f.old) (F.told f.new) node mark result }
     ensures is_open { ForSome (F.told f.new).files (IsOpen files.now) }
 
-    // A damage is a check that fails on what is read here; nothing is written after it.
+    // Corruption is a check that fails on what is read here; nothing is written after it.
     ensures damaged { IfDamaged result (IsFailedCheck files.now (F.told f.new)) }
 
     ensures later { F.faults f.old ≤ F.faults f.new }

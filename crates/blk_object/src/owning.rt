@@ -35,8 +35,8 @@ pub struct Owned {
 
 /// Reads which places an entry has, and its flags, by its record: one folder call.
 ///
-/// A damage is a read that gave too few bytes, a record that doesn't check, or a word of it that is neither 0 nor an
-/// address which is there.
+/// A failed check is a read that gave too few bytes, a record that doesn't check, or a word of it that is neither 0 nor
+/// an address which is there.
 pub fn read_owned<F: Folder>(f: &mut F, files: &BlockFiles, entry: Addr) -> Result<Owned, Fault>
     requires kind { kind_of entry ≡ blocks_256 }
     requires stands { IsTrue (stands_among files.now entry) }
@@ -50,10 +50,10 @@ pub fn read_owned<F: Folder>(f: &mut F, files: &BlockFiles, entry: Addr) -> Resu
 
     ensures stays { Stays (F.told f.old) (F.told f.new) }
 
-    // A damage is a check that fails on what is read here; nothing is written after it.
+    // Corruption is a check that fails on what is read here; nothing is written after it.
     ensures damaged { IfDamaged result (IsFailedCheck files.now (F.told f.new)) }
 
-    // A folder that tells its files gives a damage only where no entry lies there with this record.
+    // An observable folder reports corruption only where no entry lies there with this record.
     ensures untold { ForSome (F.told f.old).files (Agrees files.now) → ForSome (F.told f.old).files (λ image. (loaded : Loaded) × LoadsWith entry loaded image) → IfDamaged result (λ _. (F.told f.old).files ≡ None) }
 
     ensures later { F.faults f.old ≤ F.faults f.new }
@@ -77,16 +77,16 @@ pub fn free_owned<F: Folder>(f: &mut F, files: &BlockFiles, owned: &Owned) -> Re
     requires stand { All (IsPlaceAmong files.now) owned.now.places }
     requires is_open { ForSome (F.told f.old).files (IsOpen files.now) }
 
-    // Places that are nobody's are freed. At each word those of a front are, and the next one is on its way.
+    // Places that are nobody's are freed. At each word those of a prefix are, and the next one is on its way.
     ensures freed { OnOk result (ForSome (F.told f.old).files (λ from. AreFreeable (words_at owned.now.places) from → ForSome (F.told f.new).files (Removes (words_at owned.now.places) from))) }
     ensures stops { ForSome (F.told f.old).files (λ from. AreFreeable (words_at owned.now.places) from → Passes (F.told f.old) (F.told f.new) (AreGoing (words_at owned.now.places) from)) }
 
     ensures is_open { ForSome (F.told f.new).files (IsOpen files.now) }
 
-    // A damage is a check that fails on what is read here; nothing is written after it.
+    // Corruption is a check that fails on what is read here; nothing is written after it.
     ensures damaged { IfDamaged result (IsFailedCheck files.now (F.told f.new)) }
 
-    // A folder that tells its files gives a damage only for a place that is somebody's.
+    // An observable folder reports corruption only for a place that is somebody's.
     ensures untold { ForSome (F.told f.old).files (AreFreeable (words_at owned.now.places)) → IfDamaged result (λ _. (F.told f.old).files ≡ None) }
 
     ensures silent { (F.told f.old).files ≡ None → (F.told f.new).files ≡ None }

@@ -1,4 +1,4 @@
-// An object goes: an item is taken out of the use list and of its chain.
+// An object goes: an item is taken out of the LRU list and of its chain.
 ghost use Rattle.std.specs.Prelude.{◌≡◌, ◌≤◌, IfSome, IsTrue, None, OnOk};
 ghost use Rattle.std.specs.Option.{ForSome};
 ghost use Rattle.spec_image.specs.Told.{Passes, Rises};
@@ -15,11 +15,11 @@ use blk_disk::BlockFiles;
 use blk_io::{Fault, Folder};
 use blk_lru::remove;
 
-/// Takes an item out: its node out of the use list, and then its record out of its chain, in which it stands behind
-/// the record before, or is the first.
+/// Takes an item out: its node out of the LRU list, and then its record out of its chain, in which it comes after the
+/// record before, or is the first.
 ///
 /// This takes at most 17 folder calls for the list, and then three for the first of a chain, or five for another record.
-/// A damage is one of the removal from the list or of the unlinking.
+/// A failed check is one of the removal from the list or of the unlinking.
 pub fn take_out<F: Folder>(
     f: &mut F,
     files: &BlockFiles,
@@ -36,15 +36,16 @@ pub fn take_out<F: Folder>(
     // An item that may go out is taken out.
     ensures taken { OnOk result (ForSome (F.told f.old).files (λ from. MayGoOut node found.now.entry found.now.before from → ForSome (F.told f.new).files (IsTakenOut node found.now.entry found.now.before from))) }
 
-    // At each word a front of the writes of the list is made, or the node is out of it and the record is in its chain yet, or out of it.
+    // At each word a prefix of the writes of the list is made, or the node is out of it and the record is in its chain yet, or out of
+    // it.
     ensures stops { ForSome (F.told f.old).files (λ from. MayGoOut node found.now.entry found.now.before from → Passes (F.told f.old) (F.told f.new) (IsGoingOut node found.now.entry found.now.before from)) }
 
     ensures is_open { ForSome (F.told f.new).files (IsOpen files.now) }
 
-    // A damage is a check that fails on what is read here; nothing is written after it.
+    // Corruption is a check that fails on what is read here; nothing is written after it.
     ensures damaged { IfDamaged result (IsFailedCheck files.now (F.told f.new)) }
 
-    // A folder that tells its files gives a damage only for an item that may not go out.
+    // An observable folder reports corruption only for an item that may not go out.
     ensures untold { ForSome (F.told f.old).files (MayGoOut node found.now.entry found.now.before) → IfDamaged result (λ _. (F.told f.old).files ≡ None) }
 
     ensures silent { (F.told f.old).files ≡ None → (F.told f.new).files ≡ None }

@@ -24,7 +24,8 @@ pub fn plain_objects_go_alone()
     ensures { PlainObjectsGoAlone }
 {}
 
-/// Where some items of an object are out already, another one may go out. Once it is taken out, one item more is out, and what lay there loads yet by itself; while its record is unlinked, and at each word of a part after its main item, what is at rest with the object doomed is found. So is it, or what was at rest, at each word of the main item, which goes first; and of a part that goes alone, what is at rest without it.
+/// Where some items of an object are out already, another one may go out. Once it is taken out, one item more is out, and what lay there loads yet by itself; while its record is unlinked, and at each word of a part after its main item, the durable contents with the object doomed are recovered. So are they, or the old durable contents, at each word of the main item, which goes first; and of a part that goes alone, the
+/// durable contents without it.
 pub fn taken_parts_are_out()
     ensures may { LeftItemsMayGoOut }
     ensures out { TakenOutItemsAreOut }
@@ -35,7 +36,7 @@ pub fn taken_parts_are_out()
     ensures alone { GoingLonePartsFindEither }
 {}
 
-/// Where a state is kept each chain can be searched, as `find` asks; and a record that is found by a key, and is no child, is that of the main item of the key, and stands in its chain as a removal asks.
+/// Where a state is kept each chain can be searched, as `find` asks; and a record that is found by a key, and is no child, is that of the main item of the key, and is in its chain as a removal asks.
 pub fn found_entries_may_go_out()
     ensures searched { KeptStatesCanBeSearched }
     ensures lies { FoundEntriesLieBehind }

@@ -21,10 +21,10 @@ use blk_chain::Found;
 use blk_disk::BlockFiles;
 use blk_io::{Fault, Folder};
 
-/// Takes the main item of an object that goes with its parts out, before them: out of the use list and of its chain,
+/// Takes the main item of an object that goes with its parts out, before them: out of the LRU list and of its chain,
 /// and the index counts one entry less, with its charge, in bytes. Nothing is freed: its places are nobody's then.
 ///
-/// Its record stands in its chain behind the record before, or is the first; and it names this node. This takes as many
+/// Its record is in its chain after the record before, or is the first; and it names this node. This takes as many
 /// folder calls as `take_out`, and five for the counters.
 pub fn take_main<F: Folder>(
     f: &mut F,
@@ -43,7 +43,7 @@ pub fn take_main<F: Folder>(
     // Where all items are counted, and this is its charge, it is out in the end, and those that are left are counted.
     ensures out { OnOk result (ForSome (F.told f.old).files (λ from. ForEachMain node found.now.entry found.now.before from (λ state layout unlinked number object was. CountsItems from state layout → charge ≡ charge_of was → ForSome (F.told f.new).files (IsMainOut state layout unlinked object.key was)))) }
 
-    // At each word what was at rest is found, or what is at rest with the object doomed.
+    // At each word the old durable contents are recovered, or those with the object doomed.
     ensures stops { ForSome (F.told f.old).files (λ from. ForEachMain node found.now.entry found.now.before from (λ state layout unlinked number object was. Passes (F.told f.old) (F.told f.new) (FindsEither state (doomed number state (Some object))))) }
 
     // The session is the same then.
@@ -51,10 +51,10 @@ pub fn take_main<F: Folder>(
 
     ensures is_open { ForSome (F.told f.new).files (IsOpen files.now) }
 
-    // A damage is a check that fails on what is read here; nothing is written after it.
+    // Corruption is a check that fails on what is read here; nothing is written after it.
     ensures damaged { IfDamaged result (IsFailedCheck files.now (F.told f.new)) }
 
-    // A folder that tells its files, with such an item, gives no damage.
+    // An observable folder, with such an item, reports no corruption.
     ensures untold { ForSome (F.told f.old).files (λ from. ForEachMain node found.now.entry found.now.before from (λ state layout unlinked number object was. IfDamaged result (λ _. (F.told f.old).files ≡ None))) }
 
     ensures silent { (F.told f.old).files ≡ None → (F.told f.new).files ≡ None }

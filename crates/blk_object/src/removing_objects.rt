@@ -24,11 +24,11 @@ use blk_disk::BlockFiles;
 use blk_io::{Fault, Folder};
 
 /// Removes an item that goes alone, as the object of a plain entry that no handle names, or a part: it is taken out of
-/// the use list and of its chain, its places are freed, and the index counts one entry less, with its charge, which is
+/// the LRU list and of its chain, its places are freed, and the index counts one entry less, with its charge, which is
 /// given, in bytes.
 ///
-/// Its record stands in its chain behind the record before, or is the first; and it names this node. This takes at most
-/// 23 folder calls until it is out, seven for each of its places, and five for the counters.
+/// Its record is in its chain after the record before, or is the first; and it names this node. This takes at most 23
+/// folder calls until it is out, seven for each of its places, and five for the counters.
 pub fn remove_item<F: Folder>(
     f: &mut F,
     files: &BlockFiles,
@@ -45,7 +45,8 @@ pub fn remove_item<F: Folder>(
     // The charge is that of what lay there with this record.
     ensures charge { IfOk result (λ charge. ForSome (F.told f.old).files (λ from. (was : Loaded) → LoadsWith found.now.entry was from → charge ≡ charge_of was)) }
 
-    // Where such an item lies there in a state that is kept and counted, the state without it is so in the end. At each word what was at rest is found, or what is at rest without it.
+    // Where such an item lies there in a state that is kept and counted, the state without it is so in the end. At each word the old durable contents are recovered, or those without
+    // it.
     ensures removed { OnOk result (ForSome (F.told f.old).files (λ from. ForEachAlone node found.now.entry found.now.before from (λ state after layout unlinked. ForSome (F.told f.new).files (IsRemovedWhole after layout unlinked node found.now.entry)))) }
     ensures stops { ForSome (F.told f.old).files (λ from. ForEachAlone node found.now.entry found.now.before from (λ state after layout unlinked. Passes (F.told f.old) (F.told f.new) (FindsEither state after))) }
 
@@ -54,10 +55,10 @@ pub fn remove_item<F: Folder>(
 
     ensures is_open { ForSome (F.told f.new).files (IsOpen files.now) }
 
-    // A damage is a check that fails on what is read here; nothing is written after it.
+    // Corruption is a check that fails on what is read here; nothing is written after it.
     ensures damaged { IfDamaged result (IsFailedCheck files.now (F.told f.new)) }
 
-    // A folder that tells its files, with such an item in a state that is kept and counted, gives no damage.
+    // An observable folder, with such an item in a state that is kept and counted, reports no corruption.
     ensures untold { ForSome (F.told f.old).files (λ from. ForEachAlone node found.now.entry found.now.before from (λ state after layout unlinked. IfDamaged result (λ _. (F.told f.old).files ≡ None))) }
 
     ensures silent { (F.told f.old).files ≡ None → (F.told f.new).files ≡ None }
@@ -86,7 +87,8 @@ pub fn remove_read<F: Folder>(
     requires places { All (IsPlaceAmong files.now) owned.now.places }
     requires is_open { ForSome (F.told f.old).files (IsOpen files.now) }
 
-    // Where these are its places and its charge, and such an item lies there in a state that is kept and counted, the state without it is so in the end. At each word what was at rest is found, or what is at rest without it.
+    // Where these are its places and its charge, and such an item lies there in a state that is kept and counted, the state without it is so in the end. At each word the old durable contents are recovered, or those without
+    // it.
     ensures removed { OnOk result (ForSome (F.told f.old).files (λ from. IsOwnedBy found.now.entry owned.now from → ForEachAlone node found.now.entry found.now.before from (λ state after layout unlinked. ForSome (F.told f.new).files (IsRemovedWhole after layout unlinked node found.now.entry)))) }
     ensures stops { ForSome (F.told f.old).files (λ from. IsOwnedBy found.now.entry owned.now from → ForEachAlone node found.now.entry found.now.before from (λ state after layout unlinked. Passes (F.told f.old) (F.told f.new) (FindsEither state after))) }
 
@@ -95,10 +97,10 @@ pub fn remove_read<F: Folder>(
 
     ensures is_open { ForSome (F.told f.new).files (IsOpen files.now) }
 
-    // A damage is a check that fails on what is read here; nothing is written after it.
+    // Corruption is a check that fails on what is read here; nothing is written after it.
     ensures damaged { IfDamaged result (IsFailedCheck files.now (F.told f.new)) }
 
-    // A folder that tells its files, with such an item in a state that is kept and counted, gives no damage.
+    // An observable folder, with such an item in a state that is kept and counted, reports no corruption.
     ensures untold { ForSome (F.told f.old).files (λ from. IsOwnedBy found.now.entry owned.now from → ForEachAlone node found.now.entry found.now.before from (λ state after layout unlinked. IfDamaged result (λ _. (F.told f.old).files ≡ None))) }
 
     ensures silent { (F.told f.old).files ≡ None → (F.told f.new).files ≡ None }

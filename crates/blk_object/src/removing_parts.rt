@@ -24,10 +24,10 @@ use blk_chain::Found;
 use blk_disk::BlockFiles;
 use blk_io::{Fault, Folder};
 
-/// Removes a part of an object that goes with its parts, after its main item: it is taken out of the use list and of its
+/// Removes a part of an object that goes with its parts, after its main item: it is taken out of the LRU list and of its
 /// chain, its places are freed, and the index counts one entry less, with its charge, which is given, in bytes.
 ///
-/// Its record stands in its chain behind the record before, or is the first; and it names this node. This takes as many
+/// Its record is in its chain after the record before, or is the first; and it names this node. This takes as many
 /// folder calls as `remove_item`.
 pub fn remove_part<F: Folder>(
     f: &mut F,
@@ -55,15 +55,15 @@ pub fn remove_part<F: Folder>(
     // What lay in unlinked places, as its main item, loads yet by itself.
     ensures keeps { OnOk result (ForSome (F.told f.old).files (λ from. ForEachNext node found.now.entry found.now.before from (λ state layout keep chains unlinked item. ForSome (F.told f.new).files (KeepsUnlinked unlinked from)))) }
 
-    // While a part goes after its main item, what is at rest with its object doomed is found.
+    // While a part goes after its main item, the durable contents with its object doomed are recovered.
     ensures part { ForSome (F.told f.old).files (λ from. ForEachPart node found.now.entry found.now.before from (λ state number object. Passes (F.told f.old) (F.told f.new) (Finds (rest (doomed number state (Some object)))))) }
 
     ensures is_open { ForSome (F.told f.new).files (IsOpen files.now) }
 
-    // A damage is a check that fails on what is read here; nothing is written after it.
+    // Corruption is a check that fails on what is read here; nothing is written after it.
     ensures damaged { IfDamaged result (IsFailedCheck files.now (F.told f.new)) }
 
-    // A folder that tells its files, with such an item, gives no damage.
+    // An observable folder, with such an item, reports no corruption.
     ensures untold { ForSome (F.told f.old).files (λ from. ForEachNext node found.now.entry found.now.before from (λ state layout keep chains unlinked item. IfDamaged result (λ _. (F.told f.old).files ≡ None))) }
 
     ensures silent { (F.told f.old).files ≡ None → (F.told f.new).files ≡ None }

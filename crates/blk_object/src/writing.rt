@@ -27,15 +27,16 @@ use blk_stream::write;
 // The most bytes of a stream: as many as a cache may keep.
 const MOST_BYTES: u32 = blk_model::MOST_BYTES as u32;
 
-/// Writes bytes over a stream of an object that isn't settled, live or doomed, or of a part of one, from an offset on,
-/// with zeros before them where it ends there; it ends with them where it is cut, and else keeps what lies behind them.
+/// Writes bytes over a stream of a dirty object, live or doomed, or of a part of one, from an offset on, with zeros
+/// before them where it ends there; it ends with them where it is cut, and else keeps what comes after them.
 ///
 /// Where the storage of the new length is that of the old one, they are written in its place, and then the record gets
 /// the length. Else a new place is filled, then the record gets its address and the length by one sealed update, and
 /// then the old place is freed. The counters of the index stay. Beside the calls of `write`, one reads the record, and
 /// two the lengths of files.
 ///
-/// A damage is one of `write`, an external file that is shorter than its stream, or an index that hasn't its length.
+/// A failed check is one of `write`, an external file that is shorter than its stream, or an index that hasn't its
+/// length.
 pub fn write_object<F: Folder>(
     f: &mut F,
     files: &mut BlockFiles,
@@ -57,19 +58,19 @@ pub fn write_object<F: Folder>(
     // So is each with a part of such an object, which the stream makes one with another value.
     ensures part_written { OnOk result (ForSome (F.told f.old).files (λ from. ForEachPartUnsettled entry stream offset cut bytes.now from (λ state layout unlinked number object n value was role. ForSome (F.told f.new).files (IsPartWrittenUncounted state layout unlinked number object n value was role stream offset cut bytes.now from)))) }
 
-    // At each word what was at rest is found: an object that isn't settled isn't, nor are its parts.
+    // At each word the old durable contents are recovered: a dirty object isn't durable, nor are its parts.
     ensures stops { ForSome (F.told f.old).files (λ from. ForEachUnsettled entry stream offset cut bytes.now from (λ state layout unlinked number object was. Passes (F.told f.old) (F.told f.new) (Finds (rest state)))) }
 
     ensures part_stops { ForSome (F.told f.old).files (λ from. ForEachPartUnsettled entry stream offset cut bytes.now from (λ state layout unlinked number object n value was role. Passes (F.told f.old) (F.told f.new) (Finds (rest state)))) }
 
-    // What stood still does.
+    // What was valid still is.
     ensures keeps { KeepsStanding files.old files.new }
     ensures is_open { OnOk result (ForSome (F.told f.new).files (IsOpen files.new)) }
 
-    // A damage is a check that fails on what is read here; nothing is written after it.
+    // Corruption is a check that fails on what is read here; nothing is written after it.
     ensures damaged { IfDamaged result (IsFailedCheck files.new (F.told f.new)) }
 
-    // A folder that tells its files, with such an object or such a part, gives no damage.
+    // An observable folder, with such an object or such a part, reports no corruption.
     ensures untold { ForSome (F.told f.old).files (λ from. ForEachUnsettled entry stream offset cut bytes.now from (λ state layout unlinked number object was. IfDamaged result (λ _. (F.told f.old).files ≡ None))) }
     ensures part_untold { ForSome (F.told f.old).files (λ from. ForEachPartUnsettled entry stream offset cut bytes.now from (λ state layout unlinked number object n value was role. IfDamaged result (λ _. (F.told f.old).files ≡ None))) }
 
@@ -111,7 +112,8 @@ fn check_stream<F: Folder>(
     check_length(f, addr, size)
 }
 
-// The damage of a stream with bytes and without an address: it has the place of its size, where no stream is so long, and else that of its word.
+// The failed check of a stream with bytes and without an address: it has the place of its size, where no stream is so long, and else that of its
+// word.
 fn unplaced(entry: Addr, stream: u8, size: u32, word: u32) -> Fault
     requires stream { stream < 3 }
     requires kind { kind_of entry ≡ blocks_256 }

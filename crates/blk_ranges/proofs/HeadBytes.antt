@@ -148,13 +148,13 @@ head-right {f = f} {s = s} {k = k} says small some short =
     all_of : (a b c d e : Bool) → a ≡ true → b ≡ true → c ≡ true → d ≡ true → e ≡ true → (a && b && c && d && e) ≡ true
     all_of a b c d e ha hb hc hd he = rw (ha, hb, hc, hd, he) refl
 
--- what is written behind a front
+-- what is written after a prefix
 pub put-behind : (a k : ℕ) (xs ys : List ℕ) → a + k ≡ length xs → put_mid a k xs ys ≡ take a xs ++ ys
 put-behind a k xs ys all =
     let none : drop k (drop a xs) ≡ [] = drop_all k (drop a xs) (omega (arith, length-drop a xs)) in
     ap (λ (l : List ℕ). take a xs ++ (ys ++ l)) none ∙ ap (λ (l : List ℕ). take a xs ++ l) (append-nil ys)
 
--- a word that is read behind a head
+-- a word that is read after a head
 pub word-behind : (bytes : List ℕ) (i : ℕ) → length bytes ≡ 192 → little_number 4 (drop i (take (length bytes - 64) (drop 64 bytes))) ≡ word_at (content bytes) (64 + i)
 word-behind bytes i enough =
     let whole : take (length bytes - 64) (drop 64 bytes) ≡ drop 64 bytes = take_all (length bytes - 64) (drop 64 bytes) (omega (arith, length-drop 64 bytes)) in

@@ -86,7 +86,7 @@ own-digits (suc (suc m)) n some few enough =
     let front : digits_high (suc m) (n / 16) ≡ map (digit_glyph false) (digits_of 16 (n / 16)) = own-digits (suc m) (n / 16) (omega (arith, enough, power_is, next, powers m)) (omega (arith, few, power_is)) (omega (arith, enough, power_is, next)) in
     digits_high-last (suc m) n ∙ ap (λ (l : List ℕ). l ++ digit_glyph false (n % 16) ∷ []) front ∙ with-last n some
 
--- what stands behind some digits
+-- what comes after some digits
 behind-digits : (z m n : ℕ) → drop z (digits_high (z + m) n) ≡ digits_high m n
 behind-digits zero m n = ap (λ (j : ℕ). digits_high j n) (zero-plus m)
   where
@@ -151,7 +151,7 @@ digits-few k n few fits = elim (cases_lt 0 n) [
 sixteen : (q : ℕ) → 16 ^ q ≡ 2 ^ (q + q + (q + q))
 sixteen q = mul-pow 4 4 q ∙ ap (λ (p : ℕ). p * p) (mul-pow 2 2 q ∙ sym (pow-add 2 q q)) ∙ sym (pow-add 2 (q + q) (q + q))
 
--- behind the leading zeros of its sixteen digits stands the text of a number
+-- after the leading zeros of its sixteen digits comes the text of a number
 pub text-behind-zeros : (n z : ℕ) (text : List ℕ) → n < 2 ^ 64 → text ≡ encode_with lower_digits (bytes_high_first 8 n) → z ≡ min (count_leading_zeros 64 n / 4) 15 → drop z text ≡ hexadecimal n
 text-behind-zeros n z text fits is is_z = elim (cases_lt 0 n) [
   | inl some ↦
@@ -198,7 +198,7 @@ digits-ascii (c ∷ cs) all = IsAscii-cons c cs (digit-ascii c all.0) (digits-as
 pub hexadecimal-ascii : (n : ℕ) → n < 2 ^ 64 → IsAscii (hexadecimal n)
 hexadecimal-ascii n fits = digits-ascii (hexadecimal n) (is-numeral n fits).0.1
 
--- no plus stands before digits
+-- there is no plus before digits
 no_plus : (cs : List ℕ) → AllDigits 16 cs → without_leading_plus cs ≡ cs
 no_plus [] all = refl
 no_plus (c ∷ cs) all = without_leading_plus_none (c ∷ cs) (λ is. plus (subst (λ (x : ℕ). digit_value x < 16) is all.0))

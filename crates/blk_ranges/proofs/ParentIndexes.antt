@@ -86,7 +86,7 @@ no-head bytes enough none =
     let head : read_parent_head (content bytes) ≡ None = sym (none ∙ ap (λ (t : Bool). if t then read_parent_head (content bytes) else None) long) in
     sym (index-read bytes ∙ ap (λ (t : Bool). if t then option_map (with_bits (content bytes)) (read_parent_head (content bytes)) else None) size ∙ ap (option_map (with_bits (content bytes))) head)
 
--- the bits behind a front
+-- the bits after a prefix
 same-bits : (m : ParentMap) (bytes front : List ℕ) → length front ≡ 64 → bytes ≡ front ++ m.parts → (fields : ℕ × ℕ) → fields ≡ head_fields m.head → with_bits (content bytes) fields ≡ parent_index_of m
 unfolding parent_index_of
 same-bits m bytes front long is fields are =
@@ -125,7 +125,7 @@ index-printed m valid long =
     index-read bytes ∙ ap (λ (t : Bool). if t then option_map (with_bits (content bytes)) (read_parent_head (content bytes)) else None) size
     ∙ ap (option_map (with_bits (content bytes))) (head-read m.head m.parts valid) ∙ ap Some (same-bits m bytes (head_bytes m.head) front refl (head_fields m.head) refl)
 
--- what lies behind the head
+-- what comes after the head
 pub chunk-is : (bytes chunk : List ℕ) → length bytes ≡ 8256 → chunk ≡ take 8192 (take (length bytes - 64) (drop 64 bytes)) → chunk ≡ drop 64 bytes
 chunk-is bytes chunk enough is =
     let long : length (drop 64 bytes) ≡ 8192 = omega (arith, length-drop 64 bytes) in
@@ -146,7 +146,7 @@ parts-long m words dst out parts is_dst is_words long size is =
     let front : length dst ≡ 64 = ap length (is_dst ∙ ap bytes_of_words is_words) in
     ap length (sym is) ∙ size ∙ omega (arith, length-take 8192 (drop 64 (dst ++ drop 64 (drop 0 out))), length-drop 64 (dst ++ drop 64 (drop 0 out)), length-append dst (drop 64 (drop 0 out)), length-drop 64 out, front)
 
--- a head with zeros behind it
+-- a head with zeros after it
 abbrev bare : ParentHead → ℕ → ParentMap
 bare head n = record { head = head; parts = replicate n 0 }
 

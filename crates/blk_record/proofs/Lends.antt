@@ -142,7 +142,7 @@ module _ (name : Sym) (args : List Lifetime) (ℓ' : Lifetime) (κ' : Lft) (D : 
       view_out : ent 𝓤 (sem 𝓛 ((mem R).own_at d rb ro)) (Has (held d).now)
       unfolding part_of
       view_out = qed 𝓛 (‵ ((mem R).own_at d rb ro) ∷ []) ∵ fpick ! (λ vs. fsplit ! $ move ! (1 ∷ []) $ fpick ! (λ vss. fsplit ! $ feq_l ! (λ e. fsplit ! $ fsplit3 ! $ fsplit ! $ feq_l ! (λ e'.
-          -- [the room; the name; the borrow; nothing; the cell]
+          -- [the buffer; the name; the borrow; nothing; the cell]
           rewrite ! 4 (λ (us : List Val). ‵ (cell_at full_share R.mir us rb ro)) (e ∙ ap whole_val e') refl $
           rewrite ! 1 (λ (l : List ℕ). ‵ (fobs (held d).ghost_name ((coded_list u8.coded).code l))) (heres_id u8 (held d).now) refl $ keep ! (1 ∷ 2 ∷ 4 ∷ 0 ∷ []) $ done !))))
 

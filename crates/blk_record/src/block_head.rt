@@ -45,7 +45,7 @@ impl<'a> BlockHead<'a> {
     /// The place of the version.
     pub const VERSION_PLACE: u64 = 4;
 
-    /// The place of the number of the file, which stands in a word with that of the next.
+    /// The place of the number of the file, which is in a word with that of the next.
     pub const THIS_FILE: u64 = 8;
 
     /// The place of the bytes of a block.

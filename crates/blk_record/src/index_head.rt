@@ -60,13 +60,13 @@ impl<'a> IndexHead<'a> {
     /// The place of the moment of making, which takes two words.
     pub const CREATE_TIME: u64 = 40;
 
-    /// The place of the length of the use list.
+    /// The place of the length of the LRU list.
     pub const SIZES: u64 = 268;
 
-    /// The place of the head of the use list.
+    /// The place of the head of the LRU list.
     pub const HEADS: u64 = 288;
 
-    /// The place of the tail of the use list.
+    /// The place of the tail of the LRU list.
     pub const TAILS: u64 = 308;
 
     /// The place of the node of the operation in flight.
@@ -205,7 +205,7 @@ impl<'a> IndexHead<'a> {
         word(self.window, Self::SIZES as usize + 4 * i)
     }
 
-    /// One of 5 words: the head of the use list, and then zeros.
+    /// One of 5 words: the head of the LRU list, and then zeros.
     pub fn heads(&self, i: usize) -> u32
         requires { i < 5 }
         ensures { result ≡ heads_of (content self.now) i }
@@ -213,7 +213,7 @@ impl<'a> IndexHead<'a> {
         word(self.window, Self::HEADS as usize + 4 * i)
     }
 
-    /// One of 5 words: the tail of the use list, and then zeros.
+    /// One of 5 words: the tail of the LRU list, and then zeros.
     pub fn tails(&self, i: usize) -> u32
         requires { i < 5 }
         ensures { result ≡ tails_of (content self.now) i }

@@ -27,7 +27,7 @@ impl<'a> NodeView<'a> {
     /// The place of the moment of the last change, which takes two words.
     pub const LAST_MODIFIED: u32 = 8;
 
-    /// The place of the address of the next node of the use list.
+    /// The place of the address of the next node of the LRU list.
     pub const NEXT: u32 = 16;
 
     /// The place of the address of the node before.

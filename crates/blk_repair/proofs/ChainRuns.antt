@@ -25,7 +25,7 @@ use Rattle.blk_repair.specs.Chains.{IsNextChain}
 use Rattle.blk_repair.specs.Damages.{AllCheck}
 use Rattle.blk_repair.proofs.Progress.{Leads}
 
--- the next of one record, and then those of the records behind it
+-- the next of one record, and then those of the records after it
 pub link-leads : (words : List ℕ) (i w behind : ℕ) → i < length words → w ≡ get_or words i w → behind ≡ first_or 0 (take (length words - (i + 1)) (drop (i + 1) words)) → Leads (next_words_steps (drop i words)) (next_steps w behind) (next_words_steps (drop (i + 1) words))
 link-leads words i w behind inside is next image =
     let more : List ℕ = drop (i + 1) words in
@@ -56,7 +56,7 @@ quiet-chain bucket words image =
     quiet-append first (next_words_steps words (after first image)) (quiet-choice ((store_of image).table bucket == first_or 0 words) (word_step Index (place_of_bucket bucket) (first_or 0 words)) (quiet-word_step Index (place_of_bucket bucket) (first_or 0 words)))
     (quiet-links words (after first image))
 
--- the next chain is mended, and the same is held at each word
+-- the next chain is repaired, and the same is held at each word
 pub mends-next : (from : Image) (bucket : ℕ) (words : List ℕ) (image : Image) → bucket < 65536 → IsNextChain from bucket words image → Along (HoldsTheSame from) image (chain_steps bucket words image) × HasChainsUpTo from (bucket + 1) (after (chain_steps bucket words image) image)
 mends-next from bucket words image inside next =
     subst (λ (l : List ℕ). Along (HoldsTheSame from) image (chain_steps bucket l image) × HasChainsUpTo from (bucket + 1) (after (chain_steps bucket l image) image)) (sym next.are_kept)

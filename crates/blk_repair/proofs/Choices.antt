@@ -37,7 +37,7 @@ bucket-right image number w now e is = bucket-by image number w now e true (eq-e
 pub bucket-other : (image : Image) (number w now : ℕ) → now ≡ bucket_of (byte image Index) number → now ≢ w → bucket_steps number w image ≡ word_step Index (place_of_bucket number) w
 bucket-other image number w now e apart = bucket-by image number w now e false (ne_eqb now w apart)
 
--- the next of a record that stands
+-- the next of a record that is there
 pub next_is : (files : BlockFiles) (image : Image) (w now : ℕ) → Agrees files image → is_record_among files w ≡ true → now ≡ word image (Block (file_selector w)) (place w + 4) → now ≡ (store_of image).chain_next w
 unfolding store_of follow_at entry_in
 next_is files image w now agrees stands read = read ∙ sym (let s : stands_as image blocks_256 w ≡ true = sym (names_stand files image w agrees) ∙ stands in rw s refl)

@@ -1,4 +1,4 @@
--- How the words of the index are mended one after the other, and what is held on the way.
+-- How the words of the index are repaired one after the other, and what is held on the way.
 use Rattle.std.proofs.Common.{◌≡◌, ◌≢◌, ℕ, ◌+◌, ◌<◌, ◌≤◌, ◌%◌, ◌^◌, Bool, true, false, List, [], ◌∷◌, length, drop, get_or, refl, sym, ◌∙◌, ap, subst, arith}
 use Rattle.std.specs.Prelude.{All, ◌==◌, if◌then◌else◌}
 use Rattle.std.specs.Option.{ForSome}
@@ -208,9 +208,9 @@ counted items bytes id image i b d whole =
       crash = written-there between 32 1 hidden-crash (omega arith) long;
     })
 
--- ---- what stays mended
+-- ---- what stays repaired
 
--- the links are mended, and what was mended of the files and of the seals
+-- the links are repaired, and what was repaired of the files and of the seals
 record StaysMended (entry start image : Image) : Type 0 where
   holds : HasMendedLinksOf entry image
   files : HasMendedFiles start → HasMendedFiles image
@@ -257,7 +257,7 @@ stays-index entry image items bytes id holds =
     let all : Along S image first = stays-words entry image image words (counters-hidden items bytes id) (record { holds = holds; files = λ h. h; only = λ h. h; sealed = λ h. h }) in
     until-append S S first (word_step Index crash_place 1) image all (stays-word entry image (after first image) crash_place 1 hidden-crash (until_last S S first image all))
 
--- the links stay mended at each word
+-- the links stay repaired at each word
 pub index-along : (entry image : Image) (items bytes id : ℕ) → HasMendedLinksOf entry image → Along (HasMendedLinksOf entry) image (index_steps items bytes id image)
 index-along entry image items bytes id holds =
     let S : Image → Type 0 = StaysMended entry image in
@@ -301,7 +301,7 @@ crash-leads image = sym (append-nil (word_step Index crash_place 1))
 pub index-quiet : (items bytes id : ℕ) (image : Image) → IsQuiet (index_steps items bytes id image)
 index-quiet items bytes id image = quiet-append (index_words_steps (counted_words items bytes id) image) (word_step Index crash_place 1) (words-quiet (counted_words items bytes id) image) (quiet-word_step Index crash_place 1)
 
--- what a front of the steps passes, and where all of them lead
+-- what a prefix of the steps passes, and where all of them lead
 pub index-passes : (a b : Told) (items bytes id : ℕ) → ForSome a.files (λ image. AppliesPrefix a b (index_steps items bytes id image)) → ForSome a.files (λ image. (entry : Image) → HasMendedLinksOf entry image → Passes a b (HasMendedLinksOf entry))
 index-passes a b items bytes id part image there entry holds =
     passes_part (HasMendedLinksOf entry) (HasMendedLinksOf entry) (part image there) (index-quiet items bytes id image) (λ i h. h)

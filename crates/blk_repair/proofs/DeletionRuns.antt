@@ -194,7 +194,7 @@ module _ (now : Image) (n : ℕ) (free : linked_as now n ≡ None) where
         only_claimed = λ only m small. was.only_claimed only m small ∙ ap (λ (ks : List Loaded). has_claim (claims_of_loaded ks) (ExternalOf m)) (sym keeps.kept_same);
       }
 
--- an external file that what is kept doesn't claim
+-- an external file that what is kept doesn't use
 module _ (now : Image) (n : ℕ) (unclaimed : has_claim (claims_of_loaded (kept now)) (ExternalOf n) ≡ false) where
   abbrev less : Image
   less = applied (Delete (External n)) now
@@ -277,7 +277,7 @@ past-one : (goes : File → Bool) (file f : File) (files : List File) (image : I
 past-one goes file f files image early rest true = rest (applied (Delete file) image) ∙ with_file-other image file f None (other_file file f early)
 past-one goes file f files image early rest false = rest image
 
--- what is behind the last file that was listed is as it was
+-- what is after the last file that was listed is as it was
 past : (goes : File → Bool) (from : Image) (before : File) (files : List File) (last : File) → Lists from before files last → (image : Image) (f : File) → IsBefore last f → after (deletions (filter goes files)) image f ≡ image f
 past goes from before [] last lists image f behind = refl
 past goes from before (file ∷ files) last lists image f behind =
@@ -310,7 +310,7 @@ next-deleted {a} {b} {c} goes first last next made is applies = record {
       (grows_then made.applies applies);
 }
 
--- no file behind the last one goes
+-- no file after the last one goes
 all-deleted : {a b : Told} (goes : File → Bool) (first last : File) → DeletesUpTo goes first last a b → ForSome b.files (λ image. (file : File) → IsBefore last file → has_file image file ≡ true → goes file ≡ false) → DeletesAll goes first a b
 all-deleted {a} {b} goes first last made rest = record {
   last = last;
@@ -422,7 +422,7 @@ module _ (files : BlockFiles) (last n : ℕ) (a b c : Told) (has : HasDeletedBlo
 pub blocks-said : {files : BlockFiles} {last : ℕ} {a b : Told} → HasDeletedBlocks files last a b → ForSome a.files (λ from. (entry : Image) → HasMendedLinksOf entry from → BreaksOff a b (IsMidDeletion entry from))
 blocks-said {files} {last} {a} {b} has from there entry holds = breaks-weaker (has.passed from there entry holds) (holds-said entry from)
 
--- none is behind the last
+-- none is after the last
 module _ (files : BlockFiles) (last : ℕ) (a b : Told) (has : HasDeletedBlocks files last a b) (none : ForSome b.files (λ image. (n : ℕ) → last < n → has_file image (Block n) ≡ false)) where
   pub blocks-only : ForSome b.files OnlyLinked
   blocks-only image there = only-linked_now files image (has.is_open image there) (λ n is. ⊎_elim (λ (e : last < n). absurd (clash (sym is ∙ none image there n e))) (λ (e : n ≤ last). has.linked image there n e is) (cases_lt last n))
@@ -440,7 +440,7 @@ module _ (files : BlockFiles) (last : ℕ) (a b : Told) (has : HasDeletedBlocks 
 
 -- ---- external files
 
--- an external number that a word claims is one that addresses have, and its file is there where the word stands
+-- an external number that a word uses is one that addresses have, and its file is there where the word is valid
 pub record IsThereFor (image : Image) (number : ℕ) : Type 0 where
   pub there : has_file image (External number) ≡ true
   pub some : 0 < number
@@ -479,11 +479,11 @@ words-named image (w ∷ words) number all claimed = go (has_claim (claims_of w)
   go true here later e = word-named image w number all.0 here
   go false here later e = later e
 
--- what is kept claims only external files that are there
+-- what is kept uses only external files that are there
 kept-named : (image : Image) (number : ℕ) → has_claim (claims_of_loaded (kept image)) (ExternalOf number) ≡ true → IsThereFor image number
 kept-named image number claimed = words-named image (flat_map words_of (kept image)) number (words-stand image) (ap (λ (cs : List Claim). has_claim cs (ExternalOf number)) (words-claim image) ∙ claimed)
 
--- the claims are those of what is kept
+-- the used blocks are those of what is kept
 module _ (entry image : Image) (claims : Claims) (claimed : IsClaimsOf claims (flat_map words_of (kept entry))) (same : kept image ≡ kept entry) where
   has-same : (number : ℕ) → contains_claim claims (ExternalOf number) ≡ has_claim (claims_of_loaded (kept image)) (ExternalOf number)
   has-same number =
@@ -513,7 +513,7 @@ word-some : (number : ℕ) → external_word number ≢ 0
 unfolding external_word
 word-some number e = omega (arith, e)
 
--- whether the address of an external number is claimed
+-- whether the address of an external number is used
 pub external-is_claimed : (claims : Claims) (number : ℕ) → 0 < number → number < 2 ^ 28 → is_claimed claims (external_word number) ≡ is_number_claimed claims number
 unfolding is_claimed
 external-is_claimed claims number some small =
@@ -526,7 +526,7 @@ external-is_claimed claims number some small =
       tests : (t : Bool) → nat_lt 0 number ≡ true → nat_lt number (2 ^ 28) ≡ true → (nat_lt 0 number && (nat_lt number (2 ^ 28) && t)) ≡ t
       tests t low high = rw (low, high) refl
 
--- a block file behind another has a larger number
+-- a block file after another has a larger number
 pub block-later : (last n : ℕ) → IsBefore (Block last) (Block n) → last < n
 block-later last n behind = ⊎_elim (λ r. absurd (omega (arith, r))) (λ r. r.1) behind
 
@@ -612,7 +612,7 @@ module _ (claims : Claims) (last : File) (number : ℕ) (a b c : Told) (has : Ha
 pub externals-said : {claims : Claims} {last : File} {a b : Told} → HasDeletedExternals claims last a b → ForSome a.files (λ from. (entry : Image) → IsNextRebuilt entry claims from → BreaksOff a b (IsMidDeletion entry from))
 externals-said {claims} {last} {a} {b} has from there entry next = breaks-weaker (has.passed from there entry next) (holds-said entry from)
 
--- none is behind the last
+-- none is after the last
 module _ (claims : Claims) (last : File) (a b : Told) (has : HasDeletedExternals claims last a b) (none : ForSome b.files (λ image. (number : ℕ) → IsBefore last (External number) → has_file image (External number) ≡ false)) where
   all-claimed : (image : Image) → b.files ≡ Some image → (number : ℕ) → has_file image (External number) ≡ true → is_number_claimed claims number ≡ true
   all-claimed image there number is = has.claimed image there number (λ behind. clash (sym is ∙ none image there number behind)) is

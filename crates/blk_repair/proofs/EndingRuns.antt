@@ -37,7 +37,7 @@ use Rattle.blk_repair.proofs.TableRuns.{quiet-repair}
 
 -- ---- two parts
 
--- steps that break off, and what is behind them
+-- steps that break off, and what is after them
 pub joined-either : {a b c : Told} {P Q : Image → Type 0} (R : Image → Type 0) (from : Image) → a.files ≡ Some from → BreaksOff a b P → ForSome b.files R → ForSome b.files (λ mid. R mid → EndsOrBreaksOff b c P Q) → EndsOrBreaksOff a c P Q
 joined-either R from there first is second = let now = still-told from there first.passes in either-then first (second now.0 now.1 (is now.0 now.1))
 
@@ -90,7 +90,7 @@ deletions-break claims a b c entry from there next first second =
     let rest : IsNextRebuilt entry claims now.0 = claims-next entry from now.0 claims next (passes_end first.passes now.0 now.1) in
     breaks-then (breaks-weaker first (deletion-mid entry from)) (breaks-weaker (second now.0 now.1 entry rest) (deletion-mid entry now.0))
 
--- the block files are mended, and then the others go
+-- the block files are repaired, and then the others go
 pub store-breaks : (claims : Claims) (a b c : Told) (entry from : Image) → a.files ≡ Some from → IsNextRebuilt entry claims from → BreaksOff a b (IsMidRepair entry) → ForSome b.files (AreFilesMended entry from)
     → ForSome b.files (λ mid. (entry : Image) → IsNextRebuilt entry claims mid → BreaksOff b c (IsMidRepair entry)) → BreaksOff a c (IsMidRepair entry)
 store-breaks claims a b c entry from there next first mended second =

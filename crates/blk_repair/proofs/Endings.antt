@@ -25,7 +25,7 @@ heads-same e = cc
 tails-same : {x y : TrailStep} {s t : List TrailStep} → x ∷ s ≡ y ∷ t → s ≡ t
 tails-same e = cc
 
--- nothing is left behind the last
+-- nothing is left the last
 none-left : (x y : TrailStep) (made left : List TrailStep) → x ∷ [] ≡ y ∷ (made ++ left) → y ∷ made ≡ x ∷ []
 none-left x y [] left e = ap (λ (z : TrailStep). z ∷ []) (sym (heads-same e))
 none-left x y (z ∷ made) left e = absurd (no_more (tails-same e))
@@ -128,7 +128,7 @@ ends-weaker {a} {b} {P} {Q} {R} {S} ends weaker last = record {
   leaves = λ image here. last image (ends.leaves image here);
 }
 
--- steps that break off, and others behind them
+-- steps that break off, and others after them
 pub ends-then : {a b c : Told} {P Q : Image → Type 0} → BreaksOff a b P → EndsWithCrashWord b c P Q → EndsWithCrashWord a c P Q
 ends-then {a} {b} {c} {P} {Q} first ends =
     let steps : List TrailStep = first.passes.steps in
@@ -147,7 +147,7 @@ ends-then {a} {b} {c} {P} {Q} first ends =
 pub ends-stayed : {a m b : Told} {P Q : Image → Type 0} → m ≡ a → EndsWithCrashWord m b P Q → EndsWithCrashWord a b P Q
 ends-stayed {a} {m} {b} {P} {Q} stays ends = subst (λ (t : Told). EndsWithCrashWord t b P Q) stays ends
 
--- and behind
+-- and after
 pub ends-stay : {a b c : Told} {P Q : Image → Type 0} → EndsWithCrashWord a b P Q → c ≡ b → EndsWithCrashWord a c P Q
 ends-stay {a} {b} {c} {P} {Q} ends stays = subst (λ (t : Told). EndsWithCrashWord a t P Q) (sym stays) ends
 

@@ -1,4 +1,4 @@
--- The words of the buckets, as they were read, while other buckets are mended.
+-- The words of the buckets, as they were read, while other buckets are repaired.
 use Rattle.std.proofs.Common.{◌≡◌, ℕ, ◌+◌, ◌%◌, ◌<◌, ◌≤◌, Bool, true, false, List, [], ◌∷◌, length, Option, None, refl, sym, ◌∙◌, ap, subst, arith}
 use Rattle.std.specs.Prelude.{◌==◌, if◌then◌else◌, slice_index}
 use Rattle.std.specs.Option.{ForSome, unwrap_or}
@@ -20,7 +20,7 @@ use Rattle.blk_index.specs.Table.{AreBuckets}
 use Rattle.law_recovery.specs.ChainRepair.{next_steps, next_words_steps}
 use Rattle.blk_repair.specs.Chains.{AreFronts, IsFront, KeepsOtherBuckets}
 
--- ---- a chain that is mended leaves the words of the other buckets
+-- ---- a chain that is repaired leaves the words of the other buckets
 
 blocks-elsewhere : (n : ℕ) (words : List (ℕ × ℕ)) (image : Image) → (after (word_steps (Block n) words) image) Index ≡ image Index
 unfolding word_step
@@ -67,7 +67,7 @@ fronts-read words first bucket last image are long aligned low_first is = λ oth
     let small : other % 16384 < length words = omega (arith, long) in
     are (other % 16384) small ∙ ap (bucket_of (byte image Index)) at
 
--- once a bucket is mended, those behind it are read still
+-- once a bucket is repaired, those after it are read still
 pub fronts-on : (a b : Told) (words : List ℕ) (bucket last : ℕ) → ForSome a.files (AreFronts words bucket last) → ForSome a.files (λ from. ForSome b.files (KeepsOtherBuckets bucket from)) → (a.files ≡ None → b.files ≡ None) → ForSome b.files (AreFronts words (bucket + 1) last)
 fronts-on a b words bucket last fronts others silent =
     told_at_end a.files b.files (AreFronts words (bucket + 1) last) silent

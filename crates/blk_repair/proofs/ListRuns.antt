@@ -1,4 +1,4 @@
--- How the list is mended, and what is held on the way.
+-- How the list is repaired, and what is held on the way.
 use Rattle.std.proofs.Common.{◌≡◌, ℕ, ◌-◌, List, [], ◌∷◌, ◌++◌, length, Option, None, suc, refl, sym, ◌∙◌, ap, ap₂, subst, arith}
 use Rattle.std.specs.Prelude.{All, map}
 use Rattle.std.specs.Option.{ForSome, IfSome}
@@ -28,7 +28,7 @@ use Rattle.blk_repair.proofs.RemovalRuns.{quiet-removals}
 one-less : (n : ℕ) → suc (suc n) - 1 ≡ suc (suc n - 1)
 one-less n = omega arith
 
--- the last of some nodes stands in front of their count
+-- the last of some nodes is in front of their count
 pub last-got : (nodes : List ℕ) → slice_get nodes (length nodes - 1) ≡ last_node_of nodes
 last-got [] = refl
 last-got (node ∷ []) = refl
@@ -59,7 +59,7 @@ quiet-mending nodes others image =
     quiet-append first (steps_from_end nodes others between) (quiet-writes (completion_writes (list_of image)) image)
     (quiet-append next (removal_steps (all_but nodes others) (after next between)) (quiet-writes (ending_writes (list_of between) (last_node_of nodes)) between) (quiet-removals (all_but nodes others) (after next between)))
 
--- what mends the end is what makes the last of the walked nodes the last of the list
+-- what repairs the end is what makes the last of the walked nodes the last of the list
 writes-are : (list : ListView) (nodes : List ℕ) → end_writes_of list nodes ≡ ending_writes list (last_node_of nodes)
 writes-are list [] = refl
 writes-are list (node ∷ nodes) = refl
@@ -89,7 +89,7 @@ module _ (image : Image) (nodes others : List ℕ) (scanned : IsListScanned node
   pub repaired : Along (HoldsTheSame image) image (mending_steps nodes others image) × IsListMended image (after (mending_steps nodes others image) image)
   repaired = subst (λ (l : List TrailStep). Along (HoldsTheSame image) image l × IsListMended image (after l image)) steps-are (lists-repaired image scanned.well_formed scanned.writable)
 
-  -- the end can be mended
+  -- the end can be repaired
   can-end : CanBeMade done (ending_writes (list_of done) (last_node_of nodes))
   can-end = subst (CanBeMade done) end-writes (end-can done)
 
@@ -103,7 +103,7 @@ module _ (image : Image) (nodes others : List ℕ) (scanned : IsListScanned node
         (subst (λ (l : List ℕ). HasRemoved image [] l (map (λ k. k.node) (kept image)) (ended_image image)) (sym scanned.walked) (removals-begin image scanned.well_formed scanned.writable)));
   }
 
--- what a front of the steps passes, and where all of them lead
+-- what a prefix of the steps passes, and where all of them lead
 pub mending-passes : (a b : Told) (nodes others : List ℕ) → ForSome a.files (λ image. AppliesPrefix a b (mending_steps nodes others image)) → ForSome a.files (λ image. IsListScanned nodes others image → Passes a b (HoldsTheSame image))
 mending-passes a b nodes others part image there scanned =
     passes_part (HoldsTheSame image) (HoldsTheSame image) (part image there) (quiet-mending nodes others image) (λ i h. h)
@@ -124,7 +124,7 @@ module _ (old : Told) (nodes others : List ℕ) where
     completed-first = went_on (begun old old (mending_steps nodes others) refl) completion_steps (steps_from_end nodes others) mid (completion-leads nodes others) made silent
 
     module _ (last : Option ℕ) (is : last ≡ last_node_of nodes) where
-      -- the end can be mended now
+      -- the end can be repaired now
       pub can-end-now : ForSome old.files (IsListScanned nodes others) → ForSome mid.files (λ image. CanBeMade image (ending_writes (list_of image) last))
       can-end-now scanned =
           subst (λ (l : Option ℕ). ForSome mid.files (λ image. CanBeMade image (ending_writes (list_of image) l))) (sym is)
@@ -140,7 +140,7 @@ module _ (old : Told) (nodes others : List ℕ) where
           ended-made : ForSome mid.files (λ from. Applies mid next (ending_steps (last_node_of nodes) from))
           ended-made = subst (λ (l : Option ℕ). ForSome mid.files (λ from. Applies mid next (ending_steps l from))) is mended
 
-          -- and the end mended
+          -- and the end repaired
           pub ended-then : Progress old next (mending_steps nodes others) (removal_steps (all_but nodes others))
           ended-then = went_on completed-first (ending_steps (last_node_of nodes)) (removal_steps (all_but nodes others)) next (end-leads nodes others) ended-made silently
 

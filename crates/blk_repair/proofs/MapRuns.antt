@@ -33,7 +33,7 @@ use Rattle.law_recovery.proofs.MendedParts.{rebuilt-mended, words-claim, words-s
 use Rattle.law_recovery.proofs.RecordSeals.{growth-leaves}
 use Rattle.blk_repair.specs.Maps.{AreFilesMended, IsNextRebuilt}
 
--- at each word the links stay mended
+-- at each word the links stay repaired
 pub moment-keeps : (entry from : Image) (claims : Claims) (numbers : List ℕ) (image : Image) → KeepsMendedLinks entry from → IsRebuilding claims numbers from image → KeepsMendedLinks entry image
 moment-keeps entry from claims numbers image keeps moment = links-on entry from image keeps (links-grow from image keeps.mended moment.stays)
 
@@ -132,9 +132,9 @@ module _ (entry from image : Image) (claims : Claims) (old new : BlockFiles) (ne
     seals = growth-leaves from image moment.stays.grown;
   }
 
--- ---- files that are mended already
+-- ---- files that are repaired already
 
--- where the files are mended they are right for the claims of what is kept
+-- where the files are repaired they are right for the used blocks of what is kept
 pub right-files : (claims : Claims) (files : BlockFiles) (image : Image) → ((n : ℕ) → is_some (linked_as image n) ≡ is_among (all_files files) n) → Agrees files image → HasMendedFiles image → IsClaimsOf claims (flat_map words_of (kept image)) → AreRight claims files image
 unfolding whole_length block_place
 right-files claims files image linked agrees mended claimed n among =

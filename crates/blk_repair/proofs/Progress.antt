@@ -10,7 +10,7 @@ use Rattle.spec_image.proofs.Runs.{along_front, grows_none, grows_then, part_the
 use Rattle.blk_disk.specs.declared.tables.BlockFiles.{BlockFiles}
 use Rattle.blk_disk.specs.Open.{IsOpen}
 
--- a front of the whole steps was made, and of these the rest is left
+-- a prefix of the whole steps was made, and of these the rest is left
 pub record Progress (old now : Told) (whole rest : Image → List TrailStep) : Type 0 where
   pub done : Image → List TrailStep
   pub split : (from : Image) → whole from ≡ done from ++ rest (after (done from) from)
@@ -141,7 +141,7 @@ now_has old now steps P made silent holds image here = by_files old.files refl
 pub told_is : {files : Option Image} (P : Image → Type 0) (from : Image) → files ≡ Some from → P from → ForSome files P
 told_is {files} P from there holds image here = subst P (some_inj (sym there ∙ here)) holds
 
--- a part of some steps leaves a folder untold only where it was
+-- a part of some steps leaves a folder opaque only where it was
 pub untold_part : {a b : Told} {s : List TrailStep} → AppliesPrefix a b s → b.files ≡ None → a.files ≡ None
 untold_part {a} {b} {s} part none = by_files a.files refl
   where

@@ -59,7 +59,7 @@ module _ (from image : Image) (w u : ℕ) (kind_w : kind_of w ≡ blocks_256) (k
   checks-still : RecordChecks u image
   checks-still = by_file (file_selector w == file_selector u) refl
 
--- and so do all of some records that stand
+-- and so do all of some records that are there
 all-still : (files : BlockFiles) (from image : Image) (w : ℕ) (words : List ℕ) (changes : List (ℕ × ℕ)) → is_record_among files w ≡ true → All (λ u. is_record_among files u ≡ true) words → IsMidUpdate from w changes image → AllCheck words from → AllCheck words image
 all-still files from image w [] changes stands all mid are = All-nil (λ u. RecordChecks u image)
 all-still files from image w (u ∷ words) changes stands all mid are =
@@ -69,7 +69,7 @@ all-still files from image w (u ∷ words) changes stands all mid are =
 
 -- ---- at each word of the links
 
--- a record that stands and checks gets a next
+-- a record that is there and checks gets a next
 module _ (files : BlockFiles) (w x : ℕ) (words : List ℕ) (image : Image) (is : IsOpen files image) (stands : is_record_among files w ≡ true) (all : All (λ u. is_record_among files u ≡ true) words) (checks_w : RecordChecks w image) (are : AllCheck words image) where
   sealed-checks : Along (AllCheck words) image (sealed_steps image w ((entry_next_place, x) ∷ []))
   sealed-checks =

@@ -41,7 +41,7 @@ first-is : (node : ℕ) (others : List ℕ) → is_first node others ≡ true �
 first-is node [] first = absurd (no-clash first)
 first-is node (k ∷ others) first = (others, ap (λ (n : ℕ). n ∷ others) (sym (eqb-true node k first)))
 
--- in front of a place stands what is there
+-- in front of a place is what is there
 at-place : (nodes : List ℕ) (i w : ℕ) → i < length nodes → w ≡ get_or nodes i w → drop i nodes ≡ w ∷ drop (i + 1) nodes
 at-place nodes i w inside is = drop_more nodes i w inside ∙ ap (λ (v : ℕ). v ∷ drop (i + 1) nodes) (sym is)
 
@@ -54,7 +54,7 @@ rests-pass walked kept i p w inside is first =
     let next = first-is w (drop p kept) first in
     ap₂ all_but (at-place walked i w inside is) next.1 ∙ but-kept w (drop (i + 1) walked) next.0 ∙ ap (all_but (drop (i + 1) walked)) (sym (drop-next kept next.0 p w next.1))
 
--- any other goes out, and then those behind it
+-- any other goes out, and then those after it
 pub removal-leads : (walked kept : List ℕ) (i p w : ℕ) → i < length walked → w ≡ get_or walked i w → is_first w (drop p kept) ≡ false
     → Leads (removal_steps (all_but (drop i walked) (drop p kept))) (operation_steps remove w) (removal_steps (all_but (drop (i + 1) walked) (drop p kept)))
 removal-leads walked kept i p w inside is other image =
@@ -70,7 +70,7 @@ quiet-removals (node ∷ nodes) image =
     let first : List TrailStep = operation_steps remove node image in
     quiet-append first (removal_steps nodes (after first image)) (quiet-writes (writes_of remove node (list_of image)) image) (quiet-removals nodes (after first image))
 
--- the same is held at each word, and in the end the list is mended
+-- the same is held at each word, and in the end the list is repaired
 abbrev pub Runs : Image → Image → List ℕ → List ℕ → Type 0
 Runs entry image nodes others = Along (HoldsTheSame entry) image (removal_steps (all_but nodes others) image) × IsListMended entry (after (removal_steps (all_but nodes others) image) image)
 
@@ -104,7 +104,7 @@ module _ (entry : Image) (well : IsWellFormed entry) (ready : IsWritable entry) 
       one-more image before node nodes others has (λ next passed. removals-run image (before ++ node ∷ []) nodes next passed)
       (λ gone. removals-run (after (operation_steps remove node image) image) before nodes others gone) (is_first node others) refl
 
--- what a front of the steps passes
+-- what a prefix of the steps passes
 pub removals-pass : (a b : Told) (nodes others : List ℕ) → ForSome a.files (λ image. AppliesPrefix a b (removal_steps (all_but nodes others) image)) → ForSome a.files (λ image. (entry : Image) → IsEndedList entry nodes others image → Passes a b (HoldsTheSame entry))
 removals-pass a b nodes others part image there entry ended =
     passes_part (HoldsTheSame entry) (HoldsTheSame entry) (part image there) (quiet-removals (all_but nodes others) image) (λ i h. h)

@@ -93,7 +93,7 @@ can-write files image bytes is = record { bytes = bytes; has_header = let whole 
 
 -- ---- the links
 
--- where each bucket is the chain of its kept records, nothing is to be mended
+-- where each bucket is the chain of its kept records, nothing is to be repaired
 pub none-to_mend : (image : Image) → AreBucketsScanned None image → AreChainsMended image image
 none-to_mend image is = record { list = refl; seals = keeps-none image; chains = λ bucket below. is.told bucket below }
 
@@ -109,7 +109,7 @@ chains-told chains records ends whole image r e w is =
     (record { well_formed = is.well_formed; writable = is.writable; keeps_all = is.keeps_all; are_kept = is.told.are_kept; are_whole = is.told.are_whole })))
 
 module _ (from mid : Image) (holds : HoldsTheSame from mid) (mended : IsListMended from mid) where
-  -- what was told of the chains is so still once the list is mended
+  -- what was told of the chains is so still once the list is repaired
   still-chains : (chains : Option KeptChains) → AreChainsTold from chains → AreChainsTold mid chains
   still-chains None told = λ bucket below.
       subst (IsChain (store_of mid) bucket) (sym (records-stay from mid holds mended.store bucket)) (chains-stay from mid mended.store bucket (kept_records from bucket) (told bucket below))
@@ -128,7 +128,7 @@ module _ (from mid : Image) (holds : HoldsTheSame from mid) (mended : IsListMend
     told = still-chains chains told;
   }
 
--- what is kept of an image whose links are mended is sealed still, but for some
+-- what is kept of an image whose links are repaired is sealed still, but for some
 still-sealed : (entry from image : Image) (words : List ℕ) → HasMendedLinksOf entry image → KeepsRecordsSealed from image → AreOthersSealed entry words from → AreOthersSealed entry words image
 still-sealed entry from image words holds seals others = λ w of.
     let may : MayBeSealed image w = one-may entry image w holds of in
@@ -139,7 +139,7 @@ left-sealed entry from image words holds seals others = λ w of.
     let may : MayBeSealed from w = one-may entry from w holds of in
     ⊎_elim (λ (was : IsSealedAt from w). inl (seals w may.stands may.begins was)) (λ (among : Contains words w). inr among) (others w of)
 
--- both are mended
+-- both are repaired
 pub links-mended : (scan : Scan) (from mid last : Image) → IsRepairable scan from → HoldsTheSame from mid → IsListMended from mid → HoldsTheSame mid last → AreChainsMended mid last → AreLinksMended scan from last
 links-mended scan from mid last is holds list_mended holds_last chained =
     let now : HoldsTheSame from last = holds-trans from mid last holds holds_last in
@@ -154,7 +154,7 @@ links-mended scan from mid last is holds list_mended holds_last chained =
 pub list-scanned : (scan : Scan) (nodes others : List ℕ) (from : Image) → nodes ≡ scan.walked.items → others ≡ scan.kept_nodes.items → IsWritable from → IsRepairable scan from → IsListScanned nodes others from
 list-scanned scan nodes others from n o writable is = record { well_formed = is.well_formed; writable = writable; walked = n ∙ is.scanned.walked; kept_nodes = o ∙ is.scanned.kept_nodes }
 
--- the list was mended, and the chains are next
+-- the list was repaired, and the chains are next
 module _ (scan : Scan) (a b : Told) (from : Image) (there : a.files ≡ Some from) (is : IsRepairable scan from) (passes : Passes a b (HoldsTheSame from)) where
   module _ (mended : ForSome b.files (IsListMended from)) where
     pub chains-next : ForSome b.files (AreBucketsScanned scan.chains)
@@ -177,7 +177,7 @@ silent-deletions goes first {a} {b} some none = some.1.applies.files ∙ ap (opt
 pub deletion-mid : (entry from image : Image) → IsMidDeletion entry from image → IsMidRepair entry image
 deletion-mid entry from image mid = keeps-mid entry image mid.holds.keeps
 
--- after the unlinked files the claims are still those of what is kept
+-- after the unlinked files the used blocks are still those of what is kept
 pub claims-next : (entry from image : Image) (claims : Claims) → IsNextRebuilt entry claims from → IsMidDeletion entry from image → IsNextRebuilt entry claims image
 claims-next entry from image claims next mid = record { holds = mid.holds; claimed = next.claimed }
 
@@ -201,7 +201,7 @@ module _ (claims : Claims) (a b c : Told) (entry from : Image) (there : a.files 
         let held : IsNextRebuilt entry claims now.0 = claims-now now.0 now.1 in
         others-deleted entry from now.0 last claims next (passes_end first now.0 now.1) (linked now.0 now.1) (passes_end (second now.0 now.1 entry held) last here) (claimed now.0 now.1 entry held last here)
 
--- the block files are mended, and then the others deleted
+-- the block files are repaired, and then the others deleted
 module _ (claims : Claims) (a b c : Told) (entry from : Image) (there : a.files ≡ Some from) (next : IsNextRebuilt entry claims from) (first : Passes a b (KeepsMendedLinks entry)) (mended : ForSome b.files (AreFilesMended entry from)) where
   rebuilt-now : ForSome b.files (IsNextRebuilt entry claims)
   rebuilt-now mid here = record { holds = (mended mid here).holds; claimed = next.claimed }
@@ -223,7 +223,7 @@ pub same-files : (old new : BlockFiles) → ((kind : ℕ) → files_of new kind 
 unfolding all_files
 same-files old new same = rw (same 1, same 2, same 3, same 4) refl
 
--- what stood can be sealed still
+-- what was valid can be sealed still
 pub still-sealable : (old new : BlockFiles) (words : List ℕ) → KeepsStanding old new → All (CanBeSealed old) words → All (CanBeSealed new) words
 still-sealable old new words keeps can = All-weaker (CanBeSealed old) (CanBeSealed new) (λ w is. record { stands = keeps w is.stands; begins = is.begins }) words can
 
@@ -288,7 +288,7 @@ module _ (scan : Scan) (words : List ℕ) (w : words ≡ scan.bare.items) where
         let counted : IsNextCounted entry items bytes now.0 = counted-told scan entry now.0 items bytes i bs next.links.scanned (passes_end first now.0 now.1) in
         repaired-for scan entry from now.0 last words items bytes id w next (sealed now.0 now.1) (index now.0 now.1 entry counted last here) (has last here)
 
--- ---- what is behind the links
+-- ---- what is after the links
 
 module _ (scan : Scan) (claims : Claims) (c : claims ≡ scan.claims) where
   -- the files are next
@@ -303,7 +303,7 @@ module _ (scan : Scan) (claims : Claims) (c : claims ≡ scan.claims) where
     only = left.only;
   }
 
--- ---- where nothing is to be mended
+-- ---- where nothing is to be repaired
 
 nil-parts : (xs ys : List TrailStep) → xs ++ ys ≡ [] → (xs ≡ []) × (ys ≡ [])
 nil-parts [] ys e = (refl, e)
@@ -312,7 +312,7 @@ nil-parts (x ∷ xs) ys e = absurd (no_steps e)
     no_steps : x ∷ (xs ++ ys) ≡ [] → ⊥
     no_steps is = cc
 
--- mended links need no step, neither of the list nor of the chains
+-- repaired links need no step, neither of the list nor of the chains
 links-none : (image : Image) → HasMendedLinks image → (list_repair_steps image ≡ []) × (chain_repair_steps image ≡ [])
 links-none image mended =
     let parts = nil-parts (list_repair_steps image) (chain_repair_steps (after (list_repair_steps image) image)) (mended-none image mended) in
@@ -328,7 +328,7 @@ list-clean a b nodes others from scanned mended made = told_same a b (subst (App
 pub here-still : {a b : Told} (from : Image) → a.files ≡ Some from → b ≡ a → b.files ≡ Some from
 here-still from there same = ap (λ (t : Told). t.files) same ∙ there
 
--- what is kept has these claims at each word
+-- what is kept has these used blocks at each word
 pub claims-kept : (entry from : Image) (claims : Claims) → IsNextRebuilt entry claims from → IsClaimsOf claims (flat_map words_of (kept from))
 claims-kept entry from claims next = subst (λ (ks : List Loaded). IsClaimsOf claims (flat_map words_of ks)) (sym next.holds.keeps.kept_same) next.claimed
 

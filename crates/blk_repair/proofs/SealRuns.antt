@@ -103,7 +103,7 @@ seals-quiet (w ∷ words) image = quiet-append (seal_steps image w) (seals_steps
 
 -- One of what is kept.
 
--- the record of an address of what is kept stands and checks, and may be sealed
+-- the record of an address of what is kept is there and checks, and may be sealed
 pub record MayBeSealed (image : Image) (w : ℕ) : Type 0 where
   pub stands : stands_in image w ≡ true
   pub begins : BeginsWithRecord w
@@ -149,7 +149,7 @@ kept-sealed entry from image words was is seals sealed others = laws.all-sealed 
       let may : MayBeSealed from w = one-may entry from w was of in
       ⊎_elim (λ (before : IsSealedAt from w). seals.sealed w may.stands may.begins before) (λ (among : Contains words w). All-contains (IsSealedAt image) words w sealed among) (others w of)
 
--- it is sealed, and the links stay mended at each word
+-- it is sealed, and the links stay repaired at each word
 one-sealed : (entry image : Image) (w : ℕ) → HasMendedLinksOf entry image → IsOfKept entry w → Along (HasMendedLinksOf entry) image (seal_steps image w) × AreSealedNow entry image (w ∷ []) (after (seal_steps image w) image)
 one-sealed entry image w holds of =
     let may : MayBeSealed image w = one-may entry image w holds of in
@@ -219,7 +219,7 @@ seals-lead words i w inside is image =
 pub seals-end : (words : List ℕ) (i : ℕ) → length words ≤ i → (image : Image) → seals_steps (drop i words) image ≡ []
 seals-end words i past image = ap (λ (l : List ℕ). seals_steps l image) (drop_all i words past)
 
--- what a front of the steps passes, and where all of them lead
+-- what a prefix of the steps passes, and where all of them lead
 pub seals-pass : (a b : Told) (words : List ℕ) → ForSome a.files (λ image. AppliesPrefix a b (seals_steps words image)) → ForSome a.files (λ image. (entry : Image) → IsNextSealed entry words image → Passes a b (HasMendedLinksOf entry))
 seals-pass a b words part image there entry next =
     passes_part (HasMendedLinksOf entry) (HasMendedLinksOf entry) (part image there) (seals-quiet words image) (λ i h. h)

@@ -1,4 +1,4 @@
--- How the buckets are mended one after the other.
+-- How the buckets are repaired one after the other.
 use Rattle.std.proofs.Common.{◌≡◌, ℕ, zero, suc, ◌+◌, ◌-◌, ◌<◌, Bool, List, [], ◌++◌, Option, None, Some, false, refl, sym, ◌∙◌, ap, subst, arith, append_assoc}
 use Rattle.std.specs.Prelude.{slice_index_or}
 use Rattle.std.specs.Option.{ForSome, option_map}
@@ -18,7 +18,7 @@ use Rattle.blk_repair.specs.Chains.{AreChainsScanned, IsFront, IsNextBucket}
 use Rattle.blk_repair.specs.Damages.{AllCheck}
 use Rattle.blk_repair.proofs.ChainRuns.{kept-check, mends-next, quiet-chain}
 
--- the chains below a bucket were mended, by the first of the steps of the repair; those of so many buckets are left
+-- the chains below a bucket were repaired, by the first of the steps of the repair; those of so many buckets are left
 pub record IsMendedTo (old now : Told) (from : Image) (bucket : ℕ) : Type 0 where
   pub done : List TrailStep
   pub left : ℕ
@@ -50,7 +50,7 @@ mended-none old records ends whole = record {
   silent = λ none. none;
 }
 
--- the steps of one bucket, and then those of the buckets behind it
+-- the steps of one bucket, and then those of the buckets after it
 one-left : (records : ℕ → List ℕ) (bucket left more : ℕ) (image : Image) → left ≡ suc more
     → chains_steps records bucket left image ≡ chain_steps bucket (records bucket) image ++ chains_steps records (bucket + 1) more (after (chain_steps bucket (records bucket) image) image)
 one-left records bucket left more image is = ap (λ (n : ℕ). chains_steps records bucket n image) is
@@ -85,7 +85,7 @@ were-untold old now records ends whole bucket are scanned none = by_files old.fi
         let to : IsMendedTo old now from bucket = are.mended from there (scanned from there) in
         absurd (no_some (after to.done from) (sym none ∙ now-there old now from bucket to there))
 
--- what was done so far is a front of the steps
+-- what was done so far is a prefix of the steps
 pub part-so-far : (old now : Told) (records ends : List ℕ) (whole : List Bool) (bucket : ℕ) → AreMendedTo old now records ends whole bucket → ForSome old.files (λ from. AreChainsScanned records ends whole from → AppliesPrefix old now (chain_repair_steps from))
 part-so-far old now records ends whole bucket are from there scanned =
     let to : IsMendedTo old now from bucket = are.mended from there scanned in
@@ -167,7 +167,7 @@ quiet-chains records bucket (suc count) image =
 pub quiet-repair : (image : Image) → IsQuiet (chain_repair_steps image)
 quiet-repair image = subst IsQuiet (sym (all-left image)) (quiet-chains (kept_records image) 0 65536 image)
 
--- what a front of the steps passes, and where all of them lead
+-- what a prefix of the steps passes, and where all of them lead
 pub repair-passes : (old now : Told) (records ends : List ℕ) (whole : List Bool) → ForSome old.files (λ from. AreChainsScanned records ends whole from → AppliesPrefix old now (chain_repair_steps from)) → ForSome old.files (λ from. AreChainsScanned records ends whole from → Passes old now (HoldsTheSame from))
 repair-passes old now records ends whole part from there scanned =
     passes_part (HoldsTheSame from) (HoldsTheSame from) (part from there scanned) (quiet-repair from) (λ i h. h)

@@ -1,4 +1,4 @@
--- Chains that are whole, and stay so while others are mended.
+-- Chains that are whole, and stay so while others are repaired.
 use Rattle.std.proofs.Common.{◌≡◌, ℕ, List, [], refl, ◌∙◌, arith, true}
 use Rattle.spec_image.specs.Image.{Image}
 use Rattle.spec_folder.specs.Chains.{IsChain, chain}

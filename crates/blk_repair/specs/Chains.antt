@@ -1,4 +1,4 @@
--- The chain that is mended next, and the kept records of all chains.
+-- The chain that is repaired next, and the kept records of all chains.
 use Rattle.std.specs.Prelude.{ℕ, ◌<◌, ◌≤◌, ◌≡◌, ◌≢◌, ◌%◌, Bool, true, false, List, slice_index, slice_index_or}
 use Rattle.spec_image.specs.Image.{Image, Index, byte}
 use Rattle.spec_format.specs.BlockFiles.{IsWellFormed}
@@ -10,7 +10,7 @@ use Rattle.blk_index.specs.Table.{buckets_of_piece}
 use Rattle.blk_audit.specs.BucketEnds.{records_of}
 use Rattle.law_recovery.specs.ChainRepair.{HasChainsUpTo, KeepsAllWalked, kept_records}
 
--- the list was mended, the chains below this bucket are, and these are the kept records of the bucket
+-- the list was repaired, the chains below this bucket are, and these are the kept records of the bucket
 pub record IsNextChain (from : Image) (bucket : ℕ) (records : List ℕ) (image : Image) : Type 0 where
   pub well_formed : IsWellFormed from
   pub keeps_all : KeepsAllWalked from
@@ -31,11 +31,11 @@ pub record IsNextBucket (from : Image) (bucket front : ℕ) (records : List ℕ)
 abbrev pub KeepsOtherBuckets : ℕ → Image → Image → Type 0
 KeepsOtherBuckets bucket from image = (other : ℕ) → other ≢ bucket → bucket_of (byte image Index) other ≡ bucket_of (byte from Index) other
 
--- the words of the buckets from one on, up to another, were read: each stands at the place that its bucket has in its piece of the table
+-- the words of the buckets from one on, up to another, were read: each is at the place that its bucket has in its piece of the table
 abbrev pub AreFronts : (words : List ℕ) (bucket last : ℕ) → Image → Type 0
 AreFronts words bucket last image = (other : ℕ) → bucket ≤ other → other < last → slice_index words (other % buckets_of_piece) ≡ bucket_of (byte image Index) other
 
--- the list was mended, and these are the kept records of all buckets; each bucket that is told whole is the chain of its records
+-- the list was repaired, and these are the kept records of all buckets; each bucket that is told whole is the chain of its records
 pub record AreChainsScanned (records ends : List ℕ) (whole : List Bool) (image : Image) : Type 0 where
   pub well_formed : IsWellFormed image
   pub writable : IsWritable image

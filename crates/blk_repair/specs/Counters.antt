@@ -1,4 +1,4 @@
--- The words of the index that are mended last: the counters, the number of the session, and the crash word.
+-- The words of the index that are repaired last: the counters, the number of the session, and the crash word.
 use Rattle.std.specs.Prelude.{ℕ, ◌≡◌, ◌+◌, ◌<◌, ◌%◌, ◌^◌, ◌==◌, ◌&&◌, if◌then◌else◌, nat_le, Bool, List, [], ◌∷◌, ◌++◌, length, false}
 use Rattle.std.specs.List.{sum_by}
 use Rattle.spec_image.specs.Image.{Image, Index, byte, same_file, word}
@@ -64,13 +64,13 @@ pub record HasIndexWords (items bytes this_id : ℕ) (image : Image) : Type 0 wh
   pub id : this_id_of (byte image Index) ≡ this_id
   pub crash : crash_of (byte image Index) ≡ 1
 
--- the links are mended, and so many items with so many bytes are kept
+-- the links are repaired, and so many items with so many bytes are kept
 pub record IsNextCounted (entry : Image) (items bytes : ℕ) (image : Image) : Type 0 where
   pub holds : HasMendedLinksOf entry image
   pub items_are : items ≡ length (kept entry)
   pub bytes_are : bytes ≡ sum_by charge_of (kept entry) % 2 ^ 32
 
--- the counters count what is kept, and what was mended of the files and of the seals is mended still
+-- the counters count what is kept, and what was repaired of the files and of the seals is repaired still
 pub record IsIndexMended (entry from image : Image) : Type 0 where
   pub holds : HasMendedLinksOf entry image
   pub counters : HasMendedCounters image

@@ -1,4 +1,4 @@
--- What is told of a damage that repair meets.
+-- What is told of a failed check that repair meets.
 use Rattle.std.specs.Prelude.{ℕ, ◌≡◌, ◌⊎◌, ◌+◌, List, All, true, Option}
 use Rattle.spec_image.specs.Image.{Image}
 use Rattle.spec_image.specs.Told.{Told}
@@ -18,29 +18,29 @@ use Rattle.blk_lru.specs.Damages.{IsCompletingDamage, IsEndDamage, IsRemovalDama
 abbrev pub AllCheck : List ℕ → Image → Type 0
 AllCheck words image = All (λ w. RecordChecks w image) words
 
--- a record that stands was read, its next or the whole of it: its bytes are too few, or it doesn't check
+-- a record that is there was read, its next or the whole of it: its bytes are too few, or it doesn't check
 pub record IsFailedLink (files : BlockFiles) (told : Told) (damage : Damage) : Type 0 where
   pub entry : ℕ
   pub stands : is_record_among files entry ≡ true
   pub failed : IsShort told (names.Block (file_selector entry)) (place entry + entry_next_place) 4 damage ⊎ (IsShort told (names.Block (file_selector entry)) (place entry) (record_size entry) damage ⊎ IsUnsealed told entry damage)
 
--- the chains were damaged at words of the table, or at a record
+-- the chains were corrupt at words of the table, or at a record
 abbrev pub IsChainsRepairDamage : BlockFiles → Told → Damage → Type 0
 IsChainsRepairDamage files told damage = IsTableDamage told damage ⊎ IsFailedLink files told damage
 
--- some node that stands was taken out of the list, from some files on, and that met a damage
+-- some node that is there was taken out of the list, from some files on, and that met a failed check
 pub record IsRemovalsDamage (files : BlockFiles) (told : Told) (damage : Damage) : Type 0 where
   pub node : ℕ
   pub before : Told
   pub stands : is_node_among files node ≡ true
   pub met : IsRemovalDamage node files before told damage
 
--- the end of the list was mended, from some files on, and that met a damage
+-- the end of the list was repaired, from some files on, and that met a failed check
 pub record IsEndingDamage (files : BlockFiles) (told : Told) (damage : Damage) : Type 0 where
   pub last : Option ℕ
   pub before : Told
   pub met : IsEndDamage last files before told damage
 
--- the list was repaired: a damage where its operation is completed, where its end is mended, or where a node is taken out
+-- the list was repaired: a failed check where its operation is completed, where its end is repaired, or where a node is taken out
 abbrev pub IsListRepairDamage : BlockFiles → Told → Damage → Type 0
 IsListRepairDamage files told damage = IsCompletingDamage files told damage ⊎ (IsEndingDamage files told damage ⊎ IsRemovalsDamage files told damage)

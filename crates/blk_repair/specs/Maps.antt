@@ -1,4 +1,4 @@
--- The block files that are mended behind the links.
+-- The block files that are repaired after the links.
 use Rattle.std.specs.Prelude.{List}
 use Rattle.std.specs.List.{flat_map}
 use Rattle.spec_image.specs.Image.{Image}
@@ -16,18 +16,18 @@ use Rattle.law_recovery.specs.Mended.{HasMendedFiles}
 use Rattle.law_recovery.specs.RecordSeals.{StaysSealed}
 use Rattle.blk_repair.specs.Seals.{HasMendedLinksOf}
 
--- the links are mended, and the claims are those of the address words of what is kept
+-- the links are repaired, and the used blocks are those of the address words of what is kept
 pub record IsNextRebuilt (entry : Image) (claims : Claims) (image : Image) : Type 0 where
   pub holds : HasMendedLinksOf entry image
   pub claimed : IsClaimsOf claims (flat_map words_of (kept entry))
 
--- the lengths, the maps and the counters are mended, and what was sealed is so still
+-- the lengths, the maps and the counters are repaired, and what was sealed is so still
 pub record AreFilesMended (entry from image : Image) : Type 0 where
   pub holds : HasMendedLinksOf entry image
   pub files : HasMendedFiles image
   pub seals : StaysSealed from image
 
--- lengths, maps, counters and updating of the linked files are under way to those of claims at each word, and nothing else differs; each step is needed, so a word is written only where it differs
+-- lengths, maps, counters and updating of the linked files are under way to those of the used blocks at each word, and nothing else differs; each step is needed, so a word is written only where it differs
 pub record Rebuilds (files : BlockFiles) (claims : Claims) (image : Image) (steps : List TrailStep) : Type 0 where
   pub quiet : IsQuiet steps
   pub along : Along (IsRebuilding claims (all_files files) image) image steps

@@ -1,4 +1,4 @@
--- The repair of the use list, by its walked and its kept nodes.
+-- The repair of the LRU list, by its walked and its kept nodes.
 use Rattle.std.specs.Prelude.{◌≡◌, ℕ, List, [], ◌++◌, Option, map}
 use Rattle.spec_image.specs.Image.{Image}
 use Rattle.spec_format.specs.BlockFiles.{IsWellFormed}

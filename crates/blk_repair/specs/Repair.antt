@@ -41,7 +41,7 @@ pub record IsRepairable (scan : Scan) (image : Image) : Type 0 where
 abbrev pub next_id : ℕ → ℕ
 next_id id = if (id + 1) % 2 ^ 32 == 0 then 1 else (id + 1) % 2 ^ 32
 
--- nothing is left to mend, with the same kept and found as at the entry, and a session with this number is open; so the image stands for what is held
+-- nothing is left to repair, with the same kept and found as at the entry, and a session with this number is open; so the image stands for what is held
 pub record IsRepairedFor (id : ℕ) (entry image : Image) : Type 0 where
   pub mended : IsMended image
   pub kept_same : kept image ≡ kept entry
@@ -54,24 +54,24 @@ pub record IsRepairedFor (id : ℕ) (entry image : Image) : Type 0 where
 abbrev pub IsRepaired : Image → Image → Type 0
 IsRepaired entry image = IsRepairedFor (next_id (this_id_of (byte entry Index))) entry image
 
--- nothing is to be mended but words of the index, and no seal was told to be
+-- nothing is to be repaired but words of the index, and no seal was told to be
 pub record NeedsOnlyWords (scan : Scan) (image : Image) : Type 0 where
   pub links : HasMendedLinks image
   pub files : HasMendedFiles image
   pub only : HasOnlyKeptFiles image
   pub bare : scan.bare.items ≡ []
 
--- the words of the index are mended for what is kept at the entry, and for a session with this number
+-- the words of the index are repaired for what is kept at the entry, and for a session with this number
 abbrev pub counting_steps : Image → ℕ → Image → List TrailStep
 counting_steps entry id image = index_steps (length (kept entry)) (sum_by charge_of (kept entry) % 2 ^ 32) id image
 
 -- The steps, part after part: each part's are made on what the parts before it leave.
 
--- the use list is repaired, and then the chains
+-- the LRU list is repaired, and then the chains
 abbrev pub MendsLinks : Image → List TrailStep → Type 0
 MendsLinks = InTurn (Exactly list_repair_steps) (Exactly chain_repair_steps)
 
--- the block files become those of what is claimed, and then the files go that nothing names
+-- the block files become those of what is used, and then the files go that nothing names
 abbrev pub MendsFiles : BlockFiles → Claims → Image → List TrailStep → Type 0
 MendsFiles files claims = InTurn (Rebuilds files claims) (DeletesOthers files claims)
 
@@ -85,53 +85,53 @@ RepairsInOrder files scan entry id = InTurn MendsLinks (InTurn (MendsFiles files
 
 -- Between the parts.
 
--- the list was mended, and this was told of the chains
+-- the list was repaired, and this was told of the chains
 pub record AreBucketsScanned (chains : Option KeptChains) (image : Image) : Type 0 where
   pub well_formed : IsWellFormed image
   pub writable : IsWritable image
   pub keeps_all : KeepsAllWalked image
   pub told : AreChainsTold image chains
 
--- the links are mended of the folder of which this was told, and what is kept is sealed but for what was told to be bare
+-- the links are repaired of the folder of which this was told, and what is kept is sealed but for what was told to be bare
 pub record AreLinksMended (scan : Scan) (entry image : Image) : Type 0 where
   pub scanned : IsScanOf entry scan
   pub holds : HasMendedLinksOf entry image
   pub others : AreOthersSealed entry scan.bare.items image
 
--- the files are mended and only those of what is kept are left; what is kept is sealed still, but for some
+-- the files are repaired and only those of what is kept are left; what is kept is sealed still, but for some
 pub record AreOnlyKeptLeft (entry from image : Image) : Type 0 where
   pub holds : HasMendedLinksOf entry image
   pub files : HasMendedFiles image
   pub only : HasOnlyKeptFiles image
   pub others : (words : List ℕ) → AreOthersSealed entry words from → AreOthersSealed entry words image
 
--- the files that nothing names are gone, and files that were mended are so still
+-- the files that nothing names are gone, and files that were repaired are so still
 pub record AreOthersDeleted (entry from image : Image) : Type 0 where
   pub holds : HasMendedLinksOf entry image
   pub files : HasMendedFiles from → HasMendedFiles image
   pub only : HasOnlyKeptFiles image
   pub others : (words : List ℕ) → AreOthersSealed entry words from → AreOthersSealed entry words image
 
--- the links and the files are mended, so seals and words of the index are left
+-- the links and the files are repaired, so seals and words of the index are left
 pub record IsNextFinished (scan : Scan) (entry image : Image) : Type 0 where
   pub links : AreLinksMended scan entry image
   pub files : HasMendedFiles image
   pub only : HasOnlyKeptFiles image
 
--- What is told of a damage.
+-- What is told of a failed check.
 
--- the links were repaired: a damage in the list, or in the chains
+-- the links were repaired: a failed check in the list, or in the chains
 abbrev pub IsLinksRepairDamage : BlockFiles → Told → Damage → Type 0
 IsLinksRepairDamage files told damage = IsListRepairDamage files told damage ⊎ IsChainsRepairDamage files told damage
 
--- what is kept was sealed, or a word of the index mended
+-- what is kept was sealed, or a word of the index repaired
 abbrev pub IsRestRepairDamage : BlockFiles → Told → Damage → Type 0
 IsRestRepairDamage files told damage = IsWrongSealed files told damage ⊎ IsShortIndexWord told damage
 
--- behind the links: a read of a header of a block file was too short, or it was one of the rest
+-- after the links: a read of a header of a block file was too short, or it was one of the rest
 abbrev pub IsBehindRepairDamage : BlockFiles → Told → Damage → Type 0
 IsBehindRepairDamage files told damage = IsShortReadOf told (all_files files) damage ⊎ IsRestRepairDamage files told damage
 
--- a folder was repaired: a damage in its links, or behind them
+-- a folder was repaired: a failed check in its links, or after them
 abbrev pub IsRepairDamage : BlockFiles → Told → Damage → Type 0
 IsRepairDamage files told damage = IsLinksRepairDamage files told damage ⊎ IsBehindRepairDamage files told damage

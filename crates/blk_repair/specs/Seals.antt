@@ -1,4 +1,4 @@
--- Nodes and records that are sealed, while the links stay mended.
+-- Nodes and records that are sealed, while the links stay repaired.
 use Rattle.std.specs.Prelude.{ℕ, List, [], ◌∷◌, ◌++◌, All}
 use Rattle.spec_image.specs.Image.{Image}
 use Rattle.spec_image.specs.Steps.{TrailStep, after}
@@ -14,7 +14,7 @@ use Rattle.law_recovery.specs.Mended.{AreKeptSealed, HasMendedFiles, HasOnlyKept
 use Rattle.law_recovery.specs.MendedChanges.{KeepsMendedLinks}
 use Rattle.law_recovery.specs.RecordSeals.{IsSealedAt, KeepsRecordsSealed}
 
--- the folder can be written and its links are mended, with the same kept and found as at the entry
+-- the folder can be written and its links are repaired, with the same kept and found as at the entry
 pub record HasMendedLinksOf (entry image : Image) : Type 0 where
   pub writable : IsWritable image
   pub keeps : KeepsMendedLinks entry image
@@ -24,12 +24,12 @@ abbrev pub seals_steps : List ℕ → Image → List TrailStep
 seals_steps [] image = []
 seals_steps (w ∷ words) image = seal_steps image w ++ seals_steps words (after (seal_steps image w) image)
 
--- the links are mended, and nodes and records of what is kept are sealed next
+-- the links are repaired, and nodes and records of what is kept are sealed next
 pub record IsNextSealed (entry : Image) (words : List ℕ) (image : Image) : Type 0 where
   pub holds : HasMendedLinksOf entry image
   pub are_kept : All (IsOfKept entry) words
 
--- some nodes and records are sealed, so all are where the others were; what was sealed is so still, and files that were mended are mended still
+-- some nodes and records are sealed, so all are where the others were; what was sealed is so still, and files that were repaired are repaired still
 pub record AreSealedNow (entry from : Image) (words : List ℕ) (image : Image) : Type 0 where
   pub holds : HasMendedLinksOf entry image
   pub sealed : All (IsSealedAt image) words
@@ -38,7 +38,7 @@ pub record AreSealedNow (entry from : Image) (words : List ℕ) (image : Image) 
   pub only : HasOnlyKeptFiles from → HasOnlyKeptFiles image
   pub all : AreOthersSealed entry words from → AreKeptSealed image
 
--- a node or a record that stands was read whole: its bytes are too few, or it doesn't check
+-- a node or a record that is there was read whole: its bytes are too few, or it doesn't check
 pub record IsWrongSealed (files : BlockFiles) (told : Told) (damage : Damage) : Type 0 where
   pub address : ℕ
   pub can : CanBeSealed files address

@@ -15,9 +15,9 @@ use blk_disk::BlockFiles;
 use blk_io::{Fault, Folder};
 
 // Makes a bucket the chain of some records, from the front: the word of the bucket, as it was read, names the first of
-// them, each has the one behind it as its next, and the last has 0.
+// them, each has the one after it as its next, and the last has 0.
 //
-// A word is written only where it differs. A record that is to be written and doesn't check is a damage, and so are
+// A word is written only where it differs. A record that is to be written and doesn't check is corruption, and so are
 // too few bytes. This takes at most one folder call and six for each record.
 pub(crate) fn mend_chain<F: Folder>(
     f: &mut F,
@@ -34,7 +34,7 @@ pub(crate) fn mend_chain<F: Folder>(
     ensures others { OnOk result (ForSome (F.told f.old).files (λ from. ForSome (F.told f.new).files (KeepsOtherBuckets bucket from))) }
     ensures is_open { ForSome (F.told f.new).files (IsOpen files.now) }
 
-    // A folder that tells its files gives a damage only where not all of the records check.
+    // An observable folder reports corruption only where not all of the records check.
     ensures damaged { IfDamaged result (IsFailedLink files.now (F.told f.new)) }
     ensures untold { ForSome (F.told f.old).files (AllCheck records.now) → IfDamaged result (λ _. (F.told f.old).files ≡ None) }
 
@@ -45,7 +45,7 @@ pub(crate) fn mend_chain<F: Folder>(
     link(f, files, records)
 }
 
-// Each of some records gets the one behind it as its next, and the last gets 0.
+// Each of some records gets the one after it as its next, and the last gets 0.
 fn link<F: Folder>(f: &mut F, files: &BlockFiles, records: &[Addr]) -> Result<(), Fault>
     requires stand { All (λ w. is_record_among files.now w ≡ true) records.now }
     requires is_open { ForSome (F.told f.old).files (IsOpen files.now) }
@@ -53,7 +53,7 @@ fn link<F: Folder>(f: &mut F, files: &BlockFiles, records: &[Addr]) -> Result<()
     ensures prefix { MakesPartOf (F.told f.old) (F.told f.new) (λ from. next_words_steps records.now from) }
     ensures damaged { IfDamaged result (IsFailedLink files.now (F.told f.new)) }
 
-    // A folder that tells its files gives a damage only where not all of them check.
+    // An observable folder reports corruption only where not all of them check.
     ensures untold { ForSome (F.told f.old).files (AllCheck records.now) → IfDamaged result (λ _. (F.told f.old).files ≡ None) }
     ensures later { F.faults f.old ≤ F.faults f.new }
     ensures device { IfDevice result (Rises (F.faults f.old) (F.faults f.new)) }

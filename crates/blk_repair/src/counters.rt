@@ -17,20 +17,21 @@ use blk_record::IndexHead;
 /// items, twice, the sum of their charges modulo 2^32, and the number.
 ///
 /// Each is read, and written where it differs. The crash word alone is written in any case, and last, so that the end
-/// of an opening is known by it. This takes at most nine folder calls. Too few bytes are a damage.
+/// of an opening is known by it. This takes at most nine folder calls. Too few bytes are corruption.
 pub fn mend_index<F: Folder>(f: &mut F, items: u32, bytes: u32, this_id: u32) -> Result<(), Fault>
     requires complete { ForSome (F.told f.old).files HasWholeIndex }
     ensures words { OnOk result (ForSome (F.told f.new).files (HasIndexWords items bytes this_id)) }
     ensures steps { OnOk result (ForSome (F.told f.old).files (λ from. Applies (F.told f.old) (F.told f.new) (index_steps items bytes this_id from))) }
     ensures prefix { MakesPartOf (F.told f.old) (F.told f.new) (λ from. index_steps items bytes this_id from) }
 
-    // Where the links are mended they stay so at each word, with the same kept and found; in the end the counters count what is kept, and what was mended of the files and of the seals is so still.
+    // Where the links are repaired they stay so at each word, with the same kept and found; in the end the counters count what is kept, and what was repaired of the files and of the seals is so
+    // still.
     ensures mended { OnOk result (ForSome (F.told f.old).files (λ from. (entry : Image) → IsNextCounted entry items bytes from → ForSome (F.told f.new).files (IsIndexMended entry from))) }
     ensures stops { ForSome (F.told f.old).files (λ from. (entry : Image) → HasMendedLinksOf entry from → Passes (F.told f.old) (F.told f.new) (HasMendedLinksOf entry)) }
 
     ensures complete { ForSome (F.told f.new).files HasWholeIndex }
 
-    // A folder that tells its files gives no damage.
+    // An observable folder reports no corruption.
     ensures damaged { IfDamaged result (IsShortIndexWord (F.told f.new)) }
     ensures untold { IfDamaged result (λ _. (F.told f.old).files ≡ None) }
 

@@ -1,4 +1,4 @@
-// The files that nothing names go: block files that aren't linked, and external files that aren't claimed.
+// The files that nothing names go: block files that aren't linked, and external files that aren't used.
 ghost use Rattle.std.specs.Prelude.{◌≡◌, ◌<◌, ◌≤◌, ℕ, None, Some, Ok, OnOk, OnErr, IfOk, false};
 ghost use Rattle.std.specs.Option.{ForSome};
 ghost use Rattle.spec_image.specs.Image.{Image, has_file, Block as block, External as external};
@@ -25,14 +25,15 @@ const LAST_FIRST_FILE: u8 = 3;
 /// Deletes each block file that is there and isn't linked.
 ///
 /// This takes one `list` call, and one more for each block file from `data_4` on; each file that goes takes a `delete`
-/// call. `Failed` comes only where the folder failed in this call; a front of the deletions has then lasted.
+/// call. `Failed` comes only where the folder failed in this call; a prefix of the deletions has then lasted.
 pub fn delete_unlinked<F: Folder>(f: &mut F, files: &BlockFiles) -> Result<(), Failed>
     requires is_open { ForSome (F.told f.old).files (IsOpen files.now) }
     ensures linked { OnOk result (ForSome (F.told f.new).files OnlyLinked) }
     ensures steps { OnOk result (DeletesAll (is_unlinked files.now) last_first_file (F.told f.old) (F.told f.new)) }
     ensures prefix { DeletesSome (is_unlinked files.now) last_first_file (F.told f.old) (F.told f.new) }
 
-    // Where the links are mended they stay so at each deletion, with the same kept and found, and the crash word is spared; and what was mended of the files and of the seals is so still.
+    // Where the links are repaired they stay so at each deletion, with the same kept and found, and the crash word is spared; and what was repaired of the files and of the seals is so
+    // still.
     ensures stops { ForSome (F.told f.old).files (λ from. (entry : Image) → HasMendedLinksOf entry from → BreaksOff (F.told f.old) (F.told f.new) (IsMidDeletion entry from)) }
 
     ensures is_open { ForSome (F.told f.new).files (IsOpen files.now) }
@@ -51,18 +52,19 @@ pub fn delete_unlinked<F: Folder>(f: &mut F, files: &BlockFiles) -> Result<(), F
     Ok(())
 }
 
-/// Deletes each external file that is there and whose number isn't claimed.
+/// Deletes each external file that is there and whose number isn't used.
 ///
-/// A number that no address has isn't claimed. This takes one `list` call, and one more for each external file; each
-/// file that goes takes a `delete` call. `Failed` comes only where the folder failed in this call; a front of the
-/// deletions has then lasted.
+/// A number that no address has isn't used. This takes one `list` call, and one more for each external file; each file
+/// that goes takes a `delete` call. `Failed` comes only where the folder failed in this call; a prefix of the deletions
+/// has then lasted.
 pub fn delete_unclaimed<F: Folder>(f: &mut F, claims: &Claims) -> Result<(), Failed>
-    // With the claims of what is kept, the external files that are there are those that it claims.
+    // With the used blocks of what is kept, the external files that are there are those that it uses.
     ensures claimed { OnOk result (ForSome (F.told f.old).files (λ from. (entry : Image) → IsNextRebuilt entry claims.now from → ForSome (F.told f.new).files (λ image. OnlyClaimed image (claims_of_loaded (kept image))))) }
     ensures steps { OnOk result (DeletesAll (is_unclaimed claims.now) last_block_file (F.told f.old) (F.told f.new)) }
     ensures prefix { DeletesSome (is_unclaimed claims.now) last_block_file (F.told f.old) (F.told f.new) }
 
-    // The links then stay mended at each deletion, with the same kept and found, and the crash word is spared; and what was mended of the files and of the seals is so still.
+    // The links then stay repaired at each deletion, with the same kept and found, and the crash word is spared; and what was repaired of the files and of the seals is so
+    // still.
     ensures stops { ForSome (F.told f.old).files (λ from. (entry : Image) → IsNextRebuilt entry claims.now from → BreaksOff (F.told f.old) (F.told f.new) (IsMidDeletion entry from)) }
 
     ensures is_open { (files : BlockFiles) → ForSome (F.told f.old).files (IsOpen files) → ForSome (F.told f.new).files (IsOpen files) }
@@ -109,7 +111,7 @@ fn delete_block<F: Folder>(f: &mut F, files: &BlockFiles, n: u8) -> Result<(), F
     f.delete(FileId::Block(n))
 }
 
-// The least external file that is there after a file, behind which no block file is.
+// The least external file that is there after a file, after which no block file is.
 fn next_external<F: Folder>(f: &mut F, last: FileId) -> Result<Option<u32>, Failed>
     requires past { IsBefore (file_of last) last_block_file → ⊥ }
     ensures after { IfOk result (λ next. ForSome next (λ number. IsBefore (file_of last) (external number))) }
@@ -125,7 +127,7 @@ fn next_external<F: Folder>(f: &mut F, last: FileId) -> Result<Option<u32>, Fail
     }
 }
 
-// Deletes an external file whose number isn't claimed.
+// Deletes an external file whose number isn't used.
 fn delete_external<F: Folder>(f: &mut F, claims: &Claims, number: u32) -> Result<(), Failed>
     ensures steps { OnOk result (Applies (F.told f.old) (F.told f.new) (deletion_of (is_unclaimed claims.now) (external number))) }
     ensures undone { OnErr result (Stays (F.told f.old) (F.told f.new)) }
@@ -138,7 +140,7 @@ fn delete_external<F: Folder>(f: &mut F, claims: &Claims, number: u32) -> Result
     f.delete(FileId::External(number))
 }
 
-// Whether an external number is one that addresses have, and is claimed.
+// Whether an external number is one that addresses have, and is used.
 fn is_claimed(claims: &Claims, number: u32) -> bool
     ensures { result ≡ is_number_claimed claims.now number }
 {

@@ -1,8 +1,8 @@
 //! Repair of a folder, by what its audit told.
 //!
-//! `repairing` is the whole of it, joined of its parts: `list` repairs the use list, for which `removals` takes the nodes
+//! `repairing` is the whole of it, joined of its parts: `list` repairs the LRU list, for which `removals` takes the nodes
 //! out that are not kept, `chains` makes a bucket the chain of its kept records, and `tables` does so with every bucket;
-//! behind them `maps` makes lengths, maps and counters of the block files right, `deletions` deletes the files that
+//! after them `maps` makes lengths, maps and counters of the block files right, `deletions` deletes the files that
 //! nothing names, `seals` seals what is kept, and `counters` makes the words of the index right.
 #![tactic(auto)]
 

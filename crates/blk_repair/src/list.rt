@@ -1,4 +1,4 @@
-// The use list is repaired.
+// The LRU list is repaired.
 ghost use Rattle.std.specs.Prelude.{◌≡◌, ◌≤◌, None, OnOk, All, true};
 ghost use Rattle.std.specs.Option.{ForSome};
 ghost use Rattle.spec_image.specs.Told.{Applies, MakesPartOf, Passes, Rises};
@@ -16,11 +16,11 @@ use blk_disk::BlockFiles;
 use blk_io::{Fault, Folder};
 use blk_lru::{complete, end_at};
 
-/// Repairs the use list: the operation in flight is completed, the last of the walked nodes becomes the end of the
+/// Repairs the LRU list: the operation in flight is completed, the last of the walked nodes becomes the end of the
 /// list, and each walked node that is not kept goes out, in the order of the list.
 ///
 /// `walked` are the nodes that completing leaves, and `kept` those of them that are kept, in the same order. A list that is
-/// whole and at rest with the kept nodes takes 3 folder calls. A damage is one of the calls on the list.
+/// whole and idle with the kept nodes takes 3 folder calls. A failed check is one of the calls on the list.
 pub fn mend_list<F: Folder>(
     f: &mut F,
     files: &BlockFiles,
@@ -32,13 +32,14 @@ pub fn mend_list<F: Folder>(
     ensures steps { OnOk result (ForSome (F.told f.old).files (λ from. Applies (F.told f.old) (F.told f.new) (mending_steps walked.now kept.now from))) }
     ensures prefix { MakesPartOf (F.told f.old) (F.told f.new) (mending_steps walked.now kept.now) }
 
-    // With the walked and the kept nodes of the folder the list is mended in the end, and the same is kept and found at each word.
+    // With the walked and the kept nodes of the folder the list is repaired in the end, and the same is kept and found at each
+    // word.
     ensures mended { OnOk result (ForSome (F.told f.old).files (λ from. IsListScanned walked.now kept.now from → ForSome (F.told f.new).files (IsListMended from))) }
     ensures stops { ForSome (F.told f.old).files (λ from. IsListScanned walked.now kept.now from → Passes (F.told f.old) (F.told f.new) (HoldsTheSame from)) }
 
     ensures is_open { ForSome (F.told f.new).files (IsOpen files.now) }
 
-    // A folder that tells its files gives a damage only where these aren't its walked and kept nodes.
+    // An observable folder reports corruption only where these aren't its walked and kept nodes.
     ensures damaged { IfDamaged result (IsListRepairDamage files.now (F.told f.new)) }
     ensures untold { ForSome (F.told f.old).files (IsListScanned walked.now kept.now) → IfDamaged result (λ _. (F.told f.old).files ≡ None) }
 

@@ -18,17 +18,17 @@ use blk_disk::BlockFiles;
 use blk_io::{Fault, Folder};
 
 /// Makes the lengths, the maps and the counters of the linked block files those of what is kept, whose addresses were
-/// added to the claims.
+/// added to the used blocks.
 ///
-/// A word is written only where it differs, and a length only where the file is too short. A damage is a read of a
-/// header that gave too few bytes, which needs a folder that tells nothing.
+/// A word is written only where it differs, and a length only where the file is too short. A failed check is a read of
+/// a header that gave too few bytes, which needs an opaque folder.
 pub fn mend_files<F: Folder>(
     f: &mut F,
     files: &mut BlockFiles,
     claims: &Claims,
 ) -> Result<(), Fault>
     requires is_open { ForSome (F.told f.old).files (IsOpen files.old) }
-    // In any case the same files are linked, and what stood still does.
+    // In any case the same files are linked, and what was valid still is.
     ensures all { (kind : ℕ) → files_of files.new kind ≡ files_of files.old kind }
     ensures keeps { KeepsStanding files.old files.new }
 
@@ -38,7 +38,8 @@ pub fn mend_files<F: Folder>(
     // A step is made only where it is needed, and none but on lengths, maps, counters and updating.
     ensures rebuilds { ForSome (F.told f.old).files (λ from. AppliesOf (Rebuilds files.old claims.now) from (F.told f.old) (F.told f.new)) }
 
-    // Where the links are mended they stay so at each word, with the same kept and found; where the claims are those of what is kept the files are mended in the end, and what was sealed is so still.
+    // Where the links are repaired they stay so at each word, with the same kept and found; where the used blocks are those of what is kept the files are repaired in the end, and what was sealed is
+    // so still.
     ensures mended { OnOk result (ForSome (F.told f.old).files (λ from. (entry : Image) → IsNextRebuilt entry claims.now from → ForSome (F.told f.new).files (AreFilesMended entry from))) }
     ensures stops { ForSome (F.told f.old).files (λ from. (entry : Image) → KeepsMendedLinks entry from → Passes (F.told f.old) (F.told f.new) (KeepsMendedLinks entry)) }
     ensures is_open { ForSome (F.told f.new).files (IsOpen files.new) }

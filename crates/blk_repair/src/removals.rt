@@ -1,4 +1,4 @@
-// The nodes that are not kept go out of the use list.
+// The nodes that are not kept go out of the LRU list.
 ghost use Rattle.std.specs.Prelude.{◌≡◌, ◌≤◌, None, OnOk, All, drop, true};
 ghost use Rattle.std.specs.Option.{ForSome};
 ghost use Rattle.spec_image.specs.Image.{Image};
@@ -15,11 +15,11 @@ use blk_disk::BlockFiles;
 use blk_io::{Fault, Folder};
 use blk_lru::remove;
 
-/// Takes the walked nodes that are not kept out of the use list, in its order. Those that are kept are some of the
+/// Takes the walked nodes that are not kept out of the LRU list, in its order. Those that are kept are some of the
 /// walked ones, in the same order.
 ///
 /// A node goes out by an operation of its own, so by at most 17 folder calls; a list in which all nodes are kept takes
-/// none. A damage is one of `remove`.
+/// none. A failed check is one of `remove`.
 pub fn remove_others<F: Folder>(
     f: &mut F,
     files: &BlockFiles,
@@ -31,13 +31,14 @@ pub fn remove_others<F: Folder>(
     ensures steps { OnOk result (ForSome (F.told f.old).files (λ from. Applies (F.told f.old) (F.told f.new) (removal_steps (all_but walked.now kept.now) from))) }
     ensures prefix { MakesPartOf (F.told f.old) (F.told f.new) (λ from. removal_steps (all_but walked.now kept.now) from) }
 
-    // Where the list was ended with the walked nodes, it is mended in the end, and the same is kept and found at each word.
+    // Where the list was ended with the walked nodes, it is repaired in the end, and the same is kept and found at each
+    // word.
     ensures mended { OnOk result (ForSome (F.told f.old).files (λ from. (entry : Image) → IsEndedList entry walked.now kept.now from → ForSome (F.told f.new).files (IsListMended entry))) }
     ensures stops { ForSome (F.told f.old).files (λ from. (entry : Image) → IsEndedList entry walked.now kept.now from → Passes (F.told f.old) (F.told f.new) (HoldsTheSame entry)) }
 
     ensures is_open { ForSome (F.told f.new).files (IsOpen files.now) }
 
-    // A folder that tells its files gives a damage only where the list wasn't ended with the walked nodes.
+    // An observable folder reports corruption only where the list wasn't ended with the walked nodes.
     ensures damaged { IfDamaged result (IsRemovalsDamage files.now (F.told f.new)) }
     ensures untold { ForSome (F.told f.old).files (λ from. (entry : Image) × IsEndedList entry walked.now kept.now from) → IfDamaged result (λ _. (F.told f.old).files ≡ None) }
 

@@ -36,26 +36,28 @@ use blk_io::{Failed, Fault, Folder};
 use blk_record::{IndexHead, WORD_VALUES};
 use blk_scan::Scan;
 
-/// Repairs a folder by what its audit told: the use list, the chains, the block files, the files that nothing names,
+/// Repairs a folder by what its audit told: the LRU list, the chains, the block files, the files that nothing names,
 /// the seals, and the words of the index. The last step makes the crash word 1, in a session with the next number.
 ///
-/// It takes no memory and walks nothing. At each word the same is kept and found, so it may be stopped anywhere and
-/// begun again. A damage is one of a part. A folder that tells its files gives none where the scan is its own.
+/// It takes no memory and walks nothing. At each word the same is kept and found, so it may crash anywhere and be begun
+/// again. A failed check is one of a part. An observable folder gives none where the scan is its own.
 pub fn repair<F: Folder>(f: &mut F, files: &mut BlockFiles, scan: &Scan) -> Result<(), Fault>
     requires stand { StandAmong files.old scan.now }
     requires is_open { ForSome (F.told f.old).files (IsOpen files.old) }
 
-    // In any case the same files are linked, and what stood still does.
+    // In any case the same files are linked, and what was valid still is.
     ensures all { (kind : ℕ) → files_of files.new kind ≡ files_of files.old kind }
     ensures keeps { KeepsStanding files.old files.new }
 
     // In the end each linked file has its length, or exactly that of its header and blocks where this is greater.
     ensures fitted { OnOk result (AreFitted files.old files.new) }
 
-    // With the scan of a well-formed folder nothing is left to mend in the end, and at each word the same is kept and found.
+    // With the scan of a well-formed folder nothing is left to repair in the end, and at each word the same is kept and
+    // found.
     ensures mended { OnOk result (ForSome (F.told f.old).files (λ from. IsRepairable scan.now from → ForSome (F.told f.new).files (IsRepaired from))) }
 
-    // Where it is cut short the crash word wasn't written, or it was by the last step, and all is mended as at its end.
+    // Where it is cut short the crash word wasn't written, or it was by the last step, and all is repaired as at its
+    // end.
     ensures stops { ForSome (F.told f.old).files (λ from. IsRepairable scan.now from → EndsOrBreaksOff (F.told f.old) (F.told f.new) (IsMidRepair from) (IsRepaired from)) }
 
     // The steps are those of the parts, in their order; the last makes the crash word 1, and no other writes inside it.
@@ -64,10 +66,10 @@ pub fn repair<F: Folder>(f: &mut F, files: &mut BlockFiles, scan: &Scan) -> Resu
 
     ensures is_open { ForSome (F.told f.new).files (IsOpen files.new) }
 
-    // Where nothing else is to be mended, the only steps are those of the words of the index.
+    // Where nothing else is to be repaired, the only steps are those of the words of the index.
     ensures clean { OnOk result (ForSome (F.told f.old).files (λ from. IsRepairable scan.now from → NeedsOnlyWords scan.now from → Applies (F.told f.old) (F.told f.new) (counting_steps from (id_after (this_id_of (byte from index))) from))) }
 
-    // A folder that tells its files gives a damage only where the scan isn't its own.
+    // An observable folder reports corruption only where the scan isn't its own.
     ensures damaged { IfDamaged result (IsRepairDamage files.new (F.told f.new)) }
     ensures untold { ForSome (F.told f.old).files (IsRepairable scan.now) → IfDamaged result (λ _. (F.told f.old).files ≡ None) }
 
@@ -89,7 +91,7 @@ fn next_id(this_id: u32) -> u32
     }
 }
 
-// Repairs the links, and then what is behind them, for a session with this number.
+// Repairs the links, and then what is after them, for a session with this number.
 fn mend_all<F: Folder>(
     f: &mut F,
     files: &mut BlockFiles,
@@ -117,7 +119,7 @@ fn mend_all<F: Folder>(
     mend_behind(f, files, scan, this_id)
 }
 
-// Repairs what is behind the links: the files, and then the rest.
+// Repairs what is after the links: the files, and then the rest.
 fn mend_behind<F: Folder>(
     f: &mut F,
     files: &mut BlockFiles,
@@ -145,7 +147,7 @@ fn mend_behind<F: Folder>(
     mend_rest(f, files, scan, this_id)
 }
 
-// Mends the block files for what is claimed, and then deletes the files that nothing names.
+// Repairs the block files for what is used, and then deletes the files that nothing names.
 fn mend_store<F: Folder>(f: &mut F, files: &mut BlockFiles, claims: &Claims) -> Result<(), Fault>
     requires is_open { ForSome (F.told f.old).files (IsOpen files.old) }
     ensures all { (kind : ℕ) → files_of files.new kind ≡ files_of files.old kind }
@@ -167,7 +169,7 @@ fn mend_store<F: Folder>(f: &mut F, files: &mut BlockFiles, claims: &Claims) -> 
     Ok(())
 }
 
-// Deletes the block files that aren't linked, and then the external files that aren't claimed.
+// Deletes the block files that aren't linked, and then the external files that aren't used.
 fn delete_others<F: Folder>(f: &mut F, files: &BlockFiles, claims: &Claims) -> Result<(), Failed>
     requires is_open { ForSome (F.told f.old).files (IsOpen files.now) }
     ensures mended { OnOk result (ForSome (F.told f.old).files (λ from. (entry : Image) → IsNextRebuilt entry claims.now from → ForSome (F.told f.new).files (AreOthersDeleted entry from))) }
@@ -183,7 +185,7 @@ fn delete_others<F: Folder>(f: &mut F, files: &BlockFiles, claims: &Claims) -> R
     delete_unclaimed(f, claims)
 }
 
-// Repairs the use list, and then the chains.
+// Repairs the LRU list, and then the chains.
 fn mend_links<F: Folder>(f: &mut F, files: &BlockFiles, scan: &Scan) -> Result<(), Fault>
     requires stand { StandAmong files.now scan.now }
     requires is_open { ForSome (F.told f.old).files (IsOpen files.now) }

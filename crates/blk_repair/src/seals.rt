@@ -14,7 +14,7 @@ use blk_io::{Fault, Folder};
 
 /// Seals some nodes and records: where the seal of one isn't the hash of the bytes before it, it becomes that hash.
 ///
-/// A seal that is the hash already isn't written. One that is neither 0 nor the hash is a damage, and so are too few
+/// A seal that is the hash already isn't written. One that is neither 0 nor the hash is corruption, and so are too few
 /// bytes. This takes at most two folder calls for each of them.
 pub fn seal_records<F: Folder>(f: &mut F, files: &BlockFiles, records: &[Addr]) -> Result<(), Fault>
     requires stand { All (CanBeSealed files.now) records.now }
@@ -22,13 +22,14 @@ pub fn seal_records<F: Folder>(f: &mut F, files: &BlockFiles, records: &[Addr]) 
     ensures steps { OnOk result (ForSome (F.told f.old).files (λ from. Applies (F.told f.old) (F.told f.new) (seals_steps records.now from))) }
     ensures prefix { MakesPartOf (F.told f.old) (F.told f.new) (λ from. seals_steps records.now from) }
 
-    // Where the links are mended and these nodes and records are kept, the links stay so at each word, with the same kept and found; in the end these are sealed, so all that is kept is where the others were, and what was sealed or mended of the files is so still.
+    // Where the links are repaired and these nodes and records are kept, the links stay so at each word, with the same kept and found; in the end these are sealed, so all that is kept is where the others were, and what was sealed or repaired of the files is so
+    // still.
     ensures sealed { OnOk result (ForSome (F.told f.old).files (λ from. (entry : Image) → IsNextSealed entry records.now from → ForSome (F.told f.new).files (AreSealedNow entry from records.now))) }
     ensures stops { ForSome (F.told f.old).files (λ from. (entry : Image) → IsNextSealed entry records.now from → Passes (F.told f.old) (F.told f.new) (HasMendedLinksOf entry)) }
 
     ensures is_open { ForSome (F.told f.new).files (IsOpen files.now) }
 
-    // A folder that tells its files gives a damage only where not all of them are kept.
+    // An observable folder reports corruption only where not all of them are kept.
     ensures damaged { IfDamaged result (IsWrongSealed files.now (F.told f.new)) }
     ensures untold { ForSome (F.told f.old).files (λ from. (entry : Image) × IsNextSealed entry records.now from) → IfDamaged result (λ _. (F.told f.old).files ≡ None) }
 

@@ -23,11 +23,11 @@ use blk_io::{Fault, Folder};
 
 /// Makes each bucket the chain of its kept records, in rising order of the buckets.
 ///
-/// `records` are the kept records of all buckets, bucket after bucket and each chain in its order. `ends` tells for each
-/// of the 65536 buckets where its records end among them, so they begin where those of the bucket before end. A bucket
-/// for which `whole` is true is the chain of its records already. The words of 16384 buckets are read by one call, and only
-/// where one of them isn't told whole: so the table takes at most 4 calls beside its writes. A record that is to be
-/// written and doesn't check is a damage, and so are too few bytes.
+/// `records` are the kept records of all buckets, bucket after bucket and each chain in its order. `ends` tells for each of
+/// the 65536 buckets where its records end among them, so they begin where those of the bucket before end. A bucket for
+/// which `whole` is true is the chain of its records already. The words of 16384 buckets are read by one call, and only
+/// where one of them isn't told whole: so the table takes at most 4 calls beside its writes. A record that is to be written
+/// and doesn't check is corruption, and so are too few bytes.
 pub fn mend_chains<F: Folder>(
     f: &mut F,
     files: &BlockFiles,
@@ -40,8 +40,8 @@ pub fn mend_chains<F: Folder>(
     requires told { length whole.now ≡ table_length }
     requires is_open { ForSome (F.told f.old).files (IsOpen files.now) }
 
-    // With the kept records of the folder the steps are those of the repair of the chains, from the first on: all are mended
-    // in the end, and the same is kept and found at each word.
+    // With the kept records of the folder the steps are those of the repair of the chains, from the first on: all are
+    // repaired in the end, and the same is kept and found at each word.
     ensures steps { OnOk result (ForSome (F.told f.old).files (λ from. AreChainsScanned records.now ends.now whole.now from → Applies (F.told f.old) (F.told f.new) (chain_repair_steps from))) }
     ensures prefix { ForSome (F.told f.old).files (λ from. AreChainsScanned records.now ends.now whole.now from → AppliesPrefix (F.told f.old) (F.told f.new) (chain_repair_steps from)) }
     ensures mended { OnOk result (ForSome (F.told f.old).files (λ from. AreChainsScanned records.now ends.now whole.now from → ForSome (F.told f.new).files (AreChainsMended from))) }
@@ -50,7 +50,7 @@ pub fn mend_chains<F: Folder>(
     ensures is_open { ForSome (F.told f.new).files (IsOpen files.now) }
     ensures silent { (F.told f.old).files ≡ None → (F.told f.new).files ≡ None }
 
-    // A folder that tells its files gives a damage only where these aren't its kept records.
+    // An observable folder reports corruption only where these aren't its kept records.
     ensures damaged { IfDamaged result (IsChainsRepairDamage files.now (F.told f.new)) }
     ensures untold { ForSome (F.told f.old).files (AreChainsScanned records.now ends.now whole.now) → IfDamaged result (λ _. (F.told f.old).files ≡ None) }
 
@@ -74,8 +74,8 @@ pub fn mend_chains<F: Folder>(
     Ok(())
 }
 
-// Reads the words of the piece of the table in which a bucket stands, unless it is told whole or they were read: the
-// words of the buckets before `read` were. Gives the bucket up to which they are read then.
+// Reads the words of the piece of the table in which a bucket is, unless it is told whole or they were read: the words
+// of the buckets before `read` were. Gives the bucket up to which they are read then.
 fn read_piece<F: Folder>(
     f: &mut F,
     whole: bool,

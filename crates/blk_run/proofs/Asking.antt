@@ -52,7 +52,7 @@ stands_after far command keeps_old keeps notes_old notes left old new at noted k
           (subst (λ (n : ℕ). IsNoted old new command.moment command.request n (state_now far)) number noted);
     }
 
--- a text that is the whole of a turn
+-- a text that is the whole of an iteration
 one_text : (text : List ℕ) → text ++ [] ≡ text
 one_text text = append-nil text
 

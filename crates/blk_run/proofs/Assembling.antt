@@ -1,4 +1,4 @@
--- How a session ended, by what its parts say: its opening, its turns, its closings and its end.
+-- How a session ended, by what its parts say: its opening, its iterations, its closings and its end.
 use Rattle.std.proofs.Common.{ℕ, zero, suc, ◌+◌, ◌^◌, ◌<◌, ◌≡◌, ◌⊎◌, true, false, inl, inr, List, [], ◌∷◌, ◌++◌, length, take, Option, Some, Ok, Err, refl, sym, ◌∙◌, ap, subst, arith, append_assoc}
 use Rattle.std.specs.Option.{option_map, ForSome}
 use Rattle.std.proofs.lemmas.List.{append-nil, length-append, take-append-le}
@@ -32,7 +32,7 @@ use Rattle.blk_run.specs.Playing.{AreMade, AreMadeTo, Around, PlaysPart, SoFar, 
 use Rattle.blk_run.specs.Ending.{EndsRun}
 use Rattle.blk_run.specs.Session.{EndsAs, FixedRuns, IsEnded, IsUnopened, Outside, Runs, all_made, session_run, taken, unprinted}
 
--- The end, behind the commands of a run.
+-- The end, after the commands of a run.
 
 module _ (far : SoFar) (keeps : State → Image → Type 0) (stands_for : (state : State) (image : Image) → keeps state image → StandsFor image state) (still : Image → Image → Type 0)
     (holds_still : (from image : Image) → still from image → HoldsStill from image) (notes left : ℕ) (told new : Told) (clock_old clock_new : Option Readings) (closes : ClosesAll (Ok tt) far keeps notes left told clock_old clock_new)
@@ -94,7 +94,7 @@ within_short n l below = let more : suc n ≡ n + 1 = omega arith in subst (λ (
 appends_whole : (old new : Option (List ℕ)) (text : List ℕ) → new ≡ option_map (λ (w : List ℕ). w ++ text) old → Appends old new text
 appends_whole old new text printed = record { front = text; rest = []; split = sym (append-nil text); written = printed }
 
--- a front of a text is one of a longer text
+-- a prefix of a text is one of a longer text
 appends_longer : (old new : Option (List ℕ)) (text more all : List ℕ) → all ≡ text ++ more → Appends old new text → Appends old new all
 appends_longer old new text more all same printed = record {
   front = printed.front;
@@ -105,7 +105,7 @@ appends_longer old new text more all same printed = record {
 
 -- Runs.
 
--- the commands of a run are those of its turns and then its closings
+-- the commands of a run are those of its iterations and then its closings
 commands_are : (opened : State) (clock : Readings) (all made : List Turn) (closed : List Stamped) → all ≡ made → closed ≡ closings (bound_names (state_after opened (commands_of made))) (clock_after clock (length (commands_of made)))
     → commands (record { opened = opened; clock = clock; turns = all }) ≡ commands_of made ++ closed
 unfolding commands
@@ -113,7 +113,7 @@ commands_are opened clock all made closed same are =
     ap (λ (l : List Turn). commands_of l ++ closings (bound_names (state_after opened (commands_of l))) (clock_after clock (length (commands_of l)))) same
     ∙ ap (λ (l : List Stamped). commands_of made ++ l) (sym are)
 
--- and begin with those of the turns that were made
+-- and begin with those of the iterations that were made
 commands_begin : (opened : State) (clock : Readings) (all made later : List Turn) → all ≡ made ++ later → (more : List Stamped) × (commands (record { opened = opened; clock = clock; turns = all }) ≡ commands_of made ++ more)
 unfolding commands
 commands_begin opened clock all made later same =
@@ -122,7 +122,7 @@ commands_begin opened clock all made later same =
       ap (λ (l : List Turn). commands_of l ++ closed) same ∙ ap (λ (l : List Stamped). l ++ closed) (commands_of-append made later) ∙ append_assoc (commands_of made) (commands_of later) closed,
     )
 
--- the turns of some lines come first
+-- the iterations of some lines come first
 turns_first : (texts more all : List (List ℕ)) (opened : State) (clock : Readings) → all ≡ texts ++ more → (later : List Turn) × (turns (session_script 1 all) opened clock ≡ turns (session_script 1 texts) opened clock ++ later)
 turns_first texts more all opened clock same =
     let made : List Turn = turns (session_script 1 texts) opened clock in (
@@ -143,7 +143,7 @@ module _ (from : Image) (limits : Bounds) (readings : Readings) (old : Outside) 
   abbrev pub begun_far : SoFar
   begun_far = record { start = old.folder; from = from; opened = opened; done = [] }
 
-  -- the beginning, behind the opening
+  -- the beginning, after the opening
   pub begins : (keeps : State → Image → Type 0) (told : Told) (notes left : ℕ) → IsUsable from → Opens from opened old.folder told → ForSome told.files (keeps opened) → notes ≡ 0 → left < 2 ^ 65 → StandsAt begun_far keeps notes left told
   unfolding state_after
   begins keeps told notes left usable opens kept none few =
@@ -175,7 +175,7 @@ module _ (from : Image) (limits : Bounds) (readings : Readings) (old : Outside) 
     clock_made : (made : List Turn) (clock_mid : Option Readings) → clock_mid ≡ option_map (λ r. clock_after r (length (commands_of made))) clock_first → clock_mid ≡ Some (clock_after (later_of readings) (length (commands_of made)))
     clock_made made clock_mid read = read ∙ ap (option_map (λ r. clock_after r (length (commands_of made)))) clock_told
 
-    -- what stands at the end of a run of which these turns were made
+    -- what holds at the end of a run of which these iterations were made
     module _ (all made : List Turn) (same : all ≡ made) (clock_mid : Option Readings) (read : clock_mid ≡ option_map (λ r. clock_after r (length (commands_of made))) clock_first) (new : Outside)
         (ends : EndsRun (Ok tt) (with_more begun_far (commands_of made)) new.folder clock_mid new.clock) where
       all_commands : commands (run_with all) ≡ commands_of made ++ ends.commands
@@ -196,7 +196,7 @@ module _ (from : Image) (limits : Bounds) (readings : Readings) (old : Outside) 
       pub is_whole : IsWholeRun from opened (commands (run_with all)) old.folder new.folder
       is_whole = subst (λ (l : List Stamped). IsWholeRun from opened l old.folder new.folder) (sym all_commands) ends.closes.whole
 
-    -- the folder failed behind these turns
+    -- the folder failed after these iterations
     stops_behind : (all made : List Turn) → all ≡ made → (clock_mid clock_new : Option Readings) → clock_mid ≡ option_map (λ r. clock_after r (length (commands_of made))) clock_first → (new : Told)
         → EndsRun (Err fault.Device) (with_more begun_far (commands_of made)) new clock_mid clock_new → Stops from opened (commands (run_with all)) old.folder new
     stops_behind all made same clock_mid clock_new read new ends =

@@ -21,7 +21,7 @@ use Rattle.blk_run.proofs.RunLaws.{more_lines}
 abbrev pub lines_part : ℕ → List (List ℕ) → State → Readings → List Turn
 lines_part number texts state clock = turns (session_script number texts) state clock
 
--- lines behind lines
+-- lines after lines
 pub lines_then : (number : ℕ) (texts more : List (List ℕ)) → IsThen (lines_part number (texts ++ more)) (lines_part number texts) (lines_part (number + length texts) more)
 lines_then number texts more state clock = more_lines number texts more state clock
 
@@ -126,7 +126,7 @@ module _ (before bytes rest : List ℕ) (line : Line) (lines_old lines : ℕ) (k
   pub all_counted : lines ≡ lines_old + length (cut_behind before bytes).whole
   all_counted = so_far.counted ∙ ap (λ (c : Cut). lines_old + length c.whole) (sym cut_is)
 
--- the bytes behind a line are fewer
+-- the bytes after a line are fewer
 pub fewer_behind : (rest later : List ℕ) (end : ℕ) → position ends_line rest ≡ Some end → later ≡ drop (end + 1) rest → length later + 1 ≤ length rest
 fewer_behind rest later end at is =
     let w = (position-Some ends_line rest end 0 at).0 in

@@ -37,7 +37,7 @@ unfolding closings
 closings_length [] clock = refl
 closings_length (name ∷ names) clock = ap suc (closings_length names (later_of clock))
 
--- of the closings of a run these were made, and it stands behind them
+-- of the closings of a run these were made, and it comes after them
 pub record AreClosedSoFar (far : SoFar) (keeps : State → Image → Type 0) (notes left : ℕ) (now : Told) (clock_old clock_new : Option Readings) : Type 0 where
   pub closed : List Stamped
   pub stands : StandsAt (with_more far closed) keeps notes (left + 2 * length (bound_names (state_now (with_more far closed)))) now

@@ -25,7 +25,7 @@ use Rattle.spec_run.specs.Script.{totals_line}
 use Rattle.blk_run.specs.declared.ending.Status.{Status}
 use Rattle.blk_run.specs.Count.{AreTotalsOf, EndsSame, IsDamaged, PrintsAt, ShowsTotals, opened_on}
 
--- nothing is a front of each text
+-- nothing is a prefix of each text
 pub none_printed : (line : List ℕ) (old : Option (List ℕ)) → Appends old old line
 none_printed line old = record { front = []; rest = line; split = refl; written = same old }
   where
@@ -95,7 +95,7 @@ number_stays {a} {b} made from there = told_whole (λ image. word image Index 20
     beside : (image : Image) → word (after (word_step Index 32 0) image) Index 20 ≡ word image Index 20
     beside image = unfold word_step in word-after_other image Index 32 (word_bytes 0) 20 (lit≤ tt) refl (omega arith)
 
--- a damage that is the first of the folder
+-- a failed check that is the first of the folder
 pub first_is : (fault : OpenFault) (damage : Damage) (files : Option Image) → fault ≡ Damaged damage → IfOpenDamaged {A = Cache} (Err fault) (λ d. ForSome files (IsFirstDamage d)) → ForSome files IsDamaged
 first_is fault damage files is first image there =
     let own = subst (λ (x : OpenFault). IfOpenDamaged {A = Cache} (Err x) (λ d. ForSome files (IsFirstDamage d))) is first image there in

@@ -1,4 +1,4 @@
--- Turns of a generator that were played, one command after another.
+-- Iterations of a generator that were played, one command after another.
 use Rattle.std.proofs.Common.{◌≡◌, ℕ, ◌+◌, ◌<◌, ◌≤◌, ◌^◌, Bool, true, false, if◌then◌else◌, List, [], ◌∷◌, Option, None, Result, Ok, Err, refl, sym, ap, subst, ◌∙◌, arith}
 use Rattle.std.specs.Option.{ForSome}
 use Rattle.std.specs.Prelude.{IsErrAnd}
@@ -35,7 +35,7 @@ use Rattle.blk_run.proofs.RunLaws.{or_none}
 
 -- One command.
 
--- its turn, where nothing of it was shown
+-- its iteration, where nothing of it was shown
 hidden_plays : (result : Result Answer StepFault) (far : SoFar) (command : Stamped) (keeps : State → Image → Type 0) (notes left : ℕ) (told now : Told) (c_old c_new : Option Readings)
     → Plays result (asked_turn far command ∷ []) far keeps notes left (around told None c_old false) (around now None c_new (has_refused result)) → IfSink result ⊥
     → (w : Option (List ℕ)) (refused : Bool) → Plays result (hidden_turn far command ∷ []) far keeps notes left (unshown told w c_old refused) (unshown now w c_new refused)
@@ -135,7 +135,7 @@ module _ (request : Request) (counts counted : Counts) (following : Outcome → 
       by_fault fault.Device p = record { stops = p.stops; printed = p.printed }
       by_fault (fault.Damaged damage) p = p
 
--- One part of a script behind another.
+-- One part of a script after another.
 pub on_then : (whole mid rest : Script) (far : SoFar) (keeps_mid keeps : State → Image → Type 0) (notes_mid notes left_mid left : ℕ) (first second third : Around) (before : PlaysUpTo (turns whole) (turns mid) far keeps_mid notes_mid left_mid first second)
     → (result : Result (Unit {0}) StepFault) → PlaysOn result mid rest (with_more far (commands_of before.made)) keeps notes left second third → PlaysOn result whole rest far keeps notes left first third
 on_then whole mid rest far keeps_mid keeps notes_mid notes left_mid left first second third before (Ok done) more =
@@ -196,7 +196,7 @@ module _ (request : Request) (counts counted : Counts) (following : Outcome → 
           plays = on_then (asks_counted request counts following) left_script rest far keeps_mid keeps notes_mid notes left_mid left (unshown told w c_old refused) (unshown mid w c_mid refused) new on result later.plays;
         }
 
--- A call that asks a counted command, wherever a run stands.
+-- A call that asks a counted command, wherever a run is.
 
 -- what it says
 abbrev pub AskedBy : Result Answer StepFault → Request → (counts_old counts_new : Counts) → (keeps_old : State → Image → Type 0) → (notes_old : ℕ) → (keeps : State → Image → Type 0) → (notes : ℕ) → (told_old told_new : Told) → (clock_old clock_new : Option Readings) → Type 0
@@ -276,7 +276,7 @@ pub asked_as : (request other : Request) → request ≡ other → (result : Res
 asked_as request other same result counts_old counts_new keeps_old notes_old keeps notes told_old told_new c_old c_new asked =
     subst (λ (r : Request). AskedBy result r counts_old counts_new keeps_old notes_old keeps notes told_old told_new c_old c_new) same asked
 
--- The commands of a turn whose handle names its object.
+-- The commands of an iteration whose handle names its object.
 module _ (first second third : Request) (following : Following) (counts0 counts1 counts2 counts3 : Counts) (keeps0 keeps1 keeps2 keeps3 : State → Image → Type 0) (notes0 notes1 notes2 notes3 : ℕ) (told0 told1 told2 told3 : Told) (c0 c1 c2 c3 : Option Readings)
     (far : SoFar) (left commands : ℕ) (w : Option (List ℕ)) (refused : Bool) (few : commands + 3 < 2 ^ 36) (within : AreWithin commands counts0) (at : StandsAt far keeps0 notes0 (left + 6) told0) where
   abbrev last_part : Following
@@ -324,7 +324,7 @@ module _ (first second third : Request) (following : Following) (counts0 counts1
           step_on a3 third counts2 counts3 keeps2 keeps3 notes2 notes3 told2 told3 c2 c3 asked3 (λ outcome closed. following closed) after left (left + 2) (commands + 1 + 1) (omega arith) at2 (omega (arith, few)) within2 w refused (Ok tt) (commands + 3) counts3 (following counts3) keeps3 notes3 left (unshown told3 w c3 refused)
           (λ last at3 within3 made3 is3. nothing_counted (commands + 3) counts3 (following counts3) last keeps3 notes3 left (unshown told3 w c3 refused) (within_weaker (commands + 1 + 1 + 1) (commands + 3) counts3 (omega arith) within3) at3)))
 
--- What follows the first command of a turn.
+-- What follows the first command of an iteration.
 
 -- a choice that was made
 pub chosen : (b c : Bool) (x y : Script) → b ≡ c → (if b then x else y) ≡ (if c then x else y)

@@ -1,4 +1,4 @@
--- Bytes that are cut into lines, some bytes behind others.
+-- Bytes that are cut into lines, some bytes after others.
 use Rattle.std.specs.List.{position}
 use Rattle.std.specs.Prelude.{nat_lt}
 use Rattle.std.proofs.lemmas.List.Quantifiers.{position-Some}
@@ -37,7 +37,7 @@ unfolding with_bytes
 with_bytes-append c [] b = refl
 with_bytes-append c (x ∷ a) b = with_bytes-append (with_byte c x) a b
 
--- what is cut is what was cut before, and what is cut behind its rest
+-- what is cut is what was cut before, and what is cut after its rest
 pub cut_more : (c : Cut) (bytes : List ℕ) → with_bytes c bytes ≡ behind_lines c.whole (cut_behind c.rest bytes)
 cut_more c bytes =
     ap (λ (l : List (List ℕ)). with_bytes (record { whole = l; rest = c.rest }) bytes) (sym (append-nil c.whole)) ∙ with_bytes-behind c.whole (record { whole = []; rest = c.rest }) bytes

@@ -29,7 +29,7 @@ use Rattle.blk_run.specs.Generating.{IsAsked, evicted_by, longest_read}
 
 -- The groups that go.
 
--- the last item that need not stay, with those in front of it and those behind it, which stay
+-- the last item that need not stay, with those in front of it and those after it, which stay
 record Last (stays : Item → Bool) (uses : List Item) : Type 0 where
   front : List Item
   item : Item
@@ -89,7 +89,7 @@ until_fewer : (fuel : ℕ) (enough : State → Bool) (state : State) → IsValid
 until_fewer zero enough state valid few = by_enough enough state valid (λ s v less. absurd (omega (arith, few, less))) (cases_Bool (enough state))
 until_fewer (suc fuel) enough state valid few = by_enough enough state valid (λ s v less. until_fewer fuel enough s v (omega (arith, few, less))) (cases_Bool (enough state))
 
--- what is evicted for room
+-- what is evicted for space
 room_fewer : (state : State) → IsValidState state → (bytes more : ℕ) → IsFewer state (evicted_for (room state [] bytes more))
 unfolding room
 room_fewer state valid bytes more =

@@ -17,6 +17,6 @@ fails_somewhere (Err step_fault.Sink) files told fails = tt
 fails_somewhere (Err step_fault.Device) files told fails = tt
 fails_somewhere (Err (step_fault.Damaged damage)) files told fails = (damage, record { files = files; fails = fails })
 
--- a check fails behind an opening, which a folder that tells its files never comes to
+-- a check fails after an opening, which an observable folder never comes to
 pub fails_behind : (start final : Told) (w_old w_new : Option (List ℕ)) (before now : ℕ) → ForSome start.files (λ from. ⊥) → IsFailedSomewhere final → IsDamagedRun start final w_old w_new before now
 fails_behind start final w_old w_new before now never fails = inr (record { untold = untold_where start.files never; fails = fails })

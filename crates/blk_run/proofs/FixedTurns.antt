@@ -1,4 +1,4 @@
--- Turns of a fixed script.
+-- Iterations of a fixed script.
 use Rattle.std.proofs.Common.{ℕ, ◌+◌, ◌<◌, ◌≤◌, ◌≡◌, Bool, ◌||◌, true, false, if◌then◌else◌, List, [], ◌∷◌, ◌++◌, length, Option, None, Some, Ok, Err, Result, drop, map, get_or, refl, sym, ◌∙◌, ap, subst, append_assoc, add-one, drop-cons}
 use Rattle.std.specs.Option.{option_map, ForSome}
 use Rattle.std.specs.Prelude.{IsErrAnd}
@@ -23,7 +23,7 @@ use Rattle.spec_run.proofs.CommandStates.{state_after-append}
 use Rattle.spec_run.proofs.Turns.{clock_after-more, commands_of-append}
 use Rattle.blk_run.proofs.Printed.{printed_none}
 
--- no turn was made
+-- no iteration was made
 pub made_none : (far : SoFar) (keeps : State → Image → Type 0) (notes left : ℕ) (here : Around) → StandsAt far keeps notes left here.folder → AreMade [] far keeps notes left here here
 made_none far keeps notes left here at = record { stands = stands_none far keeps notes left here.folder at; printed = printed_none here.written; read = read_none here.clock; refused = or_none here.refused }
   where
@@ -39,7 +39,7 @@ up_to_none whole far keeps notes left here at = record {
   plays = made_none far keeps notes left here at;
 }
 
--- turns behind those that were made
+-- iterations after those that were made
 plays_then : (result : Result (Unit {0}) StepFault) (far : SoFar) (first second : List Turn) (old mid new : Around) (keeps_mid keeps : State → Image → Type 0) (notes_mid notes left_mid left : ℕ) → AreMade first far keeps_mid notes_mid left_mid old mid
     → Plays result second (with_more far (commands_of first)) keeps notes left mid new → Plays result (first ++ second) far keeps notes left old new
 plays_then (Ok b) far first second old mid new keeps_mid keeps notes_mid notes left_mid left before more = made_then far first second old mid new keeps_mid keeps notes_mid notes left_mid left before more
@@ -47,7 +47,7 @@ plays_then (Err fault.Sink) far first second old mid new keeps_mid keeps notes_m
 plays_then (Err fault.Device) far first second old mid new keeps_mid keeps notes_mid notes left_mid left before more = made_then_stopped far first second old mid new keeps_mid keeps notes_mid notes left_mid left before more
 plays_then (Err (fault.Damaged damage)) far first second old mid new keeps_mid keeps notes_mid notes left_mid left before more = more
 
--- turns that would follow a fault are not made
+-- iterations that would follow a fault are not made
 plays_only : (why : StepFault) (far : SoFar) (first second : List Turn) (old new : Around) (keeps : State → Image → Type 0) (notes left : ℕ) → Plays {A = Unit {0}} (Err why) first far keeps notes left old new → Plays {A = Unit {0}} (Err why) (first ++ second) far keeps notes left old new
 plays_only fault.Sink far first second old new keeps notes left plays = made_to_only far first second old new keeps notes left plays
 plays_only fault.Device far first second old new keeps notes left plays = stopped_only far first second old new keeps notes left plays
@@ -66,7 +66,7 @@ follow_is f None r there = absurd (no there)
     no e = cc
 follow_is f (Some x) r there = ap (follow f) there
 
--- the first turns of a script, the last of which met a fault
+-- the first iterations of a script, the last of which met a fault
 pub first_fault : (whole more : State → Readings → List Turn) (far : SoFar) (old new : Around) (keeps : State → Image → Type 0) (notes left : ℕ) (why : StepFault) (first : List Turn) → ForSome old.clock (GoOn whole more first far)
     → Plays {A = Unit {0}} (Err why) first far keeps notes left old new → PlaysPart {A = Unit {0}} (Err why) whole far keeps notes left old new
 first_fault whole more far old new keeps notes left why first goes plays =
@@ -95,7 +95,7 @@ module _ (whole rest : State → Readings → List Turn) (far : SoFar) (old mid 
       here ∙ ap (λ (l : List Turn). before.made ++ l) on ∙ sym (append_assoc before.made second (more (state_now (with_more next (commands_of second))) (clock_after c (length (commands_of second)))))
       ∙ ap (λ (l : List Turn). (before.made ++ second) ++ l) (ap (λ (s : State). more s (clock_after c (length (commands_of second)))) state ∙ ap (λ (r : Readings). more (state_now (with_more far (commands_of (before.made ++ second)))) r) clock)
 
-  -- some turns more, and the script goes on
+  -- some iterations more, and the script goes on
   pub up_to_more : (second : List Turn) (more : State → Readings → List Turn) → ForSome mid.clock (GoOn rest more second next) → AreMade second next keeps notes left mid new → PlaysUpTo whole more far keeps notes left old new
   up_to_more second more goes made = record {
     made = before.made ++ second;
@@ -103,7 +103,7 @@ module _ (whole rest : State → Readings → List Turn) (far : SoFar) (old mid 
     plays = made_then far before.made second old mid new keeps_mid keeps notes_mid notes left_mid left before.plays made;
   }
 
-  -- all turns that are left
+  -- all iterations that are left
   pub up_to_end : (result : Result (Unit {0}) StepFault) (second : List Turn) → ForSome mid.clock (λ r. rest (state_now next) r ≡ second) → Plays result second next keeps notes left mid new → PlaysPart result whole far keeps notes left old new
   up_to_end result second are plays = record {
     made = before.made ++ second;
@@ -115,13 +115,13 @@ module _ (whole rest : State → Readings → List Turn) (far : SoFar) (old mid 
   pub up_to_part : (result : Result (Unit {0}) StepFault) → PlaysPart result rest next keeps notes left mid new → PlaysPart result whole far keeps notes left old new
   up_to_part result played = up_to_end result played.made (λ r there. sym (played.are r there)) played.plays
 
-  -- some turns of them, the last of which met a fault
+  -- some iterations of them, the last of which met a fault
   pub up_to_fault : (why : StepFault) (first : List Turn) (more : State → Readings → List Turn) → ForSome mid.clock (GoOn rest more first next) → Plays {A = Unit {0}} (Err why) first next keeps notes left mid new → PlaysPart {A = Unit {0}} (Err why) whole far keeps notes left old new
   up_to_fault why first more goes plays =
       let later : Readings → List Turn = λ r. more (state_now (with_more next (commands_of first))) (clock_after r (length (commands_of first))) in
       up_to_end (Err why) (first ++ follow later mid.clock) (λ r there. goes r there ∙ ap (λ (l : List Turn). first ++ l) (sym (follow_is later mid.clock r there))) (plays_only why next first (follow later mid.clock) mid new keeps notes left plays)
 
--- The turn of a command of a fixed script.
+-- The iteration of a command of a fixed script.
 
 -- what follows a command
 abbrev pub behind : SoFar → Stamped → List Request → Script
@@ -145,7 +145,7 @@ pub nothing_left : (state : State) (clock : Readings) → turns (until_refused [
 unfolding until_refused turns
 nothing_left state clock = refl
 
--- A command of a fixed script was asked, behind those that were played.
+-- A command of a fixed script was asked, after those that were played.
 module _ (whole : State → Readings → List Turn) (all requests : List Request) (request : Request) (is : all ≡ request ∷ requests) (far : SoFar) (old : Around) (keeps_mid keeps : State → Image → Type 0) (notes_mid notes left_mid left : ℕ)
     (told now : Told) (w_mid w_new : Option (List ℕ)) (c_mid c_new : Option Readings) (refused : Bool)
     (before : PlaysUpTo whole (turns (until_refused all)) far keeps_mid notes_mid left_mid old (around told w_mid c_mid refused)) where

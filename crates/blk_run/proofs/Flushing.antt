@@ -27,7 +27,7 @@ no_answer e = cc
 
 -- The reply to a command.
 
--- a command that is done is done behind the flush
+-- a command that is done is done after the flush
 pub done_flushed : (before after : Result Answer StepFault) (failed P : Type 0) → IsFlushed before after fault.Sink failed → IfDone before P → IfDone after P
 done_flushed before after failed P (inl same) done = subst (λ (r : Result Answer StepFault). IfDone r P) (sym same) done
 done_flushed (Ok answer) after failed P (inr how) done = subst (λ (r : Result Answer StepFault). IfDone r P) (sym how.1.0) done
@@ -38,7 +38,7 @@ pub device_flushed : (before after : Result Answer StepFault) (failed P : Type 0
 device_flushed before after failed P (inl same) device = subst (λ (r : Result Answer StepFault). IfStepDevice r P) (sym same) device
 device_flushed before after failed P (inr how) device = subst (λ (r : Result Answer StepFault). IfStepDevice r P) (sym how.1.0) tt
 
--- a count that rose before has risen behind the flush
+-- a count that rose before has risen after the flush
 sink_until : (r : Result Answer StepFault) (a b c : ℕ) → b ≤ c → IfSink r (Rises a b) → IfSink r (Rises a c)
 sink_until (Ok answer) a b c more rose = tt
 sink_until (Err fault.Sink) a b c more rose = rises_until a b c more rose
@@ -54,7 +54,7 @@ module _ (request : Request) (far : SoFar) (keeps : State → Image → Type 0) 
   abbrev AsksBy : Result Answer StepFault → Option (List ℕ) → Type 0
   AsksBy r w = Asks r request far keeps notes left (around t_old w_old c_old false) (around t_new w c_new (has_refused r))
 
-  -- a turn that was made is made up to its text, which may be whole
+  -- an iteration that was made is made up to its text, which may be whole
   made_to : (turn : Turn) (refused : _) → AreMade (turn ∷ []) far keeps notes left (around t_old w_old c_old false) (around t_new w_mid c_new refused) → AreMadeTo (turn ∷ []) far keeps notes left (around t_old w_old c_old false) (around t_new w_mid c_new false)
   made_to turn refused made = record {
     count = 0;
@@ -83,7 +83,7 @@ module _ (request : Request) (far : SoFar) (keeps : State → Image → Type 0) 
 -- The text of an inspection.
 
 module _ (w_old w_mid w_new : Option (List ℕ)) (same_written : w_new ≡ w_mid) where
-  -- a text that is whole is a front of itself
+  -- a text that is whole is a prefix of itself
   unflushed_text : (text : List ℕ) → PrintsAt {A = Unit {0}} (Ok tt) text w_old w_mid → PrintsAt {A = Unit {0}} (Err inspect_fault.Sink) text w_old w_mid
   unflushed_text text printed = whole_part text w_old w_mid printed
 

@@ -1,4 +1,4 @@
--- Turns of a generator, one behind another.
+-- Iterations of a generator, one after another.
 use Rattle.std.proofs.Common.{◌≡◌, ℕ, suc, ◌+◌, ◌-◌, ◌*◌, ◌<◌, ◌≤◌, Bool, List, ◌++◌, length, Option, Result, Ok, Err, OnOk, sym, ap, subst, ◌∙◌, arith}
 use Rattle.std.specs.Option.{option_map}
 use Rattle.std.specs.Prelude.{IsErrAnd}
@@ -29,7 +29,7 @@ use Rattle.blk_run.proofs.TextTurns.{text_part, totals_are}
 pub none_within : (counts : Counts) → counts ≡ no_counts → AreWithin (5 * 0) counts
 none_within counts none = subst (AreWithin (5 * 0)) (sym none) (record { commands_few = omega arith; refused_few = omega arith; evicted_few = omega arith; read_few = omega arith })
 
--- no turn yet
+-- no iteration yet
 pub generated_begins : (seed count value : ℕ) (counts : Counts) → value ≡ seed → counts ≡ no_counts → (far : SoFar) (keeps : State → Image → Type 0) (notes left : ℕ) (here : Around) → StandsAt far keeps notes (left + 2 * (5 * count)) here.folder
     → PlaysUpTo (turns (gen_script seed count)) (turns (turns_script (count - 0) 0 value counts)) far keeps notes (left + 2 * (5 * (count - 0))) here here
 generated_begins seed count value counts is none far keeps notes left here at =
@@ -39,7 +39,7 @@ generated_begins seed count value counts is none far keeps notes left here at =
     (subst (λ (k : Counts). PlaysUpTo (turns (gen_script seed count)) (turns (turns_script count 0 seed k)) far keeps notes (left + 2 * (5 * count)) here here) (sym none)
     (up_to_none (turns (gen_script seed count)) far keeps notes (left + 2 * (5 * count)) here at)))
 
--- the turns that are left begin with the next
+-- the iterations that are left begin with the next
 next_script : (count i value : ℕ) (counts : Counts) (turn : Turn) → i < count → turn ≡ turn_behind value → turns_script (count - i) i value counts ≡ turn_script i turn counts (turns_script (count - (i + 1)) (i + 1) (value_behind value))
 unfolding turns_script
 next_script count i value counts turn less is =
@@ -59,7 +59,7 @@ up_fewer whole rest far keeps notes left fewer first second less played = record
   plays = record { stands = stands_fewer (with_more far (commands_of played.made)) keeps notes left fewer second.folder less played.plays.stands; printed = played.plays.printed; read = played.plays.read; refused = played.plays.refused };
 }
 
--- So many turns were played.
+-- So many iterations were played.
 module _ (whole : Script) (count i value : ℕ) (counts : Counts) (far : SoFar) (keeps_mid : State → Image → Type 0) (notes_mid left_mid : ℕ) (first second : Around) (before : PlaysUpTo (turns whole) (turns (turns_script (count - i) i value counts)) far keeps_mid notes_mid left_mid first second) where
   abbrev pub here : SoFar
   here = with_more far (commands_of before.made)

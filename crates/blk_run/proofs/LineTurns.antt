@@ -1,4 +1,4 @@
--- The turn of one line.
+-- The iteration of one line.
 use Rattle.std.proofs.Common.{ℕ, ◌<◌, ◌≤◌, ◌≡◌, Bool, ◌||◌, true, false, if◌then◌else◌, List, [], ◌∷◌, ◌++◌, length, Option, None, Some, Ok, Err, Result, OnOk, refl, sym, ◌∙◌, ap, arith, ◌==◌}
 use Rattle.std.proofs.lemmas.Bool.{lt-ltb}
 use Rattle.blk_script.specs.Line.{by_fields}
@@ -24,7 +24,7 @@ use Rattle.blk_run.specs.Playing.{SoFar, StandsAt, Around, AreMade, Asks, Plays,
 use Rattle.blk_run.proofs.Parts.{stands_none}
 use Rattle.blk_run.proofs.Asking.{around}
 
--- parts with the same turns
+-- parts with the same iterations
 pub part_same : {A : Type 0} (result : Result A StepFault) (far : SoFar) (one other : State → Readings → List Turn) (keeps : State → Image → Type 0) (notes left : ℕ) (old new : Around) → ((state : State) (clock : Readings) → one state clock ≡ other state clock)
     → PlaysPart result one far keeps notes left old new → PlaysPart result other far keeps notes left old new
 part_same result far one other keeps notes left old new same played = record { made = played.made; are = λ r there. played.are r there ∙ same (state_now far) r; plays = played.plays }
@@ -73,7 +73,7 @@ error_part result number why far keeps notes left told w_old w_new clock refused
     by_result (Err fault.Device) whole sink = absurd sink
     by_result (Err (fault.Damaged damage)) whole sink = absurd sink
 
--- a line that is a command, as one turn at the next reading
+-- a line that is a command, as one iteration at the next reading
 command_are : (number : ℕ) (request : Request) (far : SoFar) (moment : ℕ) (clock : Option Readings) → ForSome clock (λ r. moment ≡ reading_of r)
     → ForSome clock (λ r. asked_turn far (record { moment = moment; request = request }) ∷ [] ≡ line_part number (Ok request) (state_now far) r)
 unfolding turns

@@ -1,4 +1,4 @@
--- Turns that are made one part behind another.
+-- Iterations that are made one part after another.
 use Rattle.std.proofs.Common.{ℕ, ◌+◌, ◌≤◌, ◌≡◌, Bool, ◌||◌, List, [], ◌++◌, length, take, Option, None, Some, Ok, Err, Result, refl, sym, ◌∙◌, ap, subst, arith, append_assoc}
 use Rattle.std.specs.Prelude.{IsErrAnd}
 use Rattle.std.proofs.lemmas.Result.{err_from_is_err_and}
@@ -19,17 +19,17 @@ use Rattle.spec_run.proofs.CommandStates.{state_after-append}
 use Rattle.spec_run.proofs.Turns.{commands_of-append, refuse-append, text_of-append}
 use Rattle.blk_run.proofs.RunLaws.{or_assoc, or_none, read_twice}
 
--- a run stands so far, whatever list of the same commands is given
+-- a run holds so far, whatever list of the same commands is given
 pub stands_as : (far : SoFar) (a b : List Stamped) (keeps : State → Image → Type 0) (notes left : ℕ) (now : Told) → far.done ++ a ≡ b
     → StandsAt (with_more far a) keeps notes left now → StandsAt (record { start = far.start; from = far.from; opened = far.opened; done = b }) keeps notes left now
 stands_as far a b keeps notes left now same at = subst (λ (l : List Stamped). StandsAt (record { start = far.start; from = far.from; opened = far.opened; done = l }) keeps notes left now) same at
 
--- commands that are done behind others
+-- commands that are done after others
 pub stands_joined : (far : SoFar) (a b c : List Stamped) (keeps : State → Image → Type 0) (notes left : ℕ) (now : Told) → a ++ b ≡ c → StandsAt (with_more (with_more far a) b) keeps notes left now → StandsAt (with_more far c) keeps notes left now
 stands_joined far a b c keeps notes left now same at =
     stands_as (with_more far a) b (far.done ++ c) keeps notes left now (append_assoc far.done a b ∙ ap (λ (l : List Stamped). far.done ++ l) same) at
 
--- a run stands with no command more
+-- a run holds with no command more
 pub stands_none : (far : SoFar) (keeps : State → Image → Type 0) (notes left : ℕ) (now : Told) → StandsAt far keeps notes left now → StandsAt (with_more far []) keeps notes left now
 stands_none far keeps notes left now at = subst (λ (l : List Stamped). StandsAt (record { start = far.start; from = far.from; opened = far.opened; done = l }) keeps notes left now) (sym (append-nil far.done)) at
 
@@ -79,7 +79,7 @@ module _ (far : SoFar) (first second : List Turn) (old mid new : Around) (keeps_
     printed = subst (Appends old.written new.written) (sym (text_of-append first second)) (then_part (text_of first) (text_of second) old.written mid.written new.written before.printed stopped.printed);
   }
 
--- Turns that would follow are not made.
+-- Iterations that would follow are not made.
 module _ (far : SoFar) (first second : List Turn) (old new : Around) (keeps : State → Image → Type 0) (notes left : ℕ) where
   pub made_to_only : AreMadeTo first far keeps notes left old new → AreMadeTo (first ++ second) far keeps notes left old new
   made_to_only to =
@@ -110,7 +110,7 @@ module _ (far : SoFar) (first second : List Turn) (old new : Around) (keeps : St
 abbrev pub IsThen : (State → Readings → List Turn) → (State → Readings → List Turn) → (State → Readings → List Turn) → Type 0
 IsThen whole one more = (state : State) (clock : Readings) → whole state clock ≡ one state clock ++ more (state_after state (commands_of (one state clock))) (clock_after clock (length (commands_of (one state clock))))
 
--- the turns of a part, which was played
+-- the iterations of a part, which was played
 turns_are : (far : SoFar) (whole one more : State → Readings → List Turn) (first second : List Turn) (c0 c1 : Option Readings) → IsThen whole one more → ForSome c0 (λ r. first ≡ one (state_now far) r)
     → c1 ≡ option_map (λ r. clock_after r (length (commands_of first))) c0 → ForSome c1 (λ r. second ≡ more (state_now (with_more far (commands_of first))) r) → ForSome c0 (λ r. first ++ second ≡ whole (state_now far) r)
 turns_are far whole one more first second c0 c1 joined are read later r there =
@@ -177,7 +177,7 @@ part_only {A} {B} why far whole one more old new keeps notes left joined before 
     by_fault fault.Device first second plays = stopped_only far first second old new keeps notes left plays
     by_fault (fault.Damaged damage) first second plays = plays
 
--- no turn was made
+-- no iteration was made
 pub part_none : {A : Type 0} (a : A) (far : SoFar) (none : State → Readings → List Turn) (keeps : State → Image → Type 0) (notes left : ℕ) (here : Around) → ((state : State) (clock : Readings) → none state clock ≡ [])
     → StandsAt far keeps notes left here.folder → PlaysPart {A = A} (Ok a) none far keeps notes left here here
 part_none a far none keeps notes left here empty at = record {

@@ -39,7 +39,7 @@ never_words s damaged device source sink long cause is = subst (λ (x : Status).
 pub same_key : {a b : List ℕ} → ◌≡◌ {A = Result (List ℕ) LineFault} (Ok a) (Ok b) → a ≡ b
 same_key e = cc
 
--- the whole input is in the front of a room
+-- the whole input is at the start of a buffer
 pub read_whole : (len : ℕ) (room : List ℕ) (old_left new_left : Option (List ℕ)) → ForSome old_left (IsWholeInRoom len new_left room) → ForSome old_left (λ input. (take len room ≡ input) × IsReadWhole longest_input input new_left)
 read_whole len room old_left new_left read input left =
     let so = read input left in
@@ -151,7 +151,7 @@ module _ (result : Status) (limits : Bounds) (device source : Type 0) (before no
 
 -- Where nothing was done.
 
--- for want of memory
+-- out of memory
 pub idle_script : (script : Script) (limits : Bounds) (device source : Type 0) (before now : ℕ) (old new : Outside) → DoesNothing old new → Performs (no_input script) status.Memory limits device source before now old new
 idle_script script limits device source before now old new nothing = record {
   plays = λ from there usable readings clock. nothing;

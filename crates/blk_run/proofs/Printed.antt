@@ -56,7 +56,7 @@ pub one_more : {X : Type 0} (f : X → List ℕ) (xs : List X) (i : ℕ) (d : X)
 one_more f xs i d within =
     ap (flat_map f) (take_more xs i d within) ∙ flat_map-append f (take i xs) (get_or xs i d ∷ []) ∙ ap (λ (l : List ℕ). flat_map f (take i xs) ++ l) (append-nil (f (get_or xs i d)))
 
--- those, and the ones behind them
+-- those, and the ones after them
 pub pieces_split : {X : Type 0} (f : X → List ℕ) (xs : List X) (i : ℕ) (d : X) → i < length xs → flat_map f xs ≡ (flat_map f (take i xs) ++ f (get_or xs i d)) ++ flat_map f (drop (i + 1) xs)
 pieces_split f xs i d within =
     ap (flat_map f) (sym (take-append-drop (i + 1) xs)) ∙ flat_map-append f (take (i + 1) xs) (drop (i + 1) xs) ∙ ap (λ (l : List ℕ). l ++ flat_map f (drop (i + 1) xs)) (one_more f xs i d within)
@@ -97,7 +97,7 @@ leaves_none n enough few = none-out (length (digits 16 false n)) (digits 16 fals
 pub rest_of_digits : (z : ℕ) (ds : List ℕ) (n : ℕ) → length ds ≡ 8 → ds ≡ hex_text 8 n → drop z (hex_text 8 n) ≡ hex_text 6 n → take (8 - z) (drop z ds) ≡ hex_text 6 n
 rest_of_digits z ds n eight are six = take_all (8 - z) (drop z ds) (let h = length-drop z ds in omega (arith, h, eight)) ∙ ap (drop z) are ∙ six
 
--- the pieces of a damage behind the file's name, and the whole line
+-- the pieces of a failed check after the file's name, and the whole line
 pieces : List ℕ → List ℕ → List ℕ → List ℕ
 pieces name at found = name ++ (codes " " ++ (at ++ (codes " " ++ (found ++ (codes "\n" ++ [])))))
 
@@ -115,7 +115,7 @@ line_is damage file at found is place word =
     ∙ ap (λ (l : List ℕ). codes "damaged " ++ pieces (name_of (file_of damage.file)) (decimal damage.at) l) word
     ∙ ap (λ (l : List ℕ). codes "damaged " ++ l) (pieces_line (name_of (file_of damage.file)) (decimal damage.at) (hex_text 8 damage.found))
 
--- the pieces of a damage of the index, of a block file and of an external file
+-- the pieces of a failed check of the index, of a block file and of an external file
 pub index_line : (damage : Damage) (at found : List ℕ) → damage.file ≡ names.Index → at ≡ decimal damage.at → found ≡ hex_text 8 damage.found → codes "damaged index " ++ (at ++ (codes " " ++ (found ++ (codes "\n" ++ [])))) ≡ damage_line (damage_of damage)
 unfolding pieces name_of
 index_line damage at found is place word = line_is damage names.Index at found is place word

@@ -1,4 +1,4 @@
--- Turns of the script of `put`.
+-- Iterations of the script of `put`.
 use Rattle.std.proofs.Common.{ℕ, ◌≡◌, Bool, ◌||◌, true, false, not, if◌then◌else◌, List, [], ◌∷◌, ◌++◌, Option, None, Some, Ok, Err, Result, refl, sym, ◌∙◌, ap, subst, arith}
 use Rattle.std.specs.Option.{option_map, ForSome}
 use Rattle.std.specs.Prelude.{IsErrAnd}
@@ -71,7 +71,7 @@ module _ (key : List ℕ) (stream : ℕ) (bytes : List ℕ) (far : SoFar) (keeps
   abbrev opening : ℕ → Outcome
   opening moment = outcome_in (state_now far) (opened_by key moment)
 
-  -- an answer, as the turn has it
+  -- an answer, as the iteration has it
   missing_is : (a : Answer) (moment : ℕ) → a ≡ answer_of (opening moment).reply → (b : Bool) → is_missing_refusal (refusal_of a) ≡ b → is_missing (opening moment) ≡ b
   missing_is a moment is b says = ap (λ (x : Answer). is_missing_refusal (refusal_of x)) (sym is) ∙ says
 

@@ -1,4 +1,4 @@
--- Runs, one part behind another.
+-- Runs, one part after another.
 use Rattle.std.proofs.Common.{ℕ, ◌+◌, ◌≡◌, Bool, ◌||◌, true, false, List, ◌++◌, length, Option, None, Some, refl, ◌∙◌, ap}
 use Rattle.std.specs.Option.{option_map}
 use Rattle.blk_model.specs.State.{State}
@@ -20,7 +20,7 @@ pub read_twice : (c0 c1 c2 : Option Readings) (m n : ℕ) → c1 ≡ option_map 
 read_twice None c1 c2 m n first second = second ∙ ap (option_map (λ r. clock_after r n)) first
 read_twice (Some r) c1 c2 m n first second = second ∙ ap (option_map (λ r. clock_after r n)) first ∙ ap Some (clock_after-more r m n)
 
--- the turns of some lines and of those behind them
+-- the iterations of some lines and of those after them
 pub more_lines : (number : ℕ) (xs ys : List (List ℕ)) (state : State) (clock : Readings)
     → turns (session_script number (xs ++ ys)) state clock
     ≡ turns (session_script number xs) state clock

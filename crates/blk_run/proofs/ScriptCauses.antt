@@ -1,4 +1,4 @@
--- The cause of how a fixed script ended, and that a folder that tells its files gives no damage.
+-- The cause of how a fixed script ended, and that an observable folder reports no corruption.
 use Rattle.std.proofs.Common.{ℕ, ◌≤◌, ◌≡◌, ◌≢◌, ◌⊎◌, inl, inr, Bool, true, false, List, Result, Ok, Err, sym, ◌∙◌, subst, arith}
 use Rattle.std.specs.Prelude.{if◌then◌else◌}
 use Rattle.spec_image.specs.Image.{Image}
@@ -33,7 +33,7 @@ script_cause s r refused damaged device sink is c d k = subst (λ (x : Status). 
 pub rises_until : (a b c : ℕ) → b ≤ c → Rises a b → Rises a c
 rises_until a b c less rises few = let r = rises (omega (arith, less, few)) in omega (arith, r, less)
 
--- what is played gives no damage
+-- what is played reports no corruption
 pub script_undamaged_status : (r : Result (Unit {0}) StepFault) (refused : Bool) (s : Status) (part : State → Readings → List Turn) (far : SoFar) (keeps : State → Image → Type 0) (notes left : ℕ) (old new : Around) → s ≡ script_status r refused
     → PlaysPart r part far keeps notes left old new → s ≢ status.Damaged
 script_undamaged_status r refused s part far keeps notes left old new is plays damaged = by_result r plays (sym is ∙ damaged)
@@ -60,7 +60,7 @@ script_undamaged_status r refused s part far keeps notes left old new is plays d
     by_result (Err step_fault.Device) p e = device_clash e
     by_result (Err (step_fault.Damaged damage)) p e = p.plays
 
--- where what is open may be closed, a run stands
+-- where what is open may be closed, a run holds
 pub script_kept : (r : Result (Unit {0}) StepFault) (part : State → Readings → List Turn) (far : SoFar) (keeps : State → Image → Type 0) (notes left : ℕ) (old new : Around) → closes_script r ≡ true → PlaysPart r part far keeps notes left old new
     → (next : SoFar) × StandsAt next keeps notes left new.folder
 script_kept (Ok done) part far keeps notes left old new may plays = (_, plays.plays.stands)

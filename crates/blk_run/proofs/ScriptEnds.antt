@@ -60,7 +60,7 @@ module _ (script : Script) (from : Image) (limits : Bounds) (readings : Readings
   script_unclosed (Err step_fault.Device) may fell plays ends = absurd (no_true may)
   script_unclosed (Err (step_fault.Damaged damage)) may fell plays ends = absurd (no_true may)
 
-  -- no damage is met in it
+  -- no failed check is met in it
   pub script_undamaged : (damage : _) → EndsBy (Err (fault.Damaged damage)) → (r : Result (Unit {0}) StepFault) → closes_script r ≡ true → ScriptPlays r → ⊥
   script_undamaged damage ends (Ok done) may plays = (ends _ plays.plays.stands).closes
   script_undamaged damage ends (Err step_fault.Sink) may plays = (ends _ plays.plays.stands).closes

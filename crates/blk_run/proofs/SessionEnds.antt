@@ -30,7 +30,7 @@ use Rattle.blk_run.proofs.Assembling.{begins, begun_far, exit_device, exit_long,
 use Rattle.blk_run.proofs.Parts.{handed_on}
 use Rattle.blk_run.proofs.HeadlineBridge.{opened_by_start}
 
--- what is opened stands at the beginning of a run
+-- what is opened is the beginning of a run
 pub begins_at : (from : Image) (limits : Bounds) (readings : Readings) (old : Outside) (there : old.folder.files ≡ Some from) (clock : old.clock ≡ Some readings) (keeps : State → Image → Type 0)
     (told : Told) (notes left : ℕ) → IsUsable from → opening.Opens from old.folder told → ForSome told.files (keeps (open_state (found from) limits)) → notes ≡ 0 → left < 2 ^ 65
     → StandsAt (begun_far from limits readings old there clock) keeps notes left told
@@ -135,7 +135,7 @@ pub input_cause : (s : Status) (r : Result InputEnd StepFault) (refused : Bool) 
     → CauseOf s damaged device source sink long
 input_cause s r refused damaged device source sink long is c d f k l = subst (λ (x : Status). CauseOf x damaged device source sink long) (sym is) (cause_after r refused damaged device source sink long c d f k l)
 
--- the count of the folder may have risen before, and of a damage more may be known
+-- the count of the folder may have risen before, and of a failed check more may be known
 pub cause_since : (s : Status) (damaged damaged_all device device_all source sink long : Type 0) → (s ≡ status.Damaged → damaged → damaged_all) → (device → device_all) → CauseOf s damaged device source sink long → CauseOf s damaged_all device_all source sink long
 cause_since status.Ok damaged damaged_all device device_all source sink long known more cause = tt
 cause_since status.Refused damaged damaged_all device device_all source sink long known more cause = tt
@@ -151,9 +151,9 @@ cause_since status.TooLong damaged damaged_all device device_all source sink lon
 pub ends_handed : (q : Result (Unit {0}) Fault) (why : Fault) (far : SoFar) (new : Told) (clock_old clock_new : Option Readings) → IsErrAnd q (λ (x : Fault). x ≡ why) → EndsRun (Err why) far new clock_old clock_new → EndsRun q far new clock_old clock_new
 ends_handed q why far new clock_old clock_new is ends = subst (λ (r : Result (Unit {0}) Fault). EndsRun r far new clock_old clock_new) (sym (handed_on q why is)) ends
 
--- Damages.
+-- Failed checks.
 
--- where what is open may be closed, a run stands
+-- where what is open may be closed, a run holds
 pub kept_after : (r : Result InputEnd StepFault) (budget : ℕ) (input left : Option (List ℕ)) (far : SoFar) (keeps : State → Image → Type 0) (notes spare : ℕ) (old new : Around) → may_close r ≡ true → PlaysInput r budget input left far keeps notes spare old new
     → (next : SoFar) × StandsAt next keeps notes spare new.folder
 kept_after (Ok ended) budget input left far keeps notes spare old new may plays = (_, plays.part.plays.stands)
@@ -161,7 +161,7 @@ kept_after (Err step_fault.Sink) budget input left far keeps notes spare old new
 kept_after (Err step_fault.Device) budget input left far keeps notes spare old new may plays = absurd (no_true may)
 kept_after (Err (step_fault.Damaged damage)) budget input left far keeps notes spare old new may plays = absurd (no_true may)
 
--- a folder that tells its files gives no damage
+-- an observable folder reports no corruption
 pub input_undamaged : (r : Result InputEnd StepFault) (refused : Bool) (s : Status) (budget : ℕ) (input left : Option (List ℕ)) (far : SoFar) (keeps : State → Image → Type 0) (notes spare : ℕ) (old new : Around) → s ≡ status_after r refused
     → PlaysInput r budget input left far keeps notes spare old new → s ≢ status.Damaged
 input_undamaged r refused s budget input left far keeps notes spare old new is plays damaged = by_result r plays (sym is ∙ damaged)

@@ -22,7 +22,7 @@ use Rattle.blk_run.proofs.Performing.{cause_wider}
 use Rattle.blk_run.proofs.ScriptCauses.{rises_until}
 use Rattle.blk_run.proofs.SessionEnds.{rises_since}
 
--- a folder that is unfinished or well formed is not damaged
+-- a folder that is unfinished or well formed is not corrupt
 sound : {P : Type 0} (damage : checks.Damage) (image : Image) → IsUsable image → IsDamagedBy damage image → P
 sound damage image (inl unfinished) is = absurd (is.finished unfinished)
 sound damage image (inr formed) is = absurd (never (sym formed ∙ is.first))
@@ -40,7 +40,7 @@ one_damage a b image first second = same (sym first.first ∙ second.first)
     same : {x y : checks.Damage} → ◌≡◌ {A = Option checks.Damage} (Some x) (Some y) → x ≡ y
     same e = cc
 
--- a damage is printed, where nothing was before
+-- a failed check is printed, where nothing was before
 printed_since : (old mid new : Option (List ℕ)) (before between now : ℕ) (text : List ℕ) → mid ≡ old → before ≤ between → Prints mid new between now text → Prints old new before now text
 printed_since old mid new before between now text same less prints = record {
   front = subst (λ (w : Option (List ℕ)). Appends w new text) same prints.front;

@@ -1,4 +1,4 @@
--- The turn of a text of the state.
+-- The iteration of a text of the state.
 use Rattle.std.proofs.Common.{ℕ, ◌≡◌, Bool, List, [], ◌∷◌, ◌++◌, Option, None, Some, Ok, Err, Result, OnOk, refl, sym, ◌∙◌, ap, arith}
 use Rattle.std.specs.Option.{option_map}
 use Rattle.std.proofs.lemmas.List.{append-nil}

@@ -1,4 +1,4 @@
--- A run that finds no memory for its words does nothing.
+-- A run that is out of memory for its arguments does nothing.
 use Rattle.std.proofs.Common.{◌≡◌, ℕ, List, [], Option, Some, option_map, inl, inr, refl, sym, ◌∙◌, ap, subst, arith}
 use Rattle.spec_image.specs.Image.{Image}
 use Rattle.spec_image.specs.Told.{Told}
@@ -20,7 +20,7 @@ none_taken most left input is = ([], record { behind = input; split = refl; left
 unput : (old new : Outside) → DoesNothing old new → LeavesUnput old new
 unput old new nothing = record { unwritten = nothing.unwritten; unprinted = nothing.unprinted }
 
--- no work is done without memory
+-- no work is done when out of memory
 pub performs_nothing : (work : Work) (limits : Bounds) (device source : Type 0) (before now : ℕ) (old new : Outside) → DoesNothing old new → Performs work status.Memory limits device source before now old new
 performs_nothing input_lines limits device source before now old new nothing = record {
   plays = λ from there usable readings clock input left. nothing;

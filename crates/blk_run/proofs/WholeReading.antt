@@ -9,7 +9,7 @@ use Rattle.blk_io.specs.Streams.{Moves}
 use Rattle.blk_run.specs.Inputs.{IsTakenPast, IsTakenUpTo}
 use Rattle.blk_run.specs.WholeInputs.{IsTakenSoFar, IsWholeInRoom}
 
--- the room that is left
+-- the buffer that is left
 pub room_left : (len : ℕ) (room : List ℕ) → len ≤ length room → length (mid_of len (length room - len) room) ≡ length room - len
 room_left len room within = length-take (length room - len) (drop len room) ∙ (let d = length-drop len room in omega (arith, d, within))
 
@@ -21,7 +21,7 @@ module _ (len n : ℕ) (room old new bytes : List ℕ) (within : len < length ro
   take_len : length (take len room) ≡ len
   take_len = length-take len room ∙ omega (arith, within)
 
-  -- more bytes are in the room
+  -- more bytes are in the buffer
   pub taken_more : {left : Option (List ℕ)} {next : Option (List ℕ)} → IsTakenSoFar len left room bytes → n ≤ length new → next ≡ option_map (drop n) left → IsTakenSoFar (len + n) next (put_mid len (length room - len) room new) bytes
   taken_more so few is = record {
     are =
@@ -48,12 +48,12 @@ module _ (len n : ℕ) (room old new bytes : List ℕ) (within : len < length ro
         none_left = is ∙ ap (option_map (drop n)) so.left_is ∙ ap (λ (l : List ℕ). Some (drop n l)) end ∙ ap Some (drop_all n [] (omega arith));
       }
 
--- the room keeps its length
+-- the buffer keeps its length
 pub placed_length : (len : ℕ) (room new : List ℕ) → len ≤ length room → length new ≡ length room - len → length (put_mid len (length room - len) room new) ≡ length room
 placed_length len room new within same =
     ap length (no_rest len room new within) ∙ (let a = length-append (take len room) new in let t = length-take len room in omega (arith, a, t, same, within))
 
--- what was taken is a front of the input
+-- what was taken is a prefix of the input
 pub taken_front : (most len : ℕ) (room bytes : List ℕ) {left next : Option (List ℕ)} → IsTakenSoFar len left room bytes → len ≤ most → next ≡ left → IsTakenUpTo most next bytes
 taken_front most len room bytes so few same = (
   take len bytes,

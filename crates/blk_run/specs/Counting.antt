@@ -1,4 +1,4 @@
--- The word `count`, whole.
+-- The subcommand `count`, whole.
 use Rattle.std.specs.Prelude.{◌≡◌, ◌≢◌, ◌⊎◌, ℕ, None}
 use Rattle.std.specs.Option.{ForSome, option_map}
 use Rattle.spec_image.specs.Told.{Passes, Stays}
@@ -18,9 +18,9 @@ IsDoneOrSink result = (result ≡ status.Ok) ⊎ (result ≡ status.Sink)
 
 -- `count` by its status; before and now are the sink's counts of faults
 pub record Counts (result : Status) (limits : Bounds) (before now : ℕ) (old new : Outside) : Type 0 where
-  -- the folder decides the status, but for failures and want of memory
+  -- the folder decides the status, but for failures and out of memory
   pub answer : ForSome old.folder.files (AnswersFor result)
-  -- what is printed of what the folder holds, and of a damage
+  -- what is printed of what the folder holds, and of a failed check
   pub printed : ShowsTotals result limits old.folder.files old.written new.written
   pub damage : result ≡ status.Damaged → IsFailedInOpening old.folder new.folder old.written new.written before now
   -- in the end the same is found, and the folder is sound
@@ -29,7 +29,7 @@ pub record Counts (result : Status) (limits : Bounds) (before now : ℕ) (old ne
   pub made : IsDoneOrSink result → ForSome old.folder.files (λ start. IsUnfinished start → ForSome new.folder.files (IsMadeAtNext old.clock))
   -- at each word the same is found, and the folder is unfinished or well formed where it was
   pub stops : ForSome old.folder.files (λ start. Passes old.folder new.folder (HoldsStill start))
-  -- no step is made without memory, and where a folder that tells its files is damaged
+  -- no step is made when out of memory, and where an observable folder is corrupt
   pub stays : result ≡ status.Memory → Stays old.folder new.folder
   pub unwritten : result ≡ status.Damaged → ForSome old.folder.files (λ _. Stays old.folder new.folder)
   pub silent : old.folder.files ≡ None → new.folder.files ≡ None

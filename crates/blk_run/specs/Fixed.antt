@@ -9,7 +9,7 @@ use Rattle.blk_model.specs.State.{State}
 use Rattle.spec_run.specs.Run.{Turn, clock_after, commands_of}
 use Rattle.blk_run.specs.Playing.{Around, AreMade, SoFar, state_now, with_more}
 
--- the turns of a script are these, and then those of what is left of it
+-- the iterations of a script are these, and then those of what is left of it
 abbrev pub GoOn : (whole rest : State → Readings → List Turn) → List Turn → SoFar → Readings → Type 0
 GoOn whole rest made far clock = whole (state_now far) clock ≡ made ++ rest (state_now (with_more far (commands_of made))) (clock_after clock (length (commands_of made)))
 

@@ -1,4 +1,4 @@
--- The turns of a generator, as they are played.
+-- The iterations of a generator, as they are played.
 use Rattle.std.specs.Prelude.{ℕ, ◌≡◌, ◌≤◌, ◌<◌, ◌+◌, ◌-◌, ◌*◌, ◌^◌, Bool, false, if◌then◌else◌, List, [], ◌∷◌, Result, Ok, Err, IfOk, OnOk}
 use Rattle.std.specs.Option.{ForSome}
 use Rattle.std.specs.declared.option.Option.{Option}
@@ -44,7 +44,7 @@ pub record AreWithin (commands : ℕ) (counts : Counts) : Type 0 where
   pub evicted_few : counts.evicted ≤ commands * most_items
   pub read_few : counts.read ≤ commands * longest_read
 
--- a command as a turn whose reply isn't shown
+-- a command as an iteration whose reply isn't shown
 abbrev pub hidden_turn : SoFar → Stamped → Turn
 hidden_turn far command = command_turn command false (outcome_in (state_now far) command)
 

@@ -25,7 +25,7 @@ pub record IsTaken (budget : ℕ) (input bytes : List ℕ) (left : Option (List 
   pub left_is : left ≡ Some behind
   pub within : length bytes ≤ budget
 
--- these bytes are the budget, and the byte behind them was taken
+-- these bytes are the budget, and the byte after them was taken
 pub record IsPastBudget (budget : ℕ) (input bytes : List ℕ) (left : Option (List ℕ)) : Type 0 where
   pub byte_more : ℕ
   pub behind : List ℕ

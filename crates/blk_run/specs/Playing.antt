@@ -1,4 +1,4 @@
--- A run of a script as far as it has come, and the turns that a player makes of it.
+-- A run of a script as far as it has come, and the iterations that a player makes of it.
 use Rattle.std.specs.Prelude.{ℕ, ◌≡◌, ◌+◌, ◌*◌, ◌<◌, ◌^◌, ◌||◌, Bool, true, false, List, [], ◌∷◌, ◌++◌, length, take, Result, Ok, Err, IfOk}
 use Rattle.std.specs.Option.{option_map, ForSome}
 use Rattle.std.specs.declared.option.Option.{Option}
@@ -32,7 +32,7 @@ state_now far = state_after far.opened far.done
 abbrev pub with_more : SoFar → List Stamped → SoFar
 with_more far more = record { start = far.start; from = far.from; opened = far.opened; done = far.done ++ more }
 
--- a run stands so far, in a folder that tells its files: its commands are done, the state after them is kept, each has its note, and they are few where so many bytes are to come; at each stop it would have left what it may
+-- a run holds so far, in an observable folder: its commands are done, the state after them is kept, each has its note, and they are few where so many bytes are to come; at each crash it would have left what it may
 pub record StandsAt (far : SoFar) (keeps : State → Image → Type 0) (notes left : ℕ) (now : Told) : Type 0 where
   pub began : far.start.files ≡ Some far.from
   pub image : Image
@@ -49,7 +49,7 @@ pub record Around : Type 0 where
   pub clock : Option Readings
   pub refused : Bool
 
--- Turns that were made.
+-- Iterations that were made.
 
 -- all of them: their commands are done at the next readings, and their texts are printed
 pub record AreMade (made : List Turn) (far : SoFar) (keeps : State → Image → Type 0) (notes left : ℕ) (old new : Around) : Type 0 where
@@ -69,12 +69,12 @@ pub record AreMadeTo (made : List Turn) (far : SoFar) (keeps : State → Image �
   pub printed : new.written ≡ option_map (λ (w : List ℕ). w ++ (text_of (take count made) ++ front)) old.written
   pub read : new.clock ≡ option_map (λ r. clock_after r (length (commands_of (take (count + 1) made)))) old.clock
 
--- up to one in which the folder failed: whatever commands follow them, a stop leaves what it may
+-- up to one in which the folder failed: whatever commands follow them, a crash leaves what it may
 pub record AreStopped (made : List Turn) (far : SoFar) (old new : Around) : Type 0 where
   pub stops : (more : List Stamped) → Stops far.from far.opened (far.done ++ (commands_of made ++ more)) far.start new.folder
   pub printed : Appends old.written new.written (text_of made)
 
--- turns were made, as an answer tells; a folder that tells its files gives no damage
+-- iterations were made, as an answer tells; an observable folder reports no corruption
 abbrev pub Plays : {A : Type 0} → Result A StepFault → List Turn → SoFar → (State → Image → Type 0) → (notes left : ℕ) → (old new : Around) → Type 0
 Plays (Ok a) made far keeps notes left old new = AreMade made far keeps notes left old new
 Plays (Err fault.Sink) made far keeps notes left old new = AreMadeTo made far keeps notes left old new
@@ -90,22 +90,22 @@ abbrev pub has_refused : {E : Type 0} → Result Answer E → Bool
 has_refused (Ok answer) = refuses answer
 has_refused (Err why) = false
 
--- a command, asked at a moment and with its reply shown, as one turn
+-- a command, asked at a moment and with its reply shown, as one iteration
 abbrev pub asked_turn : SoFar → Stamped → Turn
 asked_turn far command = command_turn command true (outcome_in (state_now far) command)
 
--- a command was asked at the next reading of the clock: it is a turn, and its answer is the map's
+-- a command was asked at the next reading of the clock: it is an iteration, and its answer is the map's
 pub record Asks (result : Result Answer StepFault) (request : Request) (far : SoFar) (keeps : State → Image → Type 0) (notes left : ℕ) (old new : Around) : Type 0 where
   pub moment : ℕ
   pub read : ForSome old.clock (λ r. moment ≡ reading_of r)
   pub answered : IfOk result (λ answer. answer ≡ answer_of (outcome_in (state_now far) (record { moment = moment; request = request })).reply)
   pub plays : Plays result (asked_turn far (record { moment = moment; request = request }) ∷ []) far keeps notes left old new
 
--- what is cut behind bytes that have no end yet
+-- what is cut after bytes that have no end yet
 abbrev pub cut_behind : List ℕ → List ℕ → Cut
 cut_behind before bytes = with_bytes (record { whole = []; rest = before }) bytes
 
--- a part of a script was played: its turns are those from the state so far at the next readings
+-- a part of a script was played: its iterations are those from the state so far at the next readings
 pub record PlaysPart {A : Type 0} (result : Result A StepFault) (part : State → Readings → List Turn) (far : SoFar) (keeps : State → Image → Type 0) (notes left : ℕ) (old new : Around) : Type 0 where
   pub made : List Turn
   pub are : ForSome old.clock (λ r. made ≡ part (state_now far) r)

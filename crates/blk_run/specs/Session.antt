@@ -1,4 +1,4 @@
--- A session by its status: what it prints, what stands at its end, and what a stop at any word leaves.
+-- A session by its status: what it prints, what holds at its end, and what a crash at any word leaves.
 use Rattle.std.specs.Prelude.{ℕ, ◌≡◌, ◌⊎◌, ◌+◌, ◌<◌, true, false, List, ◌++◌, length, take}
 use Rattle.std.specs.Option.{option_map, ForSome}
 use Rattle.std.specs.declared.option.Option.{Option}
@@ -30,9 +30,9 @@ pub record Outside : Type 0 where
   pub left : Option (List ℕ)
   pub clock : Option Readings
 
--- How the turns ended.
+-- How the iterations ended.
 
--- how the turns of a session ended, before its closings: all were made; only these bytes of the input were taken; or the text of the turn after so many was not printed
+-- how the iterations of a session ended, before its closings: all were made; only these bytes of the input were taken; or the text of the iteration after so many was not printed
 pub data Ending : Type 0 where
   all_made : Ending
   taken : List ℕ → Ending
@@ -42,13 +42,13 @@ pub data Ending : Type 0 where
 abbrev pub session_run : Image → Bounds → Readings → List (List ℕ) → Run
 session_run from limits readings texts = run_of (session_script 1 texts) (found from) limits readings
 
--- the same, ended so: of bytes taken the whole lines alone, and up to a text that was not printed the turns with it
+-- the same, ended so: of bytes taken the whole lines alone, and up to a text that was not printed the iterations with it
 abbrev pub ended_run : Image → Bounds → Readings → List ℕ → Ending → Run
 ended_run from limits readings input all_made = session_run from limits readings (lines input)
 ended_run from limits readings input (taken bytes) = session_run from limits readings (whole_lines bytes)
 ended_run from limits readings input (unprinted count) = cut_after (count + 1) (session_run from limits readings (lines input))
 
--- how the turns may have ended, where the session ends with a status; source and sink say that the count of each rose. After each of these ends the folder may fail in the closings
+-- how the iterations may have ended, where the session ends with a status; source and sink say that the count of each rose. After each of these ends the folder may fail in the closings
 abbrev pub MayEnd : Status → Ending → ℕ → List ℕ → Run → Option (List ℕ) → (source sink : Type 0) → Type 0
 MayEnd status.Ok all_made budget input run left source sink = IsReadWhole budget input left × (refuse run.turns ≡ false)
 MayEnd status.Refused all_made budget input run left source sink = IsReadWhole budget input left × (refuse run.turns ≡ true)
@@ -62,14 +62,14 @@ MayEnd _ _ budget input run left source sink = ⊥
 
 -- What is printed.
 
--- the texts of so many turns were printed, and a front of the next
+-- the texts of so many iterations were printed, and a prefix of the next
 pub record PrintsUpTo (count : ℕ) (run : Run) (old new : Outside) : Type 0 where
   pub front : List ℕ
   pub rest : List ℕ
   pub split : text_of run.turns ≡ text_of (take count run.turns) ++ (front ++ rest)
   pub written : new.written ≡ option_map (λ (w : List ℕ). w ++ (text_of (take count run.turns) ++ front)) old.written
 
--- the text of the run; up to a turn and a front of it where the sink failed; and a front where the folder failed
+-- the text of the run; up to an iteration and a prefix of it where the sink failed; and a prefix where the folder failed
 abbrev pub Printed : Status → Ending → Run → Outside → Outside → Type 0
 Printed status.Device ending run old new = Appends old.written new.written (text_of run.turns)
 Printed _ (unprinted count) run old new = PrintsUpTo count run old new
@@ -77,13 +77,13 @@ Printed _ ending run old new = new.written ≡ option_map (λ (w : List ℕ). w 
 
 -- Runs.
 
--- what stands at the end of a run that the folder did not fail: what is at rest in its last state is found, the folder is sound, no session is open, and the clock was read for the opening and before each command
+-- what holds at the end of a run that the folder did not fail: the durable contents in its last state are recovered, the folder is sound, no session is open, and the clock was read for the opening and before each command
 pub record IsEnded (run : Run) (old new : Outside) : Type 0 where
   pub holds : ForSome new.folder.files (λ image. found image ≡ rest (last_state run))
   pub ends : ForSome new.folder.files EndsSession
   pub read : new.clock ≡ option_map (λ r. clock_after (later_of r) (length (commands run))) old.clock
 
--- where the folder failed a stop was left; else the run is whole
+-- where the folder failed, it is left as a crash may leave it; else the run is whole
 abbrev pub Stopped : Status → Image → Run → Outside → Outside → Type 0
 Stopped status.Device from run old new = Stops from run.opened (commands run) old.folder new.folder
 Stopped _ from run old new = IsWholeRun from run.opened (commands run) old.folder new.folder
@@ -93,7 +93,7 @@ abbrev pub UnlessDevice : Status → Type 0 → Type 0
 UnlessDevice status.Device P = Unit {0}
 UnlessDevice _ P = P
 
--- a run that ended so: it printed what it may, stands at its end, and left what it may at each stop
+-- a run that ended so: it printed what it may, is at its end, and left what it may at each crash
 pub record EndsAs (result : Status) (ending : Ending) (from : Image) (run : Run) (old new : Outside) : Type 0 where
   pub printed : Printed result ending run old new
   pub ended : UnlessDevice result (IsEnded run old new)
@@ -109,7 +109,7 @@ pub record Runs (result : Status) (limits : Bounds) (budget : ℕ) (from : Image
   pub takes : IsTakenUpTo (budget + 1) new.left input
   pub ends : EndsAs result ending from run old new
 
--- a session whose opening the folder failed: nothing was printed or taken, and a stop leaves what it may, whatever commands would have followed
+-- a session whose opening the folder failed: nothing was printed or taken, and a crash leaves what it may, whatever commands would have followed
 pub record IsUnopened (limits : Bounds) (from : Image) (old new : Outside) : Type 0 where
   pub unprinted : new.written ≡ old.written
   pub unread : new.left ≡ old.left
@@ -131,7 +131,7 @@ Session result limits budget from readings input source sink old new = Runs resu
 
 -- Completeness.
 
--- where nothing failed and the input is within the budget: the whole output was printed, or there was no memory, and nothing was done
+-- where nothing failed and the input is within the budget: the whole output was printed, or it was out of memory, and nothing was done
 abbrev pub IsComplete : Status → Bounds → Image → Readings → List ℕ → Outside → Outside → Type 0
 IsComplete status.Ok limits from readings input old new = new.written ≡ option_map (λ (w : List ℕ). w ++ text_of (session_run from limits readings (lines input)).turns) old.written
 IsComplete status.Refused limits from readings input old new = new.written ≡ option_map (λ (w : List ℕ). w ++ text_of (session_run from limits readings (lines input)).turns) old.written
@@ -145,7 +145,7 @@ IsCompleteScript status.Refused script limits from readings old new = new.writte
 IsCompleteScript status.Memory script limits from readings old new = DoesNothing old new
 IsCompleteScript _ script limits from readings old new = ⊥
 
--- A damaged start.
+-- A corrupt start.
 
 -- a finished folder of which this check is the first that fails
 pub record IsDamagedBy (damage : Damage) (image : Image) : Type 0 where
@@ -163,7 +163,7 @@ pub record ShowsNothing (old new : Outside) : Type 0 where
   pub unread : new.left ≡ old.left
   pub unprinted : new.written ≡ old.written
 
--- a session on a folder of which a check fails: it is damaged; there was no memory, and nothing was done; or the folder failed, and nothing was printed or taken
+-- a session on a folder of which a check fails: it is corrupt; it was out of memory, and nothing was done; or the folder failed, and nothing was printed or taken
 abbrev pub OnDamage : Status → Damage → (before now : ℕ) → Outside → Outside → Type 0
 OnDamage status.Damaged damage before now old new = ShowsDamage damage before now old new
 OnDamage status.Memory damage before now old new = DoesNothing old new
@@ -177,7 +177,7 @@ abbrev pub fixed_run : Script → Image → Bounds → Readings → Ending → R
 fixed_run script from limits readings (unprinted count) = cut_after (count + 1) (run_of script (found from) limits readings)
 fixed_run script from limits readings _ = run_of script (found from) limits readings
 
--- how the turns of a fixed script may have ended
+-- how the iterations of a fixed script may have ended
 abbrev pub FixedMayEnd : Status → Ending → Run → (sink : Type 0) → Type 0
 FixedMayEnd status.Ok all_made run sink = refuse run.turns ≡ false
 FixedMayEnd status.Refused all_made run sink = refuse run.turns ≡ true
@@ -204,7 +204,7 @@ FixedScript result script limits from readings sink old new = FixedRuns result s
 
 -- The script of the whole input.
 
--- how much of its input `put` took where it does nothing: what came before the source failed; one byte more than it may write; and for want of memory nothing, or all of it
+-- how much of its input `put` took where it does nothing: what came before the source failed; one byte more than it may write; and when out of memory nothing, or all of it
 abbrev pub TakesUnput : Status → (input : List ℕ) → (old new : Option (List ℕ)) → Type 0
 TakesUnput status.Source input old new = IsTakenUpTo longest_input new input
 TakesUnput status.TooLong input old new = IsTakenPast longest_input new input

@@ -20,7 +20,7 @@ status_shown (Err (fault.Damaged damage)) = status.Damaged
 status_shown (Err fault.Sink) = status.Sink
 status_shown (Err fault.Memory) = status.Memory
 
--- what is printed behind that: a damage; before and now are the sink's counts of faults
+-- what is printed after that: a failed check; before and now are the sink's counts of faults
 abbrev pub PrintsFault : Result (Unit {0}) InspectFault → (old new : Option (List ℕ)) → (before now : ℕ) → Type 0
 PrintsFault (Err (fault.Damaged damage)) old new before now = Prints old new before now (damage_line (damage_of damage))
 PrintsFault (Err fault.Device) old new before now = new ≡ old
@@ -28,7 +28,7 @@ PrintsFault (Err fault.Sink) old new before now = new ≡ old
 PrintsFault (Err fault.Memory) old new before now = new ≡ old
 PrintsFault (Ok done) old new before now = new ≡ old
 
--- what is printed of a text by a status: all of it, or a front of it where the sink failed; nothing where the folder failed or there was no memory
+-- what is printed of a text by a status: all of it, or a prefix of it where the sink failed; nothing where the folder failed or it was out of memory
 abbrev pub PrintsShown : Status → List ℕ → (old new : Option (List ℕ)) → Type 0
 PrintsShown status.Ok text old new = new ≡ option_map (λ (w : List ℕ). w ++ text) old
 PrintsShown status.Sink text old new = Appends old new text
@@ -42,7 +42,7 @@ pub record ShowsText (result : Status) (text : List ℕ) (old new : Outside) : T
   pub unwritten : Stays old.folder new.folder
   pub unread : new.left ≡ old.left
 
--- where nothing failed: the whole text was printed, or there was no memory, and nothing was done
+-- where nothing failed: the whole text was printed, or it was out of memory, and nothing was done
 abbrev pub IsCompleteText : Status → List ℕ → Outside → Outside → Type 0
 IsCompleteText status.Ok text old new = new.written ≡ option_map (λ (w : List ℕ). w ++ text) old.written
 IsCompleteText status.Memory text old new = DoesNothing old new

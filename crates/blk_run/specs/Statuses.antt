@@ -23,7 +23,7 @@ may_close (Err fault.Sink) = true
 may_close (Err fault.Device) = false
 may_close (Err (fault.Damaged damage)) = false
 
--- the cause of each status: a check fails; the count of the folder, of the source or of the sink rose; more bytes follow than the budget. Of want of memory none is said
+-- the cause of each status: a check fails; the count of the folder, of the source or of the sink rose; more bytes follow than the budget. No cause is said of out of memory
 abbrev pub CauseOf : Status → (damaged device source sink long : Type 0) → Type 0
 CauseOf status.Ok damaged device source sink long = Unit {0}
 CauseOf status.Refused damaged device source sink long = Unit {0}

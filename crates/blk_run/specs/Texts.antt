@@ -10,11 +10,11 @@ use Rattle.blk_io.specs.Texts.{damage_text}
 abbrev pub usage_text : List ℕ
 usage_text = codes "usage\n"
 
--- a damage, on a line
+-- a failed check, on a line
 abbrev pub damage_line : Damage → List ℕ
 damage_line damage = damage_text damage ++ codes "\n"
 
--- a text was printed, and a front of it where the sink failed
+-- a text was printed, and a prefix of it where the sink failed
 pub record Prints (old new : Option (List ℕ)) (before now : ℕ) (text : List ℕ) : Type 0 where
   pub front : Appends old new text
   pub whole : (Rises before now → ⊥) → new ≡ option_map (λ (w : List ℕ). w ++ text) old

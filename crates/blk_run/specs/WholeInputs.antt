@@ -11,7 +11,7 @@ use Rattle.blk_run.specs.Inputs.{IsTakenPast, IsTakenUpTo}
 abbrev pub longest_input : ℕ
 longest_input = 1048576
 
--- all bytes of the input are in the front of the room, and none is left
+-- all bytes of the input are at the start of the buffer, and none is left
 pub record IsWholeInRoom (len : ℕ) (left : Option (List ℕ)) (room bytes : List ℕ) : Type 0 where
   pub are : take len room ≡ bytes
   pub within : len ≤ longest_input
@@ -29,7 +29,7 @@ IfSource (Err fault.Source) P = P
 IfSource (Err fault.TooLong) P = Unit {0}
 IfSource (Ok len) P = Unit {0}
 
--- so many bytes of the input are in the front of the room so far, and the others are left
+-- so many bytes of the input are at the start of the buffer so far, and the others are left
 pub record IsTakenSoFar (len : ℕ) (left : Option (List ℕ)) (room bytes : List ℕ) : Type 0 where
   pub are : take len room ≡ take len bytes
   pub within : len ≤ length bytes

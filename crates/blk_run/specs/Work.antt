@@ -1,4 +1,4 @@
--- What the program does for its words, by its status.
+-- What the program does for its arguments, by its status.
 use Rattle.std.specs.Prelude.{ℕ, ◌≡◌, ◌+◌, ◌<◌, ◌≤◌, ◌^◌, List, length}
 use Rattle.std.specs.Option.{ForSome}
 use Rattle.std.specs.declared.option.Option.{Option}
@@ -54,14 +54,14 @@ DoesWork (whole_input script) result limits from readings source sink old new = 
 DoesWork (no_input script) result limits from readings source sink old new = FixedScript result script limits from readings sink old new
 DoesWork (folder_text text) result limits from readings source sink old new = ShowsText result (text from) old new
 
--- where nothing failed and the input is as long as it may be: the whole output was printed, or there was no memory
+-- where nothing failed and the input is as long as it may be: the whole output was printed, or it was out of memory
 abbrev pub Completes : Work → Status → Bounds → Image → Readings → Outside → Outside → Type 0
 Completes input_lines result limits from readings old new = ForSome old.left (λ input. length input ≤ budget → IsComplete result limits from readings input old new)
 Completes (whole_input script) result limits from readings old new = ForSome old.left (λ input. length input ≤ longest_input → IsCompleteScript result (script input) limits from readings (record old { left = new.left }) new)
 Completes (no_input script) result limits from readings old new = IsCompleteScript result script limits from readings old new
 Completes (folder_text text) result limits from readings old new = IsCompleteText result (text from) old new
 
--- a script of the whole input on a folder of which a check fails: the input wasn't read whole, or there was no memory, and no more was done; or it was
+-- a script of the whole input on a folder of which a check fails: the input wasn't read whole, or it was out of memory, and no more was done; or it was
 abbrev pub ReadsOnDamage : Status → Damage → (before now : ℕ) → Outside → Outside → Type 0
 ReadsOnDamage status.Source damage before now old new = ForSome old.left (λ input. TakesUnput status.Source input old.left new.left) × LeavesUnput old new
 ReadsOnDamage status.TooLong damage before now old new = ForSome old.left (λ input. TakesUnput status.TooLong input old.left new.left) × LeavesUnput old new
@@ -100,7 +100,7 @@ IsDamagedWork (folder_text text) before now old new = IsFailedInReading old.fold
 pub record Performs (work : Work) (result : Status) (limits : Bounds) (device source : Type 0) (before now : ℕ) (old new : Outside) : Type 0 where
   -- on a folder that is unfinished or well formed it is the run on the map model
   pub plays : ForSome old.folder.files (λ from. IsUsable from → ForSome old.clock (λ readings. DoesWork work result limits from readings source (Rises before now) old new))
-  -- where nothing fails the whole output is printed, unless memory is wanting
+  -- where nothing fails the whole output is printed, unless it is out of memory
   pub complete : ForSome old.folder.files (λ from. IsUsable from → ForSome old.clock (λ readings. (device → ⊥) → (source → ⊥) → (Rises before now → ⊥) → Completes work result limits from readings old new))
   -- on a finished folder of which a check fails that is printed, and no more is done
   pub damage : ForSome old.folder.files (λ from. (damage : Damage) → IsDamagedBy damage from → MeetsDamage work result damage before now old new)
@@ -115,7 +115,7 @@ IsUnread (whole_input script) = ⊥
 IsUnread (no_input script) = Unit {0}
 IsUnread (folder_text text) = Unit {0}
 
--- what the words ask for does, if they ask for something
+-- what the arguments ask for does, if they ask for something
 abbrev pub LeavesInput : Option Invocation → Type 0
 LeavesInput None = Unit {0}
 LeavesInput (Some asked) = IsUnread (work_of asked.task)
@@ -125,7 +125,7 @@ abbrev pub IsUnwritten : Work → Type 0
 IsUnwritten (folder_text text) = Unit {0}
 IsUnwritten _ = ⊥
 
--- what the words ask for only reads the folder
+-- what the arguments ask for only reads the folder
 abbrev pub LeavesFolder : Option Invocation → Type 0
 LeavesFolder None = ⊥
 LeavesFolder (Some asked) = IsUnwritten (work_of asked.task)

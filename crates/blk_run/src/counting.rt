@@ -43,7 +43,7 @@ pub(crate) fn run_count<F: Folder, K: Sink, C: Clock>(
     // On a folder that is unfinished or well formed it is the run of the script of `count` on the map model.
     ensures script { ForSome (F.told folder.old).files (λ from. IsUsable from → ForSome (C.readings clock.old) (λ readings. (left : Option (List ℕ)) → FixedScript result count_script (bounds_of limits) from readings (Rises (K.faults out.old) (K.faults out.new)) (record { folder = F.told folder.old; written = K.written out.old; left = left; clock = C.readings clock.old }) (record { folder = F.told folder.new; written = K.written out.new; left = left; clock = C.readings clock.new }))) }
 
-    // Where nothing fails the whole output is printed, unless memory is wanting.
+    // Where nothing fails the whole output is printed, unless it is out of memory.
     ensures complete { ForSome (F.told folder.old).files (λ from. IsUsable from → ForSome (C.readings clock.old) (λ readings. (left : Option (List ℕ)) → (Rises (F.faults folder.old) (F.faults folder.new) → ⊥) → (Rises (K.faults out.old) (K.faults out.new) → ⊥) → IsCompleteScript result count_script (bounds_of limits) from readings (record { folder = F.told folder.old; written = K.written out.old; left = left; clock = C.readings clock.old }) (record { folder = F.told folder.new; written = K.written out.new; left = left; clock = C.readings clock.new }))) }
 
     // On a finished folder of which a check fails that is printed, and no more is done.
@@ -53,10 +53,10 @@ pub(crate) fn run_count<F: Folder, K: Sink, C: Clock>(
     ensures cause { CauseOf result (IsDamagedRun (F.told folder.old) (F.told folder.new) (K.written out.old) (K.written out.new) (K.faults out.old) (K.faults out.new)) (Rises (F.faults folder.old) (F.faults folder.new)) ⊥ (Rises (K.faults out.old) (K.faults out.new)) ⊥ }
     ensures later { (F.faults folder.old ≤ F.faults folder.new) × (K.faults out.old ≤ K.faults out.new) }
 
-    // The folder decides the status, but for failures and want of memory.
+    // The folder decides the status, but for failures and out of memory.
     ensures answer { ForSome (F.told folder.old).files (AnswersFor result) }
 
-    // What is printed of what the folder holds, and of a damage.
+    // What is printed of what the folder holds, and of a failed check.
     ensures printed { ShowsTotals result (bounds_of limits) (F.told folder.old).files (K.written out.old) (K.written out.new) }
     ensures damage { result ≡ Status.Damaged → IsFailedInOpening (F.told folder.old) (F.told folder.new) (K.written out.old) (K.written out.new) (K.faults out.old) (K.faults out.new) }
 
@@ -69,7 +69,7 @@ pub(crate) fn run_count<F: Folder, K: Sink, C: Clock>(
     // At each word the same is found, and the folder is unfinished or well formed where it was.
     ensures stops { ForSome (F.told folder.old).files (λ start. Passes (F.told folder.old) (F.told folder.new) (HoldsStill start)) }
 
-    // No step is made without memory, and where a folder that tells its files is damaged.
+    // No step is made when out of memory, and where an observable folder is corrupt.
     ensures stays { result ≡ Status.Memory → Stays (F.told folder.old) (F.told folder.new) }
     ensures unwritten { result ≡ Status.Damaged → ForSome (F.told folder.old).files (λ _. Stays (F.told folder.old) (F.told folder.new)) }
     ensures silent { (F.told folder.old).files ≡ None → (F.told folder.new).files ≡ None }

@@ -10,7 +10,7 @@ pub enum Status {
     Ok = 0,
     /// It was done, and something was refused.
     Refused = 1,
-    /// The words of the command line are no command. The usage was printed, and nothing else was done.
+    /// The arguments of the command line are no command. The usage was printed, and nothing else was done.
     Words = 2,
     /// The folder failed.
     Device = 3,
@@ -18,10 +18,10 @@ pub enum Status {
     Source = 4,
     /// The output failed.
     Sink = 5,
-    /// There was no memory. Nothing was done.
+    /// Out of memory. Nothing was done.
     Memory = 6,
-    /// A check of the folder failed. At the start what it found was printed, and where the folder tells its files nothing was
-    /// written. Later one fails only in a folder that doesn't tell its files, and nothing of it is printed.
+    /// A check of the folder failed. At the start what it found was printed, and where the folder is observable nothing was
+    /// written. Later one fails only in an opaque folder, and nothing of it is printed.
     Damaged = 7,
     /// The input is longer than it may be.
     TooLong = 8,

@@ -1,4 +1,4 @@
-// The turns of a generator are played.
+// The iterations of a generator are played.
 ghost use Rattle.std.specs.Prelude.{◌≡◌, ◌≤◌, ◌<◌, ◌+◌, ◌*◌, ◌^◌, ◌++◌, Bool, List, Option, ℕ, length, OnOk};
 ghost use Rattle.std.specs.Option.{ForSome, option_map};
 ghost use Rattle.spec_image.specs.Told.{Rises};
@@ -26,13 +26,13 @@ use blk_gen::{Counts, Draws, Turn, fill};
 use blk_io::{Clock, Folder, Sink};
 use blk_model::{Answer, Command};
 
-// A turn writes no more bytes.
+// An iteration writes no more bytes.
 const LONGEST_DATA: usize = 20000;
 
-// A turn reads no more bytes.
+// An iteration reads no more bytes.
 const LONGEST_READ: u64 = 20001;
 
-// Plays so many turns from a seed on, and prints what was counted of their commands, and the totals.
+// Plays so many iterations from a seed on, and prints what was counted of their commands, and the totals.
 pub(crate) fn play_generated<F: Folder, K: Sink, C: Clock>(
     cache: &mut Cache,
     seed: u64,
@@ -60,7 +60,7 @@ pub(crate) fn play_generated<F: Folder, K: Sink, C: Clock>(
     show_counts(cache, &counts, out)
 }
 
-// Plays a turn: its object is opened, or made where it is missing, and used where neither is refused.
+// Plays an iteration: its object is opened, or made where it is missing, and used where neither is refused.
 fn play_turn<F: Folder, C: Clock>(
     cache: &mut Cache,
     counts: &mut Counts,
@@ -93,7 +93,7 @@ fn play_turn<F: Folder, C: Clock>(
     play_used(cache, counts, number, turn, room, folder, clock)
 }
 
-// Plays a turn whose object is missing: it is made, and used where that isn't refused.
+// Plays an iteration whose object is missing: it is made, and used where that isn't refused.
 fn play_missing<F: Folder, C: Clock>(
     cache: &mut Cache,
     counts: &mut Counts,
@@ -123,7 +123,7 @@ fn play_missing<F: Folder, C: Clock>(
     play_used(cache, counts, number, turn, room, folder, clock)
 }
 
-// Uses the object that the handle 0 names: a Write that cuts, a Read and a Close, of which none ends the turn.
+// Uses the object that the handle 0 names: a Write that cuts, a Read and a Close, of which none ends the iteration.
 fn play_used<F: Folder, C: Clock>(
     cache: &mut Cache,
     counts: &mut Counts,
@@ -161,7 +161,7 @@ fn play_used<F: Folder, C: Clock>(
     Ok(())
 }
 
-// The bytes that the turn with a number writes, in the front of the room.
+// The bytes that the iteration with a number writes, at the start of the buffer.
 fn bytes_of(number: u32, count: u16, room: &mut [u8]) -> &[u8]
     requires { count ≤ length room.old }
     ensures { result.now ≡ generated_bytes number count }
@@ -171,7 +171,7 @@ fn bytes_of(number: u32, count: u16, room: &mut [u8]) -> &[u8]
     bytes
 }
 
-// Does a command of a turn, whose reply isn't shown, and counts it.
+// Does a command of an iteration, whose reply isn't shown, and counts it.
 fn ask_counted<F: Folder, C: Clock>(
     cache: &mut Cache,
     counts: &mut Counts,
@@ -203,7 +203,7 @@ fn items_of(cache: &Cache) -> u64
     items
 }
 
-// How many items a command of a turn evicted, by how many there were before it and are after it.
+// How many items a command of an iteration evicted, by how many there were before it and are after it.
 fn evicted_by(command: &Command, answer: &Answer, before: u64, after: u64) -> u64
     ensures { result ≡ evicted_by (request_of command.now) answer.now before after }
 {

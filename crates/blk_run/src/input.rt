@@ -18,7 +18,7 @@ use blk_io::{Clock, Failed, Folder, Sink, Source};
 // How many bytes are taken at once.
 const PIECE: usize = 4096;
 
-// How the bytes of an input came to an end: at its end, where it failed, or at the budget with one more behind it.
+// How the bytes of an input came to an end: at its end, where it failed, or at the budget with one more after it.
 #[derive(Clone, Copy)]
 pub(crate) enum InputEnd {
     Whole,

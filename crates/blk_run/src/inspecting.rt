@@ -1,4 +1,4 @@
-// The words that print what a folder holds, and leave it as it is.
+// The subcommands that print what a folder holds, and leave it as it is.
 ghost use Rattle.std.specs.Prelude.{◌≡◌, ◌≤◌, List, Option, ℕ};
 ghost use Rattle.spec_image.specs.Told.{Rises, Stays};
 ghost use Rattle.blk_io.specs.Streams.{Readings};
@@ -51,7 +51,7 @@ fn flush_text<K: Sink>(shown: Result<(), InspectFault>, out: &mut K) -> Result<(
     }
 }
 
-// The status where an inspection answers so. A damage is printed.
+// The status where an inspection answers so. A failed check is printed.
 fn end_shown<K: Sink>(shown: &Result<(), InspectFault>, out: &mut K) -> Status
     ensures status { result ≡ status_shown shown.now }
     ensures printed { PrintsFault shown.now (K.written out.old) (K.written out.new) (K.faults out.old) (K.faults out.new) }

@@ -1,4 +1,4 @@
-// The words that name an entry by its key.
+// The subcommands that name an entry by its key.
 ghost use Rattle.std.specs.Prelude.{◌≡◌, ◌≤◌, ℕ, List, Option, IfOk, Ok, length};
 ghost use Rattle.percent_encoding.specs.Percent.{percent_decode};
 ghost use Rattle.spec_image.specs.Told.{Rises};

@@ -12,7 +12,7 @@ ghost use Rattle.blk_run.specs.Texts.{damage_line, usage_text};
 use blk_io::{Damage, Failed, FileId, Sink};
 use itoa::Buffer;
 
-// Prints these pieces, one after another, and flushes behind the last.
+// Prints these pieces, one after another, and flushes after the last.
 fn print_all<K: Sink>(out: &mut K, pieces: &[&[u8]]) -> Result<(), Failed>
     ensures steps { OnOk result (K.written out.new ≡ option_map (λ w. w ++ flat_map (λ piece. piece.now) pieces.now) (K.written out.old)) }
     ensures prefix { Appends (K.written out.old) (K.written out.new) (flat_map (λ piece. piece.now) pieces.now) }
@@ -27,7 +27,7 @@ fn print_all<K: Sink>(out: &mut K, pieces: &[&[u8]]) -> Result<(), Failed>
 
 /// Prints the usage, on a line.
 ///
-/// Where the sink fails, a front of the line may have been printed.
+/// Where the sink fails, a prefix of the line may have been printed.
 pub(crate) fn print_usage<K: Sink>(out: &mut K) -> Result<(), Failed>
     ensures steps { OnOk result (K.written out.new ≡ option_map (λ w. w ++ usage_text) (K.written out.old)) }
     ensures prefix { Appends (K.written out.old) (K.written out.new) usage_text }
@@ -50,9 +50,9 @@ fn digits_of(word: u32) -> [u8; 8]
     }
 }
 
-/// Prints the damage that a check found, on a line.
+/// Prints a failed check, on a line.
 ///
-/// Where the sink fails, a front of the line may have been printed.
+/// Where the sink fails, a prefix of the line may have been printed.
 pub fn print_damage<K: Sink>(out: &mut K, damage: Damage) -> Result<(), Failed>
     ensures steps { OnOk result (K.written out.new ≡ option_map (λ w. w ++ damage_line (damage_of damage)) (K.written out.old)) }
     ensures prefix { Appends (K.written out.old) (K.written out.new) (damage_line (damage_of damage)) }
@@ -93,7 +93,7 @@ fn left_out(n: u32) -> usize
 
 /// Prints how many items there are, and how many bytes, on a line.
 ///
-/// Where the sink fails, a front of the line may have been printed.
+/// Where the sink fails, a prefix of the line may have been printed.
 pub fn print_totals<K: Sink>(out: &mut K, items: u64, bytes: u64) -> Result<(), Failed>
     ensures steps { OnOk result (K.written out.new ≡ option_map (λ w. w ++ totals_line items bytes) (K.written out.old)) }
     ensures prefix { Appends (K.written out.old) (K.written out.new) (totals_line items bytes) }

@@ -1,4 +1,4 @@
-// Scripts that aren't read from the input: one list of commands, that of `put`, or the turns of a generator.
+// Scripts that aren't read from the input: one list of commands, that of `put`, or the iterations of a generator.
 ghost use Rattle.std.specs.Prelude.{◌≡◌, ◌≢◌, ◌≤◌, ◌+◌, ◌*◌, ◌^◌, List, [], ℕ, None, Option, Some};
 ghost use Rattle.std.specs.Option.{ForSome, option_map};
 ghost use Rattle.spec_image.specs.Image.{Image};
@@ -39,7 +39,7 @@ pub(crate) enum Fixed<'a> {
     Commands(&'a [Command<'a>]),
     // The script of `put`.
     Put(Put<'a>),
-    // So many turns of a generator, from a seed on.
+    // So many iterations of a generator, from a seed on.
     Generated { seed: u64, turns: u32 },
 }
 
@@ -136,7 +136,7 @@ pub(crate) fn run_script<F: Folder, K: Sink, C: Clock>(
     // On a folder that is unfinished or well formed it is the run of the script on the map model.
     ensures script { ForSome (F.told folder.old).files (λ from. IsUsable from → ForSome (C.readings clock.old) (λ readings. (left : Option (List ℕ)) → FixedScript result (script_of fixed.entry) (bounds_of limits) from readings (Rises (K.faults out.old) (K.faults out.new)) (record { folder = F.told folder.old; written = K.written out.old; left = left; clock = C.readings clock.old }) (record { folder = F.told folder.new; written = K.written out.new; left = left; clock = C.readings clock.new }))) }
 
-    // Where nothing fails the whole output is printed, unless memory is wanting.
+    // Where nothing fails the whole output is printed, unless it is out of memory.
     ensures complete { ForSome (F.told folder.old).files (λ from. IsUsable from → ForSome (C.readings clock.old) (λ readings. (left : Option (List ℕ)) → (Rises (F.faults folder.old) (F.faults folder.new) → ⊥) → (Rises (K.faults out.old) (K.faults out.new) → ⊥) → IsCompleteScript result (script_of fixed.entry) (bounds_of limits) from readings (record { folder = F.told folder.old; written = K.written out.old; left = left; clock = C.readings clock.old }) (record { folder = F.told folder.new; written = K.written out.new; left = left; clock = C.readings clock.new }))) }
 
     // On a finished folder of which a check fails that is printed, and no more is done.

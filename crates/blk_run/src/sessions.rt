@@ -52,7 +52,7 @@ pub fn session<F: Folder, S: Source, K: Sink, C: Clock>(
     // On a folder that is unfinished or well formed it is the run of the lines on the map model.
     ensures session { ForSome (F.told folder.old).files (λ from. IsUsable from → ForSome (C.readings clock.old) (λ readings. ForSome (S.left input.old) (λ bytes. Session result (bounds_of limits) budget from readings bytes (Rises (S.faults input.old) (S.faults input.new)) (Rises (K.faults out.old) (K.faults out.new)) (record { folder = F.told folder.old; written = K.written out.old; left = S.left input.old; clock = C.readings clock.old }) (record { folder = F.told folder.new; written = K.written out.new; left = S.left input.new; clock = C.readings clock.new })))) }
 
-    // Where nothing fails and the input is within the budget the whole output is printed, unless memory is wanting.
+    // Where nothing fails and the input is within the budget the whole output is printed, unless it is out of memory.
     ensures complete { ForSome (F.told folder.old).files (λ from. IsUsable from → ForSome (C.readings clock.old) (λ readings. ForSome (S.left input.old) (λ bytes. length bytes ≤ budget → (Rises (F.faults folder.old) (F.faults folder.new) → ⊥) → (Rises (S.faults input.old) (S.faults input.new) → ⊥) → (Rises (K.faults out.old) (K.faults out.new) → ⊥) → IsComplete result (bounds_of limits) from readings bytes (record { folder = F.told folder.old; written = K.written out.old; left = S.left input.old; clock = C.readings clock.old }) (record { folder = F.told folder.new; written = K.written out.new; left = S.left input.new; clock = C.readings clock.new })))) }
 
     // On a finished folder of which a check fails that is printed, and no more is done.

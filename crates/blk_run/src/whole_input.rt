@@ -17,7 +17,8 @@ pub(crate) enum InputFault {
     TooLong,
 }
 
-// Reads the whole input into the front of the room, which is a byte longer than the input may be, and tells how many bytes it is.
+// Reads the whole input into the start of the buffer, which is a byte longer than the input may be, and tells how many bytes it
+// is.
 pub(crate) fn read_input<S: Source>(input: &mut S, room: &mut [u8]) -> Result<usize, InputFault>
     requires room { length room.old ≡ 1048577 }
     ensures room { length room.new ≡ 1048577 }

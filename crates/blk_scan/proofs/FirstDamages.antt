@@ -1,4 +1,4 @@
--- The first damage of a folder: of its index, and then of its block files.
+-- The first failed check of a folder: of its index, and then of its block files.
 use Rattle.std.proofs.Common.{◌≡◌, ◌++◌, ◌%◌, ◌^◌, ◌==◌, Option, None, Some, Result, Ok, Err, refl, subst, sym, ◌∙◌}
 use Rattle.std.specs.Option.{ForSome}
 use Rattle.std.proofs.lemmas.Bool.{eqb-true}
@@ -50,7 +50,7 @@ length-checked image none =
 pub looked-as : (x y : Start) (image : Image) → x ≡ y → LooksAs (Ok x) image → LooksAs (Ok y) image
 looked-as x y image same = subst (λ (s : Start). LooksAs (Ok s) image) same
 
--- the folder is finished, and this is its first damage
+-- the folder is finished, and this is its first failed check
 abbrev pub IsFirst : Told → Met → Type 0
 IsFirst told damage = ForSome told.files (λ image. (IsUnfinished image → ⊥) × (first_damage image ≡ Some (damage_of damage)))
 

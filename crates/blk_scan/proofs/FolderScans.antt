@@ -16,7 +16,7 @@ use Rattle.blk_audit.specs.declared.fault.ScanFault.{ScanFault}
 use Rattle.blk_audit.proofs.Carrying.{weaker}
 use Rattle.blk_scan.specs.Faults.{IsBlocksDamage, IsScanDamage}
 
--- where its index has its length, a damage is the first check of a header of a block file that fails
+-- where its index has its length, the error is the first check of a header of a block file that fails
 abbrev pub IsFirstIfWhole : Told → Damage → Type 0
 IsFirstIfWhole told damage = ForSome told.files (λ image. HasWholeIndex image → first_block_damage image ≡ Some (damage_of damage))
 
@@ -26,7 +26,7 @@ loading_first (Ok files) told loads = tt
 loading_first (Err fault.Device) told loads = tt
 loading_first (Err (fault.Damaged damage)) told loads = λ image there whole. loads image there
 
--- a damage of a scan by the block files that agree with it has its cause
+-- a failed check of a scan by the block files that agree with it has its cause
 pub scanning_cause : {A : Type 0} (r : Result A ScanFault) (files : BlockFiles) (a b c : Told) → b ≡ a → c ≡ b → ForSome b.files (Agrees files) → IfScanDamaged r (IsScanDamage files c) → IfScanDamaged r (IsBlocksDamage a)
 scanning_cause r files a b c before after agrees cause =
     weaker r (IsScanDamage files c) (IsBlocksDamage a)

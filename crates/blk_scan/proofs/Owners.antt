@@ -72,7 +72,7 @@ module _ (given : ℕ → Option shown.Loaded) where
   claims_append [] vs = refl
   claims_append (w ∷ ws) vs = ap (λ (cs : List Claim). claims_of w ++ cs) (claims_append ws vs) ∙ sym (append_assoc (claims_of w) (claims_of_all ws) (claims_of_all vs))
 
-  -- a claim is that of one of them
+  -- a used block is that of one of them
   abbrev owns : Claim → ℕ → Bool
   owns c node = has_claim (claims_of_all (words_in (node ∷ []))) c
 
@@ -124,7 +124,7 @@ sum_both p h nodes = sum_by-append h (filter (λ node. not (p node)) nodes) (fil
     twice true = refl
     twice false = refl
 
--- The claims of those that are kept.
+-- The used blocks of those that are kept.
 
 module _ (image : Image) where
   abbrev pub given_here : ℕ → Option shown.Loaded

@@ -1,4 +1,4 @@
--- The kept records of the buckets, packed behind one another, one bucket more.
+-- The kept records of the buckets, packed one after another, one bucket more.
 use Rattle.std.proofs.Common.{◌≡◌, ◌≢◌, ◌<◌, ◌≤◌, ◌+◌, ◌-◌, ℕ, zero, suc, Bool, true, false, ◌&&◌, List, [], ◌∷◌, ◌++◌, map, take, drop, length, min, refl, sym, ap, ap₂, subst, ◌∙◌, ⊎_elim, arith}
 use Rattle.std.specs.Prelude.{All, slice_index, slice_index_or, ◌==◌, ◌||◌}
 use Rattle.std.specs.List.{filter, list_all}
@@ -28,7 +28,7 @@ use Rattle.blk_scan.specs.declared.chains.KeptChains.{KeptChains}
 
 -- Lists.
 
--- a front of a list is a shorter front and what lies between
+-- a prefix of a list is a shorter prefix and what lies between
 split_take : (b e : ℕ) (xs : List ℕ) → b ≤ e → take e xs ≡ take b xs ++ take (e - b) (drop b xs)
 split_take b e xs less =
     let m : ℕ = e - b in
@@ -62,7 +62,7 @@ begins : (ends more : List ℕ) (b : ℕ) → b ≤ length ends → begin_of (en
 begins ends more zero less = refl
 begins ends more (suc b) less = get_or_append_left ends more 0 b (omega (arith, less))
 
--- the records of a bucket stay while others come behind all
+-- the records of a bucket stay while others come after all
 bucket_stays : (records others ends more : List ℕ) (b : ℕ) → b < length ends → begin_of ends b ≤ slice_index ends b → slice_index ends b ≤ length records
     → records_of (records ++ others) (ends ++ more) b ≡ records_of records ends b
 bucket_stays records others ends more b below rising inside =

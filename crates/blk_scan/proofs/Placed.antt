@@ -44,7 +44,7 @@ among_at [] i x at = absurd (not_none at)
 among_at (y ∷ ys) zero x at = or_left (y == x) (is_among ys x) (eq-eqb y x (some_same at))
 among_at (y ∷ ys) (suc i) x at = or_right (y == x) (is_among ys x) (among_at ys i x at)
 
--- what stands once stands at one place
+-- what occurs once is at one place
 pub same_place : (xs : List ℕ) (i j x : ℕ) → Distinct xs → slice_get xs i ≡ Some x → slice_get xs j ≡ Some x → i ≡ j
 same_place [] i j x once at also = absurd (not_none at)
 same_place (y ∷ ys) zero zero x once at also = refl
@@ -61,7 +61,7 @@ paired R [] (y ∷ ys) d e each = absurd (omega (arith, e))
 paired R (x ∷ xs) [] d e each = absurd (omega (arith, e))
 paired R (x ∷ xs) (y ∷ ys) d e each = (each 0 x refl, paired R xs ys d (omega (arith, e)) (λ i z at. each (suc i) z at))
 
--- the partner of an element behind some others
+-- the partner of an element after some others
 record HasPartner {A B : Type 0} (R : A → B → Type 0) (x : A) (ys : List B) (n : ℕ) : Type 0 where
   one : B
   at : slice_get ys n ≡ Some one
@@ -73,7 +73,7 @@ partner R [] x zs (y ∷ ys) all = record { one = y; at = refl; is = all.0 }
 partner R (w ∷ xs) x zs [] all = absurd all
 partner R (w ∷ xs) x zs (y ∷ ys) all = let more = partner R xs x zs ys all.1 in record { one = more.one; at = more.at; is = more.is }
 
--- What is kept of further nodes comes behind what is kept so far.
+-- What is kept of further nodes comes after what is kept so far.
 
 record GoesOn (before after : List shown.Loaded) : Type 0 where
   more : List shown.Loaded

@@ -17,6 +17,6 @@ is_kept_bare_node keep image w = keep w && is_bare_node image w
 abbrev pub is_bare_record : Image → ℕ → Bool
 is_bare_record image w = (entry_at image w).self_hash == 0
 
--- of what is kept the nodes whose seal is 0, and then the records whose seal is 0, both in the order of the use list
+-- of what is kept the nodes whose seal is 0, and then the records whose seal is 0, both in the order of the LRU list
 abbrev pub bare_of_kept : Image → List ℕ
 bare_of_kept image = filter (is_bare_node image) (map (λ k. k.node) (kept image)) ++ filter (is_bare_record image) (map (λ k. k.contents) (kept image))

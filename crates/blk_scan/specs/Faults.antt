@@ -1,4 +1,4 @@
--- What is told of a damage that a scan meets.
+-- What is told of a failed check that a scan meets.
 use Rattle.std.specs.Prelude.{◌⊎◌}
 use Rattle.std.specs.Option.{ForSome}
 use Rattle.spec_image.specs.Told.{Told}
@@ -10,7 +10,7 @@ use Rattle.blk_disk.specs.Tables.{Agrees}
 use Rattle.blk_audit.specs.Faults.{IsListsDamage}
 use Rattle.blk_verdict.specs.Reads.{IsCutRead}
 
--- the lists were damaged, or the data of a record that a walked node names
+-- the lists were corrupt, or the data of a record that a walked node names
 abbrev pub IsScanDamage : BlockFiles → Told → Damage → Type 0
 IsScanDamage files told damage = IsListsDamage files told damage ⊎ IsCutRead files told damage
 
@@ -20,7 +20,7 @@ pub record IsLoadedDamage (told : Told) (damage : Damage) : Type 0 where
   pub agrees : ForSome told.files (Agrees files)
   pub cause : IsScanDamage files told damage
 
--- the block files couldn't be loaded, or a scan by them was damaged
+-- the block files couldn't be loaded, or a scan by them found corruption
 abbrev pub IsBlocksDamage : Told → Damage → Type 0
 IsBlocksDamage told damage = IsLoadDamage told damage ⊎ IsLoadedDamage told damage
 

@@ -1,10 +1,10 @@
--- The kept records of the buckets, packed behind one another.
+-- The kept records of the buckets, packed one after another.
 use Rattle.std.specs.Prelude.{ℕ, ◌≡◌, ◌<◌, ◌≤◌, Bool, true, false, List, length, take, slice_index, slice_index_or}
 use Rattle.std.specs.List.{filter}
 use Rattle.blk_audit.specs.BucketEnds.{begin_of, records_of}
 use Rattle.blk_scan.specs.declared.chains.KeptChains.{KeptChains}
 
--- of the first n buckets the records that are to be kept are packed behind one another; a bucket is told whole exactly where it was closed and all its records are kept
+-- of the first n buckets the records that are to be kept are packed one after another; a bucket is told whole exactly where it was closed and all its records are kept
 pub record ArePacked (keep : ℕ → Bool) (records ends : List ℕ) (closed : List Bool) (n : ℕ) (chains : KeptChains) : Type 0 where
   pub many : length chains.ends.items ≡ n
   pub told : length chains.whole.items ≡ n

@@ -74,14 +74,14 @@ pub record IsScanOf (image : Image) (scan : Scan) : Type 0 where
   pub chains : AreChainsTold image scan.chains
   pub bare : AreBare image scan.bare.items
 
--- What is told to be mended is all that is to be, and no more.
+-- What is told to be repaired is all that is to be, and no more.
 
--- a chain is to be mended: that of a bucket isn't the chain of its kept records
+-- a chain is to be repaired: that of a bucket isn't the chain of its kept records
 pub record IsChainToMend (image : Image) (bucket : ℕ) : Type 0 where
   pub below : bucket < table_length
   pub isnt : IsChain (store_of image) bucket (kept_records image bucket) → ⊥
 
--- some chain is to be mended, and each bucket that is the chain of its kept records is told whole
+-- some chain is to be repaired, and each bucket that is the chain of its kept records is told whole
 pub record AreChainsToMend (image : Image) (whole : List Bool) : Type 0 where
   pub one : ℕ
   pub is_one : IsChainToMend image one
@@ -99,7 +99,7 @@ pub record IsExactScan (image : Image) (scan : Scan) : Type 0 where
 
 -- What is told of any folder.
 
--- the records of the chains stand among the block files, and those of each bucket end among them
+-- the records of the chains are valid among the block files, and those of each bucket end among them
 pub record ChainsStandAmong (files : BlockFiles) (chains : KeptChains) : Type 0 where
   pub records : All (λ w. is_record_among files w ≡ true) chains.records.items
   pub ends : AreEnds chains.records.items chains.ends.items
@@ -110,7 +110,7 @@ abbrev pub ChainsStandIf : BlockFiles → Option KeptChains → Type 0
 ChainsStandIf files None = Unit {0}
 ChainsStandIf files (Some chains) = ChainsStandAmong files chains
 
--- the nodes and the records of a scan stand among the block files
+-- the nodes and the records of a scan are valid among the block files
 pub record StandAmong (files : BlockFiles) (scan : Scan) : Type 0 where
   pub walked : All (λ w. is_node_among files w ≡ true) scan.walked.items
   pub chains : ChainsStandIf files scan.chains

@@ -111,7 +111,7 @@ fn add_records<F: Folder>(
     Ok(())
 }
 
-// Adds a record, if it stands and has 0 as its seal.
+// Adds a record, if it is there and has 0 as its seal.
 fn add_record<F: Folder>(
     f: &mut F,
     files: &BlockFiles,

@@ -28,7 +28,7 @@ pub struct Dropped {
 }
 
 /// What the audit of a folder tells: its walked nodes, what is kept and dropped of them, what the kept ones own, and
-/// what repair mends.
+/// what recovery repairs.
 #[derive(Drop)]
 pub struct Scan {
     pub(crate) walked: Vec<Addr>,
@@ -67,21 +67,21 @@ impl Scan {
         self.walked.len()
     }
 
-    /// One of the walked nodes, counted from 0 in the order of the use list.
+    /// One of the walked nodes, counted from 0 in the order of the LRU list.
     pub fn walked_at(&self, i: usize) -> Option<Addr>
         ensures { result ≡ slice_get self.now.walked.items i }
     {
         self.walked.get(i).copied()
     }
 
-    /// One of the kept nodes, counted from 0 in the order of the use list.
+    /// One of the kept nodes, counted from 0 in the order of the LRU list.
     pub fn kept_at(&self, i: usize) -> Option<Kept>
         ensures { result ≡ slice_get self.now.kept.items i }
     {
         self.kept.get(i).copied()
     }
 
-    /// One of the dropped nodes and records, counted from 0: first the nodes in the order of the use list, then the
+    /// One of the dropped nodes and records, counted from 0: first the nodes in the order of the LRU list, then the
     /// unlisted records, bucket after bucket and each chain in its order.
     pub fn dropped_at(&self, i: usize) -> Option<Dropped>
         ensures { result ≡ slice_get self.now.dropped.items i }
@@ -110,7 +110,7 @@ impl Scan {
         &self.claims
     }
 
-    /// The walked nodes, in the order of the use list.
+    /// The walked nodes, in the order of the LRU list.
     pub fn walked_nodes(&self) -> &[Addr]
         ensures { result.now ≡ self.now.walked.items }
     {
@@ -124,7 +124,7 @@ impl Scan {
         &self.kept_nodes
     }
 
-    /// The nodes of what is kept that have 0 as their seal, and then the records that have, both in the order of the use
+    /// The nodes of what is kept that have 0 as their seal, and then the records that have, both in the order of the LRU
     /// list.
     pub fn bare(&self) -> &[Addr]
         ensures { result.now ≡ self.now.bare.items }

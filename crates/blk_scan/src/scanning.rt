@@ -39,8 +39,8 @@ use std::alloc::Global;
 ///
 /// # Errors
 ///
-/// `Damaged` with the first check of the index and of the headers of the block files that fails; a folder that tells its files
-/// gives no other damage. `Device` where the folder failed in this call, and `Memory` where there was too little of it.
+/// `Damaged` with the first check of the index and of the headers of the block files that fails; an observable folder reports
+/// no other failed check. `Device` where the folder failed in this call, and `Memory` when out of memory.
 pub fn scan_folder<F: Folder>(alloc: Global, f: &mut F) -> Result<Scan, ScanFault>
     ensures scanned { IfOk result (λ scan. ForSome (F.told f.old).files (λ image. IsWellFormed image → IsScanOf image scan)) }
     ensures exact { IfOk result (λ scan. ForSome (F.told f.old).files (λ image. IsWellFormed image → IsExactScan image scan)) }
@@ -49,10 +49,10 @@ pub fn scan_folder<F: Folder>(alloc: Global, f: &mut F) -> Result<Scan, ScanFaul
     ensures checked { IfOk result (λ _. ForSome (F.told f.old).files (λ image. IsUnfinished image ⊎ IsWellFormed image)) }
     ensures stays { Stays (F.told f.old) (F.told f.new) }
 
-    // A folder that tells its files gives a damage only where a check of its headers fails: the first that does.
+    // An observable folder reports corruption only where a check of its headers fails: the first that does.
     ensures damaged { IfScanDamaged result (λ damage. ForSome (F.told f.old).files (λ image. (IsUnfinished image → ⊥) × (first_damage image ≡ Some (damage_of damage)))) }
 
-    // The cause of a damage, which holds for a folder that tells nothing too.
+    // The cause of a failed check, which holds for an opaque folder too.
     ensures cause { IfScanDamaged result (IsFolderDamage (F.told f.old)) }
 
     ensures later { F.faults f.old ≤ F.faults f.new }
@@ -83,9 +83,9 @@ fn scan_finished<F: Folder>(alloc: Global, f: &mut F) -> Result<Scan, ScanFault>
 /// Tells what a folder holds whose block files were loaded, as it is once its operation in flight is completed. Nothing
 /// is written.
 ///
-/// The folder calls are those of `read_lists`, `judge_nodes` and `unlisted`. A damage is a read that gave too few bytes;
-/// a folder whose files are those of `files` gives none. `Device` comes only where the folder failed in this call, and
-/// `Memory` where there was too little of it.
+/// The folder calls are those of `read_lists`, `judge_nodes` and `unlisted`. A failed check is a read that gave too few
+/// bytes; a folder whose files are those of `files` gives none. `Device` comes only where the folder failed in this
+/// call, and `Memory` when out of memory.
 pub fn scan_files<F: Folder>(
     alloc: Global,
     f: &mut F,
@@ -97,7 +97,7 @@ pub fn scan_files<F: Folder>(
     ensures few { IfOk result (λ scan. length scan.walked.items ≤ most_nodes) }
     ensures stays { Stays (F.told f.old) (F.told f.new) }
 
-    // A folder that tells its files gives a damage only where its index is too short or the block files don't agree with it.
+    // An observable folder reports corruption only where its index is too short or the block files don't agree with it.
     ensures damaged { IfScanDamaged result (IsScanDamage files.now (F.told f.new)) }
     ensures untold { ForSome (F.told f.old).files (IsOpen files.now) → IfScanDamaged result (λ _. (F.told f.old).files ≡ None) }
 

@@ -1,4 +1,4 @@
--- Data and keys that are decoded into a room.
+-- Data and keys that are decoded into a buffer.
 use Rattle.std.proofs.Common.{◌≡◌, ℕ, ◌+◌, ◌/◌, ◌%◌, ◌<◌, ◌≤◌, Bool, true, false, cond, List, [], ◌∷◌, ◌++◌, Result, Ok, Err, length, take, refl, sym, ap, ◌∙◌, arith, append_assoc}
 use Rattle.std.specs.Bool.{◌==◌}
 use Rattle.std.specs.List.{slice_set}
@@ -38,7 +38,7 @@ unfolding data_field
 data_field-digits field e few some =
     cond-false _ _ _ e ∙ cond-false _ _ _ (le-ltb 2097152 (length field) few) ∙ cond-false _ _ _ (ne_eqb (length field) 0 (λ none. absurd (omega arith)))
 
--- room for half as many bytes as there are digits is what decoding asks
+-- space for half as many bytes as there are digits is what decoding asks
 decode_sized-half : (field : List ℕ) (n : ℕ) → length field / 2 ≡ n → decode_sized field n ≡ decode_of field
 decode_sized-half field n half =
     ap (λ (fits : Bool). cond (length field % 2 == 1) (Err OddLength) (cond fits (decode_pairs 0 field) (Err InvalidStringLength))) (eq-eqb (length field / 2) n half)
@@ -59,7 +59,7 @@ decoded_ok field n answer u out half says ok = was_ok (decode_of field) answer u
 pub decoded_err : (field : List ℕ) (n : ℕ) (answer : Result (Unit {0}) FromHexError) (u : Unit {0}) (why : FromHexError) (out : List ℕ) → length field / 2 ≡ n → MatchResult (decode_sized field n) (λ bytes. (answer ≡ Ok u) × (out ≡ bytes)) (λ e. answer ≡ Err e) → answer ≡ Err why → decoded fault.Hex (decode_of field) ≡ Err fault.Hex
 decoded_err field n answer u why out half says err = was_err (decode_of field) answer u why out (rw (decode_sized-half field n half) at says) err
 
--- one more byte in the front of the room
+-- one more byte at the start of the buffer
 pub front_more : (room all left next : List ℕ) (n byte : ℕ) → take n room ++ left ≡ all → left ≡ byte ∷ next → n < length room → take (n + 1) (slice_set room n byte) ++ next ≡ all
 front_more room all left next n byte so step within =
     ap (λ (front : List ℕ). front ++ next) (take-set_at room n (n + 1) byte refl within) ∙ append_assoc (take n room) (byte ∷ []) next ∙ ap (λ (rest : List ℕ). take n room ++ rest) (sym step) ∙ so

@@ -12,12 +12,12 @@ use Rattle.blk_script.specs.declared.print.Field.{Field}
 use Rattle.blk_script.specs.Spelling.{line, field_text, data_text, key_text, key_byte_text, is_plain_byte}
 use Rattle.blk_script.proofs.Ranged.{AreSmall}
 
--- what stands behind the first field of a line: each further field with a space before it, and the line's end
+-- what comes after the first field of a line: each further field with a space before it, and the line's end
 abbrev pub after_first : List (List ℕ) → List ℕ
 after_first [] = 10 ∷ []
 after_first (field ∷ fields) = (32 ∷ field) ++ after_first fields
 
--- a line is its first field and what stands behind it
+-- a line is its first field and what comes after it
 pub line-first : (field : List ℕ) (fields : List (List ℕ)) → line (field ∷ fields) ≡ field ++ after_first fields
 line-first field [] = refl
 line-first field (next ∷ fields) = append_assoc field (32 ∷ join_with_byte 32 (next ∷ fields)) (10 ∷ []) ∙ ap (λ (rest : List ℕ). field ++ (32 ∷ rest)) (line-first next fields)
@@ -83,11 +83,11 @@ tested_empty n test is yes_empty = eqb-true n 0 (sym is ∙ yes_empty)
 pub tested_some : (n : ℕ) (test : Bool) → test ≡ (n == 0) → test ≡ false → 0 < n
 tested_some n test is not_empty = let differs = eqb-false n 0 (sym is ∙ not_empty) in elim (cases_lt 0 n) as (λ _. 0 < n) [ inl some ↦ some | inr none ↦ absurd (differs (omega arith)) ]
 
--- what stands behind the first field, from a further field on
+-- what comes after the first field, from a further field on
 pub after_first-cut : (rest : List Field) (i : ℕ) (d : Field) → i < length rest → after_first (map field_text (drop i rest)) ≡ (32 ∷ field_text (get_or rest i d)) ++ after_first (map field_text (drop (i + 1) rest))
 after_first-cut rest i d within = ap (λ (fields : List Field). after_first (map field_text fields)) (drop-cons rest i d within) ∙ ap (λ (n : ℕ). (32 ∷ field_text (get_or rest i d)) ++ after_first (map field_text (drop n rest))) (sym (add-one i))
 
--- behind the last field the line ends
+-- after the last field the line ends
 pub after_first-end : (rest : List Field) (i : ℕ) → length rest ≤ i → after_first (map field_text (drop i rest)) ≡ 10 ∷ []
 after_first-end rest i past = ap (λ (fields : List Field). after_first (map field_text fields)) (drop_all i rest past)
 

@@ -4,7 +4,7 @@ use Rattle.std.proofs.lemmas.List.{append-nil}
 use Rattle.std.specs.Option.{option_map}
 use Rattle.blk_io.specs.Streams.{Appends}
 
--- a front of the text was put, and the rest is still to come
+-- a prefix of the text was put, and the rest is still to come
 pub record IsPutUpTo (old new : Option (List ℕ)) (text rest : List ℕ) : Type 0 where
   pub front : List ℕ
   pub split : text ≡ front ++ rest
@@ -27,7 +27,7 @@ put_more old mid new text left piece rest so cut e = record {
   put = e ∙ ap (option_map (λ (w : List ℕ). w ++ piece)) so.put ∙ put_twice old so.front piece;
 }
 
--- only a front of the next piece was put
+-- only a prefix of the next piece was put
 pub put_partly : (old mid new : Option (List ℕ)) (text left piece rest : List ℕ) → IsPutUpTo old mid text left → left ≡ piece ++ rest → Appends mid new piece → Appends old new text
 put_partly old mid new text left piece rest so cut last = record {
   front = so.front ++ last.front;
@@ -40,7 +40,7 @@ put_partly old mid new text left piece rest so cut last = record {
 pub put_whole : (old new : Option (List ℕ)) (text : List ℕ) → IsPutUpTo old new text [] → new ≡ option_map (λ (w : List ℕ). w ++ text) old
 put_whole old new text so = so.put ∙ ap (λ (t : List ℕ). option_map (λ (w : List ℕ). w ++ t) old) (sym (append-nil so.front) ∙ sym so.split)
 
--- so far a front is put
+-- so far a prefix is put
 pub put_so_far : (old new : Option (List ℕ)) (text rest : List ℕ) → IsPutUpTo old new text rest → Appends old new text
 put_so_far old new text rest so = record { front = so.front; rest = rest; split = so.split; written = so.put }
 

@@ -76,7 +76,7 @@ key_small : (field : List ℕ) → AreSmall field → IfOk (key_field field) Are
 unfolding key_field
 key_small field small = key_tests (list_all is_key_byte field && are_escapes field) (percent_decode field) (small_from_bytes (percent_decode field) (All-percent_decode field (bytes_from_small field small)))
 
--- where its fields are of bytes, a line's word and what stands behind it say such a command
+-- where its fields are of bytes, a line's word and what comes after it say such a command
 abbrev ReadsRanged : (List (List ℕ) → Result Request LineFault) → Type 0
 ReadsRanged read = (fields : List (List ℕ)) → AreSmallFields fields → IfOk (read fields) IsRequest
 

@@ -70,7 +70,7 @@ plain_passes byte = not (is_plain_byte byte) || plain_checks byte
 plain_byte : (byte : ℕ) → byte < 256 → true ≡ plain_passes byte
 plain_byte byte small = agree_below_at (λ b. true) plain_passes 256 byte refl small
 
--- what the two digits behind a percent sign are
+-- what the two digits after a percent sign are
 abbrev digit_checks : ℕ → Bool
 digit_checks digit = is_hex_digit digit && is_key_byte digit && not (digit == 37) && not (digit == 32)
 
@@ -95,7 +95,7 @@ all_of_text p plain escaped (byte ∷ key) small =
 plain_is : (byte : ℕ) → byte < 256 → is_plain_byte byte ≡ true → plain_checks byte ≡ true
 plain_is byte small is = ap (λ b. not b || plain_checks byte) (sym is) ∙ sym (plain_byte byte small)
 
--- a digit behind a percent sign
+-- a digit after a percent sign
 record IsPrintedDigit (digit : ℕ) : Type 0 where
   hex : is_hex_digit digit ≡ true
   key_byte : is_key_byte digit ≡ true

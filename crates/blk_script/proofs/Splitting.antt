@@ -31,11 +31,11 @@ fields_of-whole line none =
     let past : length line ≤ position_or_len is_space line = ltb-false _ _ (not_some (nat_lt (position_or_len is_space line) (length line)) (position_or_len is_space line) none) in
     slice_split_none is_space line (All-from_get_or (λ byte. is_space byte ≡ false) line 0 (λ k within. fails_before_first is_space line k 0 (omega arith)))
 
--- what is left of a line behind a place
+-- what is left of a line after a place
 pub left_behind : (line : List ℕ) (n : ℕ) → n ≤ length line → take (length line - n) (drop n line) ≡ drop n line
 left_behind line n within = take_all (length line - n) (drop n line) (omega (arith, length-drop n line))
 
--- a space stands inside the line
+-- there is a space inside the line
 pub space_within : (line : List ℕ) (i : ℕ) → position is_space line ≡ Some i → i + 1 ≤ length line
 space_within line i at = let here = position-Some is_space line i 0 at in omega (arith, here.0)
 

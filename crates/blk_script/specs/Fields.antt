@@ -24,11 +24,11 @@ is_space byte = byte == 32
 unfoldable pub line_fields : List ℕ → List (List ℕ)
 line_fields line = slice_split is_space line
 
--- the fields that are left behind those that were read
+-- the fields that are left those that were read
 abbrev pub fields_left : Fields → List (List ℕ)
 fields_left fields = unwrap_or (option_map (λ (left : Bor (List ℕ)). line_fields left.now) fields.left) []
 
--- how many bytes are left behind the fields that were read
+-- how many bytes are left the fields that were read
 abbrev pub length_left : Fields → ℕ
 length_left fields = unwrap_or (option_map (λ (left : Bor (List ℕ)). length left.now) fields.left) 0
 
@@ -51,7 +51,7 @@ pub record LacksFields (before : Fields) (n : ℕ) (why : LineFault) : Type 0 wh
 abbrev pub is_decimal_digit : ℕ → Bool
 is_decimal_digit byte = nat_le 48 byte && nat_le byte 57
 
--- the number that decimal digits say, behind what is read already
+-- the number that decimal digits say, after what is read already
 abbrev pub digits_say : ℕ → List ℕ → ℕ
 digits_say before [] = before
 digits_say before (digit ∷ digits) = digits_say (before * 10 + (digit - 48)) digits

@@ -20,27 +20,27 @@ stream_field = number_field 255
 abbrev pub count_field : List ℕ → Result ℕ LineFault
 count_field = number_field 18446744073709551615
 
--- no field stands behind the word
+-- no field comes after the word
 abbrev pub no_fields : Request → List (List ℕ) → Result Request LineFault
 no_fields request [] = Ok request
 no_fields request (field ∷ fields) = Err fault.FieldCount
 
--- one field stands behind the word
+-- one field comes after the word
 abbrev pub one_field : (List ℕ → Result Request LineFault) → List (List ℕ) → Result Request LineFault
 one_field read (a ∷ []) = read a
 one_field read _ = Err fault.FieldCount
 
--- two fields stand behind the word
+-- two fields come after the word
 abbrev pub two_fields : (List ℕ → List ℕ → Result Request LineFault) → List (List ℕ) → Result Request LineFault
 two_fields read (a ∷ b ∷ []) = read a b
 two_fields read _ = Err fault.FieldCount
 
--- three fields stand behind the word
+-- three fields come after the word
 abbrev pub three_fields : (List ℕ → List ℕ → List ℕ → Result Request LineFault) → List (List ℕ) → Result Request LineFault
 three_fields read (a ∷ b ∷ c ∷ []) = read a b c
 three_fields read _ = Err fault.FieldCount
 
--- four fields stand behind the word
+-- four fields come after the word
 abbrev pub four_fields : (List ℕ → List ℕ → List ℕ → List ℕ → Result Request LineFault) → List (List ℕ) → Result Request LineFault
 four_fields read (a ∷ b ∷ c ∷ d ∷ []) = read a b c d
 four_fields read _ = Err fault.FieldCount
@@ -111,7 +111,7 @@ stream_and_data make h s o d = do
   bytes ← data_field d
   Ok (make handle stream offset bytes)
 
--- what the fields behind a word say
+-- what the fields after a word say
 unfoldable pub reading : Word → List (List ℕ) → Result Request LineFault
 reading word.Create = two_fields (handle_and_key to_create)
 reading word.Open = two_fields (handle_and_key to_open)
@@ -129,7 +129,7 @@ reading word.Trim = one_field (number_alone to_trim)
 reading word.List = no_fields to_list
 reading word.Total = no_fields to_total
 
--- the words as they are written, each with what the fields behind it say
+-- the words as they are written, each with what the fields after it say
 unfoldable pub command_words : List (List ℕ × (List (List ℕ) → Result Request LineFault))
 command_words =
     (codes "create", reading word.Create)
@@ -149,7 +149,7 @@ command_words =
     ∷ (codes "total", reading word.Total)
     ∷ []
 
--- what the fields behind a word say, by the first line of a table with that word
+-- what the fields after a word say, by the first line of a table with that word
 abbrev pub by_word : List ℕ → List (List ℕ) → List (List ℕ × (List (List ℕ) → Result Request LineFault)) → Result Request LineFault
 by_word word fields [] = Err fault.UnknownWord
 by_word word fields (line ∷ table) = if bytes_eq word line.0 then line.1 fields else by_word word fields table

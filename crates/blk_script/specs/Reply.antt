@@ -26,7 +26,7 @@ row_line (main_row key plain streams) = line (codes "main" ∷ key_text key ∷ 
 row_line (main_row key (sparse signature) streams) = line (codes "sparse" ∷ key_text key ∷ number_text (length streams.0) ∷ [])
 row_line (part_row key n value) = line (codes "part" ∷ key_text key ∷ number_text n ∷ number_text (length value.bytes) ∷ [])
 
--- the line of an answer; of one with bytes or rows, which have lines of their own, what stands at the end
+-- the line of an answer; of one with bytes or rows, which have lines of their own, what comes at the end
 abbrev pub answer_line : Answer → List ℕ
 answer_line answer.Done = line (codes "ok" ∷ [])
 answer_line (answer.Bytes n) = line (codes "data" ∷ number_text n ∷ [])

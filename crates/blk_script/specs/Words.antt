@@ -7,7 +7,7 @@ use Rattle.blk_script.specs.declared.fault.LineFault.TheVariants as fault
 use Rattle.blk_script.specs.declared.words.Word.{Word}
 use Rattle.blk_script.specs.Line.{reading}
 
--- what the fields behind a word say, where there may be no such word
+-- what the fields after a word say, where there may be no such word
 abbrev pub by_known : Option Word → List (List ℕ) → Result Request LineFault
 by_known (Some word) fields = reading word fields
 by_known None fields = Err fault.UnknownWord

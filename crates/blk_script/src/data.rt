@@ -1,4 +1,4 @@
-// Data in hexadecimal, as it stands in fields.
+// Data in hexadecimal, as it is in fields.
 ghost use Rattle.std.specs.Prelude.{◌≡◌, ◌≤◌, length};
 ghost use Rattle.blk_script.specs.Fields.{data_field, given};
 
@@ -8,7 +8,7 @@ use hex::decode_to_slice;
 /// No data of a line has more digits.
 const LONGEST_DATA: usize = 2097152;
 
-/// The bytes that a field says, in the front of the room.
+/// The bytes that a field says, at the start of the buffer.
 pub fn decode_data<'a>(field: &[u8], room: &'a mut [u8]) -> Result<&'a [u8], LineFault>
     requires { length field.now ≤ length room.old }
     ensures { given (λ bytes. bytes.now) result ≡ data_field field.now }

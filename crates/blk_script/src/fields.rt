@@ -4,13 +4,13 @@ ghost use Rattle.blk_script.specs.Fields.{is_space, line_fields, fields_left, le
 
 use crate::LineFault;
 
-/// The fields of a line that are left; none behind the last.
+/// The fields of a line that are left; none after the last.
 #[derive(Clone, Copy)]
 pub struct Fields<'l> {
     pub left: Option<&'l [u8]>,
 }
 
-// Where the first space stands.
+// Where the first space is.
 fn first_space(line: &[u8]) -> Option<usize>
     ensures { result ≡ position is_space line.now }
 {
@@ -32,7 +32,7 @@ pub fn first_field(line: &[u8]) -> (&[u8], Fields<'_>)
 }
 
 impl<'l> Fields<'l> {
-    /// The next field, and those behind it.
+    /// The next field, and those after it.
     fn next(self) -> Result<(&'l [u8], Fields<'l>), LineFault>
         ensures { MatchResult result (λ next. SplitsField self.entry next.0.now next.1) (λ why. (why ≡ LineFault.FieldCount) × (fields_left self.entry ≡ [])) }
     {

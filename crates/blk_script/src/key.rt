@@ -1,4 +1,4 @@
-// Keys, percent-encoded, as they stand in fields.
+// Keys, percent-encoded, as they are in fields.
 ghost use Rattle.std.specs.Prelude.{◌≡◌, ◌≤◌, length, take};
 ghost use Rattle.std.specs.List.{list_all};
 ghost use Rattle.hex.specs.Hex.{is_hex_digit};
@@ -8,7 +8,7 @@ ghost use Rattle.blk_script.specs.Fields.{is_key_byte, begins_with_hex, are_esca
 use crate::LineFault;
 use percent_encoding::percent_decode;
 
-/// The key that a field says, in the front of the room. A field is a word of a script line.
+/// The key that a field says, at the start of the buffer. A field is a word of a script line.
 #[tactic(auto, unfolding(crate::specs::Fields::key_field))]
 pub fn decode_key<'a>(field: &[u8], room: &'a mut [u8]) -> Result<&'a [u8], LineFault>
     requires { length field.now ≤ length room.old }
@@ -29,7 +29,7 @@ pub fn is_key(field: &[u8]) -> bool
     are_key_bytes(field) && are_escapes(field)
 }
 
-// Whether each byte may stand in a key field.
+// Whether each byte may be in a key field.
 fn are_key_bytes(field: &[u8]) -> bool
     ensures { result ≡ list_all is_key_byte field.now }
 {
@@ -50,7 +50,7 @@ fn are_escapes(field: &[u8]) -> bool
     true
 }
 
-// Whether two hexadecimal digits stand in front.
+// Whether two hexadecimal digits are in front.
 fn begins_with_hex(rest: &[u8]) -> bool
     ensures { result ≡ begins_with_hex rest.now }
 {
@@ -67,7 +67,7 @@ fn is_hex_digit(byte: u8) -> bool
     byte.is_ascii_hexdigit()
 }
 
-// Decodes a field into the front of the room, and tells how many bytes it gave.
+// Decodes a field into the start of the buffer, and tells how many bytes it gave.
 fn decode_into(field: &[u8], room: &mut [u8]) -> usize
     requires { length field.now ≤ length room.old }
     ensures within { result ≤ length room.new }

@@ -12,8 +12,8 @@ use blk_model::Command;
 /// No line has more bytes, its end left aside.
 pub const LONGEST_LINE: usize = 2200000;
 
-/// The command that a line says, or its first fault. The line comes without its end. The key or
-/// the data of the command is decoded into the front of the room.
+/// The command that a line says, or its first fault. The line comes without its end. The key or the data of the command
+/// is decoded into the start of the buffer.
 pub fn read_line<'a>(line: &[u8], room: &'a mut [u8]) -> Result<Command<'a>, LineFault>
     requires { length line.now ≤ length room.old }
     ensures { given request_of result ≡ read_text line.now }
@@ -31,7 +31,7 @@ pub fn read_line<'a>(line: &[u8], room: &'a mut [u8]) -> Result<Command<'a>, Lin
     }
 }
 
-// What the fields behind a word say.
+// What the fields after a word say.
 #[tactic(auto, unfolding(crate::specs::Line::reading))]
 fn read_fields<'a>(word: Word, fields: Fields, room: &'a mut [u8]) -> Result<Command<'a>, LineFault>
     requires { length_left fields ≤ length room.old }

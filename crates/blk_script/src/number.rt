@@ -1,4 +1,4 @@
-// Numbers in decimal, as they stand in fields.
+// Numbers in decimal, as they are in fields.
 ghost use Rattle.std.specs.Prelude.{◌≡◌, ◌≤◌, ◌<◌, ◌^◌, true, MatchOption, IfOk};
 ghost use Rattle.std.specs.List.{list_all};
 ghost use Rattle.blk_script.specs.Fields.{is_decimal_digit, digits_say, begins_number, number_field};

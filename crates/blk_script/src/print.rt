@@ -110,7 +110,7 @@ pub fn print_fields<K: Sink>(out: &mut K, fields: &[Field]) -> Result<(), Failed
     out.put(b"\n")
 }
 
-// Prints one more field, behind a space.
+// Prints one more field, after a space.
 fn print_further<K: Sink>(out: &mut K, field: &Field) -> Result<(), Failed>
     ensures steps { OnOk result (K.written out.new ≡ option_map (λ w. w ++ 32 ∷ field_text field.now) (K.written out.old)) }
     ensures prefix { Appends (K.written out.old) (K.written out.new) (32 ∷ field_text field.now) }

@@ -1,4 +1,4 @@
-// What the fields behind each word say.
+// What the fields after each word say.
 ghost use Rattle.std.specs.Prelude.{◌≡◌, ◌≤◌, length};
 ghost use Rattle.blk_model.specs.Request.{request_of, to_create, to_open, to_read, to_write, to_size, to_sparse_write, to_sparse_read, to_sparse_range, to_doom, to_doom_key, to_close, to_list, to_trim, to_total};
 ghost use Rattle.blk_script.specs.Fields.{fields_left, length_left, given};

@@ -1,4 +1,4 @@
-// What the fields behind a word give, by their kinds.
+// What the fields after a word give, by their kinds.
 ghost use Rattle.std.specs.Prelude.{◌≡◌, ◌≤◌, ℕ, List, length};
 ghost use Rattle.blk_model.specs.Request.{Request};
 ghost use Rattle.blk_script.specs.Fields.{fields_left, length_left, given};

@@ -60,7 +60,7 @@ cut-all old bytes = let none : 0 - length old ≡ 0 = omega arith in ap (λ (n :
 
 -- ---- objects
 
--- an object that isn't settled is named
+-- a dirty object is named
 pub unsettled-named : (state : State) → IsValidState state → (number : ℕ) (object : Object) → object_at state number ≡ Some object → object.settled ≡ false → is_named state number ≡ true
 unsettled-named state valid number object here unsettled =
     if_some_is (object_at state number) (λ x. (x.live && x.settled ≡ false) → is_named state number ≡ true) object here (valid.held number) (ap (λ (b : Bool). object.live && b) unsettled ∙ no-more object.live)
@@ -217,7 +217,7 @@ module _ (state : State) (layout : Layout) (unlinked : List ℕ) (number : ℕ) 
           valid = subst IsValidState (sym state-becomes) sparse-valid;
         }
 
-        -- what is at rest is the same
+        -- the durable contents are the same
         rest-mid : Finds (rest state) mid → rest state-mid ≡ rest state
         rest-mid found = sym (kept-found state-mid layout-mid unlinked mid w.kept) ∙ found.1
 

@@ -1,4 +1,4 @@
--- A part of an object that isn't settled gets a piece: its data is written, and then its map.
+-- A part of a dirty object gets a piece: its data is written, and then its map.
 use Rattle.std.proofs.Common.{◌≡◌, ⊎_elim, ℕ, ◌+◌, ◌*◌, ◌≤◌, List, refl, ap, ap₂, sym, ◌∙◌, subst, arith, length, true, false, cond, Option, Some, None, Result}
 use Rattle.std.specs.Prelude.{◌&&◌, ◌==◌, IfSome, is_some, nat_lt, unwrap_or}
 use Rattle.std.specs.Option.{option_map, ForSome}

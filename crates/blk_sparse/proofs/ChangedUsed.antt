@@ -63,7 +63,7 @@ module _ (of_part place : ℕ) (piece bytes : List ℕ) (state : State) (layout 
   abbrev other : Object
   other = with_piece object n place piece
 
-  -- the same is at rest
+  -- the durable contents are the same
   rest-changed : rest (with_object state number (with_piece object n place piece)) ≡ rest state
   rest-changed = rest-whatever state number object g.parent.kept.valid g.parent.here g.parent.live g.unsettled (with_piece object n place piece) state.uses (record { key_is = refl; live = g.parent.live; unsettled = g.unsettled }) refl
 

@@ -48,7 +48,7 @@ misplaced files told entry word fault kind stands none at =
     subst (λ (e : Fault). IfDamaged {A = ℕ} (Err e) (IsFailedCheck files told)) (sym at.is)
     (within-checked files told entry at.damage kind stands (WrongStream 2 (record { size = 8256; word = word; wrong = inr (omega arith, none, at.word) })))
 
--- only a folder that tells nothing gives a damage where none can be
+-- only an opaque folder reports corruption where none can be
 pub none-told : (fault : Fault) (files : Option Image) → ForSome files (λ image. ⊥) → IfDamaged {A = ℕ} (Err fault) (λ _. files ≡ None)
 none-told fault files never = damaged_any {A = ℕ} (Err fault) (files ≡ None) (untold_where files never)
 

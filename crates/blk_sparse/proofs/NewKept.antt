@@ -233,7 +233,7 @@ module _ (state : State) (objects : List (Option Object)) (layout : Layout) (unl
     pub change-finds : Finds (rest state) image
     change-finds = subst (λ (rows : List Row). Finds rows image) t.same_rest (making-finds state objects layout (words_of l ++ unlinked) key n was seen l chains from image t.kept t.written making)
 
-    -- seals stand
+    -- seals hold
     still-sealed : (layout_so : Layout) (node : ℕ) (other : Loaded) → load (store_of mid) (rule_of layout_so node) node ≡ Ok other → AreApart other → AreSealed mid other → AreSealed image other
     still-sealed layout_so node other loads apart sealed =
         let st = standing-loaded mid layout_so node other loads in
@@ -304,7 +304,7 @@ module _ (state : State) (objects : List (Option Object)) (layout : Layout) (unl
     pub listed-place : stores files 8256 (address_word mid was.contents 2) ≡ true
     listed-place = parent-place files layout p was index role mid g.parent agrees
 
-    -- at each word what was at rest is found
+    -- at each word the old durable contents are recovered
     pub noting-finds : (image : Image) → IsBeingNoted files was.contents n mid image → Finds (rest state) image
     noting-finds image (inl same) = change-finds image (noted-change image listed-place (subst (λ (i : Image). SameOutside (data_range (address_word mid was.contents 2) (place_of_bit n) 1) mid i) (sym same) (outside-refl (data_range (address_word mid was.contents 2) (place_of_bit n) 1) mid)))
     noting-finds image (inr changed) = change-finds image (noted-change image changed.0 changed.1)

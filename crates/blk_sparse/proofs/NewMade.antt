@@ -180,7 +180,7 @@ module _ (state : State) (layout : Layout) (unlinked : List ℕ) (number : ℕ) 
     printed = can.named;
   })
 
-  -- ---- what is at rest
+  -- ---- the durable contents
 
   pub same-rest : rest (with_first state (slice_set state.objects number (Some (with_value object child.part (part_after empty_part place piece)))) (part object.key child.part)) ≡ rest state
   same-rest =

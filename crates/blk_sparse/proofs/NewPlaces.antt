@@ -85,14 +85,14 @@ module _ (a b : Told) (files kept : BlockFiles) (size : ℕ) (some : 0 < size) (
 
 -- ---- one after another
 
--- room for more is room for fewer
+-- space for more is space for fewer
 pub fewer : (n m : ℕ) (from : Image) → LeavesRoom (n + m) from → LeavesRoom n from
 fewer n m from r = record { state = r.state; layout = r.layout; unlinked = r.unlinked; kept = r.kept; few = r.few; room = let room = r.room in bound (length r.unlinked) room }
   where
     bound : (u : ℕ) → u + (n + m) ≤ 7 → u + n ≤ 7
     bound u room = omega (arith, room)
 
--- once some words are taken there is room for the others
+-- once some words are taken there is space for the others
 less : (n m : ℕ) (ws : List ℕ) → length ws ≤ n → (from mid : Image) → LeavesRoom (n + m) from → Takes ws from mid → LeavesRoom m mid
 less n m ws short from mid r taken = record { state = r.state; layout = r.layout; unlinked = ws ++ r.unlinked; kept = taken.kept r.state r.layout r.unlinked r.kept; few = r.few; room = let room = r.room in bound (length r.unlinked) (length (ws ++ r.unlinked)) (length-append ws r.unlinked) room }
   where

@@ -47,7 +47,7 @@ use Rattle.blk_sparse.specs.NewParts.{ArePartStreams, HasStreamsNow, IsChildWrit
 use Rattle.blk_sparse.specs.declared.new_part.PartPlaces.{PartPlaces}
 use Rattle.blk_sparse.proofs.NewIndex.{changes_are}
 
--- a claim that two words share in a list without repeats is none
+-- a used block that two words share in a list without repeats is none
 shared : (words rest : List ℕ) (v w : ℕ) (c : Claim) → repeats (claims_of_all (words ++ rest)) ≡ false → is_among words v ≡ true → is_among rest w ≡ true → has_claim (claims_of v) c ≡ true → has_claim (claims_of w) c ≡ true → ⊥
 shared words rest v w c once mine other a b =
     (once_parts (claims_of_all words) (claims_of_all rest) (ap repeats (sym (flat_map-append claims_of words rest)) ∙ once)).1 c (of-all words v c mine a) (of-all rest w c other b)
@@ -142,7 +142,7 @@ module _ (files : BlockFiles) (places : PartPlaces) (name : List ℕ) (moment : 
       pub kept-end : KeepsUncounted state layout (words_of_part places ++ unlinked) image
       kept-end = subst (λ (ws : List ℕ). KeepsUncounted state layout ws image) (sym (append_assoc words two unlinked)) done
 
-  -- while the record changes what was at rest is found
+  -- while the record changes the old durable contents are recovered
   pub naming-finds : (image : Image) → SameOutside (record_range places.places.entry) mid image → StillFinds (words_of_part places) from image
   naming-finds image outside state layout unlinked k = let now = kept-end state layout unlinked k image outside in (now.well_formed, kept-found state layout (words_of_part places ++ unlinked) image now)
 

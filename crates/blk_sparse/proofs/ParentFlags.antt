@@ -349,7 +349,7 @@ module _ (state : State) (layout : Layout) (unlinked : List ℕ) (number : ℕ) 
       session = only.session;
     }
 
--- of a folder that is told
+-- of an observable folder
 pub marked-told : (files : BlockFiles) (a b : Told) (entry : ℕ) → TellsBytes a → ForSome a.files (IsOpen files) → ForSome a.files (λ from. Applies a b (sealed_steps from entry parent_change))
     → ForSome a.files (λ from. ForEachWithIndex entry from (λ state layout unlinked number object was index. ForSome b.files (IsParentMarked state layout unlinked number object was index from)))
 marked-told files a b entry bytes open_folder steps from there state layout unlinked number object was index t =

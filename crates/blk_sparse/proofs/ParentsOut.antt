@@ -93,7 +93,7 @@ module _ {held : Bool} (state : State) (layout : Layout) (unlinked : List ℕ) (
     entry_is = m.lies.entry_is;
   }
 
-  -- what is at rest is found
+  -- the durable contents are recovered
   pub at-rest : FindsEither state (doomed number state (Some object)) from
   at-rest = main-going state layout unlinked number object node entry before from from m.kept.entries m.here m.live own-lies (inl refl)
 

@@ -95,7 +95,7 @@ no-index bytes old new n p room read_head none is = go (read_parent_index bytes)
       let whole : take n new ≡ bytes = p.front ∙ take_all n bytes (omega (arith, many, long, room)) in
       absurd (none-some (sym (ap (option_map head_fields) none) ∙ is ∙ ap (λ (bs : List ℕ). if nat_le 64 (length bs) then read_parent_head (content bs) else None) whole ∙ head.head))
 
--- no bit is set where the bytes behind the head are 0
+-- no bit is set where the bytes after the head are 0
 module _ (bytes : List ℕ) (index : ParentIndex) (is : read_parent_index bytes ≡ Some index) (none : list_any (λ byte. not (byte == 0)) (drop 64 bytes) ≡ false) where
   parts : (length bytes ≡ 8256) × ((k : ℕ) → index.has_part k ≡ (nat_lt k 65536 && map_bit (content bytes) 64 k))
   parts = index-parts bytes index is
@@ -141,7 +141,7 @@ module _ (image : Image) (entry : ℕ) (loaded : Loaded) (index : ParentIndex) (
   pub signature-read : (read_head : Option ParentHead) (found : ParentHead) → read_head ≡ Some found → option_map head_fields read_head ≡ (if nat_le 64 (length (take n new)) then read_parent_head (content (take n new)) else None) → index.signature ≡ cast_unsigned w64 found.signature
   signature-read read_head found some is = ap (λ (p : ℕ × ℕ). p.0) (some_inj (sym bytes-head ∙ sym is ∙ ap (option_map head_fields) some))
 
-  -- where no byte behind its head is set, no bit is
+  -- where no byte after its head is set, no bit is
   pub no-bits-read : length new ≡ 8256 → list_any (λ byte. not (byte == 0)) (take 8192 (drop 64 new)) ≡ false → HasNoBit index
   no-bits-read long_new none = no-bits (stream 2 loaded.streams) index (index-there image entry loaded index w role)
       (subst (λ (bs : List ℕ). list_any (λ byte. not (byte == 0)) (drop 64 bs) ≡ false) all (ap (list_any (λ byte. not (byte == 0))) (sym behind) ∙ none))

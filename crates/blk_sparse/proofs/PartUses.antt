@@ -54,7 +54,7 @@ module _ (state : State) (layout : Layout) (unlinked : List ℕ) (item : Item) (
       let here : (store_of from).entry entry ≡ Some e = ap (store_of from).entry (sym l.record_is ∙ f.facts.contents_is) ∙ f.entry in
       ap (λ (x : RecordFields). x.rankings_node) (shown-fields from entry e here) ∙ eqb-true e.rankings_node (layout.place item) f.facts.keyed.back)
 
-  -- which stands
+  -- which is valid
   pub node-there : (files : BlockFiles) → Agrees files from → is_node_among files (entry_at from entry).rankings_node ≡ true
   node-there files agrees =
       let standing = standing-at from state layout l.kept.represents (layout.place item) l.was l.lies in
@@ -122,7 +122,7 @@ module _ (files : BlockFiles) (old mid now : Told) (entry node moment : ℕ) (st
 pub now-finds : (state : State) (layout : Layout) (unlinked : List ℕ) (item : Item) (entry : ℕ) (from : Image) → IsListedAt state layout unlinked item entry from → FindsBeforeOrAfter state item from
 now-finds state layout unlinked item entry from l = inl (l.kept.well_formed, kept-found state layout unlinked from l.kept)
 
--- the address of blocks of nodes that stand is that of a node
+-- the address of blocks of nodes that are there is that of a node
 pub node-among : (files : BlockFiles) (w : ℕ) → is_address w ≡ true → kind_of w ≡ rankings → stands_among files w ≡ true → is_node_among files w ≡ true
 unfolding names_among
 node-among files w address kind stands = let same : (kind_of w == rankings) ≡ true = eq-eqb (kind_of w) rankings kind in rw (address, same, stands) refl

@@ -1,4 +1,4 @@
--- States with another value for a part that an object has, and states of which the same is at rest.
+-- States with another value for a part that an object has, and states of which the durable contents are the same.
 use Rattle.std.proofs.Common.{◌≡◌, ℕ, ◌<◌, List, [], ◌∷◌, All, refl, ap, sym, ◌∙◌, subst, arith, Bool, true, false, cond, set, Option, Some, None, zero, suc}
 use Rattle.std.specs.Prelude.{◌&&◌, ◌==◌, is_some, nat_lt, slice_index_or}
 use Rattle.std.specs.Ordering.{eq_by_cmp, nat_cmp}
@@ -107,7 +107,7 @@ module _ (state : State) (valid : IsValidState state) (number : ℕ) (object : O
       never-none : object.parts ≡ [] → ⊥
       never-none none = let z : ◌≡◌ {A = Option PartValue} None (Some old) = ap (find nat_cmp n) (sym none) ∙ has in cc
 
--- ---- what is at rest
+-- ---- the durable contents
 
 set-same : {A : Type 0} (xs : List (Option A)) (i : ℕ) (x : A) → slice_index_or xs i None ≡ Some x → set xs i (Some x) ≡ xs
 set-same [] i x e = refl
@@ -118,7 +118,7 @@ module _ (state : State) (number : ℕ) (object : Object) (valid : IsValidState 
   as-it-is : (uses : List Item) → amidst state number object uses ≡ record state { uses = uses }
   as-it-is uses = ap (λ (os : List (Option Object)). record state { objects = os; uses = uses }) (set-same state.objects number object here)
 
-  -- whatever becomes of an object that isn't settled, the same is at rest
+  -- whatever becomes of a dirty object, the durable contents are the same
   pub rest-whatever : (other : Object) (uses : List Item) → IsUnsettled other object.key → KeepsOtherKeys state object.key uses → rest (amidst state number other uses) ≡ rest state
   rest-whatever other uses is keeps =
       unsettled-rest state number object other object uses state.uses valid here live is (record { key_is = refl; live = live; unsettled = loose }) keeps refl ∙ ap rest (as-it-is state.uses)

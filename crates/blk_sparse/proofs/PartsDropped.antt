@@ -27,7 +27,7 @@ use Rattle.blk_sparse.proofs.PartsOut.{stays-passes}
 use Rattle.blk_sparse.proofs.PartsNext.{same-session, same-unlinked}
 use Rattle.blk_sparse.proofs.Walking.{IsWalked, walked-begin, walked-end, walked-next, without-one}
 
--- where the loop stands: what was left at first is left but for the parts that went, in the folder as it is now
+-- where the loop is: what was left at first is left but for the parts that went, in the folder as it is now
 pub record IsDropping (E : Type 0) (call : E → ℕ → E → Type 0) (old now : Told) (state : State) (layout : Layout) (keep : Item → Bool) (unlinked key : List ℕ) (number : ℕ) (object : Object) (from : Image) (at : Option ℕ) (turn : ℕ) (gone : Gone) (each last : E) : Type 0 where
   pub image : Image
   pub told : now.files ≡ Some image
@@ -63,7 +63,7 @@ dropping-begins E call old key signature each from there finds state layout keep
 }
 
 module _ (E : Type 0) (call : E → ℕ → E → Type 0) (old now : Told) (state : State) (layout : Layout) (keep : Item → Bool) (unlinked key : List ℕ) (number : ℕ) (object : Object) (from : Image) (at : Option ℕ) (turn : ℕ) (gone : Gone) (each last : E) (d : IsDropping E call old now state layout keep unlinked key number object from at turn gone each last) where
-  -- what was told so far is a front
+  -- what was told so far is a prefix
   pub called-front : IsCalledAtFront E call (parts_among key (filter keep state.uses)) each last
   called-front = record { front = d.walked.done; others = parts_among key d.walked.is.items; split = d.walked.split; called = d.walked.called }
 
@@ -124,7 +124,7 @@ module _ (E : Type 0) (call : E → ℕ → E → Type 0) (old now : Told) (stat
         gone_is = record { many = all.many; charged = all.sum };
       }
 
-  -- so it is after as many turns as there are nodes at most
+  -- so it is after as many iterations as there are nodes at most
   pub turns-over : 131072 ≤ turn → HaveNoPart key d.walked.is.items
   turns-over over = nothing d.walked.is.items (let turns = d.turns in let one = ap (λ (xs : List Item). length xs) d.walked.is.split in let two = length-append d.walked.is.front d.walked.is.items in omega (arith, over, turns, one, two)) where
     nothing : (items : List Item) → length items ≡ 0 → HaveNoPart key items
@@ -158,6 +158,6 @@ module _ (E : Type 0) (call : E → ℕ → E → Type 0) (old now : Told) (stat
       let drop : ForSome new.files (IsDropOfNext state layout d.keeps unlinked key number object d.walked.is.front d.walked.is.items None d.image) = λ image is. subst (λ (o : Option Dropped). IsDropOfNext state layout d.keeps unlinked key number object d.walked.is.front d.walked.is.items o d.image image) none (h image is) in
       end-of new (passes_then d.passes passes) (λ image is. (drop image is).1) (dropped-none new passes drop)
 
-  -- and where all turns are over
+  -- and where all iterations are over
   pub ends-over : 131072 ≤ turn → IsEnd now
   ends-over over = end-of now d.passes (λ image is. some_inj (sym is ∙ d.told)) (turns-over over)

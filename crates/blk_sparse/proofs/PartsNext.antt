@@ -1,4 +1,4 @@
--- The first part behind a node goes.
+-- The first part after a node goes.
 use Rattle.std.proofs.Common.{◌≡◌, ℕ, List, ◌∷◌, ◌++◌, append_assoc, refl, ap, sym, ◌∙◌, subst, Bool, true, false, Option, None, Some}
 use Rattle.std.specs.Prelude.{◌||◌, filter, IfSome}
 use Rattle.std.proofs.lemmas.Bool.{and_parts}
@@ -37,7 +37,7 @@ pub of-some : {A : Type 0} (o : Option A) (a : A) (P : A → Type 0) → o ≡ S
 of-some {A} o a P is holds = let q : IfSome (Some a) P = subst (λ (x : Option A). IfSome x P) is holds in q
 
 module _ (state : State) (layout : Layout) (keep : Item → Bool) (chains : ℕ → List ℕ) (unlinked key : List ℕ) (number : ℕ) (object : Object) (at : Option ℕ) (image : Image) (left : AreLeft state layout keep chains unlinked key number object image) (is : IsBehind layout key (filter keep state.uses) at) where
-  -- what a search says of the items behind the node
+  -- what a search says of the items after the node
   pub found-behind : (found : Option ListedPart) → ForEachSearch at image (λ (l : Layout) (items : List Item). IsFoundPart l key items found) → IsFoundPart layout key is.items found
   found-behind found h = h state layout keep chains unlinked is.items left.kept (searched layout key (filter keep state.uses) at is)
 

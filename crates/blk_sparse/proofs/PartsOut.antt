@@ -74,7 +74,7 @@ stays-back old new P stays holds = subst (λ (t : Told). ForSome t.files P) (sym
 
 -- ---- what is left
 
--- what is at rest with the object doomed is found
+-- the durable contents with the object doomed are recovered
 pub left-finds : (state : State) (layout : Layout) (keep : Item → Bool) (chains : ℕ → List ℕ) (unlinked key : List ℕ) (number : ℕ) (object : Object) (image : Image) → AreLeft state layout keep chains unlinked key number object image → Finds (rest (doomed number state (Some object))) image
 left-finds state layout keep chains unlinked key number object image left =
     partly-out-finds state layout number object keep chains unlinked image left.here (subst (λ (k : List ℕ). LeavesOtherKeys k keep) (sym left.of_key) left.others) left.kept

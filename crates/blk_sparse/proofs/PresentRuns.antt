@@ -1,4 +1,4 @@
--- Runs of present bytes, and the bytes up to the first that is missing, over two ranges one behind the other.
+-- Runs of present bytes, and the bytes up to the first that is missing, over two ranges one after the other.
 use Rattle.std.proofs.Common.{◌≡◌, ◌≢◌, ℕ, zero, suc, ◌+◌, ◌<◌, ◌≤◌, List, [], ◌∷◌, ◌++◌, map, length, take, drop, refl, ap, ap₂, sym, ◌∙◌, arith, Bool, true, false, Option, Some, None, cond}
 use Rattle.std.specs.Prelude.{◌-◌, ◌==◌, slice_index, take_while, if◌then◌else◌}
 use Rattle.std.proofs.lemmas.Bool.{eq-eqb, eqb-false, eqb-true, ne_eqb}
@@ -46,7 +46,7 @@ pub map-cut : {A B : Type 0} (f : A → B) (xs ys : List A) → map f (xs ++ ys)
 map-cut f [] ys = refl
 map-cut {A} {B} f (x ∷ xs) ys = ap (λ (l : List B). f x ∷ l) (map-cut f xs ys)
 
--- ---- what stands before the first that fails a test
+-- ---- what comes before the first that fails a test
 
 one-more : (n : ℕ) → 1 + n ≡ suc n
 one-more n = omega arith
@@ -99,7 +99,7 @@ front-numbers t first (suc n) = by (front-numbers t (first + 1) n) (t first) ref
   by later true e = while-true t first (numbers_from (first + 1) n) e ∙ ap (λ (l : List ℕ). first ∷ l) later ∙ sym (ap (λ (l : List ℕ). numbers_from first (length l)) (while-true t first (numbers_from (first + 1) n) e))
   by later false e = while-false t first (numbers_from (first + 1) n) e ∙ sym (ap (λ (l : List ℕ). numbers_from first (length l)) (while-false t first (numbers_from (first + 1) n) e))
 
--- a run begins where the tests begin, or behind; or there is none
+-- a run begins where the tests begin, or after; or there is none
 run-late : (asked start : ℕ) (tests : List Bool) → asked < start → (first_run asked start tests).0 ≡ asked → (first_run asked start tests).1 ≡ 0
 run-late asked start [] late e = refl
 run-late asked start (false ∷ tests) late e = run-late asked (start + 1) tests (omega (arith, late)) e

@@ -115,7 +115,7 @@ module _ (object : Object) (n of_part place count : ℕ) (from : Image) (r : IsP
   its-bytes : part_bytes object n place count ≡ take (length front) (drop place r.value.bytes)
   its-bytes = bytes-front object n place count r.value r.is_value r.has
 
-  -- nothing, where the run begins behind the place
+  -- nothing, where the run begins after the place
   pub read-none : (run_between (presence_of m) place (place + count)).0 ≢ place → [] ≡ part_bytes object n place count
   read-none other =
       let none : length front ≡ 0 = (run-front (is_present_in r.value.presence) place count).later (λ e. other (ap (λ (x : ℕ × ℕ). x.0) its-run ∙ e)) in

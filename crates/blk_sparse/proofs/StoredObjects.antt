@@ -59,7 +59,7 @@ module _ (ns : List ℕ) (target : Target) (state : State) (layout : Layout) (un
   as-it-is : amidst state number object (used (main object.key) state.uses) ≡ with_used state (main object.key)
   as-it-is = ap (λ (slots : List (Option Object)). record state { objects = slots; uses = used (main object.key) state.uses }) (set-self state.objects number (Some object) t.here object refl)
 
-  -- the same is at rest, whatever it becomes
+  -- the durable contents are the same, whatever it becomes
   pub rest-with : (other : Object) → other.key ≡ object.key → other.live ≡ true → other.settled ≡ false → rest (amidst state number other (used (main object.key) state.uses)) ≡ rest state
   rest-with other key live loose = rest-whatever state number object t.kept.valid t.here t.live t.unsettled other (used (main object.key) state.uses) (record { key_is = key; live = live; unsettled = loose })
       (keeps-used state number object t.kept.valid t.here t.live t.unsettled (main object.key) refl)
@@ -132,7 +132,7 @@ module _ (ns : List ℕ) (target : Target) (state : State) (layout : Layout) (un
 
 -- ---- the bytes are counted
 
--- the session is that of the dirty word of an object that isn't settled
+-- the session is that of the dirty word of a dirty object
 same-session : (state : State) (layout : Layout) (unlinked : List ℕ) (number : ℕ) (object : Object) (was : Loaded) (mid image : Image) → KeepsUncounted state layout unlinked mid → KeepsUncounted state layout unlinked image → object_at state number ≡ Some object → object.live ≡ true → object.settled ≡ false
     → layout.at (layout.place (main object.key)) ≡ Some was → SameSession mid image
 same-session state layout unlinked number object was mid image k l here live loose lies =
@@ -288,7 +288,7 @@ module _ (offset : ℕ) (bytes : List ℕ) (a m b : Told) (from : Image) (there 
   abbrev w : KeepsParentThen (with_bytes_written state number object offset bytes) layout unlinked number (with_bytes object offset bytes) node entry signature from (told_then a m from (Finds (rest state)) there first).image
   w = written told.image told.is
 
-  -- what was at rest is still
+  -- the old durable contents are so still
   same-rest : rest (with_bytes_written state number object offset bytes) ≡ rest state
   same-rest = sym (kept-found (with_bytes_written state number object offset bytes) w.now unlinked told.image w.parent.kept) ∙ told.holds.1
 

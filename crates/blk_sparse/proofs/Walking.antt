@@ -1,4 +1,4 @@
--- The parts of a key in a use list, as they go one after another.
+-- The parts of a key in an LRU list, as they go one after another.
 use Rattle.std.proofs.Common.{◌≡◌, ◌+◌, ℕ, List, [], ◌∷◌, ◌++◌, length, length-append, append_assoc, append-nil, map, refl, ap, sym, ◌∙◌, subst, arith, Bool, true, false, Option, None, Some, ⊎_elim}
 use Rattle.std.specs.Prelude.{◌&&◌, filter, not}
 use Rattle.std.specs.List.{FoldsTo, cons_option, filter_map, sum_by}
@@ -72,7 +72,7 @@ searched-from layout (i ∷ front) items all e =
     let s = snoc layout i front in
     (s.first, s.item, e ∙ ap (λ (xs : List Item). xs ++ items) s.is ∙ append_assoc s.first (s.item ∷ []) items, s.place_is)
 
--- the items behind a node are those that are searched
+-- the items after a node are those that are searched
 pub searched : (layout : Layout) (key : List ℕ) (all : List Item) (at : Option ℕ) (is : IsBehind layout key all at) → AreSearched layout at all is.items
 searched layout key all at is = subst (λ (o : Option ℕ). AreSearched layout o all is.items) (sym is.last) (searched-from layout is.front is.items all is.split)
 
@@ -120,7 +120,7 @@ charged-next layout key n numbers was here =
 
 -- ---- the walk
 
--- where a walk stands: so many parts went, with these charges, and a closure was called with their numbers; the others are behind a node
+-- where a walk is: so many parts went, with these charges, and a closure was called with their numbers; the others are after a node
 pub record IsWalked (E : Type 0) (call : E → ℕ → E → Type 0) (layout : Layout) (key : List ℕ) (all left : List Item) (at : Option ℕ) (items bytes : ℕ) (old new : E) : Type 0 where
   pub done : List ℕ
   pub is : IsBehind layout key left at

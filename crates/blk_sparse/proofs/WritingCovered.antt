@@ -91,7 +91,7 @@ bytes-one object offset n place bytes covers at room =
 abbrev two_pieces : Object → (n : ℕ) → (p : ℕ) → List ℕ → (q : ℕ) → List ℕ → Object
 two_pieces object n p front q back = with_piece (with_piece object n p front) (n + 1) q back
 
--- the piece of the first part is a front of the bytes, and that of the second what is behind it
+-- the piece of the first part is a prefix of the bytes, and that of the second what is after it
 record AreTwoPieces (offset n place left : ℕ) (bytes : List ℕ) : Type 0 where
   pub inside : offset - n * 1048576 ≡ place
   pub front : piece_for n offset bytes ≡ take left bytes

@@ -23,7 +23,7 @@ unfolding child_name
 name-some key signature n = omega arith
 
 module _ (state : State) (layout : Layout) (unlinked : List ℕ) (number : ℕ) (object : Object) (node entry signature n : ℕ) (from : Image) (can : CanGetParts (n ∷ []) state layout unlinked number object node entry signature from) where
-  -- a part that there is needs no room
+  -- a part that there is needs no space
   pub can-there : CanGetParts [] state layout unlinked number object node entry signature from
   can-there = record { parent = can.parent; unsettled = can.unsettled; few = let few = can.few in omega (arith, few); room = can.room }
 

@@ -25,7 +25,7 @@ parent_change = (72, 1) ∷ []
 abbrev pub as_sparse : Object → ℕ → Object
 as_sparse object signature = record object { shape = sparse signature; streams = (object.streams.0, [], []) }
 
--- a state is kept, in which a live object isn't settled and is plain; at its node lies what has the index of a parent in its third stream, and nothing in its second
+-- a state is kept, in which a live object is dirty and is plain; at its node lies what has the index of a parent in its third stream, and nothing in its second
 pub record CanGetIndex (state : State) (layout : Layout) (unlinked : List ℕ) (number : ℕ) (object : Object) (was : Loaded) (index : ParentIndex) (entry : ℕ) (image : Image) : Type 0 where
   pub kept : KeepsUncounted state layout unlinked image
   pub here : object_at state number ≡ Some object

@@ -36,7 +36,7 @@ pub record LoadsAsPart (entry : ℕ) (image : Image) : Type 0 where
   pub index : PartIndex
   pub role : loaded.role ≡ IsPart name index
 
--- a part of an object that isn't settled lies at its node with this record, and these bytes are its index after a piece
+-- a part of a dirty object lies at its node with this record, and these bytes are its index after a piece
 pub record IsToBeChanged (state : State) (layout : Layout) (unlinked : List ℕ) (number : ℕ) (object : Object) (node entry signature n of_part place : ℕ) (piece bytes : List ℕ) (image : Image) : Type 0 where
   pub grows : CanGetParts [] state layout unlinked number object node entry signature image
   pub at : HasPartAt layout object n of_part
@@ -62,7 +62,7 @@ pub record IsChangedUnused (state : State) (old : Layout) (unlinked : List ℕ) 
 
 -- Its order.
 
--- at some moment between the part has the bytes of the piece, and its map is the one that it had: that state is kept there; what was at rest is found before and behind
+-- at some moment between the part has the bytes of the piece, and its map is the one that it had: that state is kept there; the old durable contents are recovered before and after
 pub record IsDataBeforeMap (state : State) (unlinked : List ℕ) (number : ℕ) (object : Object) (n place : ℕ) (piece : List ℕ) (old new : Told) : Type 0 where
   pub between : Told
   pub image : Image

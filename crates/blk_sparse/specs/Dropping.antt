@@ -1,4 +1,4 @@
--- The parts of an object go after its main item, one after another, in the order of the use list.
+-- The parts of an object go after its main item, one after another, in the order of the LRU list.
 use Rattle.std.specs.Prelude.{◌≡◌, ℕ, List, ◌∷◌, ◌++◌, Bool, Option, None, Some, false, filter, length, true}
 use Rattle.std.specs.Int.{cast_unsigned, w64}
 use Rattle.std.specs.List.{FoldsTo}
@@ -69,7 +69,7 @@ pub record AreGone (layout : Layout) (items : List Item) (gone : Gone) : Type 0 
   pub many : gone.items ≡ length items
   pub charged : gone.bytes ≡ charges_at layout (nodes_of layout items)
 
--- a closure was called with a front of some numbers, one after another
+-- a closure was called with a prefix of some numbers, one after another
 pub record IsCalledAtFront (E : Type 0) (call : E → ℕ → E → Type 0) (numbers : List ℕ) (old new : E) : Type 0 where
   pub front : List ℕ
   pub others : List ℕ
@@ -86,7 +86,7 @@ pub record IsWholeOut (state : State) (layout : Layout) (unlinked key : List ℕ
 
 -- One part after another.
 
--- none of the items of a list up to this node, the first of them or further ones, is a part of a key; these are behind it
+-- none of the items of a list up to this node, the first of them or further ones, is a part of a key; these are after it
 pub record IsBehind (layout : Layout) (key : List ℕ) (all : List Item) (node : Option ℕ) : Type 0 where
   pub front : List Item
   pub items : List Item
@@ -94,14 +94,14 @@ pub record IsBehind (layout : Layout) (key : List ℕ) (all : List Item) (node :
   pub none : HaveNoPart key front
   pub last : node ≡ last_node_of (nodes_of layout front)
 
--- what holds wherever parts are left, and those that are left are behind a node, or none is given and they are anywhere
+-- what holds wherever parts are left, and those that are left are after a node, or none is given and they are anywhere
 abbrev pub ForEachBehind : (key : List ℕ) (signature : ℕ) (node : Option ℕ) → Image → ((state : State) (layout : Layout) (keep : Item → Bool) → List ℕ → ℕ → Object → IsBehind layout key (filter keep state.uses) node → Type 0) → Type 0
 ForEachBehind key signature node from P =
     (state : State) (layout : Layout) (keep : Item → Bool) (chains : ℕ → List ℕ) (unlinked : List ℕ) (number : ℕ) (object : Object)
     → AreLeft state layout keep chains unlinked key number object from → HasSignature layout key signature → (is : IsBehind layout key (filter keep state.uses) node)
     → P state layout keep unlinked number object is
 
--- the first of the parts behind a node is out too: this number, with its charge, behind this node
+-- the first of the parts after a node is out too: this number, with its charge, after this node
 pub record IsNextOut (state : State) (layout : Layout) (keep : Item → Bool) (unlinked key : List ℕ) (number : ℕ) (object : Object) (front items : List Item) (dropped : Dropped) (image : Image) : Type 0 where
   pub passed : List Item
   pub behind : List Item
@@ -114,7 +114,7 @@ pub record IsNextOut (state : State) (layout : Layout) (keep : Item → Bool) (u
   pub chains : ℕ → List ℕ
   pub left : AreLeft state layout (keeps_but keep (part key dropped.number)) chains unlinked key number object image
 
--- or none of the items behind the node is a part of the key, and all is as before
+-- or none of the items after the node is a part of the key, and all is as before
 abbrev pub IsDropOfNext : (state : State) (layout : Layout) (keep : Item → Bool) (unlinked key : List ℕ) (number : ℕ) (object : Object) (front items : List Item) (next : Option Dropped) (from image : Image) → Type 0
 IsDropOfNext state layout keep unlinked key number object front items None from image = HaveNoPart key items × (image ≡ from)
 IsDropOfNext state layout keep unlinked key number object front items (Some dropped) from image = IsNextOut state layout keep unlinked key number object front items dropped image

@@ -132,7 +132,7 @@ pub record WritesPart (places : PartPlaces) (name bytes index : List ℕ) (role 
 
 -- Its place in the list and in its chain.
 
--- a state is kept, with the words of a part unlinked, which is written; its object is unsettled, so the same is at rest with it
+-- a state is kept, with the words of a part unlinked, which is written; its object is dirty, so the durable contents are the same with it
 pub record IsPartToBeListed (state : State) (objects : List (Option Object)) (layout : Layout) (unlinked key : List ℕ) (n : ℕ) (was seen loaded : Loaded) (image : Image) : Type 0 where
   pub kept : KeepsUncounted state layout (words_of loaded ++ unlinked) image
   pub written : IsPartWritten (view_of image) state objects layout key n was seen loaded
@@ -201,7 +201,7 @@ pub record IsFirstIndex (signature key_len place count : ℕ) (bytes : List ℕ)
   pub key_len_is : index.key_len ≡ key_len
   pub present : presence_in index ≡ presence_after empty_part.presence place (place + count)
 
--- the parent of an object that isn't settled, with room for a part more, which it lacks; this is its name
+-- the parent of a dirty object, with space for a part more, which it lacks; this is its name
 pub record CanHavePart (state : State) (layout : Layout) (unlinked : List ℕ) (number : ℕ) (object : Object) (node entry : ℕ) (child : ChildName) (name : List ℕ) (image : Image) : Type 0 where
   pub grows : CanGetParts (child.part ∷ []) state layout unlinked number object node entry (cast_unsigned w64 child.signature) image
   pub missing : is_some (part_at object child.part) ≡ false
@@ -216,7 +216,7 @@ ForEachLacking entry child name from P =
 
 -- Its order.
 
--- at some moment between the part of this name is whole, in the list and in its chain, and its parent is as it was at first; behind it nothing but the byte with its bit is written
+-- at some moment between the part of this name is whole, in the list and in its chain, and its parent is as it was at first; after it nothing but the byte with its bit is written
 pub record IsWholeBeforeItsBit (files : BlockFiles) (state : State) (layout : Layout) (key name : List ℕ) (n parent : ℕ) (old new : Told) : Type 0 where
   pub between : Told
   pub image : Image

@@ -21,7 +21,7 @@ use Rattle.blk_sparse.specs.Dropping.{AreGone, AreLeft, HasIndexedParts}
 use Rattle.blk_sparse.specs.declared.dropping.Gone.{Gone}
 use Rattle.blk_sparse.specs.declared.dropping.IndexedParts.{IndexedParts}
 
--- a live object with a key and an index, which a handle names or none does, lies as its main item at this node with this record, behind this one in its chain
+-- a live object with a key and an index, which a handle names or none does, lies as its main item at this node with this record, after this one in its chain
 pub record LiesAsParent (held : Bool) (state : State) (layout : Layout) (unlinked : List ℕ) (number : ℕ) (object : Object) (key : List ℕ) (node entry : ℕ) (before : Option ℕ) (image : Image) : Type 0 where
   pub kept : Keeps state layout unlinked image
   pub here : object_at state number ≡ Some object

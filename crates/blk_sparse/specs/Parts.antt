@@ -46,6 +46,6 @@ pub record IsUsed (state : State) (layout : Layout) (unlinked : List ℕ) (item 
   pub counters : SameCounters from image
   pub session : SameSession from image
 
--- what is at rest before the use of an item is found, or what is then
+-- the durable contents before the use of an item are recovered, or those after it
 abbrev pub FindsBeforeOrAfter : State → Item → Image → Type 0
 FindsBeforeOrAfter state item image = Finds (rest state) image ⊎ Finds (rest (with_used state item)) image

@@ -27,7 +27,7 @@ part_bytes object n place count = up_to_missing (map (byte_of_part object n) (nu
 abbrev pub part_run : Object → (n place count : ℕ) → ℕ × ℕ
 part_run object n place count = first_run place place (map (λ p. is_some (byte_of_part object n p)) (numbers_from place count))
 
--- the first run in two ranges, one behind the other: that of the first, which goes on in the second where it ends at their border; or that of the second
+-- the first run in two ranges, one after the other: that of the first, which goes on in the second where it ends at their border; or that of the second
 abbrev pub joined_runs : (asked border : ℕ) → ℕ × ℕ → ℕ × ℕ → ℕ × ℕ
 joined_runs asked border one two =
     if one.1 == 0 then (if two.1 == 0 then (asked, 0) else two) else

@@ -60,7 +60,7 @@ pub record KeepsParentThen (state : State) (old : Layout) (unlinked : List ℕ) 
 abbrev pub with_signature : Object → ℕ → Object
 with_signature object signature = record object { shape = sparse signature }
 
--- a state is kept, in which a live object isn't settled, is plain, and has nothing in its second and third stream; its main item lies at this node with this record, and there is room for one more place
+-- a state is kept, in which a live object is dirty, is plain, and has nothing in its second and third stream; its main item lies at this node with this record, and there is space for one more place
 pub record CanBecomeSparse (state : State) (layout : Layout) (unlinked : List ℕ) (number : ℕ) (object : Object) (node entry : ℕ) (image : Image) : Type 0 where
   pub kept : KeepsUncounted state layout unlinked image
   pub here : object_at state number ≡ Some object
@@ -88,7 +88,7 @@ ForEachPlain entry from P =
 abbrev pub missing_parts : Object → List ℕ → List ℕ
 missing_parts object ns = filter (λ n. not (is_some (part_at object n))) ns
 
--- the parent of an object that isn't settled, and there is room for those of these parts that it doesn't have
+-- the parent of a dirty object, and there is space for those of these parts that it doesn't have
 pub record CanGetParts (ns : List ℕ) (state : State) (layout : Layout) (unlinked : List ℕ) (number : ℕ) (object : Object) (node entry signature : ℕ) (image : Image) : Type 0 where
   pub parent : KeepsParent state layout unlinked number object node entry signature image
   pub unsettled : object.settled ≡ false
@@ -158,7 +158,7 @@ pub record KeepsParentUsed (state : State) (layout : Layout) (unlinked : List �
   pub counters : SameCounters from image
   pub session : SameSession from image
 
--- at a word: what is at rest with the first of some items used is found
+-- at a word: the durable contents with the first of some items used are recovered
 pub record FindsUsed (state : State) (items : List Item) (image : Image) : Type 0 where
   pub first : List Item
   pub others : List Item

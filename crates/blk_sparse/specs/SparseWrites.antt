@@ -34,7 +34,7 @@ pub record MayGetParts (object : Object) (was : Loaded) (target : Target) : Type
   pub of_sparse : target.plain ≡ false → object.shape ≡ sparse (signature_to target)
   pub of_parent : target.plain ≡ false → (index : ParentIndex) × ((was.role ≡ IsParent index) × (index.signature ≡ signature_to target))
 
--- a state is kept, in which a live object isn't settled; its main item lies at this node with this record, which may get parts, and there is room for those of some parts that it doesn't have
+-- a state is kept, in which a live object is dirty; its main item lies at this node with this record, which may get parts, and there is space for those of some parts that it doesn't have
 pub record IsTarget (ns : List ℕ) (state : State) (layout : Layout) (unlinked : List ℕ) (number : ℕ) (object : Object) (target : Target) (image : Image) : Type 0 where
   pub kept : KeepsUncounted state layout unlinked image
   pub here : object_at state number ≡ Some object

@@ -26,13 +26,14 @@ use blk_object::write_object;
 use blk_ranges::{INDEX, LONGEST_KEY, ParentHead, ParentMap};
 use blk_record::{EntryView, PARENT};
 
-/// Makes a plain object, that isn't settled and has nothing in its second and its third stream, a sparse one with a
+/// Makes a plain object, that is dirty and has nothing in its second and its third stream, a sparse one with a
 /// signature: its third stream gets the index of a parent without parts, and then its record the flags of a parent.
 ///
 /// The counters of the index stay. One folder call reads the record, and four give it the flags, beside those of
 /// `write_object`.
 ///
-/// A damage is one of `write_object`, a record that doesn't check, or one with a key of a length that no object's has.
+/// A failed check is one of `write_object`, a record that doesn't check, or one with a key of a length that no object's
+/// has.
 pub fn begin<F: Folder>(
     f: &mut F,
     files: &mut BlockFiles,
@@ -47,17 +48,17 @@ pub fn begin<F: Folder>(
     // Each state that was kept, with such an object, is kept with it sparse in the end, but for the counters.
     ensures begun { OnOk result (ForSome (F.told f.old).files (λ from. ForEachPlain entry from (λ state layout unlinked number object node. ForSome (F.told f.new).files (KeepsParentThen (with_object state number (with_signature object (cast_unsigned w64 signature))) layout unlinked number (with_signature object (cast_unsigned w64 signature)) node entry (cast_unsigned w64 signature) from)))) }
 
-    // At each word what was at rest is found: an object that isn't settled isn't.
+    // At each word the old durable contents are recovered: a dirty object isn't durable.
     ensures stops { ForSome (F.told f.old).files (λ from. ForEachPlain entry from (λ state layout unlinked number object node. Passes (F.told f.old) (F.told f.new) (Finds (rest state)))) }
 
-    // What stood still does.
+    // What was valid still is.
     ensures keeps { KeepsStanding files.old files.new }
     ensures is_open { OnOk result (ForSome (F.told f.new).files (IsOpen files.new)) }
 
-    // A damage is a check that fails on what is read here; nothing is written after it.
+    // Corruption is a check that fails on what is read here; nothing is written after it.
     ensures damaged { IfDamaged result (IsFailedCheck files.new (F.told f.new)) }
 
-    // A folder that tells its files, with such an object, gives no damage.
+    // An observable folder, with such an object, reports no corruption.
     ensures untold { ForSome (F.told f.old).files (λ from. ForEachPlain entry from (λ state layout unlinked number object node. IfDamaged result (λ _. (F.told f.old).files ≡ None))) }
 
     ensures silent { (F.told f.old).files ≡ None → (F.told f.new).files ≡ None }

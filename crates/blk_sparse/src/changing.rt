@@ -45,23 +45,23 @@ pub(crate) fn change_part<F: Folder>(
     requires inside { place + length piece.now ≤ part_size }
     requires is_open { ForSome (F.told f.old).files (IsOpen files.old) }
 
-    // Each state that was kept, with such a part of an object that isn't settled, is kept with the piece written and the part in front, but for the counters.
+    // Each state that was kept, with such a part of a dirty object, is kept with the piece written and the part in front, but for the counters.
     ensures written { OnOk result (ForSome (F.told f.old).files (λ from. ForEachPartThere part from (λ state layout unlinked number object node entry signature n. ForSome (F.told f.new).files (KeepsParentThen (with_piece_written state number object n place piece.now) layout unlinked number (with_piece object n place piece.now) node entry signature from)))) }
 
-    // At each word what was at rest is found: an object that isn't settled isn't, nor are its parts.
+    // At each word the old durable contents are recovered: a dirty object isn't durable, nor are its parts.
     ensures stops { ForSome (F.told f.old).files (λ from. ForEachPartThere part from (λ state layout unlinked number object node entry signature n. Passes (F.told f.old) (F.told f.new) (Finds (rest state)))) }
 
     // The part has the bytes before its map changes.
     ensures ordered { OnOk result (ForSome (F.told f.old).files (λ from. ForEachPartThere part from (λ state layout unlinked number object node entry signature n. IsDataBeforeMap state unlinked number object n place piece.now (F.told f.old) (F.told f.new)))) }
 
-    // What stood still does.
+    // What was valid still is.
     ensures keeps { KeepsStanding files.old files.new }
     ensures is_open { OnOk result (ForSome (F.told f.new).files (IsOpen files.new)) }
 
-    // A damage is a check that fails on what is read here; nothing is written after it.
+    // Corruption is a check that fails on what is read here; nothing is written after it.
     ensures damaged { IfDamaged result (IsFailedCheck files.new (F.told f.new)) }
 
-    // A folder that tells its files, with such a part, gives no damage.
+    // An observable folder, with such a part, reports no corruption.
     ensures untold { ForSome (F.told f.old).files (λ from. ForEachPartThere part from (λ state layout unlinked number object node entry signature n. IfDamaged result (λ _. (F.told f.old).files ≡ None))) }
 
     ensures silent { (F.told f.old).files ≡ None → (F.told f.new).files ≡ None }

@@ -66,15 +66,15 @@ pub fn drop_children<F: Folder>(
     // No more parts go than a list has nodes.
     ensures few { IfOk result (λ count. count ≤ 131072) }
 
-    // At each word what is at rest with the object doomed is found.
+    // At each word the durable contents with the object doomed are recovered.
     ensures stops { ForSome (F.told f.old).files (λ from. ForEachParentOut parent.now.node parent.now.entry (cast_unsigned w64 parent.now.signature) from (λ state layout keep unlinked number object. Passes (F.told f.old) (F.told f.new) (Finds (rest (doomed number state (Some object)))))) }
 
     ensures is_open { ForSome (F.told f.new).files (IsOpen files.now) }
 
-    // A damage is a check that fails on what is read here; nothing is written after it.
+    // Corruption is a check that fails on what is read here; nothing is written after it.
     ensures damaged { IfDamaged result (IsFailedCheck files.now (F.told f.new)) }
 
-    // A folder that tells its files, with such a parent, gives no damage.
+    // An observable folder, with such a parent, reports no corruption.
     ensures untold { ForSome (F.told f.old).files (λ from. ForEachParentOut parent.now.node parent.now.entry (cast_unsigned w64 parent.now.signature) from (λ state layout keep unlinked number object. IfDamaged result (λ _. (F.told f.old).files ≡ None))) }
 
     ensures silent { (F.told f.old).files ≡ None → (F.told f.new).files ≡ None }
@@ -85,13 +85,13 @@ pub fn drop_children<F: Folder>(
 }
 
 /// Drops the parts of a parent, after it went: each is taken out, its places are freed, and it is counted no longer; and
-/// then `each` is called with its number. They go in the order of the use list, in one walk over it; where no bit of the
+/// then `each` is called with its number. They go in the order of the LRU list, in one walk over it; where no bit of the
 /// parent's index is set, no list is walked. How many went is given.
 ///
-/// The key is read from the parent's record into the front of `name`, and the names of the parts are made behind the
-/// longest key. This takes four folder calls, and those of `drop_parts_with` where a bit is set. A damage is one of those
-/// that `key_piece`, `read_signature` and `drop_parts_with` give, or a key that has no byte or is longer than a parent's,
-/// of the length in its record.
+/// The key is read from the parent's record into the front of `name`, and the names of the parts are made after the
+/// longest key. This takes four folder calls, and those of `drop_parts_with` where a bit is set. A failed check is one of
+/// those that `key_piece`, `read_signature` and `drop_parts_with` give, or a key that has no byte or is longer than a
+/// parent's, of the length in its record.
 pub fn drop_children_with<F: Folder, E: FnMut(u32)>(
     f: &mut F,
     files: &BlockFiles,
@@ -117,22 +117,23 @@ pub fn drop_children_with<F: Folder, E: FnMut(u32)>(
     // No more parts go than a list has nodes.
     ensures few { IfOk result (λ count. count ≤ 131072) }
 
-    // `each` was called with the numbers of the parts that were left, in the order of the list, once each; or with a front of them.
+    // `each` was called with the numbers of the parts that were left, in the order of the list, once each; or with a prefix of
+    // them.
     ensures each { OnOk result (ForSome (F.told f.old).files (λ from. ForEachParentOut parent.now.node parent.now.entry (cast_unsigned w64 parent.now.signature) from (λ state layout keep unlinked number object. FoldsTo (λ p x q. E.step p x tt q) each.old (parts_among object.key (filter keep state.uses)) each.new))) }
     ensures front { ForSome (F.told f.old).files (λ from. ForEachParentOut parent.now.node parent.now.entry (cast_unsigned w64 parent.now.signature) from (λ state layout keep unlinked number object. IsCalledAtFront E (λ p x q. E.step p x tt q) (parts_among object.key (filter keep state.uses)) each.old each.new)) }
 
     // On every folder it was called with some numbers.
     ensures calls { (numbers : List ℕ) × FoldsTo (λ p x q. E.step p x tt q) each.old numbers each.new }
 
-    // At each word what is at rest with the object doomed is found.
+    // At each word the durable contents with the object doomed are recovered.
     ensures stops { ForSome (F.told f.old).files (λ from. ForEachParentOut parent.now.node parent.now.entry (cast_unsigned w64 parent.now.signature) from (λ state layout keep unlinked number object. Passes (F.told f.old) (F.told f.new) (Finds (rest (doomed number state (Some object)))))) }
 
     ensures is_open { ForSome (F.told f.new).files (IsOpen files.now) }
 
-    // A damage is a check that fails on what is read here; nothing is written after it.
+    // Corruption is a check that fails on what is read here; nothing is written after it.
     ensures damaged { IfDamaged result (IsFailedCheck files.now (F.told f.new)) }
 
-    // A folder that tells its files, with such a parent, gives no damage.
+    // An observable folder, with such a parent, reports no corruption.
     ensures untold { ForSome (F.told f.old).files (λ from. ForEachParentOut parent.now.node parent.now.entry (cast_unsigned w64 parent.now.signature) from (λ state layout keep unlinked number object. IfDamaged result (λ _. (F.told f.old).files ≡ None))) }
 
     ensures silent { (F.told f.old).files ≡ None → (F.told f.new).files ≡ None }

@@ -54,12 +54,12 @@ struct Dropped {
 }
 
 /// Drops the parts of a key, after its main item went: each is taken out, its places are freed, and it is counted no
-/// longer; and then `each` is called with its number. They go in the order of the use list, in one walk over it.
+/// longer; and then `each` is called with its number. They go in the order of the LRU list, in one walk over it.
 ///
-/// The signature is that of the index of the key's main item, and the names of the parts are made in `room`. This takes
-/// three folder calls for each item of the list, two more for a part of any key, and those of `find` and `remove_part`
-/// for each part that goes. A part that its name doesn't find is a damage, of the hash of its record. No more parts go than a
-/// list has nodes.
+/// The signature is that of the index of the key's main item, and the names of the parts are made in `room`. This takes three
+/// folder calls for each item of the list, two more for a part of any key, and those of `find` and `remove_part` for each
+/// part that goes. A part that its name doesn't find is corruption, of the hash of its record. No more parts go than a list
+/// has nodes.
 pub fn drop_parts_with<F: Folder, E: FnMut(u32)>(
     f: &mut F,
     files: &BlockFiles,
@@ -87,22 +87,23 @@ pub fn drop_parts_with<F: Folder, E: FnMut(u32)>(
     ensures few { IfOk result (λ gone. gone.items ≤ 131072) }
     ensures light { IfOk result (λ gone. gone.bytes ≤ 2 ^ 51) }
 
-    // `each` was called with the numbers of the parts that were left, in the order of the list, once each; or with a front of them.
+    // `each` was called with the numbers of the parts that were left, in the order of the list, once each; or with a prefix of
+    // them.
     ensures each { OnOk result (ForSome (F.told f.old).files (λ from. ForEachLeft key.now (cast_unsigned w64 signature) from (λ state layout keep unlinked number object. FoldsTo (λ p x q. E.step p x tt q) each.old (parts_among key.now (filter keep state.uses)) each.new))) }
     ensures front { ForSome (F.told f.old).files (λ from. ForEachLeft key.now (cast_unsigned w64 signature) from (λ state layout keep unlinked number object. IsCalledAtFront E (λ p x q. E.step p x tt q) (parts_among key.now (filter keep state.uses)) each.old each.new)) }
 
     // On every folder it was called with some numbers.
     ensures calls { (numbers : List ℕ) × FoldsTo (λ p x q. E.step p x tt q) each.old numbers each.new }
 
-    // At each word what is at rest with the object doomed is found.
+    // At each word the durable contents with the object doomed are recovered.
     ensures stops { ForSome (F.told f.old).files (λ from. ForEachLeft key.now (cast_unsigned w64 signature) from (λ state layout keep unlinked number object. Passes (F.told f.old) (F.told f.new) (Finds (rest (doomed number state (Some object)))))) }
 
     ensures is_open { ForSome (F.told f.new).files (IsOpen files.now) }
 
-    // A damage is a check that fails on what is read here; nothing is written after it.
+    // Corruption is a check that fails on what is read here; nothing is written after it.
     ensures damaged { IfDamaged result (IsFailedCheck files.now (F.told f.new)) }
 
-    // A folder that tells its files, in which parts are left so, gives no damage.
+    // An observable folder, in which parts are left so, reports no corruption.
     ensures untold { ForSome (F.told f.old).files (λ from. ForEachLeft key.now (cast_unsigned w64 signature) from (λ state layout keep unlinked number object. IfDamaged result (λ _. (F.told f.old).files ≡ None))) }
 
     ensures silent { (F.told f.old).files ≡ None → (F.told f.new).files ≡ None }
@@ -162,7 +163,7 @@ pub(crate) fn drop_indexed_with<F: Folder, E: FnMut(u32)>(
     drop_parts_with(f, files, key, indexed.signature, room, each)
 }
 
-// Drops the first part of a key behind a node, or from the front of the list on, if there is one.
+// Drops the first part of a key after a node, or from the front of the list on, if there is one.
 fn drop_next<F: Folder>(
     f: &mut F,
     files: &BlockFiles,

@@ -30,7 +30,7 @@ pub struct PartRecords {
 
 /// The parts of an object that `count` bytes from an offset on cover, one or two; nothing is changed.
 ///
-/// The key is read from the parent's record into the front of `name`, and the names of the parts are made behind the
+/// The key is read from the parent's record into the front of `name`, and the names of the parts are made after the
 /// longest key. For each covered part there are the calls of `find`.
 pub fn find_parts<F: Folder>(
     f: &mut F,
@@ -52,7 +52,7 @@ pub fn find_parts<F: Folder>(
     // They are those of each object that a kept state has so.
     ensures parts { IfOk result (λ found. ForSome (F.told f.old).files (λ from. ForEachKeptParent parent.now.node parent.now.entry (cast_unsigned w64 parent.now.signature) from (λ state layout unlinked number object. ArePartsFound layout object offset count found))) }
 
-    // On every folder they stand.
+    // On every folder they are valid.
     ensures first_kind { IfOk result (λ found. IfSome found.first (λ entry. kind_of entry ≡ blocks_256)) }
     ensures first_stands { IfOk result (λ found. IfSome found.first (λ entry. IsTrue (stands_among files.now entry))) }
     ensures second_kind { IfOk result (λ found. IfSome found.second (λ entry. kind_of entry ≡ blocks_256)) }
@@ -60,7 +60,7 @@ pub fn find_parts<F: Folder>(
 
     ensures stays { Stays (F.told f.old) (F.told f.new) }
 
-    // A damage is a check that fails on what is read here. A folder that tells its files, with such an object, gives none.
+    // Corruption is a check that fails on what is read here. An observable folder, with such an object, gives none.
     ensures damaged { IfDamaged result (IsFailedCheck files.now (F.told f.new)) }
     ensures untold { ForSome (F.told f.old).files (λ from. ForEachKeptParent parent.now.node parent.now.entry (cast_unsigned w64 parent.now.signature) from (λ state layout unlinked number object. IfDamaged result (λ _. (F.told f.old).files ≡ None))) }
 

@@ -1,4 +1,4 @@
-//! Objects that go with their parts: the parts of a key in one walk over the use list, those of a parent, and a whole
+//! Objects that go with their parts: the parts of a key in one walk over the LRU list, those of a parent, and a whole
 //! object with an index, of which one that a handle names stays.
 #![tactic(auto)]
 

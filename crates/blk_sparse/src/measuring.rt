@@ -54,7 +54,7 @@ pub(crate) struct Piece {
 
 /// Measures what a write of some bytes adds to an object with parts. Nothing is written.
 ///
-/// The key is read from the parent's record into the front of `name`, and the names of the parts are made behind the
+/// The key is read from the parent's record into the front of `name`, and the names of the parts are made after the
 /// longest key. Each covered part is searched, and two folder calls read one that there is.
 pub fn measure<F: Folder>(
     f: &mut F,
@@ -76,7 +76,7 @@ pub fn measure<F: Folder>(
     ensures light { IfOk result (λ found. found.bytes < 2 ^ 36) }
     ensures stays { Stays (F.told f.old) (F.told f.new) }
 
-    // A damage is a check that fails on what is read here. A folder that tells its files, with such an object, gives none.
+    // Corruption is a check that fails on what is read here. An observable folder, with such an object, gives none.
     ensures damaged { IfDamaged result (IsFailedCheck files.now (F.told f.new)) }
     ensures untold { ForSome (F.told f.old).files (λ from. ForEachParentMeasured parent.now.node parent.now.entry (cast_unsigned w64 parent.now.signature) from (λ layout object. IfDamaged result (λ _. (F.told f.old).files ≡ None))) }
 
@@ -271,7 +271,7 @@ pub fn measure_plain<F: Folder>(
     ensures light { IfOk result (λ found. found.bytes < 2 ^ 36) }
     ensures stays { Stays (F.told f.old) (F.told f.new) }
 
-    // A damage is a check that fails on what is read here. A folder that tells its files, with such an object, gives none.
+    // Corruption is a check that fails on what is read here. An observable folder, with such an object, gives none.
     ensures damaged { IfDamaged result (IsFailedCheck files.now (F.told f.new)) }
     ensures untold { ForSome (F.told f.old).files (λ from. ForEachPlainMeasured entry from (λ layout object. IfDamaged result (λ _. (F.told f.old).files ≡ None))) }
 

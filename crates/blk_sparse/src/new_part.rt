@@ -209,7 +209,7 @@ fn write_part<F: Folder>(
     // Where these are the bytes of a part of this name, each state that was kept with its words unlinked is kept so, and the part is there.
     ensures written { OnOk result (ForSome (F.told f.old).files (λ from. ForSome (F.told f.new).files (λ image. (bytes index : List ℕ) (role : Role) → ArePartStreams places.now name.now bytes index role from → length bytes ≡ size → WritesPart places.now name.now bytes index role from image))) }
 
-    // At each word what was at rest is found.
+    // At each word the old durable contents are recovered.
     ensures stops { ForSome (F.told f.old).files (λ from. Passes (F.told f.old) (F.told f.new) (StillFinds (words_of_part places.now) from)) }
     ensures is_open { ForSome (F.told f.new).files (IsOpen files.now) }
     ensures damaged { IfDamaged result (IsFailedCheck files.now (F.told f.new)) }
@@ -229,7 +229,7 @@ fn write_part<F: Folder>(
     )
 }
 
-// Puts the node of a new part in front of the use list, and then its record in front of its chain.
+// Puts the node of a new part in front of the LRU list, and then its record in front of its chain.
 fn list_part<F: Folder>(f: &mut F, files: &BlockFiles, entry: Addr, node: Addr) -> Result<(), Fault>
     requires stands { IsTrue (is_record_among files.now entry) }
     requires node { IsTrue (is_node_among files.now node) }
@@ -314,10 +314,10 @@ fn first_index(child: &ChildName, place: u32, count: u32) -> [u8; 192]
     bytes
 }
 
-/// Makes a part that doesn't exist, of an object that isn't settled, with a piece of its data, from a place in it on.
+/// Makes a part that doesn't exist, of a dirty object, with a piece of its data, from a place in it on.
 ///
 /// Its places are taken and its two streams are stored first; then its entry is written there, and its record names the
-/// streams by one sealed update. Then its node comes in front of the use list, its record in front of its chain, and at
+/// streams by one sealed update. Then its node comes in front of the LRU list, its record in front of its chain, and at
 /// last its parent gets its bit, where it hasn't. The counters of the index stay.
 pub(crate) fn make_part<F: Folder>(
     f: &mut F,
@@ -341,23 +341,23 @@ pub(crate) fn make_part<F: Folder>(
     requires most { place + length piece.now ≤ part_size }
     requires is_open { ForSome (F.told f.old).files (IsOpen files.old) }
 
-    // Of each unsettled object with such a parent, which lacks the part of this name, the state with the piece written is kept in the end, but for the counters.
+    // Of each dirty object with such a parent, which lacks the part of this name, the state with the piece written is kept in the end, but for the counters.
     ensures written { OnOk result (ForSome (F.told f.old).files (λ from. ForEachLacking parent child.now name.now from (λ state layout unlinked number object node. ForSome (F.told f.new).files (KeepsParentThen (with_piece_written state number object child.now.part place piece.now) layout unlinked number (with_piece object child.now.part place piece.now) node parent (cast_unsigned w64 child.now.signature) from)))) }
 
-    // At each word what was at rest is found: an object that isn't settled isn't.
+    // At each word the old durable contents are recovered: a dirty object isn't durable.
     ensures stops { ForSome (F.told f.old).files (λ from. ForEachLacking parent child.now name.now from (λ state layout unlinked number object node. Passes (F.told f.old) (F.told f.new) (Finds (rest state)))) }
 
     // It is whole, in the list and in its chain, before its parent's bit is set.
     ensures ordered { OnOk result (ForSome (F.told f.old).files (λ from. ForEachLacking parent child.now name.now from (λ state layout unlinked number object node. IsWholeBeforeItsBit files.new state layout object.key name.now child.now.part parent (F.told f.old) (F.told f.new)))) }
 
-    // What stood still does.
+    // What was valid still is.
     ensures keeps { KeepsStanding files.old files.new }
     ensures is_open { OnOk result (ForSome (F.told f.new).files (IsOpen files.new)) }
 
-    // A damage is a check that fails on what is read here; nothing is written after it.
+    // Corruption is a check that fails on what is read here; nothing is written after it.
     ensures damaged { IfDamaged result (IsFailedCheck files.new (F.told f.new)) }
 
-    // A folder that tells its files, with such an object, gives no damage.
+    // An observable folder, with such an object, reports no corruption.
     ensures untold { ForSome (F.told f.old).files (λ from. ForEachLacking parent child.now name.now from (λ state layout unlinked number object node. IfDamaged result (λ _. (F.told f.old).files ≡ None))) }
 
     ensures silent { (F.told f.old).files ≡ None → (F.told f.new).files ≡ None }

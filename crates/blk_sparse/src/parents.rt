@@ -41,10 +41,10 @@ use blk_stream::read;
 /// Where no bit of its index is set, no list is walked. How many items went is given, the main one too, and what they
 /// were charged.
 ///
-/// Its places and its charge were read before, as `read_owned` gives them. Its record stands in its chain behind the
-/// record before, or is the first; and it names this node. The index is read into `room`, and then the names of parts are
-/// made there. This takes as many folder calls as `take_main` and `drop_parts_with`, two more, and seven for each place
-/// of the main item.
+/// Its places and its charge were read before, as `read_owned` gives them. Its record is in its chain after the record
+/// before, or is the first; and it names this node. The index is read into `room`, and then the names of parts are made
+/// there. This takes as many folder calls as `take_main` and `drop_parts_with`, two more, and seven for each place of the
+/// main item.
 pub fn remove_parent_with<F: Folder, E: FnMut(u32)>(
     f: &mut F,
     files: &BlockFiles,
@@ -73,22 +73,23 @@ pub fn remove_parent_with<F: Folder, E: FnMut(u32)>(
     ensures gone { IfOk result (λ gone. ForSome (F.told f.old).files (λ from. IsOwnedBy found.now.entry owned.now from → ForEachParent key.now node found.now.entry found.now.before from (λ state layout unlinked number object. IsGroupTold state layout key.now gone))) }
     ensures session { OnOk result (ForSome (F.told f.old).files (λ from. IsOwnedBy found.now.entry owned.now from → ForEachParent key.now node found.now.entry found.now.before from (λ state layout unlinked number object. ForSome (F.told f.new).files (SameSession from)))) }
 
-    // `each` was called with the numbers of its parts, in the order of the use list, once each; or with a front of them.
+    // `each` was called with the numbers of its parts, in the order of the LRU list, once each; or with a prefix of
+    // them.
     ensures each { OnOk result (ForSome (F.told f.old).files (λ from. IsOwnedBy found.now.entry owned.now from → ForEachParent key.now node found.now.entry found.now.before from (λ state layout unlinked number object. FoldsTo (λ p x q. E.step p x tt q) each.old (parts_among key.now state.uses) each.new))) }
     ensures front { ForSome (F.told f.old).files (λ from. IsOwnedBy found.now.entry owned.now from → ForEachParent key.now node found.now.entry found.now.before from (λ state layout unlinked number object. IsCalledAtFront E (λ p x q. E.step p x tt q) (parts_among key.now state.uses) each.old each.new)) }
 
     // On every folder it was called with some numbers.
     ensures calls { (numbers : List ℕ) × FoldsTo (λ p x q. E.step p x tt q) each.old numbers each.new }
 
-    // At each word what was at rest is found, or what is at rest with the object doomed.
+    // At each word the old durable contents are recovered, or those with the object doomed.
     ensures stops { ForSome (F.told f.old).files (λ from. IsOwnedBy found.now.entry owned.now from → ForEachParent key.now node found.now.entry found.now.before from (λ state layout unlinked number object. Passes (F.told f.old) (F.told f.new) (FindsEither state (doomed number state (Some object))))) }
 
     ensures is_open { ForSome (F.told f.new).files (IsOpen files.now) }
 
-    // A damage is a check that fails on what is read here; nothing is written after it.
+    // Corruption is a check that fails on what is read here; nothing is written after it.
     ensures damaged { IfDamaged result (IsFailedCheck files.now (F.told f.new)) }
 
-    // A folder that tells its files, with such an object, gives no damage.
+    // An observable folder, with such an object, reports no corruption.
     ensures untold { ForSome (F.told f.old).files (λ from. IsOwnedBy found.now.entry owned.now from → ForEachParent key.now node found.now.entry found.now.before from (λ state layout unlinked number object. IfDamaged result (λ _. (F.told f.old).files ≡ None))) }
 
     ensures silent { (F.told f.old).files ≡ None → (F.told f.new).files ≡ None }
@@ -105,8 +106,8 @@ pub fn remove_parent_with<F: Folder, E: FnMut(u32)>(
 /// Where no bit of its index is set, no list is walked. Nothing of the main item is freed: its places stay its until the
 /// last handle is closed. How many parts went is given, and what they were charged.
 ///
-/// Its record stands in its chain behind the record before, or is the first; and it names this node. The index is
-/// read into `room`, and then the names of parts are made there. This takes as many folder calls as `take_main` and
+/// Its record is in its chain after the record before, or is the first; and it names this node. The index is read into
+/// `room`, and then the names of parts are made there. This takes as many folder calls as `take_main` and
 /// `drop_parts_with`, two more, and four for the record.
 pub fn doom_parent<F: Folder>(
     f: &mut F,
@@ -132,15 +133,15 @@ pub fn doom_parent<F: Folder>(
     ensures gone { IfOk result (λ gone. ForSome (F.told f.old).files (λ from. ForEachHeldParent key.now node found.now.entry found.now.before charge from (λ state layout unlinked number object. ArePartsTold state layout key.now gone))) }
     ensures session { OnOk result (ForSome (F.told f.old).files (λ from. ForEachHeldParent key.now node found.now.entry found.now.before charge from (λ state layout unlinked number object. ForSome (F.told f.new).files (SameSession from)))) }
 
-    // At each word what was at rest is found, or what is at rest with the object doomed.
+    // At each word the old durable contents are recovered, or those with the object doomed.
     ensures stops { ForSome (F.told f.old).files (λ from. ForEachHeldParent key.now node found.now.entry found.now.before charge from (λ state layout unlinked number object. Passes (F.told f.old) (F.told f.new) (FindsEither state (doomed number state (Some object))))) }
 
     ensures is_open { ForSome (F.told f.new).files (IsOpen files.now) }
 
-    // A damage is a check that fails on what is read here; nothing is written after it.
+    // Corruption is a check that fails on what is read here; nothing is written after it.
     ensures damaged { IfDamaged result (IsFailedCheck files.now (F.told f.new)) }
 
-    // A folder that tells its files, with such an object, gives no damage.
+    // An observable folder, with such an object, reports no corruption.
     ensures untold { ForSome (F.told f.old).files (λ from. ForEachHeldParent key.now node found.now.entry found.now.before charge from (λ state layout unlinked number object. IfDamaged result (λ _. (F.told f.old).files ≡ None))) }
 
     ensures silent { (F.told f.old).files ≡ None → (F.told f.new).files ≡ None }
@@ -156,7 +157,7 @@ pub fn doom_parent<F: Folder>(
 
 /// Reads the signature of the index of a parent, by two folder calls.
 ///
-/// A damage is one of `read`, or a third stream that begins otherwise than an index.
+/// A failed check is one of `read`, or a third stream that begins otherwise than an index.
 pub fn read_signature<F: Folder>(f: &mut F, files: &BlockFiles, entry: Addr) -> Result<i64, Fault>
     requires kind { kind_of entry ≡ blocks_256 }
     requires stands { IsTrue (stands_among files.now entry) }
@@ -166,7 +167,7 @@ pub fn read_signature<F: Folder>(f: &mut F, files: &BlockFiles, entry: Addr) -> 
     ensures small { IfOk result (λ signature. cast_unsigned w64 signature < signatures) }
     ensures stays { Stays (F.told f.old) (F.told f.new) }
 
-    // A damage is a check that fails on what is read here. A folder that tells its files gives none where this is a parent's record.
+    // Corruption is a check that fails on what is read here. An observable folder gives none where this is a parent's record.
     ensures damaged { IfDamaged result (IsFailedCheck files.now (F.told f.new)) }
     ensures untold { ForSome (F.told f.old).files (Agrees files.now) → ForSome (F.told f.old).files (LoadsAsParent entry) → IfDamaged result (λ _. (F.told f.old).files ≡ None) }
 

@@ -52,7 +52,7 @@ pub(crate) fn find_part<F: Folder>(
     }
 }
 
-// Moves the node that a record names to the front of the use list, and sets its times to a moment.
+// Moves the node that a record names to the front of the LRU list, and sets its times to a moment.
 pub(crate) fn use_entry<F: Folder>(
     f: &mut F,
     files: &BlockFiles,

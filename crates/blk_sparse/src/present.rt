@@ -29,7 +29,7 @@ use blk_stream::read;
 /// many were read is given.
 ///
 /// Nothing is changed, and no part is used. The key is read from the parent's record into the front of `name`, and the
-/// names of the parts are made behind the longest key.
+/// names of the parts are made after the longest key.
 pub fn read_present<F: Folder>(
     f: &mut F,
     files: &BlockFiles,
@@ -54,10 +54,10 @@ pub fn read_present<F: Folder>(
     ensures stays { Stays (F.told f.old) (F.told f.new) }
     ensures name { length name.new ≡ length name.old }
 
-    // A damage is a check that fails on what is read here; nothing is written after it.
+    // Corruption is a check that fails on what is read here; nothing is written after it.
     ensures damaged { IfDamaged result (IsFailedCheck files.now (F.told f.new)) }
 
-    // A folder that tells its files, with such an object, gives no damage.
+    // An observable folder, with such an object, reports no corruption.
     ensures untold { ForSome (F.told f.old).files (λ from. ForEachKeptParent parent.now.node parent.now.entry (cast_unsigned w64 parent.now.signature) from (λ state layout unlinked number object. IfDamaged result (λ _. (F.told f.old).files ≡ None))) }
 
     ensures later { F.faults f.old ≤ F.faults f.new }

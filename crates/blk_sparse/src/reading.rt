@@ -24,9 +24,9 @@ use blk_io::{Fault, Folder};
 use blk_ranges::{LONGEST_KEY, child_of};
 
 /// Uses the parts of an object that a range covers and that there are, in rising number: the node of each comes to the
-/// front of the use list, and gets a moment as its times.
+/// front of the LRU list, and gets a moment as its times.
 ///
-/// The key is read from the parent's record into the front of `name`, and the names of the parts are made behind the
+/// The key is read from the parent's record into the front of `name`, and the names of the parts are made after the
 /// longest key. For each covered part there are the calls of `find`, and where there is the part one more and those of
 /// `touch`.
 pub fn use_parts<F: Folder>(
@@ -49,15 +49,15 @@ pub fn use_parts<F: Folder>(
     // Each state that was kept, with such an object, is kept with these parts in front in the end, by the same layout.
     ensures used { OnOk result (ForSome (F.told f.old).files (λ from. ForEachKeptParent parent.now.node parent.now.entry (cast_unsigned w64 parent.now.signature) from (λ state layout unlinked number object. ForSome (F.told f.new).files (KeepsParentUsed state layout unlinked number object parent.now.node parent.now.entry (cast_unsigned w64 parent.now.signature) (parts_used object offset count) from)))) }
 
-    // At each word what is at rest with the first of them in front is found.
+    // At each word the durable contents with the first of them in front are recovered.
     ensures stops { ForSome (F.told f.old).files (λ from. ForEachKeptParent parent.now.node parent.now.entry (cast_unsigned w64 parent.now.signature) from (λ state layout unlinked number object. Passes (F.told f.old) (F.told f.new) (FindsUsed state (parts_used object offset count)))) }
 
     ensures is_open { ForSome (F.told f.new).files (IsOpen files.now) }
 
-    // A damage is a check that fails on what is read here; nothing is written after it.
+    // Corruption is a check that fails on what is read here; nothing is written after it.
     ensures damaged { IfDamaged result (IsFailedCheck files.now (F.told f.new)) }
 
-    // A folder that tells its files, with such an object, gives no damage.
+    // An observable folder, with such an object, reports no corruption.
     ensures untold { ForSome (F.told f.old).files (λ from. ForEachKeptParent parent.now.node parent.now.entry (cast_unsigned w64 parent.now.signature) from (λ state layout unlinked number object. IfDamaged result (λ _. (F.told f.old).files ≡ None))) }
 
     ensures silent { (F.told f.old).files ≡ None → (F.told f.new).files ≡ None }
@@ -150,10 +150,10 @@ fn use_part<F: Folder>(
 }
 
 /// Reads the bytes of an object from an offset on up to the first that is not present, at most as many as `out` has, and
-/// uses the parts that those places cover and that there are, also behind the first absent byte. How many were read is
+/// uses the parts that those places cover and that there are, also after the first absent byte. How many were read is
 /// given.
 ///
-/// The key is read from the parent's record into the front of `name`, and the names of the parts are made behind the
+/// The key is read from the parent's record into the front of `name`, and the names of the parts are made after the
 /// longest key. The calls are those of `read_present` and of `use_parts`.
 pub fn read<F: Folder>(
     f: &mut F,
@@ -180,15 +180,15 @@ pub fn read<F: Folder>(
     // Each state that was kept, with such an object, is kept with these parts in front in the end, by the same layout.
     ensures used { OnOk result (ForSome (F.told f.old).files (λ from. ForEachKeptParent parent.now.node parent.now.entry (cast_unsigned w64 parent.now.signature) from (λ state layout unlinked number object. ForSome (F.told f.new).files (KeepsParentUsed state layout unlinked number object parent.now.node parent.now.entry (cast_unsigned w64 parent.now.signature) (parts_used object offset (length out.old)) from)))) }
 
-    // At each word what is at rest with the first of them in front is found.
+    // At each word the durable contents with the first of them in front are recovered.
     ensures stops { ForSome (F.told f.old).files (λ from. ForEachKeptParent parent.now.node parent.now.entry (cast_unsigned w64 parent.now.signature) from (λ state layout unlinked number object. Passes (F.told f.old) (F.told f.new) (FindsUsed state (parts_used object offset (length out.old))))) }
 
     ensures is_open { ForSome (F.told f.new).files (IsOpen files.now) }
 
-    // A damage is a check that fails on what is read here; nothing is written after it.
+    // Corruption is a check that fails on what is read here; nothing is written after it.
     ensures damaged { IfDamaged result (IsFailedCheck files.now (F.told f.new)) }
 
-    // A folder that tells its files, with such an object, gives no damage.
+    // An observable folder, with such an object, reports no corruption.
     ensures untold { ForSome (F.told f.old).files (λ from. ForEachKeptParent parent.now.node parent.now.entry (cast_unsigned w64 parent.now.signature) from (λ state layout unlinked number object. IfDamaged result (λ _. (F.told f.old).files ≡ None))) }
 
     ensures silent { (F.told f.old).files ≡ None → (F.told f.new).files ≡ None }
@@ -203,7 +203,7 @@ pub fn read<F: Folder>(
 /// The first run of present bytes of an object among `count` from an offset on, as its offset and its length; the offset
 /// and 0 where none is. The parts that those places cover and that there are are used.
 ///
-/// The key is read from the parent's record into the front of `name`, and the names of the parts are made behind the
+/// The key is read from the parent's record into the front of `name`, and the names of the parts are made after the
 /// longest key. The calls are those of `find_run` and of `use_parts`.
 pub fn range<F: Folder>(
     f: &mut F,
@@ -228,15 +228,15 @@ pub fn range<F: Folder>(
     // Each state that was kept, with such an object, is kept with these parts in front in the end, by the same layout.
     ensures used { OnOk result (ForSome (F.told f.old).files (λ from. ForEachKeptParent parent.now.node parent.now.entry (cast_unsigned w64 parent.now.signature) from (λ state layout unlinked number object. ForSome (F.told f.new).files (KeepsParentUsed state layout unlinked number object parent.now.node parent.now.entry (cast_unsigned w64 parent.now.signature) (parts_used object offset count) from)))) }
 
-    // At each word what is at rest with the first of them in front is found.
+    // At each word the durable contents with the first of them in front are recovered.
     ensures stops { ForSome (F.told f.old).files (λ from. ForEachKeptParent parent.now.node parent.now.entry (cast_unsigned w64 parent.now.signature) from (λ state layout unlinked number object. Passes (F.told f.old) (F.told f.new) (FindsUsed state (parts_used object offset count)))) }
 
     ensures is_open { ForSome (F.told f.new).files (IsOpen files.now) }
 
-    // A damage is a check that fails on what is read here; nothing is written after it.
+    // Corruption is a check that fails on what is read here; nothing is written after it.
     ensures damaged { IfDamaged result (IsFailedCheck files.now (F.told f.new)) }
 
-    // A folder that tells its files, with such an object, gives no damage.
+    // An observable folder, with such an object, reports no corruption.
     ensures untold { ForSome (F.told f.old).files (λ from. ForEachKeptParent parent.now.node parent.now.entry (cast_unsigned w64 parent.now.signature) from (λ state layout unlinked number object. IfDamaged result (λ _. (F.told f.old).files ≡ None))) }
 
     ensures silent { (F.told f.old).files ≡ None → (F.told f.new).files ≡ None }

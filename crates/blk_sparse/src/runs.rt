@@ -32,7 +32,7 @@ pub struct Run {
 /// The first run of present bytes of an object among `count` from an offset on; the offset and 0 where none is.
 ///
 /// Nothing is changed, and no part is used. The key is read from the parent's record into the front of `name`, and the
-/// names of the parts are made behind the longest key. For each covered part there are the calls of `find`, and where
+/// names of the parts are made after the longest key. For each covered part there are the calls of `find`, and where
 /// there is the part two more.
 pub fn find_run<F: Folder>(
     f: &mut F,
@@ -56,10 +56,10 @@ pub fn find_run<F: Folder>(
     ensures stays { Stays (F.told f.old) (F.told f.new) }
     ensures name { length name.new ≡ length name.old }
 
-    // A damage is a check that fails on what is read here; nothing is written after it.
+    // Corruption is a check that fails on what is read here; nothing is written after it.
     ensures damaged { IfDamaged result (IsFailedCheck files.now (F.told f.new)) }
 
-    // A folder that tells its files, with such an object, gives no damage.
+    // An observable folder, with such an object, reports no corruption.
     ensures untold { ForSome (F.told f.old).files (λ from. ForEachKeptParent parent.now.node parent.now.entry (cast_unsigned w64 parent.now.signature) from (λ state layout unlinked number object. IfDamaged result (λ _. (F.told f.old).files ≡ None))) }
 
     ensures later { F.faults f.old ≤ F.faults f.new }
@@ -121,7 +121,7 @@ fn run_covered<F: Folder>(
     Ok(joined(offset, border, one, two))
 }
 
-// The first run in two ranges, one behind the other.
+// The first run in two ranges, one after the other.
 fn joined(asked: u64, border: u64, one: Run, two: Run) -> Run
     requires one { one.start + one.length ≤ border }
     requires few { one.length ≤ part_size }

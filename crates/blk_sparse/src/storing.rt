@@ -35,10 +35,10 @@ pub struct Target {
     pub plain: bool,
 }
 
-/// Writes sparse data to a live object that isn't settled: its main item is used, it becomes sparse where it is plain,
-/// the bytes are written, and so many items more and so much more charge are counted in the index.
+/// Writes sparse data to a dirty live object: its main item is used, it becomes sparse where it is plain, the bytes are
+/// written, and so many items more and so much more charge are counted in the index.
 ///
-/// The key is read from the record into the front of `name`, and the names of the parts are made behind the longest key.
+/// The key is read from the record into the front of `name`, and the names of the parts are made after the longest key.
 pub fn store_sparse<F: Folder>(
     f: &mut F,
     files: &mut BlockFiles,
@@ -61,17 +61,17 @@ pub fn store_sparse<F: Folder>(
     // Each state that was kept, with such an object, is kept with the bytes, and with its items in front.
     ensures stored { OnOk result (ForSome (F.told f.old).files (λ from. ForEachToStore target.now offset bytes.now entries charge from (λ state layout number object. ForSome (F.told f.new).files (IsKeptWithBytes state layout number object target.now offset bytes.now from)))) }
 
-    // At each word what was at rest is found: an object that isn't settled isn't.
+    // At each word the old durable contents are recovered: a dirty object isn't durable.
     ensures stops { ForSome (F.told f.old).files (λ from. ForEachToStore target.now offset bytes.now entries charge from (λ state layout number object. Passes (F.told f.old) (F.told f.new) (Finds (rest state)))) }
 
-    // What stood still does.
+    // What was valid still is.
     ensures keeps { KeepsStanding files.old files.new }
     ensures is_open { OnOk result (ForSome (F.told f.new).files (IsOpen files.new)) }
 
-    // A damage is a check that fails on what is read here; nothing is written after it.
+    // Corruption is a check that fails on what is read here; nothing is written after it.
     ensures damaged { IfDamaged result (IsFailedCheck files.new (F.told f.new)) }
 
-    // A folder that tells its files, with such an object, gives no damage.
+    // An observable folder, with such an object, reports no corruption.
     ensures untold { ForSome (F.told f.old).files (λ from. ForEachToStore target.now offset bytes.now entries charge from (λ state layout number object. IfDamaged result (λ _. (F.told f.old).files ≡ None))) }
 
     ensures silent { (F.told f.old).files ≡ None → (F.told f.new).files ≡ None }

@@ -51,7 +51,7 @@ pub(crate) fn write_piece<F: Folder>(
     // Each state that was kept, with such an object, is kept with the piece written and the part in front, but for the counters.
     ensures written { OnOk result (ForSome (F.told f.old).files (λ from. ForEachGrowingOfKey (number ∷ []) key.now parent.now.entry (cast_unsigned w64 parent.now.signature) from (λ state layout unlinked at object node. ForSome (F.told f.new).files (KeepsParentThen (with_piece_written state at object number place piece.now) layout unlinked at (with_piece object number place piece.now) node parent.now.entry (cast_unsigned w64 parent.now.signature) from)))) }
 
-    // At each word what was at rest is found: an object that isn't settled isn't.
+    // At each word the old durable contents are recovered: a dirty object isn't durable.
     ensures stops { ForSome (F.told f.old).files (λ from. ForEachGrowingOfKey (number ∷ []) key.now parent.now.entry (cast_unsigned w64 parent.now.signature) from (λ state layout unlinked at object node. Passes (F.told f.old) (F.told f.new) (Finds (rest state)))) }
 
     // Of a part that there is the data comes before its map, and one that is made is whole before its parent's bit is set.
@@ -61,10 +61,10 @@ pub(crate) fn write_piece<F: Folder>(
     ensures keeps { KeepsStanding files.old files.new }
     ensures is_open { OnOk result (ForSome (F.told f.new).files (IsOpen files.new)) }
 
-    // A damage is a check that fails on what is read here; nothing is written after it.
+    // Corruption is a check that fails on what is read here; nothing is written after it.
     ensures damaged { IfDamaged result (IsFailedCheck files.new (F.told f.new)) }
 
-    // A folder that tells its files, with such an object, gives no damage.
+    // An observable folder, with such an object, reports no corruption.
     ensures untold { ForSome (F.told f.old).files (λ from. ForEachGrowingOfKey (number ∷ []) key.now parent.now.entry (cast_unsigned w64 parent.now.signature) from (λ state layout unlinked at object node. IfDamaged result (λ _. (F.told f.old).files ≡ None))) }
 
     ensures silent { (F.told f.old).files ≡ None → (F.told f.new).files ≡ None }
@@ -134,11 +134,11 @@ fn write_covered<F: Folder>(
     write_piece(f, files, parent, key, room, number + 1, 0, back, moment)
 }
 
-/// Writes bytes to an object with parts, which isn't settled, from an offset on. Each part that the range covers gets its
+/// Writes bytes to an object with parts, which is dirty, from an offset on. Each part that the range covers gets its
 /// piece, in rising number: one that there is is changed, and one that there isn't is made. It is then in front of the
-/// use list. The counters of the index stay, and so does the object's main item. Of no bytes nothing is done.
+/// LRU list. The counters of the index stay, and so does the object's main item. Of no bytes nothing is done.
 ///
-/// The key is read from the parent's record into the front of `name`, and the names of the parts are made behind the
+/// The key is read from the parent's record into the front of `name`, and the names of the parts are made after the
 /// longest key.
 pub fn write<F: Folder>(
     f: &mut F,
@@ -160,20 +160,20 @@ pub fn write<F: Folder>(
     // Each state that was kept, with such an object, is kept with the bytes written and the covered parts in front, but for the counters.
     ensures written { OnOk result (ForSome (F.told f.old).files (λ from. ForEachGrowing (covered_parts offset (length bytes.now)) parent.now.node parent.now.entry (cast_unsigned w64 parent.now.signature) from (λ state layout unlinked number object. ForSome (F.told f.new).files (KeepsParentThen (with_bytes_written state number object offset bytes.now) layout unlinked number (with_bytes object offset bytes.now) parent.now.node parent.now.entry (cast_unsigned w64 parent.now.signature) from)))) }
 
-    // At each word what was at rest is found: an object that isn't settled isn't.
+    // At each word the old durable contents are recovered: a dirty object isn't durable.
     ensures stops { ForSome (F.told f.old).files (λ from. ForEachGrowing (covered_parts offset (length bytes.now)) parent.now.node parent.now.entry (cast_unsigned w64 parent.now.signature) from (λ state layout unlinked number object. Passes (F.told f.old) (F.told f.new) (Finds (rest state)))) }
 
     // The pieces come one after another: of a part that there is the data before its map, and one that is made is whole before its parent's bit is set.
     ensures ordered { OnOk result (ForSome (F.told f.old).files (λ from. ForEachGrowing (covered_parts offset (length bytes.now)) parent.now.node parent.now.entry (cast_unsigned w64 parent.now.signature) from (λ state layout unlinked number object. AreInOrder (covered_parts offset (length bytes.now)) state layout unlinked number object parent.now.entry (cast_unsigned w64 parent.now.signature) offset bytes.now (F.told f.old) (F.told f.new)))) }
 
-    // What stood still does.
+    // What was valid still is.
     ensures keeps { KeepsStanding files.old files.new }
     ensures is_open { OnOk result (ForSome (F.told f.new).files (IsOpen files.new)) }
 
-    // A damage is a check that fails on what is read here; nothing is written after it.
+    // Corruption is a check that fails on what is read here; nothing is written after it.
     ensures damaged { IfDamaged result (IsFailedCheck files.new (F.told f.new)) }
 
-    // A folder that tells its files, with such an object, gives no damage.
+    // An observable folder, with such an object, reports no corruption.
     ensures untold { ForSome (F.told f.old).files (λ from. ForEachGrowing (covered_parts offset (length bytes.now)) parent.now.node parent.now.entry (cast_unsigned w64 parent.now.signature) from (λ state layout unlinked number object. IfDamaged result (λ _. (F.told f.old).files ≡ None))) }
 
     ensures silent { (F.told f.old).files ≡ None → (F.told f.new).files ≡ None }

@@ -1,4 +1,4 @@
--- Places that share no data, since each claim has one owner, or since the blocks and the file of a new one were free.
+-- Places that share no data, since each used block has one owner, or since the blocks and the file of a new one were free.
 use Rattle.std.proofs.Common.{◌≡◌, ◌≢◌, inl, inr, ⊎_elim, ℕ, ◌+◌, ◌<◌, ◌≤◌, true, false, List, [], ◌∷◌, refl, sym, ◌∙◌, ap, subst, arith}
 use Rattle.std.specs.Prelude.{◌==◌}
 use Rattle.std.proofs.lemmas.Bool.{cases_lt, eqb-true}
@@ -21,7 +21,7 @@ use Rattle.blk_stream.specs.Freeing.{MayBeFreed, is_block_of}
 use Rattle.blk_stream.specs.Placing.{InAddition, InFile, InGrowth, IsNewPlace, IsSite, IsSiteOf, NewFile, Nowhere, Site}
 use Rattle.blk_stream.proofs.ShownDrops.{claims-behind, claims-first, external-claim}
 
--- what an address claims its list claims
+-- what an address uses its list uses
 pub claim_among : (words : List ℕ) (w : ℕ) (claim : Claim) → is_among words w ≡ true → has_claim (claims_of w) claim ≡ true → has_claim (claims_of_all words) claim ≡ true
 claim_among [] w claim among has = absurd (let z : false ≡ true = among in cc)
 claim_among (x ∷ words) w claim among has =
@@ -106,7 +106,7 @@ new_apart files u w from made agrees some stands may there placed = record {
     clash : true ≡ false → ⊥
     clash e = cc
 
--- Two addresses of which each claim has one owner.
+-- Two addresses of which each used block has one owner.
 
 pub own : (n : ℕ) → (n == n) ≡ true
 own n = grind (arith, nat_tests)

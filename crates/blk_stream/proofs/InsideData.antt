@@ -63,7 +63,7 @@ length_of_after false old new place =
     let b = length-append (front old place) new in
     omega (arith, a, b, length_front old place, length-drop (place + length new) old)
 
--- its bytes: the old ones before, the new ones, and the old ones behind
+-- its bytes: the old ones before, the new ones, and the old ones after that
 uncut : (old new : List ℕ) (place k : ℕ) → content (stream_after false old place new) k ≡ content (front old place ++ (new ++ drop (place + length new) old)) k
 uncut old new place k = ap (λ (l : List ℕ). content l k) (append_assoc (front old place) new (drop (place + length new) old))
 
@@ -115,7 +115,7 @@ pub data_long : (w p : ℕ) (bs : List ℕ) (image : Image) → length_of (after
 unfolding data_steps
 data_long w p bs image = ap length (words_bytes (data_file w) (data_start w + p) bs image) ∙ length-spliced (data_start w + p) bs (bytes_of image (data_file w))
 
--- the data of an address with room made for bytes: as before below the old size, and zeros from there to the offset
+-- the data of an address with space made for bytes: as before below the old size, and zeros from there to the offset
 pub record HasMade (from image : Image) (w old size offset : ℕ) : Type 0 where
   pub same : (k : ℕ) → k < size → (k < old) ⊎ (offset ≤ k) → at image w k ≡ at from w k
   pub gap : (k : ℕ) → k < size → old ≤ k → k < offset → at image w k ≡ 0

@@ -122,7 +122,7 @@ length_within w old size kind = by_test (size == old)
     by_test true = nothing_within (data_of w)
     by_test false = subst (λ (F : Footprint). IsWithin (either (whole (External (external_number w))) nothing) F) (sym (data_external w kind)) (within_both (whole (External (external_number w))) nothing (whole (External (external_number w))) (record { bytes = λ g i e. e; sizes = λ g e. e }) (nothing_within _))
 
--- making room touches the data
+-- making space touches the data
 pub room_within : (w old size offset : ℕ) → (kind_of w ≢ external → size ≤ byte_size w) → offset ≤ size → IsWithin (touched_by_all (room_steps w old size offset)) (data_of w)
 room_within w old size offset fits low =
     ⊎_elim

@@ -42,7 +42,7 @@ module _ (F : Footprint) (from image : Image) (spares : SparesBlockFiles F) (sam
       let t : (kind_of v == external) ≡ false = grind (arith, nat_tests) in
       rw t (ap (λ (b : Bool). is_address v && b) (blocks_alike v))
 
-  -- each block that stood stands with its bytes
+  -- each block that was there still is, with its bytes
   pub blocks_kept : KeepsBlocks from image
   blocks_kept = record {
     stand = λ w stands. blocks_alike w ∙ stands;

@@ -104,7 +104,7 @@ apart_place f g p n k away = by_test (same_file f g)
         by_first false z = refl
         by_first true z = z
 
--- the words lie behind the header
+-- the words lie after the header
 pub words_off_header : (entry i n k : ℕ) → k < 8192 → (stream_words entry i).bytes (Block n) k ≡ false
 words_off_header entry i n k low =
     let a = word_off (size_place i) in

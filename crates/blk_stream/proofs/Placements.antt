@@ -183,7 +183,7 @@ place_filled files old w size offset bytes from made image agrees has can some p
 pub filling_word : (files kept : BlockFiles) (w size : ℕ) (from made image : Image) → may_keep kept size w ≡ true → w ≢ 0 → IsNewPlace files w from made → SameOutside (data_of w) made image → FillsInProgress files kept size from image
 filling_word files kept w size from made image fits some placed same = inr (record { word = w; fits = fits; made = made; placed = placed; same = subst (λ (F : Footprint). SameOutside F made image) (sym (place_some w some)) same })
 
--- the old place is one still, among files that keep what stands
+-- the old place is one still, among files that keep what is valid
 pub place_still : (files kept : BlockFiles) (old : Stored) → KeepsStanding files kept → HasOldPlace files old → HasOldPlace kept old
 place_still files kept old keeps has = record {
   none = has.none;

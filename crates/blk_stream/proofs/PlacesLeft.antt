@@ -151,7 +151,7 @@ module _ (entry i old size word : ℕ) (from : Image) where
 pub named_free : (entry i old : ℕ) (from : Image) (files : BlockFiles) (mid : Image) → Agrees files from → SameOutside (stream_words entry i) from mid → (kind_of old ≢ external → stands_among files old ≡ true) → MayBeFreed old from → MayBeFreed old mid
 named_free entry i old from files mid agrees same there may blocky = freed_still (stream_words entry i) files old from mid (words_spare entry i) same agrees (there blocky) (may blocky)
 
--- Told and untold.
+-- Observable and opaque.
 
 -- where no files are told after some steps, none were told before them
 pub told_back : (a b : Told) (P : Image → Image → Type 0) → ForSome a.files (λ from. Passes a b (P from)) → b.files ≡ None → a.files ≡ None

@@ -1,4 +1,4 @@
--- Dropping the streams of a record is shown only in its claims.
+-- Dropping the streams of a record is shown only in its used blocks.
 use Rattle.std.proofs.Common.{◌≡◌, ◌≢◌, inl, inr, ⊎_elim, ℕ, zero, suc, ◌+◌, ◌<◌, ◌≤◌, Bool, true, false, List, [], ◌∷◌, refl, sym, ◌∙◌, ap, subst, arith}
 use Rattle.std.specs.Prelude.{◌==◌}
 use Rattle.std.proofs.lemmas.Bool.{cases_Bool, cases_eq, or_left, or_right, eqb-true}
@@ -30,7 +30,7 @@ claims-first u words claim e = claim-append (claims_of u) (claims_of_all words) 
 pub claims-behind : (u : ℕ) (words : List ℕ) (claim : Claim) → has_claim (claims_of_all words) claim ≡ true → has_claim (claims_of_all (u ∷ words)) claim ≡ true
 claims-behind u words claim e = claim-append (claims_of u) (claims_of_all words) claim ∙ or_right (has_claim (claims_of u) claim) (has_claim (claims_of_all words) claim) e
 
--- an external file's claim
+-- what an external file uses
 pub external-claim : (w : ℕ) (claim : Claim) → w ≢ 0 → kind_of w ≡ external → same_claim claim (ExternalOf (external_number w)) ≡ true → has_claim (claims_of w) claim ≡ true
 unfolding claims_of has_claim
 external-claim w claim other is e =

@@ -156,7 +156,7 @@ fourth_same files entry i old at from image kind few others owned is =
 
 -- The law.
 
--- what stood stores what it did
+-- what was valid stores what it did
 stores_still : (files kept : BlockFiles) (size w : ℕ) → KeepsStanding files kept → may_keep files size w ≡ true → may_keep kept size w ≡ true
 unfolding stores
 stores_still files kept size w standing keep =

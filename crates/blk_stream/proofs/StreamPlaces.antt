@@ -296,7 +296,7 @@ pub bytes_at : (image : Image) (entry i size w : ℕ) → size ≡ size_word ima
 unfolding stream_bytes
 bytes_at image entry i size w is word = λ j. data_at image (sym word j) 0 (sym is j)
 
--- an answer that is right wherever files are told is a damage only where none are
+-- an answer that is right wherever files are told is corruption only where none are
 pub damaged_never : {A : Type 0} (r : Result A Fault) (files : Option Image) → ((image : Image) → files ≡ Some image → IsOk r) → IfDamaged r (λ _. files ≡ None)
 damaged_never (Ok a) files right = tt
 damaged_never (Err Device) files right = tt
@@ -322,7 +322,7 @@ keeps_inside files size w at n keeps within =
     by_size zero is storage blocky = absurd (blocky (let e : w ≡ 0 = none_storage w storage in ap kind_of e))
     by_size (suc m) is storage blocky = let h = storage_room (suc m) w (omega arith) storage blocky in omega (arith, h, within, is)
 
--- so its blocks stand
+-- so its blocks are valid
 pub keeps_stands : (files : BlockFiles) (size w addr : ℕ) → may_keep files size w ≡ true → addr ≡ w → kind_of addr ≢ external → stands_among files addr ≡ true
 keeps_stands files size w addr keeps is = (keeps_inside files size addr 0 0 (subst (λ (v : ℕ). may_keep files size v ≡ true) (sym is) keeps) (omega arith)).stands
 
@@ -340,7 +340,7 @@ stored_some files size w some e none =
         let q : w / 2147483648 ≡ 1 = eqb-true _ _ (and_parts _ _ address).0 in
         omega (arith, q, none)
 
--- nothing of a stream from its end on, or where there is no room
+-- nothing of a stream from its end on, or where there is no space
 pub no_piece : (key : List ℕ) (at : ℕ) (old : List ℕ) → ◌≡◌ {A = ℕ} 0 (min (length old) (length key - at)) → IsPiece key at old old 0
 no_piece key at old none = record { many = none; front = refl; rest = refl }
 

@@ -55,7 +55,7 @@ pub record IsCutOld (told : Told) (old : Stored) (damage : Damage) : Type 0 wher
   pub is : old.addr ≡ Some word
   pub cut : IsCutFront told word old.size damage
 
--- what is copied of so many old bytes to a place of data of a size, where some bytes are written from an offset on: those before them, and those behind
+-- what is copied of so many old bytes to a place of data of a size, where some bytes are written from an offset on: those before them, and those after
 abbrev pub old_spans : ℕ → ℕ → ℕ → ℕ → ℕ → Footprint
 old_spans w old size offset count = either (span_of w 0 (min offset old)) (span_of w (offset + count) (min size old))
 

@@ -104,13 +104,13 @@ pub record StreamCanBeDropped (files : BlockFiles) (entry i : ℕ) (image : Imag
   pub keeps : HasStreamPlace files entry i image
   pub freed : MayBeFreed (address_word image entry i) image
 
--- why one is not dropped: its words are wrong, or the header of the file of its blocks is damaged
+-- why one is not dropped: its words are wrong, or the header of the file of its blocks is corrupt
 abbrev pub IsStreamDropDamage : BlockFiles → Told → ℕ → ℕ → Damage → Type 0
 IsStreamDropDamage files after entry i damage =
     IsMisplacedStream files entry i damage
     ⊎ ((w : ℕ) × (stands_among files w ≡ true) × IsCause after (file_selector w) (first_block w) (block_count w) false damage)
 
--- why the streams of a record are not dropped: the record is damaged, and nothing was written; or the words of one of them are wrong, or the header of the file of its blocks is damaged
+-- why the streams of a record are not dropped: the record is corrupt, and nothing was written; or the words of one of them are wrong, or the header of the file of its blocks is corrupt
 abbrev pub IsDropDamage : BlockFiles → Told → Told → ℕ → Damage → Type 0
 IsDropDamage files before after entry damage =
     (Stays before after × IsHeadDamage before entry damage)

@@ -21,7 +21,7 @@ gap_steps w start end = data_steps w start (zeros (end - start))
 abbrev pub length_steps : ℕ → ℕ → ℕ → List TrailStep
 length_steps w old size = if size == old then [] else SetLength (External (external_number w)) size ∷ []
 
--- data of an old size gets room for bytes at an offset: an external file the new length, blocks zeros between the old end and the offset
+-- data of an old size gets space for bytes at an offset: an external file the new length, blocks zeros between the old end and the offset
 unfoldable pub room_steps : ℕ → ℕ → ℕ → ℕ → List TrailStep
 room_steps w old size offset = if kind_of w == external then length_steps w old size else gap_steps w old offset
 

@@ -52,7 +52,7 @@ data_at_place w = if w == 0 then nothing else data_of w
 abbrev pub HasPlaceLength : ℕ → ℕ → Image → Type 0
 HasPlaceLength w size image = w ≢ 0 → HasStreamLength w size image
 
--- there can be a new place for data of a size, which gets the bytes of an old one: there is room where there are bytes, and the old place is allocated or its file is there
+-- there can be a new place for data of a size, which gets the bytes of an old one: there is space where there are bytes, and the old place is allocated or its file is there
 pub record CanBeFilled (files : BlockFiles) (old : Stored) (size : ℕ) (image : Image) : Type 0 where
   pub room : 0 < size → CanBePlaced files size image
   pub owned : MayBeFreed (unwrap_or old.addr 0) image

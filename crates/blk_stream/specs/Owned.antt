@@ -13,7 +13,7 @@ use Rattle.blk_stream.specs.Freeing.{is_block_of}
 abbrev pub AreBlocksMarked : ℕ → Image → Type 0
 AreBlocksMarked v image = (b : ℕ) → is_block_of v (file_selector v) b ≡ true → is_block_marked image (file_selector v) b ≡ true
 
--- these blocks stand and are marked, and share none with the old place of a stream
+-- these blocks are valid and marked, and share none with the old place of a stream
 pub record AreOthers (files : BlockFiles) (v old : ℕ) (image : Image) : Type 0 where
   pub block_kind : kind_of v ≢ external
   pub stand : stands_among files v ≡ true

@@ -24,7 +24,7 @@ use Rattle.blk_alloc.specs.Extending.{HasMostBlocks, IsFirstGrowing}
 use Rattle.blk_alloc.specs.Marking.{taking_of}
 use Rattle.blk_stream.specs.Freeing.{is_block_of}
 
--- there is room for data of a size: the files of its kind have true counters and no more allocations than they can have, or a number of external files is free
+-- there is space for data of a size: the files of its kind have true counters and no more allocations than they can have, or a number of external files is free
 pub record CanBePlaced (files : BlockFiles) (size : ℕ) (image : Image) : Type 0 where
   pub counted : kind_for size ≢ external → AreCounted files (kind_for size) image
   pub free : kind_for size ≡ external → HasFreeNumber image
@@ -35,7 +35,7 @@ KeepsOtherLinks old new w = (n kind : ℕ) → is_in_file n w ≡ false → is_a
 
 -- Where a place is made.
 
--- a site of a new place: none, for no bytes; an external file that is made, by its number; or a block file, by its number, which has room, or grows, or is added
+-- a site of a new place: none, for no bytes; an external file that is made, by its number; or a block file, by its number, which has space, or grows, or is added
 pub data Site : Type 0 where
   Nowhere : Site
   NewFile : ℕ → Site
@@ -67,7 +67,8 @@ IsSiteOf (InFile n) w = (kind_of w ≢ external) × (file_selector w ≡ n)
 IsSiteOf (InGrowth n) w = (kind_of w ≢ external) × (file_selector w ≡ n)
 IsSiteOf (InAddition n) w = (kind_of w ≢ external) × (file_selector w ≡ n)
 
--- nothing is lost: each block that stood stands with its bytes, each external file is as it was, and a well-formed folder is well formed
+-- nothing is lost: each block that was there still is, with its bytes, each external file is as it was, and a well-formed folder is well
+-- formed
 pub record LosesNothing (from image : Image) : Type 0 where
   pub blocks : KeepsBlocks from image
   pub externals : (number : ℕ) → has_file from (External number) ≡ true → image (External number) ≡ from (External number)
@@ -92,7 +93,7 @@ pub record PlacesInProgress (files : BlockFiles) (size : ℕ) (from image : Imag
 unfoldable pub gained_by : ℕ → ℕ → List ℕ → List ℕ
 gained_by w n words = if is_in_file n w then w ∷ words else words
 
--- maps and counters of the files that were kept gain an address and nothing else: its blocks are marked, the other marks are as before, the allocations of each file are those before and in its own file the address, and `empty` agrees where it did and in this file, whose updating is 0; in a file that was not kept the address is the only allocation; and no file has more blocks than a map has room for
+-- maps and counters of the files that were kept gain an address and nothing else: its blocks are marked, the other marks are as before, the allocations of each file are those before and in its own file the address, and `empty` agrees where it did and in this file, whose updating is 0; in a file that was not kept the address is the only allocation; and no file has more blocks than a map has space for
 pub record GainsPlace (files : BlockFiles) (w : ℕ) (from image : Image) : Type 0 where
   pub marks : (n b : ℕ) → is_among (all_files files) n ≡ true → b < most_blocks → is_block_marked image n b ≡ (if is_block_of w n b then true else is_block_marked from n b)
   pub allocations : (n : ℕ) (words : List ℕ) → is_among (all_files files) n ≡ true → AreAllocations from n words → AreAllocations image n (gained_by w n words)

@@ -15,7 +15,7 @@ use Rattle.blk_stream.specs.Dropping.{AreDropped, dropping_of}
 abbrev pub is_of_entry : Image → ℕ → Claim → Bool
 is_of_entry image entry = has_claim (claims_of_all (entry ∷ address_word image entry 0 ∷ address_word image entry 1 ∷ address_word image entry 2 ∷ []))
 
--- at each word of dropping the streams of a record that stands, and in the end, what is shown has changed only there
+-- at each word of dropping the streams of a record that is there, and in the end, what is shown has changed only there
 abbrev pub DropsAreShownInside : Type 0
 DropsAreShownInside =
     (files : BlockFiles) (from image : Image) (entry : ℕ) → kind_of entry ≡ blocks_256 → is_address entry ≡ true → stands_among files entry ≡ true

@@ -39,7 +39,7 @@ address_place i = 56 + 4 * i
 unfoldable pub stream_bytes : Image → ℕ → ℕ → List ℕ
 stream_bytes image entry i = data_at image (address_word image entry i) 0 (size_word image entry i)
 
--- whether a record may have a stream of a size at an address word: it is the storage of the size, and stands where it is one of blocks
+-- whether a record may have a stream of a size at an address word: it is the storage of the size, and is valid where it is one of blocks
 unfoldable pub may_keep : BlockFiles → ℕ → ℕ → Bool
 may_keep files size w = nat_le size most_stream_bytes && stores files size w
 
@@ -62,7 +62,7 @@ pub record IsStoredAt (size w : ℕ) (stored : Stored) : Type 0 where
 
 -- Why a stream can't be read.
 
--- a size that no stream has, or an address word that isn't the storage of the size or doesn't stand
+-- a size that no stream has, or an address word that isn't the storage of the size or isn't valid
 abbrev pub IsMisplacedStreamBy : BlockFiles → ℕ → ℕ → ℕ → ℕ → Damage → Type 0
 IsMisplacedStreamBy files entry i size w damage =
     ((most_stream_bytes < size) × IsWordOf entry (size_place i) size damage)
@@ -91,6 +91,6 @@ IsReadDamage files told entry i offset count damage = IsWrongStream files told e
 
 -- Steps of the reading.
 
--- the address word, where it is the storage of data of a size and stands where it is one of blocks
+-- the address word, where it is the storage of data of a size and is valid where it is one of blocks
 abbrev pub stored_by : BlockFiles → ℕ → ℕ → Option ℕ
 stored_by files size w = if stores files size w then Some w else None

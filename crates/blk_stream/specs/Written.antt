@@ -29,7 +29,7 @@ use Rattle.blk_stream.specs.Writing.{have_one_storage, size_after}
 abbrev pub places_of_entry : ℕ → Image → List ℕ
 places_of_entry entry image = entry ∷ address_word image entry 0 ∷ address_word image entry 1 ∷ address_word image entry 2 ∷ []
 
--- a stream can get a size: the record checks and has three streams, no two of these share a block or an external file, those in blocks are allocations of their files, and there is room where the storage changes
+-- a stream can get a size: the record checks and has three streams, no two of these share a block or an external file, those in blocks are allocations of their files, and there is space where the storage changes
 pub record CanBeWritten (files : BlockFiles) (entry i size : ℕ) (image : Image) : Type 0 where
   pub checks : RecordChecks entry image
   pub has : HasStreams entry image
@@ -96,7 +96,7 @@ pub record WritesStream (files : BlockFiles) (entry i size offset : ℕ) (cut : 
 
 -- Why a stream is not written.
 
--- the record is damaged or the words of the stream are wrong, and nothing was written, and the block files are those before; or there is no new place; or old bytes are not in their file; or the header of the file of the old blocks is damaged
+-- the record is corrupt or the words of the stream are wrong, and nothing was written, and the block files are those before; or there is no new place; or old bytes are not in their file; or the header of the file of the old blocks is corrupt
 abbrev pub IsWriteDamage : BlockFiles → BlockFiles → Told → Told → ℕ → ℕ → Damage → Type 0
 IsWriteDamage files kept before after entry i damage =
     (Stays before after × ((kept ≡ files) × (IsHeadDamage before entry damage ⊎ IsMisplacedStream files entry i damage)))

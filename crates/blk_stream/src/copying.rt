@@ -77,7 +77,7 @@ fn copy_piece<F: Folder>(
     Ok(())
 }
 
-// Copies of the old bytes of a stream what stays to a new place of data of a size: those before the bytes that are written, and those behind them.
+// Copies of the old bytes of a stream what stays to a new place of data of a size: those before the bytes that are written, and those after them.
 pub(crate) fn copy_old<F: Folder>(
     f: &mut F,
     files: &BlockFiles,

@@ -18,8 +18,8 @@ use blk_addr::{Addr, Kind};
 use blk_disk::BlockFiles;
 use blk_io::{Fault, Folder};
 
-// Fills a new place of data of a size: an external file, which has no bytes, gets its length; then come the old bytes before the written ones and behind
-// them, with zeros where they begin behind the old end, and then the written ones.
+// Fills a new place of data of a size: an external file, which has no bytes, gets its length; then come the old bytes before the written ones and after
+// them, with zeros where they begin past the old end, and then the written ones.
 pub(crate) fn fill<F: Folder>(
     f: &mut F,
     files: &BlockFiles,
@@ -49,7 +49,8 @@ pub(crate) fn fill<F: Folder>(
     Ok(())
 }
 
-// Where the room of a new place begins that is to be made: at the old end in blocks, and at the front of an external file, which has no bytes.
+// Where the space of a new place begins that is to be made: at the old end in blocks, and at the front of an external file, which has no
+// bytes.
 fn room_start(addr: Addr, old: u32) -> u32
     ensures { result ≡ (if kind_of addr == external then 0 else old) }
 {

@@ -56,7 +56,7 @@ pub(crate) fn write_inside<F: Folder>(
     write_size(f, files, entry, stream, record_bytes, old, size)
 }
 
-// Writes bytes of data from an offset on, which gets a new size in the same place: zeros before them, where they begin behind the old end.
+// Writes bytes of data from an offset on, which gets a new size in the same place: zeros before them, where they begin past the old end.
 fn write_here<F: Folder>(
     f: &mut F,
     files: &BlockFiles,
@@ -101,7 +101,8 @@ fn erase_end<F: Folder>(
     write_gap(f, files, addr, size, room_of(addr) as u32)
 }
 
-// Gives data the room for bytes at an offset: an external file its new length, and blocks zeros between their old end and the offset.
+// Gives data the space for bytes at an offset: an external file its new length, and blocks zeros between their old end and the
+// offset.
 pub(crate) fn make_room<F: Folder>(
     f: &mut F,
     files: &BlockFiles,

@@ -127,7 +127,7 @@ fn storage(files: &BlockFiles, size: u32, word: u32) -> Option<Addr>
     }
 }
 
-// Whether an address is the storage of data of a size, and stands where it is one of blocks.
+// Whether an address is the storage of data of a size, and is valid where it is one of blocks.
 fn stores(files: &BlockFiles, addr: Addr, size: u32) -> bool
     requires address { is_address addr ≡ true }
     requires some { 0 < size }

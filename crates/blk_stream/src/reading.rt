@@ -18,9 +18,9 @@ use blk_io::{Fault, Folder};
 /// Copies bytes of a stream into the front of `out`: those from an offset on, as many as there are and
 /// as fit. The number of them is given, which is 0 at or past the stream's end.
 ///
-/// One folder call reads the record, and one the bytes, where there are any to be read. A damage is a read
-/// that gave too few bytes, a record that doesn't check, a size above 2147483647, or an address word that is
-/// not the storage of the size or doesn't stand.
+/// One folder call reads the record, and one the bytes, where there are any to be read. A failed check is a read that
+/// gave too few bytes, a record that doesn't check, a size above 2147483647, or an address word that is not the storage
+/// of the size or isn't valid.
 pub fn read<F: Folder>(
     f: &mut F,
     files: &BlockFiles,
@@ -44,7 +44,7 @@ pub fn read<F: Folder>(
     ensures there { IfOk result (λ n. ForSome (F.told f.old).files (λ image. HasData (address_word image entry stream) (min offset (size_word image entry stream)) n image)) }
     ensures stays { Stays (F.told f.old) (F.told f.new) }
 
-    // A folder that tells its files gives a damage only where the record doesn't check or has no three streams.
+    // An observable folder reports corruption only where the record doesn't check or has no three streams.
     ensures damaged { IfDamaged result (IsReadDamage files.now (F.told f.old) entry stream offset (length out.old)) }
     ensures untold { ForSome (F.told f.old).files (StreamsCanBeRead files.now entry) → IfDamaged result (λ _. (F.told f.old).files ≡ None) }
 

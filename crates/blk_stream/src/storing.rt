@@ -23,7 +23,7 @@ use blk_io::{Fault, Folder};
 /// Stores the bytes of a new stream, which no record names yet: zeros, and then the given ones from an offset on. A place
 /// is taken for them and filled.
 ///
-/// A damage is a cause of `allocate` or `create`.
+/// A failed check is a cause of `allocate` or `create`.
 pub fn store_new<F: Folder>(
     f: &mut F,
     files: &mut BlockFiles,
@@ -36,7 +36,7 @@ pub fn store_new<F: Folder>(
     requires complete { ForSome (F.told f.old).files HasWholeIndex }
     ensures fits { IfOk result (λ addr. may_keep files.new (offset + length bytes.now) addr ≡ true) }
 
-    // Where there is room for them they are stored there.
+    // Where there is space for them they are stored there.
     ensures stored { IfOk result (λ addr. ForSome (F.told f.old).files (λ from. CanBePlaced files.old (offset + length bytes.now) from → ForSome (F.told f.new).files (λ image. (store_of image).stored (offset + length bytes.now) addr ≡ Some (overwritten [] offset bytes.now)))) }
 
     // A place was taken and then filled; at each word it is being taken or filled.

@@ -26,7 +26,7 @@ use blk_io::{Fault, Folder};
 use blk_record::{EntryView, Record};
 
 /// Writes bytes over a stream from an offset on, with zeros before them where it ends there; it ends with them where it
-/// is cut, and else keeps what lies behind them.
+/// is cut, and else keeps what comes after them.
 ///
 /// Where the storage of the new length is that of the old one, they are written in its place, and then the record gets
 /// the length. Else a new place is filled, then the record gets its address and the length by one sealed update, and
@@ -35,9 +35,9 @@ use blk_record::{EntryView, Record};
 /// A folder that erases what goes out of use gets zeros too, where the stream gets shorter within its blocks: from the
 /// new end to the end of the blocks, before the record gets the length.
 ///
-/// A damage is a read of the record that gave too few bytes, a record that doesn't check, or words of the stream that
-/// don't give it its storage, and nothing is written then; or a cause of `allocate`, `free` or `create`, or old bytes
-/// that are not in their file.
+/// A failed check is a read of the record that gave too few bytes, a record that doesn't check, or words of the stream
+/// that don't give it its storage, and nothing is written then; or a cause of `allocate`, `free` or `create`, or old
+/// bytes that are not in their file.
 pub fn write<F: Folder>(
     f: &mut F,
     files: &mut BlockFiles,

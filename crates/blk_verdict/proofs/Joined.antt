@@ -19,7 +19,7 @@ use Rattle.blk_verdict.specs.Loading.{reason_by_words, load_data, load_streams}
 use Rattle.blk_audit.specs.Records.{AreWordsOf, fields_said}
 use Rattle.blk_audit.specs.declared.record_words.RecordWords.{RecordWords}
 
--- a reason that holds, or else what comes behind
+-- a reason that holds, or else what comes after that
 abbrev pub first_or_then : Option Reason → Result Loaded Reason → Result Loaded Reason
 first_or_then (Some given) later = Err given
 first_or_then None later = later
@@ -63,7 +63,7 @@ load_is store node contents dirty fields named there =
     (by_words fields.checks (fields.state == 0) (fields.rankings_node == node) (nat_le fields.flags 2) (dirty == 0) (is_key_length contents fields) (key_then store node contents dirty fields) (rest_then store node contents dirty fields)
     ∙ ap (first_or_then (reason_by_words node contents dirty fields)) (by_key (stored_key store contents fields) (λ key. fields.hash == hash key) (is_among (chain store (bucket_of_hash fields.hash)).reached contents) (rest_then store node contents dirty fields)))
 
--- a node whose contents are no record that stands
+-- a node whose contents are no record that is there
 pub load_none : (store : StoreView) (node contents dirty : ℕ) → store.node_fields node ≡ Some (record { contents = contents; dirty = dirty }) → store.entry contents ≡ None → load store held_rule node ≡ Err reason.Contents
 unfolding load
 load_none store node contents dirty named none = rw (named, none) refl
@@ -82,7 +82,7 @@ entry_none files image w agrees none =
     let st : stands_as image blocks_256 w ≡ false = sym (names_stand files image w agrees) ∙ none in
     rw st refl
 
--- The steps behind the words.
+-- The steps after the words.
 
 pub data_no_key : (store : StoreView) (node contents dirty : ℕ) (fields : RecordFields) → is_some (stored_key store contents fields) ≡ false → load_data store node contents dirty fields ≡ Err reason.KeyPlace
 unfolding load_data

@@ -18,7 +18,7 @@ all_at P [] i x all e = absurd (clash e)
 all_at P (y ∷ xs) zero x all e = let same : y ≡ x = cc in subst P same (all 0 y (omega arith))
 all_at P (y ∷ xs) (suc i) x all e = all_at P xs i x (λ k d less. all (suc k) d (omega (arith, less))) e
 
--- a place without an element is behind them all
+-- a place without an element is after them all
 pub none_past : {A : Type 0} (xs : List A) (i : ℕ) → slice_get xs i ≡ None → length xs ≤ i
 none_past [] i e = omega arith
 none_past (x ∷ xs) zero e = absurd (clash e)
@@ -59,17 +59,17 @@ hash_at said i one e = get_or_from_slice_get (map (λ (k : Loaded). k.hash) said
 
 -- The search.
 
--- a place lies behind that where a search stands
+-- a place lies after that where a search is
 abbrev pub IsBehind : Option ℕ → ℕ → Type 0
 IsBehind None i = Unit {0}
 IsBehind (Some place) i = place < i
 
--- a search for a hash stands at a place of it
+-- a search for a hash is at a place of it
 abbrev pub StandsAt : List ℕ → ℕ → Option ℕ → Type 0
 StandsAt all hash None = Unit {0}
 StandsAt all hash (Some place) = (place < length all) × (slice_index all place ≡ hash)
 
--- what holds of all records with a hash behind the place
+-- what holds of all records with a hash after the place
 abbrev pub HoldsBehind : List Loaded → ℕ → Option ℕ → (Loaded → Type 0) → Type 0
 HoldsBehind said hash place P = (i : ℕ) (one : Loaded) → IsBehind place i → slice_get said i ≡ Some one → one.hash ≡ hash → P one
 

@@ -104,7 +104,7 @@ addresses_other : (image : Image) (c : ℕ) → IsOther (address_of (fields_of (
 unfolding words_at entry_in
 addresses_other image c one two three four = (one, (two, (three, (four, tt))))
 
--- what names a record stands, and the record is the one there
+-- what names a record is valid, and the record is the one there
 record_there : (image : Image) (c : ℕ) (fields : RecordFields) → fields_at image c ≡ Some fields → (kind_of c ≡ blocks_256) × (fields_of (entry_at image c) ≡ fields)
 unfolding fields_at
 record_there image c fields e = by_tests (stands_in image c) (kind_of c == blocks_256) refl e
@@ -157,13 +157,13 @@ is_apart image loaded node ok =
     two_one : ◌≡◌ {A = ℕ} 2 1 → ⊥
     two_one e = cc
 
--- The claims of a node are apart from those of its record.
+-- The used blocks of a node are apart from those of its record.
 
 zero_elsewhere : (n : ℕ) → is_in_file n 0 ≡ false
 unfolding is_in_file kind_of
 zero_elsewhere n = refl
 
--- a word of another kind that stands is in no file of nodes
+-- a valid word of another kind is in no file of nodes
 elsewhere : (image : Image) (n w : ℕ) → linked_as image n ≡ Some rankings → IsOther w → stands_in image w ≡ true → is_in_file n w ≡ false
 unfolding is_in_file
 elsewhere image n w linked other st = by_tests (kind_of w == external) (file_selector w == n) refl refl
@@ -182,7 +182,7 @@ elsewhere image n w linked other st = by_tests (kind_of w == external) (file_sel
 abbrev Stand : Image → List ℕ → Type 0
 Stand image words = AllByRecursion (λ w. stands_in image w ≡ true) words
 
--- words that stand, or are 0, and are of another kind, claim no block of a file of nodes
+-- words that are valid, or 0, and are of another kind, use no block of a file of nodes
 no_block : (image : Image) (n b : ℕ) (words : List ℕ) → linked_as image n ≡ Some rankings → AllByRecursion IsOther words → Stand image (filter (λ w. not (w == 0)) words)
     → has_claim (claims_of_all words) (BlockOf n b) ≡ false
 no_block image n b [] linked others stand = no-claim (BlockOf n b)
@@ -219,7 +219,7 @@ node_shares_none image loaded node ok =
         by_zero true rest = rest
         by_zero false rest = rest.1
 
--- so it changes nothing whether the node's claims are looked at for repetition
+-- so it changes nothing whether the node's used blocks are looked at for repetition
 all_once : (image : Image) (loaded : shown.Loaded) (node : ℕ) → shown.load (store_of image) held_rule node ≡ Ok loaded → repeats (all_claims loaded) ≡ repeats (record_claims loaded)
 unfolding all_claims
 all_once image loaded node ok =

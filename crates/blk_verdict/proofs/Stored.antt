@@ -21,7 +21,7 @@ use Rattle.blk_entry.specs.Keys.{stores}
 use Rattle.blk_entry.proofs.KeyPlaces.{not_held, storage_parts}
 use Rattle.blk_entry.proofs.NewShown.{external_stands}
 
--- by four tests: the storage is right, it stands, it is external, and the length is the size
+-- by four tests: the storage is right, it is valid, it is external, and the length is the size
 stored_by : (image : Image) (size w : ℕ) (a s e l : Bool) → (size == 0) ≡ false → is_storage size w ≡ a → stands_in image w ≡ s → (kind_of w == external) ≡ e → (length_of image (External (external_number w)) == size) ≡ l
     → is_some (stored_at image size w) ≡ (a && (s && (if e then l else true)))
 unfolding stored_at
@@ -34,7 +34,7 @@ stored_by image size w a s e l z ea es ee el = rw (ea, z, es, ee, el) (by_tests 
     by_tests true true true false x y = refl
     by_tests true true false l x y = refl
 
--- blocks stand where they stand among the kept files
+-- blocks are valid where they are among the kept files
 stands_block : (files : BlockFiles) (image : Image) (w : ℕ) → Agrees files image → is_address w ≡ true → (kind_of w == external) ≡ false → stands_in image w ≡ stands_among files w
 unfolding stands
 stands_block files image w agrees address block = rw (address, block) (sym (stands_agree files image w agrees))

@@ -1,4 +1,4 @@
--- Places in a list by the hashes that stand there.
+-- Places in a list by the hashes that are there.
 use Rattle.std.specs.Prelude.{ℕ, ◌≡◌, ◌≢◌, ◌<◌, List, length, slice_get, slice_index}
 use Rattle.std.specs.BTreeMap.{get}
 use Rattle.std.specs.Ordering.{nat_cmp}
@@ -6,7 +6,7 @@ use Rattle.std.specs.declared.option.Option.{Option}
 use Rattle.std.specs.declared.option.Option.TheVariants.{None, Some}
 use Rattle.blk_verdict.specs.declared.by_hash.ByHash.{ByHash}
 
--- a place before an end with a hash, and behind it none up to the end
+-- a place before an end with a hash, and after it none up to the end
 pub record IsLastPlace (hashes : List ℕ) (hash end place : ℕ) : Type 0 where
   pub inside : place < end
   pub is : slice_index hashes place ≡ hash

@@ -24,7 +24,7 @@ abbrev pub HasIndexIf : BlockFiles → List ℕ → List ℕ → Option Role →
 HasIndexIf files sizes addrs None = Unit {0}
 HasIndexIf files sizes addrs (Some role) = HasIndex files sizes addrs role
 
--- the record stands, its key has a place, and the index of a parent is stored
+-- the record is valid, its key has a place, and the index of a parent is stored
 pub record IsReadable (files : BlockFiles) (loaded : Loaded) : Type 0 where
   pub kind : kind_of loaded.entry ≡ blocks_256
   pub stands : stands_among files loaded.entry ≡ true

@@ -89,8 +89,8 @@ impl KeptSoFar {
     // Of a part `key` is the key; no other key is looked at. No folder call is made for `Claimed`. For `Name` one call
     // reads the key of each kept record with the same child flag, hash and length of the key, where there are any, and
     // then one more that of the record, where it is no part. A part takes two calls for each kept parent that may be
-    // its: one for the parent's key, and one for the bit. A damage is a read that gave too few bytes. Where memory was
-    // wanting, the kept records are of no more use.
+    // its: one for the parent's key, and one for the bit. A failed check is a read that gave too few bytes. When out of
+    // memory, the kept records are of no more use.
     pub(crate) fn admit<F: Folder>(
         &mut self,
         f: &mut F,

@@ -22,7 +22,8 @@ use std::alloc::Global;
 /// The reached records whose node is not walked or does not name them, bucket after bucket and each chain in its order.
 ///
 /// Of a record that no walked node names nothing is read. Of the others one folder call each reads those that were not
-/// read with the lists. A damage is a read that gave too few bytes; a folder whose files are those of `files` gives none.
+/// read with the lists. A failed check is a read that gave too few bytes; a folder whose files are those of `files` gives
+/// none.
 pub fn unlisted<F: Folder>(
     alloc: Global,
     f: &mut F,
@@ -76,7 +77,7 @@ fn push(found: &mut Vec<Addr>, entry: Addr) -> Result<(), NoMemory>
     Ok(())
 }
 
-// Whether a record stands whose node is not walked or does not name it.
+// Whether there is a record whose node is not walked or does not name it.
 fn is_unlisted<F: Folder>(
     f: &mut F,
     files: &BlockFiles,

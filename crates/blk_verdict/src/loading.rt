@@ -68,8 +68,8 @@ pub enum Verdict {
 
 /// The verdict on a node, as it says what it names and whether it is dirty.
 ///
-/// One folder call reads the record, and one its key; the others are those of `load_walked`. `reached` says whether a
-/// chain reaches the contents. A damage is a read that gave too few bytes; a folder whose files are those of `files` gives none.
+/// One folder call reads the record, and one its key; the others are those of `load_walked`. `reached` says whether a chain
+/// reaches the contents. A failed check is a read that gave too few bytes; a folder whose files are those of `files` gives none.
 pub fn load<F: Folder>(
     f: &mut F,
     files: &BlockFiles,
@@ -96,7 +96,7 @@ pub fn load<F: Folder>(
     load_words(f, files, node, entry, &said, reached, &mut name)
 }
 
-// The verdict on a node that names a record that stands and was read before. Of a part the key is read into the front
+// The verdict on a node that names a record that is there and was read before. Of a part the key is read into the front
 // of `name`.
 pub(crate) fn load_words<F: Folder>(
     f: &mut F,
@@ -127,7 +127,7 @@ pub(crate) fn load_words<F: Folder>(
     }
 }
 
-// The verdict on a node by the key of its record and what comes behind.
+// The verdict on a node by the key of its record and what comes after that.
 fn load_data<F: Folder>(
     f: &mut F,
     files: &BlockFiles,
@@ -157,7 +157,7 @@ fn load_data<F: Folder>(
     }
 }
 
-// The verdict on a node by the key of its record, which is stored, and what comes behind.
+// The verdict on a node by the key of its record, which is stored, and what comes after that.
 fn load_key<F: Folder>(
     f: &mut F,
     files: &BlockFiles,
@@ -259,8 +259,8 @@ fn read_sum<F: Folder>(
     Ok(super_fast_hash(key))
 }
 
-// The verdict on a node by the streams of its record. Of a part the key stands in front of `name`; no other key is
-// looked at.
+// The verdict on a node by the streams of its record. Of a part the key is in front of `name`; no other key is looked
+// at.
 fn load_streams<F: Folder>(
     f: &mut F,
     files: &BlockFiles,

@@ -18,8 +18,8 @@ use blk_ranges::{has_part_bit, place_of_part};
 
 /// Whether the index of a parent has a part, where `word` is the word of the storage of the index.
 ///
-/// One folder call reads the byte with the bit. A damage is a read that gave too few bytes; a folder whose files are
-/// those of `files` gives none.
+/// One folder call reads the byte with the bit. A failed check is a read that gave too few bytes; a folder whose files
+/// are those of `files` gives none.
 pub fn has_part<F: Folder>(
     f: &mut F,
     files: &BlockFiles,

@@ -50,9 +50,9 @@ pub struct Judged {
 ///
 /// Of each node that is tried the record is asked for the flags of a child, which takes one folder call where it was not
 /// read with the lists; then come those of `load_walked`, and where it finds no reason, those that read the keys and the
-/// index bits by which a record is judged against the kept ones. A damage is a read that gave too few bytes; a folder
-/// whose files are those of `files`, and of which the lists were read, gives none. `Device` comes only where the folder
-/// failed in this call, and `Memory` where there was too little of it.
+/// index bits by which a record is judged against the kept ones. A failed check is a read that gave too few bytes; a
+/// folder whose files are those of `files`, and of which the lists were read, gives none. `Device` comes only where the
+/// folder failed in this call, and `Memory` when out of memory.
 pub fn judge_nodes<F: Folder>(
     alloc: Global,
     f: &mut F,

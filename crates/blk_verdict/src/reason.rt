@@ -5,7 +5,7 @@ ghost use Rattle.blk_verdict.specs.Reasons.{reason_number};
 /// Why a node is dropped, and at last why a record is; the first reason that holds counts.
 #[derive(Clone, Copy, Debug, PartialEq, Eq)]
 pub enum Reason {
-    /// The node names no record that stands.
+    /// The node names no record that is there.
     Contents = 1,
     /// The record does not check.
     Seal = 2,

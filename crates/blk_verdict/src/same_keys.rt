@@ -19,8 +19,8 @@ use blk_io::{Fault, Folder};
 
 /// Whether a record that is loaded has this key.
 ///
-/// Only where its length is that of the key is the record's key read, by one folder call. A damage is a read that gave
-/// too few bytes; a folder whose files are those of `files`, and that has the key, gives none.
+/// Only where its length is that of the key is the record's key read, by one folder call. A failed check is a read that
+/// gave too few bytes; a folder whose files are those of `files`, and that has the key, gives none.
 pub fn has_this_key<F: Folder>(
     f: &mut F,
     files: &BlockFiles,

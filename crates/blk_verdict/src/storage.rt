@@ -13,8 +13,8 @@ use blk_disk::{BlockFiles, file_of};
 use blk_entry::stores;
 use blk_io::{Failed, Folder};
 
-/// Whether data of a size is stored as an address word says: the word is the right storage of the
-/// size and stands, and an external file has this length.
+/// Whether data of a size is stored as an address word says: the word is the right storage of the size and valid, and
+/// an external file has this length.
 ///
 /// One folder call asks for the length of an external file; none is made for blocks.
 pub(crate) fn is_stored<F: Folder>(
@@ -42,7 +42,7 @@ pub(crate) fn is_stored<F: Folder>(
     }
 }
 
-// The address that a word is, where it is the storage of data of a size, and stands where it is one of blocks.
+// The address that a word is, where it is the storage of data of a size, and is valid where it is one of blocks.
 fn storage(files: &BlockFiles, size: u32, word: u32) -> Option<Addr>
     requires { 0 < size }
     ensures { result ≡ (if keys.stores files.now size word then Some word else None) }

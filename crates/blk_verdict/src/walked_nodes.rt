@@ -27,10 +27,10 @@ use blk_record::CHILD;
 /// The verdict on a walked node by itself.
 ///
 /// One folder call reads the record, where it was not read with the lists. Only where the hash of the key is not known,
-/// or the record is that of a part, does one read the key, into the front of `name`: of a part it stands there then.
-/// One more each asks for the length of a long key or a stream that is an external file, and one reads the index of a
-/// parent or a part. No other byte of the streams is read. A damage is a read that gave too few bytes; a folder whose
-/// files are those of `files` gives none.
+/// or the record is that of a part, does one read the key, into the front of `name`: of a part it is there then. One
+/// more each asks for the length of a long key or a stream that is an external file, and one reads the index of a
+/// parent or a part. No other byte of the streams is read. A failed check is a read that gave too few bytes; a folder
+/// whose files are those of `files` gives none.
 pub fn load_walked<F: Folder>(
     f: &mut F,
     files: &BlockFiles,
@@ -56,10 +56,10 @@ pub fn load_walked<F: Folder>(
     load_words(f, files, node, entry, &said, reached, name)
 }
 
-/// Whether a walked node names a record that checks and is a part's; such nodes are judged behind the others.
+/// Whether a walked node names a record that checks and is a part's; such nodes are judged after the others.
 ///
-/// One folder call reads a record that was not read with the lists; no other call is made. A damage is a read that
-/// gave too few bytes; a folder whose files are those of `files` gives none.
+/// One folder call reads a record that was not read with the lists; no other call is made. A failed check is a read
+/// that gave too few bytes; a folder whose files are those of `files` gives none.
 pub fn is_child<F: Folder>(
     f: &mut F,
     files: &BlockFiles,

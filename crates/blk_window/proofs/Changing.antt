@@ -39,7 +39,7 @@ agree_unless file (page ∷ held) image new stays all =
     (λ hit. subst (All (Agrees new)) (ap (λ b. cons_option (if b then None else Some page) (filter_map (unless_of file) held)) (sym hit)) more)
     (λ miss. subst (All (Agrees new)) (ap (λ b. cons_option (if b then None else Some page) (filter_map (unless_of file) held)) (sym miss)) (All-cons (Agrees new) page (filter_map (unless_of file) held) (same_there image new page (stays page.file miss) (first_of (Agrees image) page held all)) more))
 
--- what is behind a place once bytes are written over
+-- what is after a place once bytes are written over
 drop-spliced : (s a : ℕ) (new old : List ℕ) → drop s (spliced a new old) ≡ spliced (a - s) (drop (s - a) new) (drop s old)
 unfolding spliced
 drop-spliced zero a new old = ap (λ i. spliced i new old) (same a) ∙ ap (λ i. spliced (a - 0) (drop i new) old) (none a)

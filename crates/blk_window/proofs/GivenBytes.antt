@@ -102,7 +102,7 @@ module _ (image : Image) (file : File) (at n given room m : ℕ) (now piece new 
           by_room zero e = omega (arith, all, inside, same, e)
           by_room (suc k) e = omega (arith, all, inside, gives.many, asked, same, e)
 
--- what is behind the bytes that were given stays
+-- what is after the bytes that were given stays
 pub rest_more : (given room : ℕ) (now piece new old : List ℕ) → given + room ≤ length now → length piece ≡ room → new ≡ take given now ++ (piece ++ drop (given + room) now) → drop given now ≡ drop given old → drop (given + room) new ≡ drop (given + room) old
 rest_more given room now piece new old fits long is behind =
     ap (drop (given + room)) is ∙ drop-behind (take given now) (piece ++ drop (given + room) now) given room (length-take-le given now (omega (arith, fits)))

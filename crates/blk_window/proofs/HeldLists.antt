@@ -115,7 +115,7 @@ module _ {V : Type 0} (see : V → Option Page) where
       room : length (held f.front ++ held f.behind) ≤ places - 1
       room = omega (arith, fewer f.front, fewer f.behind, count, length-append (held f.front) (held f.behind), ap length f.is, length-append f.front (slot ∷ f.behind))
 
-  -- the slot that gives way
+  -- the slot that is taken
   pub record GivesWay (es : List (ℕ × V)) (k : ℕ) : Type 0 where
     pub front : List (ℕ × V)
     pub value : V
@@ -155,7 +155,7 @@ module _ {V : Type 0} (see : V → Option Page) where
       deeper : is_some (see e.1) ≡ true → {k : ℕ} → GivesWay (x ∷ es) k → GivesWay (e ∷ x ∷ es) k
       deeper holds g = record { front = e ∷ g.front; value = g.value; behind = g.behind; is = ap (λ l. e ∷ l) g.is; full = something (see e.1) (held g.front) holds ∙ ap suc g.full; last = g.last }
 
-  -- once it holds nothing, the page that gave way is gone
+  -- once it holds nothing, the page that was evicted is gone
   pub makes_room : (places k : ℕ) (es : List (ℕ × V)) (w : V) (g : GivesWay es k) → length es ≡ places → see w ≡ None → held (g.front ++ (k, w) ∷ g.behind) ≡ dropped places (held es)
   makes_room places k es w g count empty =
       held-append g.front ((k, w) ∷ g.behind) ∙ ap (λ o. held g.front ++ cons_option o (held g.behind)) empty ∙ by_last g.last
@@ -337,7 +337,7 @@ module _ {V : Type 0} (see : V → Option Page) where
       keys_turned [] = refl
       keys_turned (e ∷ xs) = ap (λ l. e.0 ∷ l) (keys_turned xs)
 
-  -- the first free slot gives way, and where none is free the last one
+  -- the first free slot is taken, and where none is free the last one
   pub first_gives : (last k : ℕ) (es : List (ℕ × V)) → Some k ≡ option_map (λ (slot : ℕ × V). slot.0) (find (λ slot. is_none (see slot.1)) es) → k ≡ giving_way see last es
   first_gives last k [] e = absurd (clash e)
     where
@@ -379,7 +379,7 @@ module _ {V : Type 0} (see : V → Option Page) where
       behind : option_map (λ (slot : ℕ × V). slot.0) (slice_get (x ∷ y ∷ es) (length (x ∷ y ∷ es) - 1)) ≡ option_map (λ (slot : ℕ × V). slot.0) (slice_get (y ∷ es) (length (y ∷ es) - 1))
       behind = ap (λ n. option_map (λ (slot : ℕ × V). slot.0) (slice_get (x ∷ y ∷ es) n)) more ∙ ap (λ n. option_map (λ (slot : ℕ × V). slot.0) (slice_get (y ∷ es) n)) fewer_by_one
 
-  -- after its page is dropped, the slot that gives way is free
+  -- after its page is dropped, the slot that is taken is free
   pub record Gives (places k : ℕ) (es : List (ℕ × V)) : Type 0 where
     pub value : V
     pub there : lookup (nat_eq k) es ≡ Some value

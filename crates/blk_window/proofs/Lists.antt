@@ -66,7 +66,7 @@ module _ {V : Type 0} where
       pair : {n : ℕ} {x : V} → n ≡ k → x ≡ v → ◌≡◌ {A = ℕ × V} (n, x) (k, v)
       pair a b = cc
 
-  -- a search for a number behind slots that have others
+  -- a search for a number after slots that have others
   lookup_entry-split : (k : ℕ) (front behind : List (ℕ × V)) (v : V) → list_any (nat_eq k) (keys_of front) ≡ false → lookup_entry (nat_eq k) (front ++ (k, v) ∷ behind) ≡ Some (k, v)
   lookup_entry-split k [] behind v none = ap (λ b. cond b (Some (k, v)) (lookup_entry (nat_eq k) behind)) (same_number k)
   lookup_entry-split k (e ∷ front) behind v none =

@@ -45,7 +45,7 @@ begins places file at n old some = record {
     at_least : (at n : ℕ) → 0 < n → page_at at ≤ page_at (at + n - 1)
     at_least at n some = omega arith
 
--- a page more is used behind others
+-- a page more is used after others
 uses_more : (places : ℕ) (file : File) (number : ℕ) (pages old between : List Page) (page : Page) (new : List Page) → UsesEach places file number pages old between → IsUsed file (number + length pages) between page → new ≡ used places page between
     → UsesEach places file number (pages ++ page ∷ []) old new
 uses_more places file number [] old between page new same is front =

@@ -44,11 +44,11 @@ abbrev pub without : File → ℕ → List Page → List Page
 without file number [] = []
 without file number (page ∷ held) = if is_page file number page then held else page ∷ without file number held
 
--- a page was used and stands in front: one that was held was moved there, another one took the place of the last where no place was free
+-- a page was used and is in front: one that was held was moved there, another one took the place of the last where no place was free
 abbrev pub used : ℕ → Page → List Page → List Page
 used places page held = page ∷ take (places - 1) (without page.file page.number held)
 
--- the page that was to give way is dropped, where no place was free
+-- the page that was to be evicted is dropped, where no place was free
 abbrev pub dropped : ℕ → List Page → List Page
 dropped places held = take (places - 1) held
 
@@ -83,7 +83,7 @@ pub record ReadsThrough (places : ℕ) (file : File) (place n : ℕ) (old new : 
   pub uses : UsesEach places file (page_at place) pages old new
   pub last : (before : List Page) (page : Page) → pages ≡ before ++ page ∷ [] → slice_get new 0 ≡ Some page
 
--- a read used these pages of its range, which are full; the next was not held and could not be read, and the one that was to give way is dropped
+-- a read used these pages of its range, which are full; the next was not held and could not be read, and the one that was to be evicted is dropped
 pub record FailsBehind (places : ℕ) (file : File) (place n : ℕ) (old new : List Page) : Type 0 where
   pub pages : List Page
   pub full : All (λ page. is_full page ≡ true) pages

@@ -10,7 +10,7 @@ use Rattle.blk_window.specs.declared.pages.Pages.{Pages}
 abbrev pub held_of : Pages → List held.Page
 held_of pages = held_in pages.slots.entries
 
--- for how many pages there is room
+-- for how many pages there is space
 abbrev pub places_of : Pages → ℕ
 places_of pages = pages.slots.cap
 

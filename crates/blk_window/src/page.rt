@@ -1,4 +1,4 @@
-// A page of a file, with room for its bytes.
+// A page of a file, with space for its bytes.
 ghost use Rattle.std.specs.Prelude.{◌≡◌, ◌+◌, ◌-◌, ◌*◌, ◌<◌, ◌≤◌, ◌^◌, true, false, not, ◌&&◌, ◌||◌, nat_lt, length, take, drop, min, Some, None, IfOk, OnOk, OnErr, option_and_then, is_some, IsTrue};
 ghost use Rattle.std.specs.Option.{ForSome};
 ghost use Rattle.spec_image.specs.Bytes.{spliced};

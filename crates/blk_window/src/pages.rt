@@ -89,7 +89,7 @@ impl Pages {
         }
     }
 
-    // The slot whose page gives way to another: the first that holds nothing, or the one that was used longest ago.
+    // The slot whose page is evicted for another: the first that holds nothing, or the one that was used longest ago.
     fn giving_way(&self) -> u16
         ensures { result ≡ giving_way 0 self.now.slots.entries }
     {
@@ -115,7 +115,7 @@ impl Pages {
         Some(page.copy((at % PAGE_SIZE as u64) as usize, out))
     }
 
-    /// Drops the page that gives way to another where all slots hold one, and says which slot is free.
+    /// Drops the page that is evicted for another where all slots hold one, and says which slot is free.
     pub fn make_room(&mut self) -> u16
         ensures held { held_of self.new ≡ dropped (places_of self.old) (held_of self.old) }
         ensures free { IsFree self.new result }

@@ -1,4 +1,4 @@
-// What the words of the command line need of the folder and of the output.
+// What the arguments of the command line need of the folder and of the output.
 ghost use Rattle.std.specs.Prelude.{◌≡◌, ◌↔◌, IsTrue};
 ghost use Rattle.std.specs.Option.{option_map};
 ghost use Rattle.blk_args.specs.Tasks.{task_given};
@@ -7,7 +7,8 @@ ghost use Rattle.blkcache.specs.Needs.{only_reads, changes_first};
 use blk_args::Order;
 use blk_host::Access;
 
-/// How the words have the folder: alone, unless they only read it. `None` stands for words outside the grammar, which are refused.
+/// How the arguments have the folder: alone, unless they only read it. `None` stands for arguments outside the grammar, which are
+/// refused.
 pub fn access_for(order: Option<Order<'_>>) -> Access
     ensures { (result ≡ Access.Shared) ↔ IsTrue (only_reads (option_map task_given order.entry)) }
 {
@@ -17,7 +18,7 @@ pub fn access_for(order: Option<Order<'_>>) -> Access
     }
 }
 
-/// Whether the words print only behind a change of the folder.
+/// Whether the arguments print only after a change of the folder.
 pub fn replies_behind(order: Option<Order<'_>>) -> bool
     ensures { result ≡ changes_first (option_map task_given order.entry) }
 {

@@ -1,4 +1,4 @@
-// What the program is given: its words and two variables of the environment.
+// What the program is given: its arguments and two variables of the environment.
 ghost use Rattle.std.specs.Prelude.{◌≡◌, ◌≢◌, false, Some, []};
 ghost use Rattle.std.specs.Option.{option_and_then};
 ghost use Rattle.std.specs.Result.{result_ok};
@@ -22,7 +22,7 @@ const ERASE: &str = "BLKCACHE_ERASE";
 pub struct Given {
     /// The folder's path.
     pub path: String,
-    /// The words behind it.
+    /// The arguments after it.
     pub words: Vec<String>,
     /// How long to wait for the folder while another program has it.
     pub wait: Duration,
@@ -30,10 +30,11 @@ pub struct Given {
     pub erases: bool,
 }
 
-/// What the program is given, or `None` where there is no path, a word is not UTF-8, or a variable says nothing that it may say.
+/// What the program is given, or `None` where there is no path, an argument is not UTF-8, or a variable says nothing that it may
+/// say.
 ///
 /// # Errors
-/// There is no memory.
+/// Out of memory.
 pub fn read_given(rt: HostRuntime) -> io::Result<Option<Given>> {
     let mut args = match env::args(&rt) {
         Ok(args) => args,
@@ -93,7 +94,7 @@ fn switch_in(text: &[u8]) -> Option<bool>
     if number == 1 { Some(true) } else { None }
 }
 
-// The number in a text: 0 in an empty one, else as the words spell it.
+// The number in a text: 0 in an empty one, else as the arguments spell it.
 fn number_in(text: &[u8]) -> Option<u64>
     ensures empty { text.now ≡ [] → result ≡ Some 0 }
     ensures number { text.now ≢ [] → result ≡ result_ok (count_field text.now) }

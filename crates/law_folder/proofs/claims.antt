@@ -1,4 +1,4 @@
--- Claims of blocks and numbers: what lies inside and outside a footprint, allocations, and files that grow.
+-- Used blocks and numbers: what lies inside and outside a footprint, allocations, and files that grow.
 pub mod Allocations
 pub mod BlockBytes
 pub mod ByteChanges

@@ -8,7 +8,7 @@ use Rattle.spec_folder.specs.ListView.{ListWrite}
 use Rattle.spec_format.specs.Sealed.{BeginsWithRecord, IsMidUpdate}
 use Rattle.spec_folder.specs.ShownChanges.{ChangesInside, OnlyListChanges}
 
--- a write of n bytes into the blocks of a standing address changes only these blocks
+-- a write of n bytes into the blocks of a valid address changes only these blocks
 abbrev pub WritesStayInside : Type 0
 WritesStayInside = (from image : Image) (w at n : ℕ) → stands_in from w ≡ true → kind_of w ≢ external → place w ≤ at → at + n ≤ place w + byte_size w → SameOutside (range (Block (file_selector w)) at n) from image → ChangesInside w from image
 

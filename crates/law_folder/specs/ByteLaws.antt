@@ -15,7 +15,7 @@ use Rattle.spec_folder.specs.Layout.{Layout, Represents}
 use Rattle.spec_folder.specs.StandsFor.{IsOwner}
 use Rattle.blk_model.specs.State.{State}
 
--- so the blocks of a word stand exactly where the last of them is there
+-- so the blocks of a word are valid exactly where the last of them is there
 abbrev pub BlocksStandByTheirLast : Type 0
 BlocksStandByTheirLast = (image : Image) (w : ℕ) → stands_in_blocks image w ≡ is_there image (file_selector w) (kind_of w) (first_block w + block_count w - 1)
 
@@ -47,11 +47,11 @@ CoveredChangesAgree = (old new : Image) (footprint : Footprint) (touched : Claim
 abbrev pub AgreementGoesOn : Type 0
 AgreementGoesOn = (touched : Claim → Bool) (old between new : Image) → AgreeBut touched old between → AgreeBut touched between new → AgreeBut touched old new
 
--- what agrees but on some claims agrees but on more
+-- what agrees but on some used blocks agrees but on more
 abbrev pub AgreementButMore : Type 0
 AgreementButMore = (less more : Claim → Bool) (old new : Image) → ((claim : Claim) → less claim ≡ true → more claim ≡ true) → AgreeBut less old new → AgreeBut more old new
 
--- growth keeps what is represented, also where a file is too short for its blocks, where each owner is a node of the layout that claims
+-- growth keeps what is represented, also where a file is too short for its blocks, where each owner is a node of the layout that uses it
 abbrev pub GrowthKeepsStates : Type 0
 GrowthKeepsStates = (old new : Image) (state : State) (layout : Layout) (doomed_nodes : List ℕ) → HaveGrown old new → Represents (view_of old) state layout
     → ((claim : Claim) (node : ℕ) → layout.owner claim ≡ Some node → IsOwner state layout doomed_nodes claim node) → Represents (view_of new) state layout
@@ -60,7 +60,7 @@ GrowthKeepsStates = (old new : Image) (state : State) (layout : Layout) (doomed_
 abbrev pub CoveredChangesStayInside : Type 0
 CoveredChangesStayInside = (old new : Image) (footprint : Footprint) (touched : Claim → Bool) → SameOutside footprint old new → Covers old footprint touched → SameBut touched (view_of old) (view_of new)
 
--- the bytes of the blocks of a standing address are covered by its claims
+-- the bytes of the blocks of a valid address are covered by its used blocks
 abbrev pub BlocksAreCovered : Type 0
 BlocksAreCovered = (image : Image) (w : ℕ) → stands_in image w ≡ true → kind_of w ≢ external → Covers image (range (Block (file_selector w)) (place w) (byte_size w)) (has_claim (claims_of w))
 
@@ -90,7 +90,7 @@ CoversOfEither = (image : Image) (one other : Footprint) (touched : Claim → Bo
 
 -- Headers, and files that go.
 
--- a change of block files that leaves what says which blocks there are, and all bytes behind the headers: of lengths, maps, counters and updating
+-- a change of block files that leaves what says which blocks there are, and all bytes after the headers: of lengths, maps, counters and updating
 pub record IsOfHeaders (footprint : Footprint) : Type 0 where
   pub index : (i : ℕ) → is_shown_place i ≡ true → footprint.bytes Index i ≡ false
   pub extents : (n i : ℕ) → is_extent_place i ≡ true → footprint.bytes (Block n) i ≡ false

@@ -32,12 +32,12 @@ use Rattle.spec_folder.specs.Creation.{IsNewEntry, IsFrontOfChain, with_new, lin
 
 -- In the midst of a change.
 
--- while the records of one unsettled object are in the midst of a change, what is kept is what is at rest
+-- while the records of one dirty object are in the midst of a change, what is kept is the durable contents
 abbrev pub UnsettledObjectsMayChange : Type 0
 UnsettledObjectsMayChange = (except : ℕ → Bool) (store : StoreView) (state : State) (layout : Layout) → HoldsExcept except store state layout → IsValidState state → (key : List ℕ) → IsInProgress except store state layout key → Distinct (order state layout)
     → map row_of_loaded (kept_among store held_rule (order state layout)) ≡ rest state
 
--- in the midst of a change inside the footprint of a node of an unsettled object, its main item's or a part's, what is kept is what is at rest
+-- in the midst of a change inside the footprint of a node of a dirty object, its main item's or a part's, what is kept is the durable contents
 abbrev pub UnsettledChangesAreAtRest : Type 0
 UnsettledChangesAreAtRest = (touched : Claim → Bool) (old new : View) (state : State) (layout : Layout) → Represents old state layout → IsValidState state → (number : ℕ) (object : Object) (item : Item) → object_at state number ≡ Some object → has_item object item ≡ true → object.settled ≡ false
     → (loaded : Loaded) → layout.at (layout.place item) ≡ Some loaded → SameBut touched old new → IsInsideNode touched old new layout (layout.place item) loaded → KeepsName old.store new.store item loaded.contents → map row_of_loaded (kept_by held_rule (completed new)) ≡ rest state
@@ -69,7 +69,7 @@ pub record IsPlacedAsLive (state : State) (layout : Layout) (number : ℕ) (obje
   pub live : object.live ≡ true
   pub at : layout.at (layout.place (main object.key)) ≡ Some loaded
 
--- the state with the object settled or not
+-- the state with the object clean or not
 abbrev pub marked : State → ℕ → Object → Bool → State
 marked state number object settled = with_slot number (Some (record object { settled = settled })) state
 
@@ -77,7 +77,7 @@ marked state number object settled = with_slot number (Some (record object { set
 abbrev pub dirtied : Layout → ℕ → Loaded → ℕ → Layout
 dirtied layout node loaded dirty = changed_at layout node (record loaded { dirty = dirty }) layout.owner
 
--- the dirty word of a main item's node settles its object where it is 0, and unsettles it where it is not
+-- the dirty word of a main item's node makes its object clean where it is 0, and makes it dirty where it is not
 abbrev pub DirtyWordsSettle : Type 0
 DirtyWordsSettle = (view : View) (state : State) (layout : Layout) → Represents view state layout → IsValidState state → (number : ℕ) (object : Object) (loaded : Loaded) → IsPlacedAsLive state layout number object loaded
     → (node_fields : NodeFields) (dirty : ℕ) → view.store.node_fields (layout.place (main object.key)) ≡ Some node_fields
@@ -92,16 +92,16 @@ WrittenDirtyWordsSettle = (old new : View) (state : State) (layout : Layout) →
     → SameNodeLinks (layout.place (main object.key)) old.list new.list
     → Represents new (marked state number object (dirty == 0)) (dirtied layout (layout.place (main object.key)) loaded dirty)
 
--- the state with an object settled or not, where the names may be others
+-- the state with an object clean or not, where the names may be others
 abbrev pub turned : State → ℕ → Object → Bool → List (Option ℕ) → State
 turned state number object settled names = marked (record state { names = names }) number object settled
 
--- what is at rest before an object is settled or unsettled is picked by that
+-- the durable contents before an object is made clean or dirty are picked by that
 abbrev pub RestBeforeTurning : Type 0
 RestBeforeTurning = (state : State) → IsValidState state → (number : ℕ) (object : Object) (settled : Bool) (names : List (Option ℕ)) → object_at state number ≡ Some object → object.live ≡ true
     → rest state ≡ pick state (turned state number object settled names) (object.settled && not settled) state.uses
 
--- and so is what is at rest after it
+-- and so are the durable contents after it
 abbrev pub RestAfterTurning : Type 0
 RestAfterTurning = (state : State) → IsValidState state → (number : ℕ) (object : Object) (settled : Bool) (names : List (Option ℕ)) → object_at state number ≡ Some object → object.live ≡ true
     → rest (turned state number object settled names) ≡ pick state (turned state number object settled names) (not object.settled && settled) state.uses
@@ -125,7 +125,7 @@ ChangedDoomedObjectsAreRepresented = (touched : Claim → Bool) (old new : View)
     → SameBut touched old new → IsFreeBut (layout.place_of_doomed number) touched layout → load new.store (rule_of layout (layout.place_of_doomed number)) (layout.place_of_doomed number) ≡ Ok now → IsDoomedChange layout (layout.place_of_doomed number) other now owner
     → Represents new (with_slot number (Some other) state) (changed_at layout (layout.place_of_doomed number) now owner)
 
--- in the midst of a change there, also where its record is torn, what is kept is what is at rest
+-- in the midst of a change there, also where its record is torn, what is kept is the durable contents
 abbrev pub DoomedChangesAreAtRest : Type 0
 DoomedChangesAreAtRest = (touched : Claim → Bool) (old new : View) (state : State) (layout : Layout) → Represents old state layout → IsValidState state → (number : ℕ) (object : Object) → object_at state number ≡ Some object → object.live ≡ false
     → SameBut touched old new → IsFreeBut (layout.place_of_doomed number) touched layout → map row_of_loaded (kept_by held_rule (completed new)) ≡ rest state
@@ -136,7 +136,7 @@ GoneDoomedObjectsAreRepresented = (touched : Claim → Bool) (old new : View) (s
     → SameBut touched old new → IsFreeBut (layout.place_of_doomed number) touched layout → ((claim : Claim) (node : ℕ) → layout.owner claim ≡ Some node → (layout.place_of_doomed number == node) ≡ false → owner claim ≡ Some node)
     → Represents new (with_slot number None state) (emptied_at layout (layout.place_of_doomed number) owner)
 
--- the dirty word of a doomed object's node settles it where it is 0, and unsettles it where it is not
+-- the dirty word of a doomed object's node makes it clean where it is 0, and makes it dirty where it is not
 abbrev pub DoomedDirtyWordsSettle : Type 0
 DoomedDirtyWordsSettle = (view : View) (state : State) (layout : Layout) → Represents view state layout → (number : ℕ) (object : Object) (loaded : Loaded) → IsPlacedAsDoomed state layout number object loaded
     → (node_fields : NodeFields) (dirty : ℕ) → view.store.node_fields (layout.place_of_doomed number) ≡ Some node_fields
@@ -192,18 +192,18 @@ RecordsOfAnotherStateLoad = (old new : StoreView) (before after node : ℕ) (loa
 
 -- Dooms.
 
--- while all items are listed, and their records are there, what is kept is what is at rest
+-- while all items are listed, and their records are there, what is kept is the durable contents
 abbrev pub ListedItemsAreAtRest : Type 0
 ListedItemsAreAtRest = (except : ℕ → Bool) (store : StoreView) (state : State) (layout : Layout) → HoldsExcept except store state layout → IsValidState state → Distinct (order state layout) → ((item : Item) → is_listed state item ≡ true → except (layout.place item) ≡ false)
     → map row_of_loaded (kept_among store held_rule (order state layout)) ≡ rest state
 
--- once the main item of an object is out of the list, what is kept is what is at rest after its doom, whether its parts are still listed or not
+-- once the main item of an object is out of the list, what is kept is the durable contents after its doom, whether its parts are still listed or not
 abbrev pub DoomsKeepTheOthers : Type 0
 DoomsKeepTheOthers = (except : ℕ → Bool) (store : StoreView) (state : State) (layout : Layout) → HoldsExcept except store state layout → IsValidState state → (number : ℕ) (object : Object) → object_at state number ≡ Some object
     → (keep : Item → Bool) → keep (main object.key) ≡ false → ((item : Item) → is_of_another object.key item ≡ true → keep item ≡ true) → Distinct (nodes_of layout (filter keep state.uses)) → ((item : Item) → is_listed state item ≡ true → keep item ≡ true → except (layout.place item) ≡ false)
     → map row_of_loaded (kept_among store held_rule (nodes_of layout (filter keep state.uses))) ≡ rest (doomed number state (Some object))
 
--- at each write of the removal of an object's main item, what is kept is what is at rest before its doom, and from the second on what is at rest after it
+-- at each write of the removal of an object's main item, what is kept is the durable contents before its doom, and from the second on the durable contents after it
 abbrev pub DoomsAtEachWrite : Type 0
 DoomsAtEachWrite = (view : View) (state : State) (layout : Layout) → Represents view state layout → IsValidState state → (number : ℕ) (object : Object) → object_at state number ≡ Some object → object.live ≡ true
     → (count : ℕ) → map row_of_loaded (kept_by held_rule (completed (record view { list = after_writes (take count (writes_of remove (layout.place (main object.key)) view.list)) view.list })))
@@ -247,7 +247,7 @@ HandlesAreNotShown = (view : View) (state : State) (layout : Layout) → Represe
 abbrev pub touched_view : View → ℕ → ℕ → View
 touched_view view node count = record view { list = after_writes (take count (touch_writes node view.list)) view.list }
 
--- at each write of the touch, in a store that shows the same, what is kept may be left by a stop in the Open
+-- at each write of the touch, in a store that shows the same, what is kept may be left by a crash in the Open
 abbrev pub OpensAtEachWrite : Type 0
 OpensAtEachWrite = (view : View) (state : State) (layout : Layout) → Represents view state layout → IsValidState state → (moment handle : ℕ) (key : List ℕ) → refused moment (to_open handle key) state ≡ None
     → (store : StoreView) → ShowsTheSame view.store store
@@ -279,12 +279,12 @@ abbrev pub WrittenEntriesStay : Type 0
 WrittenEntriesStay = (old new : View) (state : State) (layout : Layout) (key : List ℕ) (loaded : Loaded) → IsWrittenApart old new state layout key loaded
     → (store : StoreView) → ShowsTheSame new.store store → IsWrittenApart old (record new { store = store }) state layout key loaded
 
--- while they are written, at any moment at which nothing else is touched, what is kept is what is at rest
+-- while they are written, at any moment at which nothing else is touched, what is kept is the durable contents
 abbrev pub CreatesBeforeTheInsert : Type 0
 CreatesBeforeTheInsert = (touched : Claim → Bool) (old view : View) (state : State) (layout : Layout) → Represents old state layout → IsValidState state → SameBut touched old view → IsFree touched layout
     → map row_of_loaded (kept_by held_rule (completed view)) ≡ rest state
 
--- while its node is inserted what is kept is what is at rest
+-- while its node is inserted what is kept is the durable contents
 abbrev pub CreatesAtEachWrite : Type 0
 CreatesAtEachWrite = (old new : View) (state : State) (layout : Layout) (key : List ℕ) (loaded : Loaded) → IsWrittenApart old new state layout key loaded
     → (store : StoreView) → ShowsTheSame new.store store
@@ -296,7 +296,7 @@ CreatesEnd = (old new : View) (state : State) (layout : Layout) (key : List ℕ)
     → (store linked : StoreView) → ShowsTheSame new.store store → ShowsTheSame (linked_front store loaded) linked
     → Represents (record { list = after_writes (writes_of insert loaded.node new.list) new.list; store = linked }) (created handle key state) (with_new layout key loaded)
 
--- and so what is kept from then on is what is at rest, in each store that shows the same
+-- and so what is kept from then on is the durable contents, in each store that shows the same
 abbrev pub CreatesAfterTheLink : Type 0
 CreatesAfterTheLink = (old new : View) (state : State) (layout : Layout) (key : List ℕ) (loaded : Loaded) → IsWrittenApart old new state layout key loaded → (handle : ℕ) → IsValidState (created handle key state)
     → (store linked : StoreView) → ShowsTheSame new.store store → ShowsTheSame (linked_front store loaded) linked
@@ -307,11 +307,11 @@ abbrev pub CreatesEndAtTheStep : Type 0
 CreatesEndAtTheStep = (state : State) (handle : ℕ) (key : List ℕ) (moment : ℕ) → refused moment (to_create handle key) state ≡ None → evicted moment (to_create handle key) state ≡ []
     → (step state moment (to_create handle key)).state ≡ created handle key state
 
--- which has the same at rest
+-- which has the same durable contents
 abbrev pub CreatesLeaveTheRest : Type 0
 CreatesLeaveTheRest = (old new : View) (state : State) (layout : Layout) (key : List ℕ) (loaded : Loaded) → IsWrittenApart old new state layout key loaded → (handle : ℕ) → rest (created handle key state) ≡ rest state
 
--- and what was at rest may be left by a stop in the Create
+-- and the old durable contents may be left by a crash in the Create
 abbrev pub CreatesMayLeaveWhatWas : Type 0
 CreatesMayLeaveWhatWas = (state : State) (handle : ℕ) (key : List ℕ) (moment : ℕ) → refused moment (to_create handle key) state ≡ None → evicted moment (to_create handle key) state ≡ []
     → StopOutcome state moment (to_create handle key) (step state moment (to_create handle key)).state (rest state)

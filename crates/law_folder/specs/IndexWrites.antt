@@ -13,7 +13,7 @@ pub record IsIndexWord (at x : ℕ) (from image : Image) : Type 0 where
   pub there : word image Index at ≡ x
   pub outside : SameOutside (one_word Index at) from image
 
--- the head of the use list, the tail, the transaction and the operation are each written as one write into the list
+-- the head of the LRU list, the tail, the transaction and the operation are each written as one write into the list
 abbrev pub IsListWord : ℕ → (ℕ → ListWrite) → Type 0
 IsListWord at write = (from image : Image) (x : ℕ) → IsIndexWord at x from image → OnlyListChanges (write x ∷ []) from image
 
@@ -54,6 +54,6 @@ OtherWordsAreNotChecked = (from image : Image) (at : ℕ) → at % 4 ≡ 0 → i
 abbrev pub BucketsAreNotChecked : Type 0
 BucketsAreNotChecked = (from image : Image) (bucket : ℕ) → SameOutside (one_word Index (place_of_bucket bucket)) from image → IsWellFormed from → IsWellFormed image
 
--- no word of the index says what stands
+-- no word of the index says what is valid
 abbrev pub IndexWordsStandApart : Type 0
 IndexWordsStandApart = (from image : Image) (at : ℕ) → SameOutside (one_word Index at) from image → (u : ℕ) → stands_in image u ≡ stands_in from u

@@ -19,7 +19,8 @@ use Rattle.spec_folder.specs.ShownChanges.{ShowsTheSame}
 abbrev pub SameStoresRepresent : Type 0
 SameStoresRepresent = (view : View) (state : State) (layout : Layout) → Represents view state layout → (store : StoreView) → ShowsTheSame view.store store → Represents (record view { store = store }) state layout
 
--- any listed item is touched: what is kept is what is at rest before, and from the second write on what is at rest with the item in front
+-- any listed item is touched: what is kept is the durable contents before, and from the second write on the durable contents with the item
+-- in front
 abbrev pub TouchedItemsAtEachWrite : Type 0
 TouchedItemsAtEachWrite = (view : View) (state : State) (layout : Layout) → Represents view state layout → IsValidState state → (item : Item) → is_listed state item ≡ true
     → (store : StoreView) → ShowsTheSame view.store store → (count : ℕ) → map row_of_loaded (kept_by held_rule (completed (record { list = after_writes (take count (touch_writes (layout.place item) view.list)) view.list; store = store })))

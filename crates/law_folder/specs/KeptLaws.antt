@@ -39,7 +39,7 @@ KeptAloneAreKept = (store : StoreView) (rule : Rule) (nodes : List ℕ) → Dist
 abbrev pub IsDroppedIfLeftOut : (ℕ → Bool) → ℕ × Result Loaded Reason → Type 0
 IsDroppedIfLeftOut keep judgement = keep judgement.0 ≡ false → is_err judgement.1 ≡ true
 
--- a dropped node claims nothing: a walk without some or all of its dropped nodes keeps the same
+-- a dropped node uses nothing: a walk without some or all of its dropped nodes keeps the same
 abbrev pub LeavingOutKeepsTheSame : Type 0
 LeavingOutKeepsTheSame = (store : StoreView) (rule : Rule) (keep : ℕ → Bool) (nodes : List ℕ) → AllByRecursion (IsDroppedIfLeftOut keep) (judged store rule nodes) → kept_among store rule (filter keep nodes) ≡ kept_among store rule nodes
 

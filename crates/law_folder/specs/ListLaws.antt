@@ -1,4 +1,4 @@
--- The laws of the use list and of the chains.
+-- The laws of the LRU list and of the chains.
 use Rattle.std.specs.Prelude.{◌≡◌, ℕ, ◌<◌, ◌≤◌, true, false, ◌==◌, List, ◌∷◌, ◌++◌, length, map}
 use Rattle.spec_image.specs.Image.{Image}
 use Rattle.spec_format.specs.Address.{blocks_256}
@@ -11,21 +11,21 @@ use Rattle.spec_folder.specs.ListPlans.{writes_of, touch_writes, completion_writ
 use Rattle.spec_folder.specs.View.{StoreView, stands_as, store_of}
 use Rattle.spec_folder.specs.Chains.{file_and_block, most_records, is_of_bucket, chain, Linked, IsChain}
 
--- The use list.
+-- The LRU list.
 
 -- the walk of a whole list is its nodes
 abbrev pub WalksAreTheLists : Type 0
 WalksAreTheLists = (list : ListView) (nodes : List ℕ) → IsList list nodes → walk list ≡ nodes
 
--- the nodes of a walk are different, and each stands and checks
+-- the nodes of a walk are different, and each is there and checks
 abbrev pub WalksAreDistinct : Type 0
 WalksAreDistinct = (list : ListView) → Distinct (walk list) × ((node : ℕ) → is_among (walk list) node ≡ true → list.checks node ≡ true)
 
--- an insert, stopped after any of its writes and completed, gives the old list before the second write, and the new list from then on
+-- an insert, crashed after any of its writes and completed, gives the old list before the second write, and the new list from then on
 abbrev pub InsertsCommitAtTwo : Type 0
 InsertsCommitAtTwo = (node : ℕ) (list : ListView) (nodes : List ℕ) → CanBeInserted list nodes node → CommitsAtTwo list (writes_of insert node list) nodes (node ∷ nodes)
 
--- and ends with the new list at rest
+-- and ends with the new list idle
 abbrev pub InsertsEnd : Type 0
 InsertsEnd = (node : ℕ) (list : ListView) (nodes : List ℕ) → CanBeInserted list nodes node → IsAtRest (after_writes (writes_of insert node list) list) (node ∷ nodes)
 
@@ -33,7 +33,7 @@ InsertsEnd = (node : ℕ) (list : ListView) (nodes : List ℕ) → CanBeInserted
 abbrev pub RemovalsCommitAtTwo : Type 0
 RemovalsCommitAtTwo = (node : ℕ) (list : ListView) (prefix suffix : List ℕ) → IsAtRest list (prefix ++ node ∷ suffix) → CommitsAtTwo list (writes_of remove node list) (prefix ++ node ∷ suffix) (prefix ++ suffix)
 
--- and ends with the new list at rest
+-- and ends with the new list idle
 abbrev pub RemovalsEnd : Type 0
 RemovalsEnd = (node : ℕ) (list : ListView) (prefix suffix : List ℕ) → IsAtRest list (prefix ++ node ∷ suffix) → IsAtRest (after_writes (writes_of remove node list) list) (prefix ++ suffix)
 
@@ -41,11 +41,11 @@ RemovalsEnd = (node : ℕ) (list : ListView) (prefix suffix : List ℕ) → IsAt
 abbrev pub TouchesCommitAtTwo : Type 0
 TouchesCommitAtTwo = (node : ℕ) (list : ListView) (prefix suffix : List ℕ) → IsAtRest list (prefix ++ node ∷ suffix) → CommitsAtTwo list (touch_writes node list) (prefix ++ node ∷ suffix) (node ∷ prefix ++ suffix)
 
--- and ends with the new list at rest
+-- and ends with the new list idle
 abbrev pub TouchesEnd : Type 0
 TouchesEnd = (node : ℕ) (list : ListView) (prefix suffix : List ℕ) → IsAtRest list (prefix ++ node ∷ suffix) → IsAtRest (after_writes (touch_writes node list) list) (node ∷ prefix ++ suffix)
 
--- completing, stopped anywhere and begun again as often as one likes, leaves a list whose completion is the same but for the operation word, on every list
+-- completing, crashed anywhere and begun again as often as one likes, leaves a list whose completion is the same but for the operation word, on every list
 abbrev pub CompletingAgainIsTheSame : Type 0
 CompletingAgainIsTheSame = (list : ListView) (counts : List ℕ) → completed_but_operation (stopped counts list) ≡ completed_but_operation list
 
@@ -63,7 +63,7 @@ ChainsAreTheirRecords = (store : StoreView) (bucket : ℕ) (words : List ℕ) �
 abbrev pub WholeChainsAreShort : Type 0
 WholeChainsAreShort = (store : StoreView) (bucket : ℕ) (words : List ℕ) → IsChain store bucket words → length words ≤ most_records
 
--- of an image fewer records of different first blocks stand, since data_0 is linked as a file of nodes
+-- of an image fewer records of different first blocks are there, since data_0 is linked as a file of nodes
 abbrev pub RecordsOfImagesAreFew : Type 0
 RecordsOfImagesAreFew = (image : Image) (words : List ℕ) → ((w : ℕ) → is_among words w ≡ true → stands_as image blocks_256 w ≡ true) → Distinct (map file_and_block words) → length words < most_records
 
@@ -80,7 +80,7 @@ RecordsAreLinkedInFront = (store : StoreView) (bucket contents : ℕ) (words : L
 abbrev pub OtherChainsStay : Type 0
 OtherChainsStay = (store : StoreView) (bucket other word : ℕ) → (bucket == other) ≡ false → chain (record store { table = put store.table bucket word }) other ≡ chain store other
 
--- the records behind the first of linked records are linked from its next on, where their own links and buckets are as before
+-- the records after the first of linked records are linked from its next on, where their own links and buckets are as before
 abbrev pub FirstRecordsAreUnlinked : Type 0
 FirstRecordsAreUnlinked = (old new : StoreView) (bucket word contents : ℕ) (words : List ℕ)
     → ((w : ℕ) → is_among words w ≡ true → (is_of_bucket new bucket w ≡ is_of_bucket old bucket w) × (new.chain_next w ≡ old.chain_next w))

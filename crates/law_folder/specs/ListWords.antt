@@ -1,4 +1,4 @@
--- The laws of the use list in bytes: what it is at each word that its operations write.
+-- The laws of the LRU list in bytes: what it is at each word that its operations write.
 use Rattle.std.specs.Prelude.{◌≡◌, ◌<◌, ◌≤◌, ◌+◌, ◌^◌, ℕ, List, ◌∷◌, ◌++◌, All, true}
 use Rattle.spec_image.specs.Image.{Image}
 use Rattle.spec_image.specs.Steps.{after}
@@ -14,7 +14,7 @@ use Rattle.spec_folder.specs.ShownChanges.{OnlyListChanges}
 
 -- Writes in turn.
 
--- at each word of such writes a front of them is made, and nothing else is shown to change
+-- at each word of such writes a prefix of them is made, and nothing else is shown to change
 abbrev pub WritesAreMadeInTurn : Type 0
 WritesAreMadeInTurn = (image : Image) (writes : List ListWrite) → IsWritable image → CanBeMade image writes → Along (IsPartly image writes) image (steps_of_writes writes image)
 
@@ -45,12 +45,12 @@ NodeUpdatesKeepSeals = (image : Image) (node : ℕ) (changes : List (ℕ × ℕ)
 abbrev pub InsertsCanBeMade : Type 0
 InsertsCanBeMade = (image : Image) (node : ℕ) (nodes : List ℕ) → CanBeInserted (list_of image) nodes node → CanBeMade image (writes_of insert node (list_of image))
 
--- an insert, stopped at any of its words and completed, gives the old list before the second word, and the new list from then on
+-- an insert, crashed at any of its words and completed, gives the old list before the second word, and the new list from then on
 abbrev pub InsertsCommitAtTheSecondWord : Type 0
 InsertsCommitAtTheSecondWord = (image : Image) (node : ℕ) (nodes : List ℕ) → IsWritable image → CanBeInserted (list_of image) nodes node
     → CommitsAt 2 (CompletesTo nodes) (CompletesTo (node ∷ nodes)) image (operation_steps insert node image)
 
--- and ends with the new list at rest
+-- and ends with the new list idle
 abbrev pub InsertsEndAtRest : Type 0
 InsertsEndAtRest = (image : Image) (node : ℕ) (nodes : List ℕ) → IsWritable image → CanBeInserted (list_of image) nodes node → HasListAtRest (node ∷ nodes) (after (operation_steps insert node image) image)
 
@@ -58,12 +58,12 @@ InsertsEndAtRest = (image : Image) (node : ℕ) (nodes : List ℕ) → IsWritabl
 abbrev pub RemovalsCanBeMade : Type 0
 RemovalsCanBeMade = (image : Image) (node : ℕ) (prefix suffix : List ℕ) → HasListAtRest (prefix ++ node ∷ suffix) image → CanBeMade image (writes_of remove node (list_of image))
 
--- a removal, stopped at any of its words and completed, gives the old list before the second word, and the new list from then on
+-- a removal, crashed at any of its words and completed, gives the old list before the second word, and the new list from then on
 abbrev pub RemovalsCommitAtTheSecondWord : Type 0
 RemovalsCommitAtTheSecondWord = (image : Image) (node : ℕ) (prefix suffix : List ℕ) → IsWritable image → HasListAtRest (prefix ++ node ∷ suffix) image
     → CommitsAt 2 (CompletesTo (prefix ++ node ∷ suffix)) (CompletesTo (prefix ++ suffix)) image (operation_steps remove node image)
 
--- and ends with the new list at rest
+-- and ends with the new list idle
 abbrev pub RemovalsEndAtRest : Type 0
 RemovalsEndAtRest = (image : Image) (node : ℕ) (prefix suffix : List ℕ) → IsWritable image → HasListAtRest (prefix ++ node ∷ suffix) image → HasListAtRest (prefix ++ suffix) (after (operation_steps remove node image) image)
 
@@ -71,7 +71,7 @@ RemovalsEndAtRest = (image : Image) (node : ℕ) (prefix suffix : List ℕ) → 
 abbrev pub TouchesCanBeMade : Type 0
 TouchesCanBeMade = (image : Image) (node : ℕ) (prefix suffix : List ℕ) → HasListAtRest (prefix ++ node ∷ suffix) image → CanBeMade image (touch_writes node (list_of image))
 
--- at each word of a touch a front of its writes is made, and nothing else is shown to change
+-- at each word of a touch a prefix of its writes is made, and nothing else is shown to change
 abbrev pub TouchesAreMadeInTurn : Type 0
 TouchesAreMadeInTurn = (image : Image) (node moment : ℕ) (prefix suffix : List ℕ) → IsWritable image → HasListAtRest (prefix ++ node ∷ suffix) image
     → Along (IsTouched image node (touch_writes node (list_of image))) image (steps_of_touch node moment image)
@@ -80,12 +80,12 @@ TouchesAreMadeInTurn = (image : Image) (node moment : ℕ) (prefix suffix : List
 abbrev pub TouchesCanGoOn : Type 0
 TouchesCanGoOn = (image : Image) (node moment : ℕ) → IsWritable image → Along IsWritable image (steps_of_touch node moment image)
 
--- a touch, stopped at any of its words and completed, gives the old list before the second word, and the new list from then on; where the node is the head already they are one
+-- a touch, crashed at any of its words and completed, gives the old list before the second word, and the new list from then on; where the node is the head already they are one
 abbrev pub TouchesCommitAtTheSecondWord : Type 0
 TouchesCommitAtTheSecondWord = (image : Image) (node moment : ℕ) (prefix suffix : List ℕ) → IsWritable image → HasListAtRest (prefix ++ node ∷ suffix) image
     → CommitsAt 2 (CompletesTo (prefix ++ node ∷ suffix)) (CompletesTo (node ∷ prefix ++ suffix)) image (steps_of_touch node moment image)
 
--- it ends with the new list at rest
+-- it ends with the new list idle
 abbrev pub TouchesEndAtRest : Type 0
 TouchesEndAtRest = (image : Image) (node moment : ℕ) (prefix suffix : List ℕ) → IsWritable image → HasListAtRest (prefix ++ node ∷ suffix) image → HasListAtRest (node ∷ prefix ++ suffix) (after (steps_of_touch node moment image) image)
 
@@ -116,6 +116,6 @@ CompletionsKeepTheOutcome = (image : Image) → IsWritable image → Along (Comp
 abbrev pub CompletionsAreDone : Type 0
 CompletionsAreDone = (image : Image) → IsWritable image → IsCompleted image (after (completion_steps image) image)
 
--- however often a completion is stopped
+-- however often a completion crashes
 abbrev pub CompletionsMayBeStopped : Type 0
 CompletionsMayBeStopped = (image : Image) (counts : List ℕ) → IsWritable image → StopsAlike image (stopped_folder counts image)

@@ -8,7 +8,7 @@ use Rattle.spec_format.specs.Sealed.{AreChanges, IsMidUpdate, seal_place}
 use Rattle.spec_folder.specs.ShownChanges.{OnlyListChanges, OnlyNodeFieldsChange}
 use Rattle.spec_format.specs.Records.{node_next_place, node_prev_place, node_contents_place, node_dirty_place}
 
--- a node stands and checks, in an image of bytes
+-- a node is there and checks, in an image of bytes
 pub record IsNode (image : Image) (w : ℕ) : Type 0 where
   pub good : (list_of image).checks w ≡ true
   pub bytes : AreBytes image

@@ -9,7 +9,7 @@ use Rattle.spec_folder.specs.View.{RecordFields, fields_of, store_of}
 use Rattle.spec_format.specs.Sealed.{AreChanges, IsMidUpdate, seal_place, record_at}
 use Rattle.spec_folder.specs.ShownChanges.{OnlyChainNextChanges, OnlyRecordFieldsChange}
 
--- a record stands and checks, in an image of bytes
+-- a record is there and checks, in an image of bytes
 pub record IsRecord (image : Image) (w : ℕ) (fields : RecordFields) : Type 0 where
   pub here : (store_of image).entry w ≡ Some fields
   pub good : fields.checks ≡ true
@@ -24,7 +24,7 @@ ChainNextsAreWritten = (from image : Image) (w x : ℕ) (fields : RecordFields) 
 abbrev pub sealed_fields : List ℕ → RecordFields
 sealed_fields bytes = record (fields_of (entry_in (content bytes) 0)) { checks = true }
 
--- the fields behind its next change as they are written, and nothing else does
+-- the fields after its next change as they are written, and nothing else does
 abbrev pub FieldsAreWritten : Type 0
 FieldsAreWritten = (from image : Image) (w : ℕ) (changes : List (ℕ × ℕ)) (fields : RecordFields) → IsRecord from w fields → AreChanges (seal_place w) changes → All (λ change. 8 ≤ change.0) changes → (moment : IsMidUpdate from w changes image)
     → OnlyRecordFieldsChange w from image × ((store_of image).entry w ≡ Some (sealed_fields (with_words (take moment.made changes) (record_at from w))))

@@ -42,11 +42,11 @@ NothingListedIsDropped = (view : View) (state : State) (layout : Layout) → Rep
 abbrev pub RepresentedChainsEnd : Type 0
 RepresentedChainsEnd = (view : View) (state : State) (layout : Layout) → Represents view state layout → IsValidState state → ChainsEnd view.store
 
--- what is kept is what is at rest
+-- what is kept is the durable contents
 abbrev pub KeptAreAtRest : Type 0
 KeptAreAtRest = (view : View) (state : State) (layout : Layout) → Represents view state layout → IsValidState state → map row_of_loaded (kept_by held_rule (completed view)) ≡ rest state
 
--- so a finished folder holds what is at rest
+-- so a finished folder holds the durable contents
 abbrev pub FoundIsAtRest : Type 0
 FoundIsAtRest = (image : Image) (state : State) (layout : Layout) → Represents (view_of image) state layout → IsValidState state → unfinished image ≡ false → found image ≡ rest state
 
@@ -68,7 +68,7 @@ TidyIsInOrder = (image : Image) (state : State) (layout : Layout) (numbers : Lis
 abbrev pub TidyStatesAreStoodFor : Type 0
 TidyStatesAreStoodFor = (image : Image) (state : State) (layout : Layout) (numbers : List ℕ) → Represents (view_of image) state layout → IsValidState state → AllIsOwned image state layout numbers → IsWellFormed image → IsTidy image state layout numbers → StandsFor image state
 
--- what stands for a state finds what is at rest in it
+-- the durable contents of a state are recovered from what stands for it
 abbrev pub WhatIsStoodForIsFound : Type 0
 WhatIsStoodForIsFound = (image : Image) (state : State) → StandsFor image state → found image ≡ rest state
 

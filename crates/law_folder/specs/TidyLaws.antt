@@ -12,7 +12,7 @@ use Rattle.spec_folder.specs.ListImages.{IsWritable, steps_of_touch}
 use Rattle.spec_folder.specs.StandsFor.{StandsFor}
 use Rattle.spec_folder.specs.Tidy.{HasState, IsBehindHeaders, FilesStand}
 
--- a change behind the headers leaves the files as they stand
+-- a change after the headers leaves the files as they are
 abbrev pub FilesStandBehindHeaders : Type 0
 FilesStandBehindHeaders = (footprint : Footprint) (from image : Image) → IsBehindHeaders footprint → SameOutside footprint from image → IsWellFormed from → FilesStand from image
 

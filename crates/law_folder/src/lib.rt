@@ -33,25 +33,25 @@ pub fn whole_lists_are_walked()
     ensures distinct { WalksAreDistinct }
 {}
 
-/// An insert, stopped after any of its writes and completed, gives the old list before the second, and the new one from then on.
+/// An insert, crashed after any of its writes and completed, gives the old list before the second, and the new one from then on.
 pub fn inserts_at_each_write()
     ensures commits { InsertsCommitAtTwo }
     ensures ends { InsertsEnd }
 {}
 
-/// A removal, stopped after any of its writes and completed, gives the old list before the second, and the new one from then on.
+/// A removal, crashed after any of its writes and completed, gives the old list before the second, and the new one from then on.
 pub fn removals_at_each_write()
     ensures commits { RemovalsCommitAtTwo }
     ensures ends { RemovalsEnd }
 {}
 
-/// A touch, stopped after any of its writes and completed, gives the old list before the second, and the new one from then on.
+/// A touch, crashed after any of its writes and completed, gives the old list before the second, and the new one from then on.
 pub fn touches_at_each_write()
     ensures commits { TouchesCommitAtTwo }
     ensures ends { TouchesEnd }
 {}
 
-/// A completion may be stopped anywhere and begun again, on every list.
+/// A completion may crash anywhere and be begun again, on every list.
 pub fn completions_at_each_write()
     ensures stops { CompletingAgainIsTheSame }
     ensures ends { CompletionsEnd }
@@ -79,7 +79,7 @@ pub fn given_nodes_are_kept()
     ensures alone { KeptAloneAreKept }
 {}
 
-/// A dropped node claims nothing, so it may be removed without changing what is kept.
+/// A dropped node uses nothing, so it may be removed without changing what is kept.
 pub fn dropped_nodes_may_be_left_out()
     ensures { LeavingOutKeepsTheSame }
 {}
@@ -95,7 +95,8 @@ pub fn same_candidates_hold_the_same()
     ensures frame { SameCandidatesHoldTheSame }
 {}
 
-/// What represents a state has its items as its walk and its rows as what is listed, drops nothing, ends its chains, and holds what is at rest.
+/// What represents a state has its items as its walk and its rows as what is listed, drops nothing, ends its chains, and holds the durable
+/// contents.
 pub fn represented_states_are_found()
     ensures walks { WalksAreTheOrder }
     ensures rows { ListedAreTheRows }
@@ -105,7 +106,8 @@ pub fn represented_states_are_found()
     ensures found { FoundIsAtRest }
 {}
 
-/// An image that represents a state with exact maps shows it, and stands for it where all else is in order, which is so where it is tidy by its layout; what stands for a state finds what is at rest in it.
+/// An image that represents a state with exact maps shows it, and stands for it where all else is in order, which is so where it is tidy by its layout; the durable contents of a state are recovered from
+/// what stands for it.
 pub fn represented_states_are_stood_for()
     ensures shown { RepresentedStatesAreShown }
     ensures in_order { TidyIsInOrder }
@@ -149,7 +151,7 @@ pub fn changed_items_are_represented()
     ensures represented { ChangedItemsAreRepresented }
 {}
 
-/// While an unsettled object is in the midst of a change, what is kept is what is at rest.
+/// While a dirty object is in the midst of a change, what is kept is the durable contents.
 pub fn unsettled_objects_may_change()
     ensures midst { UnsettledObjectsMayChange }
     ensures at_each_word { UnsettledChangesAreAtRest }
@@ -162,13 +164,14 @@ pub fn removals_keep_the_others()
     ensures represented { LessIsRepresented }
 {}
 
-/// The dirty word of a main item settles and unsettles its object.
+/// The dirty word of a main item makes its object clean or dirty.
 pub fn dirty_words_settle()
     ensures put { DirtyWordsSettle }
     ensures written { WrittenDirtyWordsSettle }
 {}
 
-/// A doomed object may change at its node, and its dirty word settles and unsettles it, and it may go; at each word what is kept is what is at rest.
+/// A doomed object may change at its node, and its dirty word makes it clean or dirty, and it may go; at each word what is kept is the durable
+/// contents.
 pub fn doomed_objects_change()
     ensures laid { ChangedDoomedObjectsArePlaced }
     ensures represented { ChangedDoomedObjectsAreRepresented }
@@ -190,7 +193,8 @@ pub fn others_hold_meanwhile()
     ensures state { RecordsOfAnotherStateLoad }
 {}
 
-/// While an object is doomed what is kept is what is at rest before or after it; in the end its node is that of a doomed object, and the new state is laid out and represented.
+/// While an object is doomed what is kept is the durable contents before or after it; in the end its node is that of a doomed object, and the new state is laid out and
+/// represented.
 pub fn dooms_keep_the_others()
     ensures before { ListedItemsAreAtRest }
     ensures after { DoomsKeepTheOthers }
@@ -205,7 +209,7 @@ pub fn handles_are_not_shown()
     ensures { HandlesAreNotShown }
 {}
 
-/// What is at rest before and after an object is settled or unsettled is picked by that.
+/// The durable contents before and after an object is made clean or dirty are picked by that.
 pub fn turning_objects_are_picked()
     ensures before { RestBeforeTurning }
     ensures after { RestAfterTurning }
@@ -232,13 +236,15 @@ pub fn chains_are_searched()
     ensures missing { NoneFoundIsMissing }
 {}
 
-/// At each write of an Open, in a store that shows the same, what is kept may be left by a stop in it, and in the end the new state is represented.
+/// At each write of an Open, in a store that shows the same, what is kept may be left by a crash in it, and in the end the new state is
+/// represented.
 pub fn opens_at_each_write()
     ensures at_each_word { OpensAtEachWrite }
     ensures ends { OpensEnd }
 {}
 
-/// Before a Create's insert, at each write of it and behind its link, in stores that show the same, what is kept is what is at rest, which may be left by a stop; in the end the new state is represented, which is the model's where nothing is evicted.
+/// Before a Create's insert, at each write of it and after its link, in stores that show the same, what is kept is the durable contents, which may be left by a crash; in the end the new state is represented, which is the model's where nothing is
+/// evicted.
 pub fn creates_at_each_write()
     ensures written { WrittenEntriesStay }
     ensures before { CreatesBeforeTheInsert }
@@ -250,7 +256,8 @@ pub fn creates_at_each_write()
     ensures stops { CreatesMayLeaveWhatWas }
 {}
 
-/// A change of bytes changes what is shown only inside what covers it; blocks and external files are covered by their claims.
+/// A change of bytes changes what is shown only inside what covers it; blocks and external files are covered by their used
+/// blocks.
 pub fn covered_changes_stay_inside()
     ensures shown { CoveredChangesStayInside }
     ensures blocks { BlocksAreCovered }
@@ -297,7 +304,7 @@ pub fn charges_are_the_totals()
     ensures opened { OpenedChargesAreTheTotals }
 {}
 
-/// A change behind the headers leaves the files as they stand; an image that has a state stands for it, and a touch of any listed item leaves one with the item in front.
+/// A change after the headers leaves the files as they are; an image that has a state stands for it, and a touch of any listed item leaves one with the item in front.
 pub fn states_are_had()
     ensures files { FilesStandBehindHeaders }
     ensures stands { StatesAreStoodFor }

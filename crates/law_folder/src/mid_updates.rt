@@ -1,6 +1,6 @@
 // The laws of what a folder shows at each word of a write.
 //
-// They lead from the bytes that a write changes to what is shown: the use list, what each node says, the table, the chains, the records and data.
+// They lead from the bytes that a write changes to what is shown: the LRU list, what each node says, the table, the chains, the records and data.
 ghost use Rattle.law_folder.specs.BlockWrites.{WritesStayInside, UpdatesStayInside, ListChangesBegin, ListChangesAdd};
 ghost use Rattle.law_folder.specs.IndexWrites.{HeadsAreWritten, TailsAreWritten, TransactionsAreWritten, OperationsAreWritten, OtherWordsAreNotShown, BucketsAreWritten, OtherWordsAreNotChecked, BucketsAreNotChecked, IndexWordsStandApart};
 ghost use Rattle.law_folder.specs.NodeUpdates.{NextsAreWritten, PrevsAreWritten, TimesAreNotShown, ContentsAreWritten, DirtyWordsAreWritten};
@@ -33,7 +33,8 @@ pub fn records_are_written()
     ensures fields { FieldsAreWritten }
 {}
 
-/// A word of the index that is written is a write into the use list, the word of a bucket, or not shown; few of them are checked, and none says what stands.
+/// A word of the index that is written is a write into the LRU list, the word of a bucket, or not shown; few of them are checked, and none says what is
+/// valid.
 pub fn index_words_are_written()
     ensures head { HeadsAreWritten }
     ensures tail { TailsAreWritten }

@@ -253,7 +253,7 @@ module _ (from : Image) (well_from : IsWellFormed from) (all : KeepsAllWalked fr
 
   -- ---- a bucket from one of its kept records on
 
-  -- a kept record of a bucket lies on a path with all kept records of the bucket, these before it and those behind
+  -- a kept record of a bucket lies on a path with all kept records of the bucket, these before it and those after
   record IsLinking (i : Image) (b : ℕ) (prefix : List ℕ) (c : ℕ) (suffix : List ℕ) : Type 0 where
     steady : IsSteady i
     path : IsPath (store_of i) b (prefix ++ c ∷ suffix)

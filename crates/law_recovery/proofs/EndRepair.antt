@@ -1,4 +1,4 @@
--- The end of the use list, mended.
+-- The end of the LRU list, repaired.
 use Rattle.std.proofs.Common.{◌≡◌, ℕ, zero, suc, ◌≤◌, Bool, true, false, not, ◌&&◌, List, [], ◌∷◌, ◌++◌, length, refl, sym, ◌∙◌, subst, ⊎_elim, arith}
 use Rattle.std.specs.Prelude.{◌==◌}
 use Rattle.std.proofs.lemmas.Bool.{cases_Bool, eqb-true, or_parts}
@@ -93,7 +93,7 @@ unfolding walk
 walk-tail list word = refl
 
 module _ (list : ListView) (idle : list.transaction ≡ 0) (zero_bad : list.checks 0 ≡ false) where
-  -- the list with its end mended is whole
+  -- the list with its end repaired is whole
   mended-nodes : (node : ℕ) (nodes : List ℕ) → IsWalked list.checks list.next list.prev 131072 [] list.head list.head (node ∷ nodes)
       → IsList (record list { next = put list.next (last_or node nodes) (last_or node nodes); tail = last_or node nodes }) (node ∷ nodes)
   mended-nodes node nodes is =
@@ -123,7 +123,7 @@ module _ (list : ListView) (idle : list.transaction ≡ 0) (zero_bad : list.chec
         no_zero = zero_bad;
       }
 
--- what is walked, at each write that mends the end
+-- what is walked, at each write that repairs the end
 WalksSame : ListView → ListView → Type 0
 WalksSame list other = walk (completed_list other) ≡ walk list
 

@@ -126,7 +126,7 @@ cut-small (External n) = λ i. lit< tt
 cut-writable : IsWritable (cut_to 8448)
 cut-writable = record { bytes = λ file i. cut-small file i; has_header = let long = whole_index (cut_to 8448) cut_is_well_formed in omega (arith, long) }
 
--- the same is held at each word of its repair, and in the end its links are mended
+-- the same is held at each word of its repair, and in the end its links are repaired
 cut-repaired : Along (HoldsTheSame (cut_to 8448)) (cut_to 8448) (link_repair_steps (cut_to 8448)) × HasMendedLinks (after (link_repair_steps (cut_to 8448)) (cut_to 8448)) × KeepsRecordsSealed (cut_to 8448) (after (link_repair_steps (cut_to 8448)) (cut_to 8448))
 cut-repaired = links-repaired (cut_to 8448) cut_is_well_formed cut-writable
 
@@ -142,7 +142,7 @@ cut-begins =
     subst (λ (nodes : List ℕ). HasRemoved (cut_to 8448) [] nodes (0x90000000 ∷ []) (ended_image (cut_to 8448))) cut_is_walked
     (subst (λ (others : List ℕ). HasRemoved (cut_to 8448) [] (completed_walk (cut_to 8448)) others (ended_image (cut_to 8448))) cut-kept_nodes (removals-begin (cut_to 8448) cut_is_well_formed cut-writable))
 
--- the first is passed by, the second is removed, and then the list is mended
+-- the first is passed by, the second is removed, and then the list is repaired
 cut-passed : HasRemoved (cut_to 8448) (0x90000000 ∷ []) (0x90000001 ∷ []) [] (ended_image (cut_to 8448))
 cut-passed = kept-passed_by (cut_to 8448) (ended_image (cut_to 8448)) [] 0x90000000 (0x90000001 ∷ []) [] cut_is_well_formed cut-writable cut-begins
 

@@ -1,4 +1,4 @@
--- What is found is a valid holding.
+-- What is found is a valid snapshot.
 use Rattle.std.proofs.Common.{◌≡◌, ⊎_elim, ℕ, ◌≤◌, Bool, true, false, cond, List, [], ◌∷◌, map, Option, Some, None, Ok, refl, sym, ap, ap₂, ◌∙◌, subst, arith}
 use Rattle.std.specs.Prelude.{◌==◌, ◌&&◌, ◌||◌, not, if◌then◌else◌, count_by, All}
 use Rattle.std.specs.List.{filter_map, cons_option}

@@ -20,9 +20,9 @@ use Rattle.law_folder.proofs.walks.Loads.{load-then}
 use Rattle.law_folder.proofs.walks.Loading.{load-from}
 use Rattle.law_folder.proofs.claims.Outside.{AreClear, all-clear, index-claims}
 
--- ---- claims
+-- ---- used blocks
 
--- what the one has of claims that don't overlap the other has not
+-- what the one has of used blocks that don't overlap the other has not
 pub apart-claim : (xs ys : List Claim) (c : Claim) → overlap xs ys ≡ false → has_claim ys c ≡ true → has_claim xs c ≡ false
 unfolding overlap has_claim
 apart-claim xs [] c none there = cc
@@ -33,7 +33,7 @@ apart-claim xs (y ∷ ys) c none there =
     (λ (e : same_claim c y ≡ false). apart-claim xs ys c parts.1 (rw e at there))
     (cases_Bool (same_claim c y))
 
--- what is behind in claims of which none stands twice is not in front
+-- what is after in used blocks of which none occurs twice is not in front
 once-claim : (xs ys : List Claim) (c : Claim) → repeats (xs ++ ys) ≡ false → has_claim ys c ≡ true → has_claim xs c ≡ false
 unfolding repeats has_claim
 once-claim [] ys c once there = refl

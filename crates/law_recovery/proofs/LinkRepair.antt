@@ -51,12 +51,12 @@ records-still from image bucket keeps is =
 rests-list : (l k : ListView) → k ≡ l → IsAtRest l (walk l) → IsAtRest k (walk k)
 rests-list l k e rest = subst (λ (v : ListView). IsAtRest v (walk v)) (sym e) rest
 
--- where the list is at rest, what is kept is what is kept of its nodes
+-- where the list is idle, what is kept is what is kept of its nodes
 pub rest-kept : (image : Image) (nodes : List ℕ) → HasListAtRest nodes image → kept image ≡ kept_among (store_of image) held_rule (walked image)
 unfolding kept
 rest-kept image nodes rest = ap (kept_among (store_of image) held_rule) (walk-idle (list_of image) rest.idle)
 
--- where the links are mended, the kept nodes are the walked ones
+-- where the links are repaired, the kept nodes are the walked ones
 pub kept-walked : (image : Image) → HasMendedLinks image → map (λ (k : Loaded). k.node) (kept image) ≡ walked image
 kept-walked image mended = ap (map (λ (k : Loaded). k.node)) (rest-kept image (walked image) mended.rests) ∙ kept-nodes (store_of image) held_rule (walked image) mended.rests.whole.distinct ∙ mended.all_kept
 
@@ -102,7 +102,7 @@ links-repaired image well ready =
       subst (KeepsRecordsSealed image) (sym (after-append (list_repair_steps image) (chain_repair_steps mid) image)) (keeps-more image mid last first.1.seals second.1.seals),
     )
 
--- after a front of the steps the same is held
+-- after a prefix of the steps the same is held
 front-holds : (image : Image) (count : ℕ) → IsWellFormed image → IsWritable image → HoldsTheSame image (after (take count (link_repair_steps image)) image)
 front-holds image count well ready =
     let steps : List TrailStep = link_repair_steps image in

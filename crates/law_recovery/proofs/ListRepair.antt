@@ -1,4 +1,4 @@
--- The use list, repaired at each of its words.
+-- The LRU list, repaired at each of its words.
 use Rattle.std.proofs.Common.{◌≡◌, ℕ, List, [], ◌∷◌, ◌++◌, take, refl, ap, ap₂, sym, ◌∙◌, subst, ⊎_elim, Bool, true, false, arith}
 use Rattle.std.specs.Prelude.{if◌then◌else◌, not, ◌&&◌, ◌==◌, map, nat_lt}
 use Rattle.std.specs.List.{filter}
@@ -104,7 +104,7 @@ filter-without p (x ∷ xs) once =
     (λ (e : p x ≡ false). rw e (ap (λ (ys : List ℕ). x ∷ ys) (filter-without p xs once.1) ∙ sym (without-other x xs (filter p xs) (lacks-filter p xs x once.0))))
     (cases_Bool (p x))
 
--- the first of those that pass does, where it stands once
+-- the first of those that pass does, where it occurs once
 is-kept : (p : ℕ → Bool) (x : ℕ) (xs others : List ℕ) → is_among xs x ≡ false → x ∷ others ≡ filter p (x ∷ xs) → p x ≡ true
 is-kept p x xs others once are =
     ⊎_elim
@@ -244,7 +244,7 @@ pub zero_bad : (image : Image) → (list_of image).checks 0 ≡ false
 unfolding list_of checks_at stands is_address is_initialized
 zero_bad image = refl
 
--- what mends the end can be written
+-- what repairs the end can be written
 pub end-can : (image : Image) → CanBeMade image (end_writes (list_of image))
 unfolding end_writes walk
 end-can image = by_nodes (walk (list_of image)) (walked-is (list_of image).checks (list_of image).next (list_of image).prev 131072 [] (list_of image).head (list_of image).head) where
@@ -364,7 +364,7 @@ module _ (image : Image) (well : IsWellFormed image) (ready : IsWritable image) 
     are = sym (filter-true (walked e));
   }
 
-  -- a list that has the kept nodes left is mended
+  -- a list that has the kept nodes left is repaired
   list-mended : (last : Image) → HasLeft e kept-ended last → IsListMended image last
   list-mended last left =
       let walks_last : walked last ≡ kept-ended = walk_list (list_of last) kept-ended left.rests.whole in

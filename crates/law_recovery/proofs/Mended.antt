@@ -1,4 +1,4 @@
--- A mended folder stands for what it holds, opened, and is sound.
+-- A repaired folder stands for what it holds, opened, and is sound.
 use Rattle.std.proofs.Common.{◌≡◌, ⊎_elim, ℕ, ◌<◌, true, false, List, [], ◌∷◌, ◌++◌, Option, Some, None, refl, sym, ap, ap₂, ◌∙◌, subst}
 use Rattle.std.specs.Prelude.{map, is_some}
 use Rattle.std.specs.Option.{option_map}
@@ -47,7 +47,7 @@ use Rattle.law_recovery.proofs.Frames.{load-chained}
 use Rattle.law_recovery.proofs.MendedLinks.{all, node-of, IsFirst, first-here, at-node, order-is, mended-represents, all-live, chain-has-test}
 use Rattle.law_recovery.proofs.LinkRepair.{kept-walked}
 
--- ---- a mended folder
+-- ---- a repaired folder
 
 claimed-first : (ks : List Loaded) (c : Claim) → has_claim (claims_of_loaded ks) c ≡ is_some (node_with (λ k. has_claim (all_claims k) c) ks)
 claimed-first [] c = no-claim c
@@ -61,7 +61,7 @@ pub append-none : {A : Type 0} (xs : List A) → xs ++ [] ≡ xs
 append-none [] = refl
 append-none {A} (x ∷ xs) = ap (λ (ys : List A). x ∷ ys) (append-none xs)
 
--- what is mended of files, seals and counters is in order
+-- what is repaired of files, seals and counters is in order
 mended-in_order : (image : Image) → IsMended image → IsInOrder image (kept image) []
 mended-in_order image mended = record {
   only_linked = mended.only.only_linked;

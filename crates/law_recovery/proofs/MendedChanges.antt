@@ -1,4 +1,4 @@
--- What keeps a mended folder mended.
+-- What keeps a repaired folder repaired.
 use Rattle.std.proofs.Common.{inl, inr, ◌≡◌, ◌≢◌, ⊎_elim, ℕ, zero, suc, ◌+◌, ◌^◌, ◌<◌, Bool, true, false, List, [], ◌∷◌, ◌++◌, take, Option, Some, None, Ok, refl, sym, ap, ◌∙◌, subst, arith}
 use Rattle.std.specs.Prelude.{◌==◌, if◌then◌else◌, map, slice_index}
 use Rattle.std.specs.List.{filter_map, cons_option}
@@ -79,7 +79,7 @@ module _ (from image : Image) (mended : HasMendedLinks from) (well : IsWellForme
   abbrev asked : ℕ → Option Loaded
   asked = kept_as (store_of from) held_rule (walked from)
 
-  -- where the list, the records by themselves and the chains are as they were, the folder is mended
+  -- where the list, the records by themselves and the chains are as they were, the folder is repaired
   module _ (list : IsList (list_of image) (walked from)) (idle : (list_of image).transaction ≡ 0)
       (loads : (node : ℕ) (k : Loaded) → is_among (walked from) node ≡ true → asked node ≡ Some k → load (store_of image) (unchained_rule 0) node ≡ Ok k)
       (chains : (bucket : ℕ) → bucket < 65536 → IsChain (store_of image) bucket (kept_records from bucket)) where
@@ -138,7 +138,7 @@ module _ (from image : Image) (mended : HasMendedLinks from) (well : IsWellForme
   loads-alone : (node : ℕ) (k : Loaded) → is_among (walked from) node ≡ true → asked node ≡ Some k → load (store_of from) (unchained_rule 0) node ≡ Ok k
   loads-alone node k among is = load-rule (store_of from) held_rule (unchained_rule 0) node k ((shown from mended.well_formed all).loads node k among is) refl refl refl
 
-  -- what a kept node claims is claimed by what is kept
+  -- what a kept node uses is used by what is kept
   in-claims : (xs : List ℕ) (node : ℕ) (k : Loaded) (c : Claim) → is_among xs node ≡ true → asked node ≡ Some k → has_claim (all_claims k) c ≡ true → has_claim (claims_of_loaded (filter_map asked xs)) c ≡ true
   in-claims [] node k c among is there = cc
   in-claims (x ∷ xs) node k c among is there =

@@ -83,7 +83,7 @@ all-back f (r ∷ rs) e = go (f (item_of r)) refl e (all-back f rs) (filter_map-
       let tail : filter_map f (map item_of rs) ≡ rs = cc in
       (is ∙ ap (λ (x : Row). Some x) head, more tail)
 
--- a row that is settled in a state is its row there, of a settled object
+-- a row that is clean in a state is its row there, of a clean object
 record IsSettledIn (state : State) (item : Item) (row : Row) : Type 0 where
   row_is : model.row_of state item ≡ Some row
   settled : IfSome (model.owner_object state item) (λ object. object.settled ≡ true)

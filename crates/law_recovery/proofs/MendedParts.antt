@@ -1,4 +1,4 @@
--- What leaves mended files and seals as they are.
+-- What leaves repaired files and seals as they are.
 use Rattle.std.proofs.Common.{◌%◌, ◌^◌, ◌<◌, ◌⊎◌, arith, ⊎_elim, Some, false, ◌≡◌, ℕ, ◌+◌, ◌≤◌, Bool, true, List, [], ◌∷◌, length, Option, refl, ap, sym, ◌∙◌, subst}
 use Rattle.std.specs.Prelude.{nat_le, nat_lt, ◌&&◌, is_some}
 use Rattle.std.specs.Option.{unwrap_or}
@@ -40,7 +40,7 @@ use Rattle.spec_format.specs.BlockFiles.{is_among}
 use Rattle.law_recovery.specs.Mended.{HasMendedFiles}
 use Rattle.law_recovery.specs.MendedParts.{KeptWordsStand, KeptWordsClaim, IsRebuiltFor, RebuiltFilesAreMended, OtherWordsLeaveCounters, UnlinkedFilesLeaveTheOthers, ExternalFilesLeaveTheBlocks, MendedFilesStand, IndexWordsLeaveSeals}
 
--- linked files that are the same are mended alike
+-- linked files that are the same are repaired alike
 pub blocks-alike : (from image : Image) → ((n : ℕ) → linked_as image n ≡ linked_as from n) → ((n : ℕ) → is_some (linked_as from n) ≡ true → image (Block n) ≡ from (Block n)) → kept image ≡ kept from → HasMendedFiles from → HasMendedFiles image
 unfolding EmptyAgrees max_entries_in
 blocks-alike from image links same keeps files = record {

@@ -1,4 +1,4 @@
--- Of what is kept no two claim the same, and none claims anything twice.
+-- Of what is kept no two use the same, and none uses anything twice.
 use Rattle.std.proofs.Common.{◌≡◌, ℕ, List, [], ◌∷◌, true, false, Option, Some, None, refl, sym, ◌∙◌, ⊎_elim}
 use Rattle.std.specs.Prelude.{◌==◌}
 use Rattle.std.specs.List.{filter_map, cons_option}
@@ -43,7 +43,7 @@ module _ (image : Image) where
   among-kept : (node : ℕ) (k : Loaded) → is_among nodes node ≡ true → given node ≡ Some k → is_among (kept_nodes (store_of image) held_rule nodes) node ≡ true
   among-kept node k among is = is_among-filter (is_kept (store_of image) held_rule nodes) nodes node ∙ rw (is, among) refl
 
-  -- what one claims no other does
+  -- what one uses no other does
   apart-from : (xs : List ℕ) (x : ℕ) (k : Loaded) (c : Claim) → ((y : ℕ) → is_among xs y ≡ true → is_among nodes y ≡ true) → is_among nodes x ≡ true → given x ≡ Some k → is_among xs x ≡ false → has_claim (all_claims k) c ≡ true → has_claim (claims_of_loaded (filter_map given xs)) c ≡ true → ⊥
   apart-from [] x k c sub among is lacks here there = clash (sym there ∙ no-claim c)
   apart-from (y ∷ xs) x k c sub among is lacks here there = go (given y) refl (λ h. apart-from xs x k c (λ z in_xs. sub z (or_right (y == z) (is_among xs z) in_xs)) among is parts.1 here h) there where

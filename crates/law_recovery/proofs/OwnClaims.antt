@@ -20,7 +20,7 @@ use Rattle.law_folder.proofs.claims.ByteChanges.{stands-linked}
 use Rattle.law_folder.proofs.claims.ClaimLists.{claim-append, no-claim, repeats-append}
 use Rattle.law_folder.proofs.walks.Loads.{load-then}
 
--- a word that isn't 0 stands, and not as a node
+-- a word that isn't 0 is valid, and not as a node
 abbrev IsNoNode : Image → ℕ → Type 0
 IsNoNode image x = (x == 0) ≡ false → (stands_in image x ≡ true) × (kind_of x ≢ rankings)
 
@@ -108,7 +108,7 @@ addresses-no_nodes : (image : Image) (c : ℕ) → AreNoNodes image (fields_of (
 unfolding words_at entry_in
 addresses-no_nodes image c s = (s.first, (s.second, (s.third, (s.fourth, tt))))
 
--- a claim of a word of blocks is of its file
+-- a used block of a word of blocks is of its file
 pub claim-file : (w : ℕ) (c : Claim) → has_claim (claims_of w) c ≡ true → ((kind_of w ≡ external) × (c ≡ ExternalOf (external_number w))) ⊎ ((kind_of w ≢ external) × ((b : ℕ) × (c ≡ BlockOf (file_selector w) b)))
 unfolding claims_of has_claim
 claim-file w c h = go (w == 0) (kind_of w == external) refl h where
@@ -147,7 +147,7 @@ none-claims c e = cc
 clash : false ≡ true → ⊥
 clash e = cc
 
--- a word that is no node claims no block of a node
+-- a word that is no node uses no block of a node
 apart-from_node : (image : Image) (node x : ℕ) → stands_in image node ≡ true → kind_of node ≡ rankings → stands_in image x ≡ true → kind_of x ≢ rankings → (c : Claim) → has_claim (claims_of node) c ≡ true → has_claim (claims_of x) c ≡ true → ⊥
 apart-from_node image node x st kind up other c h g = go (claim-file node c h) (claim-file x c g) where
   not_external : kind_of node ≢ external
@@ -179,7 +179,7 @@ no-common image node (x ∷ xs) st kind all c h g =
     (λ (e : has_claim (flat_map claims_of xs) c ≡ true). no-common image node xs st kind all.1 c h e)
     (or_cases (has_claim (claims_of x) c) (has_claim (flat_map claims_of xs) c) (sym (claim-append (claims_of x) (flat_map claims_of xs) c) ∙ g))
 
--- no claim of a word stands twice
+-- no used block of a word occurs twice
 range-has : (f first n b : ℕ) → has_claim (map (λ x. BlockOf f x) (range_with_len first n)) (BlockOf f b) ≡ true → first ≤ b
 unfolding has_claim
 range-has f first zero b h = cc
@@ -209,7 +209,7 @@ word-once w = go (w == 0) (kind_of w == external) where
   go false true = lone (ExternalOf (external_number w))
   go false false = range-once (file_selector w) (first_block w) (block_count w)
 
--- a loaded record whose claims don't repeat doesn't share a block with its node
+-- a loaded record whose used blocks don't repeat doesn't share a block with its node
 pub all-once : (image : Image) (rule : Rule) (w : ℕ) (l : Loaded) → load (store_of image) rule w ≡ Ok l → repeats (record_claims l) ≡ false → repeats (all_claims l) ≡ false
 unfolding store_of all_claims record_claims
 all-once image rule w l ok single = load-then (store_of image) rule w l ok (λ n e f.

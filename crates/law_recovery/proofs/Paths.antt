@@ -151,7 +151,7 @@ module _ (test : ℕ → Bool) where
   skip-once [] once = once
   skip-once (x ∷ xs) once = ⊎_elim (λ (e : test x ≡ true). rw e once) (λ (e : test x ≡ false). rw e (skip-once xs once.1)) (cases_Bool (test x))
 
-  -- and behind a record of a chain
+  -- and after a record of a chain
   suffix-lacks : (prefix : List ℕ) (c : ℕ) (xs : List ℕ) (block : ℕ) → is_among (map file_and_block (prefix ++ c ∷ xs)) block ≡ false → is_among (map file_and_block (prefix ++ c ∷ skip test xs)) block ≡ false
   suffix-lacks [] c xs block lacks =
       let parts = or_parts (file_and_block c == block) (is_among (map file_and_block xs) block) lacks in
@@ -187,7 +187,7 @@ module _ (v u : StoreView) (b c : ℕ) (bucket : (x : ℕ) → is_of_bucket u b 
       let parts = or_parts (file_and_block x == file_and_block c) (is_among (map file_and_block xs) (file_and_block c)) lacks in
       (path.0, bucket x ∙ path.1, subst (λ (y : ℕ). Path u b y xs) (sym (chain_next x parts.0)) (path-stays (v.chain_next x) xs parts.1 path.2))
 
-  -- the record takes as its next one that leads to what stays of what was behind it
+  -- the record takes as its next one that leads to what stays of what was after it
   pub path-linked : (prefix : List ℕ) (w : ℕ) (old new : List ℕ) → Distinct (map file_and_block (prefix ++ c ∷ old)) → is_among (map file_and_block new) (file_and_block c) ≡ false → Path v b (u.chain_next c) new
       → Path v b w (prefix ++ c ∷ old) → Path u b w (prefix ++ c ∷ new)
   path-linked [] w old new once lacks path was = (was.0, bucket c ∙ was.1, path-stays (u.chain_next c) new lacks path)
@@ -198,7 +198,7 @@ module _ (v u : StoreView) (b c : ℕ) (bucket : (x : ℕ) → is_of_bucket u b 
         middle [] lacks = (or_parts (file_and_block c == file_and_block x) (is_among (map file_and_block old) (file_and_block x)) lacks).0
         middle (y ∷ ys) lacks = middle ys (or_parts (file_and_block y == file_and_block x) (is_among (map file_and_block (ys ++ c ∷ old)) (file_and_block x)) lacks).1
 
--- the first blocks behind a record of a path are others
+-- the first blocks after a record of a path are others
 pub suffix-apart : (prefix : List ℕ) (c : ℕ) (old : List ℕ) → Distinct (map file_and_block (prefix ++ c ∷ old)) → is_among (map file_and_block old) (file_and_block c) ≡ false
 suffix-apart [] c old once = once.0
 suffix-apart (x ∷ prefix) c old once = suffix-apart prefix c old once.1
@@ -206,13 +206,13 @@ suffix-apart (x ∷ prefix) c old once = suffix-apart prefix c old once.1
 pub skip-apart : (test : ℕ → Bool) (prefix : List ℕ) (c : ℕ) (old : List ℕ) → Distinct (map file_and_block (prefix ++ c ∷ old)) → is_among (map file_and_block (skip test old)) (file_and_block c) ≡ false
 skip-apart test prefix c old once = skip-lacks test old (file_and_block c) (suffix-apart prefix c old once)
 
--- the path behind a record of it
+-- the path after a record of it
 pub path-suffix : (v : StoreView) (b w : ℕ) (prefix : List ℕ) (c : ℕ) (old : List ℕ) → Path v b w (prefix ++ c ∷ old) → (is_of_bucket v b c ≡ true) × Path v b (v.chain_next c) old
 path-suffix v b w [] c old path = (path.1, path.2)
 path-suffix v b w (x ∷ prefix) c old path = path-suffix v b (v.chain_next x) prefix c old path.2
 
 -- a path that ends at the word 0 is a whole chain
--- the word behind a path: the link of its last record, or the word it begins with
+-- the word after a path: the link of its last record, or the word it begins with
 abbrev pub end_of : StoreView → ℕ → List ℕ → ℕ
 end_of v w [] = w
 end_of v w (x ∷ xs) = end_of v (v.chain_next x) xs

@@ -124,7 +124,7 @@ keeps-more a b c p q = record { stands = λ u. q.stands u ∙ p.stands u; sealed
 no-external : (w : ℕ) → BeginsWithRecord w → kind_of w ≢ external
 no-external w begins e = ⊎_elim (λ (k : kind_of w ≡ rankings). omega (arith, e, k)) (λ (k : kind_of w ≡ blocks_256). omega (arith, e, k)) begins
 
--- the record of a standing word lies in its file
+-- the record of a valid word lies in its file
 pub record-fits : (image : Image) (w : ℕ) → stands_in image w ≡ true → BeginsWithRecord w → place w + record_size w ≤ length_of image (Block (file_selector w))
 unfolding stands_as_blocks
 record-fits image w st begins =

@@ -1,4 +1,4 @@
--- A sound folder is mended.
+-- A sound folder needs no repair.
 use Rattle.std.proofs.Common.{inl, inr, ◌≡◌, ◌≢◌, ◌⊎◌, ◌^◌, length, ⊎_elim, ℕ, zero, suc, ◌+◌, ◌<◌, ◌≤◌, Bool, true, false, not, List, [], ◌∷◌, ◌++◌, Option, Some, None, Ok, Err, refl, ap, sym, ◌∙◌, subst, arith}
 use Rattle.std.specs.Prelude.{◌==◌, ◌&&◌, map, is_some}
 use Rattle.std.specs.Option.{option_map_or}
@@ -212,7 +212,7 @@ module _ (image : Image) (sound : IsSound image) where
 pub sound-mended : SoundFoldersAreMended
 sound-mended image sound = folder-mended image sound
 
--- ---- what is mended needs no step
+-- ---- what is repaired needs no step
 
 chains-none : (image : Image) (records : ℕ → List ℕ) → ((b : ℕ) → b < 65536 → chain_steps b (records b) image ≡ []) → (count b : ℕ) → b + count ≤ 65536 → chains_steps records b count image ≡ []
 chains-none image records none zero b few = refl

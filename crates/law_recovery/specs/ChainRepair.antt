@@ -38,7 +38,7 @@ bucket_steps bucket w image = if (store_of image).table bucket == w then [] else
 abbrev pub next_steps : ℕ → ℕ → Image → List TrailStep
 next_steps record_word w image = if (store_of image).chain_next record_word == w then [] else sealed_steps image record_word ((entry_next_place, w) ∷ [])
 
--- each of some records gets the one behind it as its next, and the last gets 0
+-- each of some records gets the one after it as its next, and the last gets 0
 abbrev pub next_words_steps : List ℕ → Image → List TrailStep
 next_words_steps [] image = []
 next_words_steps (w ∷ words) image = next_steps w (first_or 0 words) image ++ next_words_steps words (after (next_steps w (first_or 0 words) image) image)
@@ -82,7 +82,7 @@ pub record HasChainsUpTo (from : Image) (bucket : ℕ) (image : Image) : Type 0 
   pub mended : (other : ℕ) → other < bucket → IsChain (store_of image) other (kept_records from other)
   pub as_before : (other : ℕ) → bucket ≤ other → chain (store_of image) other ≡ chain (store_of from) other
 
--- at first none is mended
+-- at first none is repaired
 abbrev pub ChainsBegin : Type 0
 ChainsBegin = (image : Image) → IsWellFormed image → IsWritable image → KeepsAllWalked image → HasChainsUpTo image 0 image
 
@@ -95,7 +95,7 @@ BucketsAreMended = (from image : Image) (bucket : ℕ) → IsWellFormed from →
 abbrev pub WholeChainsNeedNoSteps : Type 0
 WholeChainsNeedNoSteps = (image : Image) (bucket : ℕ) (words : List ℕ) → IsChain (store_of image) bucket words → chain_steps bucket words image ≡ []
 
--- in the end all are mended
+-- in the end all are repaired
 abbrev pub ChainRepairsEnd : Type 0
 ChainRepairsEnd = (from image : Image) → HasChainsUpTo from table_length image → AreChainsMended from image
 
@@ -111,13 +111,13 @@ WholeChainsStay = (from image : Image) → ShowsTheSame (store_of from) (store_o
 
 -- What is kept can be written.
 
--- a record of a kind stands and checks
+-- a record of a kind is there and checks
 pub record IsStandingRecord (kind : ℕ) (image : Image) (w : ℕ) : Type 0 where
   pub stands : stands_in image w ≡ true
   pub kind_is : kind_of w ≡ kind
   pub checks : RecordChecks w image
 
--- the node of what is kept stands and checks
+-- the node of what is kept is there and checks
 abbrev pub KeptNodesCheck : Type 0
 KeptNodesCheck = (image : Image) → IsWritable image → (node : ℕ) → is_among (map (λ k. k.node) (kept image)) node ≡ true → IsStandingRecord rankings image node
 

@@ -1,4 +1,4 @@
--- How the end of the use list is mended.
+-- How the end of the LRU list is repaired.
 use Rattle.std.specs.Prelude.{◌≡◌, ℕ, false, take, List, [], ◌∷◌, None, Some}
 use Rattle.spec_folder.specs.ListView.{ListView, ListWrite, last_or, after_writes}
 use Rattle.spec_folder.specs.ListPlans.{ending_writes}
@@ -15,7 +15,7 @@ end_writes_of list (node ∷ nodes) = ending_writes list (Some (last_or node nod
 unfoldable pub end_writes : ListView → List ListWrite
 end_writes list = end_writes_of list (walk list)
 
--- while the end of a list is mended, in which no operation is in flight, the same nodes are walked; in the end the list is whole
+-- while the end of a list is repaired, in which no operation is in flight, the same nodes are walked; in the end the list is whole
 abbrev pub EndsAreMended : Type 0
 EndsAreMended = (list : ListView) → list.transaction ≡ 0 → list.checks 0 ≡ false
     → ((count : ℕ) → walk (completed_list (after_writes (take count (end_writes list)) list)) ≡ walk list) × IsAtRest (after_writes (end_writes list) list) (walk list)

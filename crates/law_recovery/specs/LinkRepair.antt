@@ -1,4 +1,4 @@
--- The repair of all links: of the use list, and then of the chains.
+-- The repair of all links: of the LRU list, and then of the chains.
 use Rattle.std.specs.Prelude.{◌≡◌, [], ◌++◌, List, ℕ, ◌∷◌, take}
 use Rattle.spec_image.specs.Image.{Image}
 use Rattle.spec_image.specs.Steps.{TrailStep, after}
@@ -14,23 +14,23 @@ use Rattle.law_recovery.specs.MendedLinks.{HasMendedLinks}
 abbrev pub link_repair_steps : Image → List TrailStep
 link_repair_steps image = list_repair_steps image ++ chain_repair_steps (after (list_repair_steps image) image)
 
--- where both are mended all links are
+-- where both are repaired all links are
 abbrev pub MendedChainsAreMendedLinks : Type 0
 MendedChainsAreMendedLinks = (image between last : Image) → HoldsTheSame image between → IsListMended image between → HoldsTheSame between last → AreChainsMended between last → HasMendedLinks last
 
--- of every well-formed image the same is held at each word of that, and in the end its links are mended, and what was sealed is so still
+-- of every well-formed image the same is held at each word of that, and in the end its links are repaired, and what was sealed is so still
 abbrev pub LinksAreRepaired : Type 0
 LinksAreRepaired = (image : Image) → IsWellFormed image → IsWritable image → Along (HoldsTheSame image) image (link_repair_steps image) × HasMendedLinks (after (link_repair_steps image) image) × KeepsRecordsSealed image (after (link_repair_steps image) image)
 
--- a folder whose links are mended needs no step
+-- a folder whose links are repaired needs no step
 abbrev pub MendedLinksNeedNoSteps : Type 0
 MendedLinksNeedNoSteps = (image : Image) → HasMendedLinks image → link_repair_steps image ≡ []
 
--- the repair of the links, stopped after so many words, and begun again on what is there then, as often as there are numbers
+-- the repair of the links, crashed after so many words, and begun again on what is there then, as often as there are numbers
 abbrev pub stopped_repair : List ℕ → Image → Image
 stopped_repair [] image = image
 stopped_repair (count ∷ counts) image = stopped_repair counts (after (take count (link_repair_steps image)) image)
 
--- the same is held however often it is stopped
+-- the same is held however often it crashes
 abbrev pub LinkRepairsMayBeStopped : Type 0
 LinkRepairsMayBeStopped = (image : Image) (counts : List ℕ) → IsWellFormed image → IsWritable image → HoldsTheSame image (stopped_repair counts image)

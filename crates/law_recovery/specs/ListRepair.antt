@@ -1,4 +1,4 @@
--- The steps by which the use list is repaired, and what is held at each of their words.
+-- The steps by which the LRU list is repaired, and what is held at each of their words.
 use Rattle.std.specs.Prelude.{◌≡◌, ◌==◌, if◌then◌else◌, ℕ, Bool, true, false, not, List, [], ◌∷◌, ◌++◌, map}
 use Rattle.std.specs.List.{filter}
 use Rattle.spec_image.specs.Image.{Image}
@@ -16,7 +16,7 @@ use Rattle.law_recovery.specs.RecordSeals.{KeepsRecordsSealed}
 use Rattle.law_recovery.specs.EndRepair.{end_writes}
 use Rattle.spec_folder.specs.Audit.{is_kept, kept_nodes}
 
--- the end of the list is mended
+-- the end of the list is repaired
 abbrev pub end_steps : Image → List TrailStep
 end_steps image = steps_of_writes (end_writes (list_of image)) image
 
@@ -33,11 +33,11 @@ dropped_nodes image = filter (λ node. not (is_kept (store_of image) held_rule (
 abbrev pub completed_image : Image → Image
 completed_image image = after (completion_steps image) image
 
--- and the end of the list mended
+-- and the end of the list repaired
 abbrev pub ended_image : Image → Image
 ended_image image = after (end_steps (completed_image image)) (completed_image image)
 
--- the operation in flight is completed, the end of the list is mended, and each node that isn't kept is taken out
+-- the operation in flight is completed, the end of the list is repaired, and each node that isn't kept is taken out
 abbrev pub list_repair_steps : Image → List TrailStep
 list_repair_steps image = completion_steps image ++ (end_steps (completed_image image) ++ removal_steps (dropped_nodes (ended_image image)) (ended_image image))
 
@@ -48,7 +48,7 @@ pub record HoldsTheSame (from image : Image) : Type 0 where
   pub kept_same : kept image ≡ kept from
   pub found_same : found image ≡ found from
 
--- the list is whole and at rest with the kept nodes alone, all of which are kept still; nothing else is shown to change, and what was sealed is so still
+-- the list is whole and idle with the kept nodes alone, all of which are kept still; nothing else is shown to change, and what was sealed is so still
 pub record IsListMended (from image : Image) : Type 0 where
   pub rests : HasListAtRest (map (λ k. k.node) (kept from)) image
   pub store : ShowsTheSame (store_of from) (store_of image)
@@ -61,7 +61,7 @@ ListsAreRepaired = (image : Image) → IsWellFormed image → IsWritable image �
 
 -- The end of the list.
 
--- before the removals the list is whole and at rest with the nodes that completing leaves
+-- before the removals the list is whole and idle with the nodes that completing leaves
 pub record IsEnded (from image : Image) : Type 0 where
   pub holds : HoldsTheSame from image
   pub rests : HasListAtRest (completed_walk from) image
@@ -71,7 +71,7 @@ pub record IsEnded (from image : Image) : Type 0 where
 abbrev pub CompletedListsAreEnded : Type 0
 CompletedListsAreEnded = (image : Image) → IsWellFormed image → IsWritable image → IsEnded image (ended_image image)
 
--- a list at rest is ended without a step
+-- an idle list is ended without a step
 abbrev pub ListsAtRestNeedNoEnd : Type 0
 ListsAtRestNeedNoEnd = (image : Image) (nodes : List ℕ) → HasListAtRest nodes image → (completion_steps image ≡ []) × (end_steps image ≡ [])
 
@@ -92,7 +92,7 @@ is_first node (other ∷ others) = node == other
 abbrev pub DroppedNodesAreTheOthers : Type 0
 DroppedNodesAreTheOthers = (image : Image) → IsWellFormed image → IsWritable image → dropped_nodes (ended_image image) ≡ all_but (completed_walk image) (map (λ k. k.node) (kept image))
 
--- some dropped nodes are taken out of a list: it is whole and at rest with these nodes, among them all that are kept; nothing else is shown to change
+-- some dropped nodes are taken out of a list: it is whole and idle with these nodes, among them all that are kept; nothing else is shown to change
 pub record HasLeft (from : Image) (nodes : List ℕ) (image : Image) : Type 0 where
   pub well_formed : IsWellFormed image
   pub writable : IsWritable image
@@ -123,6 +123,6 @@ abbrev pub OtherNodesAreRemoved : Type 0
 OtherNodesAreRemoved = (from image : Image) (before : List ℕ) (node : ℕ) (nodes others : List ℕ) → IsWellFormed from → IsWritable from → HasRemoved from before (node ∷ nodes) others image → is_first node others ≡ false
     → Along (HoldsTheSame from) image (operation_steps remove node image) × HasRemoved from before nodes others (after (operation_steps remove node image) image)
 
--- in the end the list is mended
+-- in the end the list is repaired
 abbrev pub ListRepairsEnd : Type 0
 ListRepairsEnd = (from image : Image) (before : List ℕ) → IsWellFormed from → IsWritable from → HasRemoved from before [] [] image → IsListMended from image

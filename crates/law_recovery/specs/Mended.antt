@@ -12,7 +12,7 @@ use Rattle.spec_folder.specs.Sound.{MapsAre, OnlyClaimed, OnlyLinked, AreLongEno
 use Rattle.spec_folder.specs.StandsFor.{StandsFor}
 use Rattle.law_recovery.specs.MendedLinks.{HasMendedLinks}
 
--- What repair mends behind the links, part by part.
+-- What recovery repairs after the links, part by part.
 
 -- the map and the counters of each linked block file are those of what is kept, no change of them is under way, and the file has all its blocks
 pub record HasMendedFiles (image : Image) : Type 0 where
@@ -20,7 +20,7 @@ pub record HasMendedFiles (image : Image) : Type 0 where
   pub counted : (n : ℕ) → is_some (linked_as image n) ≡ true → CountersAgree image (flat_map words_of (kept image)) n
   pub long_enough : AreLongEnough image
 
--- the block files that are there are linked, and the external files that are there are claimed by what is kept
+-- the block files that are there are linked, and the external files that are there are used by what is kept
 pub record HasOnlyKeptFiles (image : Image) : Type 0 where
   pub only_linked : OnlyLinked image
   pub only_claimed : OnlyClaimed image (claims_of_loaded (kept image))
@@ -51,6 +51,6 @@ MendedFoldersStandFor = (image : Image) (limits : Bounds) → IsMended image →
 abbrev pub MendedFoldersAreSound : Type 0
 MendedFoldersAreSound = (image : Image) → IsMended image → AreBytes image → IsSound image
 
--- a sound folder is mended already
+-- a sound folder needs no repair
 abbrev pub SoundFoldersAreMended : Type 0
 SoundFoldersAreMended = (image : Image) → IsSound image → IsMended image

@@ -1,4 +1,4 @@
--- What leaves mended links mended, with the same kept: changes of what isn't kept, growth, and seals.
+-- What leaves repaired links repaired, with the same kept: changes of what isn't kept, growth, and seals.
 use Rattle.std.specs.Prelude.{◌≡◌, ◌<◌, ◌%◌, ℕ, Bool, true, false, [], map, None}
 use Rattle.spec_image.specs.Image.{Index, Block, External}
 use Rattle.spec_image.specs.Footprint.{SameOutside, one_word, whole}
@@ -21,7 +21,7 @@ use Rattle.spec_folder.specs.Footprint.{SameBut}
 use Rattle.spec_folder.specs.ListImages.{IsWritable}
 use Rattle.law_recovery.specs.MendedLinks.{HasMendedLinks}
 
--- the links are mended, and the same is kept and found
+-- the links are repaired, and the same is kept and found
 pub record KeepsMendedLinks (from image : Image) : Type 0 where
   pub mended : HasMendedLinks image
   pub kept_same : kept image ≡ kept from
@@ -45,7 +45,7 @@ pub record IsMidRepair (from image : Image) : Type 0 where
 abbrev pub LinksAreMidRepair : Type 0
 LinksAreMidRepair = (from image : Image) → HoldsTheSame from image → IsMidRepair from image
 
--- and while what is behind them is mended
+-- and while what is after them is repaired
 abbrev pub MendedLinksAreMidRepair : Type 0
 MendedLinksAreMidRepair = (from image : Image) → KeepsMendedLinks from image → IsMidRepair from image
 
@@ -55,7 +55,7 @@ MendedLinksAreMidRepair = (from image : Image) → KeepsMendedLinks from image �
 abbrev pub IsUnkept : Image → (Claim → Bool) → Type 0
 IsUnkept image touched = (claim : Claim) → has_claim (claims_of_loaded (kept image)) claim ≡ true → touched claim ≡ false
 
--- a change of what isn't kept leaves mended links mended
+-- a change of what isn't kept leaves repaired links repaired
 abbrev pub MendedLinksStayOutside : Type 0
 MendedLinksStayOutside = (touched : Claim → Bool) (from image : Image) → HasMendedLinks from → IsWellFormed image → SameBut touched (view_of from) (view_of image) → IsUnkept from touched → KeepsMendedLinks from image
 
@@ -67,7 +67,7 @@ MendedLinksMayGrow = (from image : Image) → HasMendedLinks from → StaysWhole
 abbrev pub UnlinkedFilesMayBeDeleted : Type 0
 UnlinkedFilesMayBeDeleted = (from : Image) (n : ℕ) → HasMendedLinks from → linked_as from n ≡ None → KeepsMendedLinks from (applied (Delete (Block n)) from)
 
--- and any change of an external file that nobody kept claims, such as its deletion
+-- and any change of an external file that nobody kept uses, such as its deletion
 abbrev pub UnclaimedFilesMayChange : Type 0
 UnclaimedFilesMayChange = (from image : Image) (n : ℕ) → HasMendedLinks from → has_claim (claims_of_loaded (kept from)) (ExternalOf n) ≡ false → SameOutside (whole (External n)) from image → KeepsMendedLinks from image
 
@@ -77,7 +77,7 @@ HiddenWordsMayChange = (from image : Image) (at : ℕ) → HasMendedLinks from �
 
 -- Seals of what is kept.
 
--- at each word at which a kept node is sealed the links stay mended
+-- at each word at which a kept node is sealed the links stay repaired
 abbrev pub KeptNodesMayBeSealed : Type 0
 KeptNodesMayBeSealed = (from image : Image) (node : ℕ) → HasMendedLinks from → IsWritable from → is_among (map (λ k. k.node) (kept from)) node ≡ true → IsMidUpdate from node [] image → KeepsMendedLinks from image
 

@@ -1,4 +1,4 @@
--- Links that are mended: the use list and the chains hold what is kept, and nothing else; and what such a folder represents.
+-- Links that are repaired: the LRU list and the chains hold what is kept, and nothing else; and what such a folder represents.
 use Rattle.std.specs.Prelude.{◌≡◌, ℕ, ◌<◌, List, [], ◌∷◌, Bool, ◌==◌, if◌then◌else◌}
 use Rattle.std.specs.Option.{option_map, option_map_or}
 use Rattle.std.specs.declared.option.Option.{Option}
@@ -19,7 +19,7 @@ use Rattle.spec_folder.specs.ListImages.{walked, HasListAtRest}
 use Rattle.spec_folder.specs.Audit.{kept_nodes}
 use Rattle.law_recovery.specs.ChainRepair.{kept_records}
 
--- the list is whole and at rest, all its nodes are kept, and each chain is that of the kept records of its bucket
+-- the list is whole and idle, all its nodes are kept, and each chain is that of the kept records of its bucket
 pub record HasMendedLinks (image : Image) : Type 0 where
   pub well_formed : IsWellFormed image
   pub rests : HasListAtRest (walked image) image
@@ -46,6 +46,6 @@ kept_layout image = record {
   owner = λ claim. node_with (λ k. has_claim (all_claims k) claim) (kept image);
 }
 
--- a folder whose links are mended represents what it holds, opened
+-- a folder whose links are repaired represents what it holds, opened
 abbrev pub MendedLinksRepresent : Type 0
 MendedLinksRepresent = (image : Image) (limits : Bounds) → HasMendedLinks image → AreBytes image → Represents (view_of image) (open_state (found image) limits) (kept_layout image)

@@ -1,4 +1,4 @@
--- How the parts are mended that come behind the links, and what leaves them mended.
+-- How the parts are repaired that come after the links, and what leaves them repaired.
 use Rattle.std.specs.Prelude.{◌≡◌, ◌%◌, ℕ, true, is_some, None, map, false}
 use Rattle.std.specs.List.{AllByRecursion, flat_map}
 use Rattle.spec_image.specs.Image.{Index, Block, External, Image, byte}
@@ -23,11 +23,11 @@ use Rattle.law_recovery.specs.Mended.{HasMendedFiles, HasOnlyKeptFiles, AreKeptS
 
 -- The block files.
 
--- the address words of what is kept stand
+-- the address words of what is kept are valid
 abbrev pub KeptWordsStand : Type 0
 KeptWordsStand = (image : Image) → AllByRecursion (λ w. stands_in image w ≡ true) (flat_map words_of (kept image))
 
--- and claim what it claims
+-- and use what it uses
 abbrev pub KeptWordsClaim : Type 0
 KeptWordsClaim = (image : Image) → claims_of_all (flat_map words_of (kept image)) ≡ claims_of_loaded (kept image)
 
@@ -37,21 +37,21 @@ pub record IsRebuiltFor (image : Image) (n : ℕ) : Type 0 where
   pub empty : EmptyAgrees image n
   pub updating : updating_of (byte image (Block n)) ≡ 0
 
--- where that is so of each linked file, and each has all its blocks, the files are mended
+-- where that is so of each linked file, and each has all its blocks, the files are repaired
 abbrev pub RebuiltFilesAreMended : Type 0
 RebuiltFilesAreMended = (image : Image) → ((n : ℕ) → is_some (linked_as image n) ≡ true → IsRebuiltFor image n) → AreLongEnough image → HasMendedFiles image
 
--- What leaves them mended.
+-- What leaves them repaired.
 
--- where an unlinked block file goes the linked ones stay mended
+-- where an unlinked block file goes the linked ones stay repaired
 abbrev pub UnlinkedFilesLeaveTheOthers : Type 0
 UnlinkedFilesLeaveTheOthers = (from : Image) (n : ℕ) → linked_as from n ≡ None → KeepsMendedLinks from (applied (Delete (Block n)) from) → HasMendedFiles from → HasMendedFiles (applied (Delete (Block n)) from)
 
--- where an external file changes the block files stay mended, and the linked ones are still the only ones
+-- where an external file changes the block files stay repaired, and the linked ones are still the only ones
 abbrev pub ExternalFilesLeaveTheBlocks : Type 0
 ExternalFilesLeaveTheBlocks = (from image : Image) (n : ℕ) → SameOutside (whole (External n)) from image → KeepsMendedLinks from image → (HasMendedFiles from → HasMendedFiles image) × (OnlyLinked from → OnlyLinked image)
 
--- and where neither a header nor the length of a file changes, as in seals and in words of the index, all files stay mended
+-- and where neither a header nor the length of a file changes, as in seals and in words of the index, all files stay repaired
 abbrev pub MendedFilesStand : Type 0
 MendedFilesStand = (footprint : Footprint) (from image : Image) → IsBehindHeaders footprint → SameOutside footprint from image → HasMendedLinks from → KeepsMendedLinks from image → (HasMendedFiles from → HasMendedFiles image) × (HasOnlyKeptFiles from → HasOnlyKeptFiles image)
 

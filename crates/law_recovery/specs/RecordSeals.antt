@@ -24,7 +24,7 @@ SealsStand = (from image : Image) (w other : ℕ) → stands_in from w ≡ true 
 abbrev pub StaysSealed : Image → Image → Type 0
 StaysSealed from image = (w : ℕ) → stands_in from w ≡ true → BeginsWithRecord w → IsSealedAt from w → IsSealedAt image w
 
--- and the same addresses stand
+-- and the same addresses are valid
 pub record KeepsRecordsSealed (from image : Image) : Type 0 where
   pub stands : (w : ℕ) → stands_in image w ≡ stands_in from w
   pub sealed : StaysSealed from image
@@ -41,7 +41,7 @@ UnlinkedFilesLeaveSeals = (from : Image) (n : ℕ) → linked_as from n ≡ None
 abbrev pub ExternalFilesLeaveSeals : Type 0
 ExternalFilesLeaveSeals = (from image : Image) (n : ℕ) → SameOutside (whole (External n)) from image → StaysSealed from image
 
--- the bytes of a record are behind the header of its file
+-- the bytes of a record are after the header of its file
 abbrev pub RecordsAreBehindHeaders : Type 0
 RecordsAreBehindHeaders = (w : ℕ) → IsBehindHeaders (record_range w)
 

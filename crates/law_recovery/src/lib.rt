@@ -13,7 +13,7 @@ ghost use Rattle.law_recovery.specs.MendedStates.{MendedFoldersHaveTheirState};
 ghost use Rattle.law_recovery.specs.MendedParts.{KeptWordsStand, KeptWordsClaim, RebuiltFilesAreMended, UnlinkedFilesLeaveTheOthers, ExternalFilesLeaveTheBlocks, MendedFilesStand, IndexWordsLeaveSeals, OtherWordsLeaveCounters, KeptAreSealed};
 ghost use Rattle.law_recovery.specs.FoundHolding.{FoundIsAHolding, KeptClaimOnce};
 
-/// While the end of a list is mended the same nodes are walked; in the end the list is whole.
+/// While the end of a list is repaired the same nodes are walked; in the end the list is whole.
 pub fn ends_are_mended()
     ensures { EndsAreMended }
 {}
@@ -23,7 +23,7 @@ pub fn lists_are_repaired()
     ensures { ListsAreRepaired }
 {}
 
-/// Once the operation in flight is completed and the end is mended the list is at rest, and one at rest needs neither.
+/// Once the operation in flight is completed and the end is repaired the list is idle, and an idle one needs neither.
 pub fn lists_are_ended()
     ensures rests { CompletedListsAreEnded }
     ensures none { ListsAtRestNeedNoEnd }
@@ -43,7 +43,7 @@ pub fn chains_are_repaired()
     ensures { ChainsAreRepaired }
 {}
 
-/// The buckets are mended one after the other; one that is right needs no step.
+/// The buckets are repaired one after the other; one that is right needs no step.
 pub fn buckets_are_mended()
     ensures begins { ChainsBegin }
     ensures mends { BucketsAreMended }
@@ -63,32 +63,34 @@ pub fn kept_records_check()
     ensures records { KeptRecordsCheck }
 {}
 
-/// Both, one after the other: of every well-formed image the same is kept and found at each word, and in the end its links are mended; where they are so already there is no step.
+/// Both, one after the other: of every well-formed image the same is kept and found at each word, and in the end its links are repaired; where they are so already there is no
+/// step.
 pub fn links_are_repaired()
     ensures at_each_word { LinksAreRepaired }
     ensures mended { MendedChainsAreMendedLinks }
     ensures none { MendedLinksNeedNoSteps }
 {}
 
-/// A folder whose links are mended represents what it holds, opened.
+/// A folder whose links are repaired represents what it holds, opened.
 pub fn mended_links_represent()
     ensures { MendedLinksRepresent }
 {}
 
-/// Once the links are repaired they are mended with the same kept and found, and stay so through one change after another.
+/// Once the links are repaired the same is kept and found, and they stay so through one change after another.
 pub fn mended_links_go_on()
     ensures begins { RepairedLinksAreKept }
     ensures goes_on { MendedLinksGoOn }
 {}
 
-/// So at each word of the repair, while the links are repaired and behind that, the folder is well formed and the same is kept and found.
+/// So at each word of the repair, while the links are repaired and after that, the folder is well formed and the same is kept and found.
 pub fn repairs_hold_the_same()
     ensures links { LinksAreMidRepair }
     ensures behind { MendedLinksAreMidRepair }
     ensures stopped { LinkRepairsMayBeStopped }
 {}
 
-/// Mended links stay mended, with the same kept and found, where what isn't kept changes: where block files grow, where one that isn't linked or an external file that nobody claims goes, and where a counter of the index is written.
+/// Repaired links stay repaired, with the same kept and found, where what isn't kept changes: where block files grow, where one that isn't linked or an external file that nobody uses goes, and where a counter of the index is
+/// written.
 pub fn mended_links_stay_outside()
     ensures outside { MendedLinksStayOutside }
     ensures grow { MendedLinksMayGrow }
@@ -103,7 +105,7 @@ pub fn kept_records_may_be_sealed()
     ensures records { KeptRecordsMayBeSealed }
 {}
 
-/// Growth and the deletion of files leave what was sealed; records and words of the index are behind the headers of the block files.
+/// Growth and the deletion of files leave what was sealed; records and words of the index are after the headers of the block files.
 pub fn seals_are_left()
     ensures growth { GrowthLeavesSeals }
     ensures unlinked { UnlinkedFilesLeaveSeals }
@@ -112,14 +114,15 @@ pub fn seals_are_left()
     ensures words { IndexWordsAreBehindHeaders }
 {}
 
-/// The address words of what is kept stand and claim what it claims; where maps and counters are rebuilt for them, the files are mended.
+/// The address words of what is kept are valid and use what it uses; where maps and counters are rebuilt for them, the files are
+/// repaired.
 pub fn rebuilt_files_are_mended()
     ensures stand { KeptWordsStand }
     ensures claim { KeptWordsClaim }
     ensures mended { RebuiltFilesAreMended }
 {}
 
-/// What was mended of files, seals and counters stays so while what comes after it is mended.
+/// What was repaired of files, seals and counters stays so while what comes after it is repaired.
 pub fn mended_parts_stand()
     ensures unlinked { UnlinkedFilesLeaveTheOthers }
     ensures external { ExternalFilesLeaveTheBlocks }
@@ -135,7 +138,8 @@ pub fn kept_records_are_sealed()
     ensures all { KeptAreSealed }
 {}
 
-/// A mended folder has the state of what it holds, opened, so it stands for that, and is sound; and a sound one is mended.
+/// A repaired folder has the state of what it holds, opened, so it stands for that, and is sound; and a sound one needs no
+/// repair.
 pub fn mended_folders_stand_for()
     ensures state { MendedFoldersHaveTheirState }
     ensures stands { MendedFoldersStandFor }
@@ -143,7 +147,8 @@ pub fn mended_folders_stand_for()
     ensures converse { SoundFoldersAreMended }
 {}
 
-/// Of every image of bytes what is found is a valid holding, and no block and no external number of what is kept has two owners.
+/// Of every image of bytes what is found is a valid snapshot, and no block and no external number of what is kept has two
+/// owners.
 pub fn found_is_a_holding()
     ensures holding { FoundIsAHolding }
     ensures once { KeptClaimOnce }

@@ -34,7 +34,7 @@ module _ (state : State) (layout : Layout) (unlinked : List ℕ) (from : Image) 
   abbrev pub used : List ℕ
   used = words_in_use unlinked (all_loaded state layout k.numbers)
 
-  -- all words in use stand
+  -- all words in use are valid
   pub used-stand : AllByRecursion (λ w. stands_in from w ≡ true) (words_in_use unlinked (all_loaded state layout k.numbers))
   used-stand = join (λ w. stands_in from w ≡ true) unlinked (flat_map words_of (all_loaded state layout k.numbers)) k.unlinked_words.stand
       (all-stand from (all_loaded state layout k.numbers) (each-some (IsLoadedBy (store_of from)) layout.at (λ w l is. (rule_of layout w, w, k.represents.holds.shows.each w l is)) (all_nodes state layout k.numbers)))
@@ -46,7 +46,7 @@ module _ (state : State) (layout : Layout) (unlinked : List ℕ) (from : Image) 
       ∙ or_right (has_claim (claims_of_all unlinked) claim) (has_claim (claims_of_loaded (all_loaded state layout k.numbers)) claim)
       (claimed-exactly layout k.represents.holds.lies.own k.represents.holds.lies.single state (map layout.place_of_doomed k.numbers) k.owners.exact claim ∙ ap (λ (o : Option ℕ). is_some o) is)
 
--- a word of blocks claims no external file
+-- a word of blocks uses no external file
 range-blocks : (f first count n : ℕ) → has_claim (map (λ b. BlockOf f b) (range_with_len first count)) (ExternalOf n) ≡ false
 unfolding has_claim
 range-blocks f first zero n = refl

@@ -38,7 +38,7 @@ as-sum p (x ∷ xs) =
 pub counted-alike : (p : ℕ → Bool) (xs ys : List ℕ) → IsPermutation xs ys → length (filter p xs) ≡ length (filter p ys)
 counted-alike p xs ys same = as-sum p xs ∙ sym (sum_by-IsPermutation (λ w. cond (p w) 1 0) xs ys same) ∙ sym (as-sum p ys)
 
--- and the same is claimed
+-- and the same is used
 claimed-any : (c : Claim) (xs : List ℕ) → has_claim (claims_of_all xs) c ≡ list_any (λ w. has_claim (claims_of w) c) xs
 claimed-any c [] = no-claim c
 claimed-any c (x ∷ xs) = claim-append (claims_of x) (claims_of_all xs) c ∙ ap (λ (t : Bool). has_claim (claims_of x) c || t) (claimed-any c xs)
@@ -47,7 +47,7 @@ pub claimed-alike : (c : Claim) (xs ys : List ℕ) → IsPermutation xs ys → h
 claimed-alike c xs ys same = claimed-any c xs ∙ list_any-IsPermutation (λ w. has_claim (claims_of w) c) xs ys same ∙ sym (claimed-any c ys)
 
 module _ (state : State) (layout : Layout) (numbers unlinked : List ℕ) (image : Image) (a : IsArranged state layout numbers unlinked image) where
-  -- the words in use stand
+  -- the words in use are valid
   pub arranged-stand : AllByRecursion (λ w. stands_in image w ≡ true) (words_in_use unlinked (all_loaded state layout numbers))
   arranged-stand = join (λ w. stands_in image w ≡ true) unlinked (flat_map words_of (all_loaded state layout numbers)) a.unlinked_words.stand
       (all-stand image (all_loaded state layout numbers) (each-some (IsLoadedBy (store_of image)) layout.at (λ w l is. (rule_of layout w, w, a.represents.holds.shows.each w l is)) (all_nodes state layout numbers)))

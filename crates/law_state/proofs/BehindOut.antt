@@ -1,4 +1,4 @@
--- Where a folder can be written, a record that stands behind another can go out of its chain: the link of the one before it is written. So the laws on items that go out speak of such records too.
+-- Where a folder can be written, a record that comes after another can go out of its chain: the link of the one before it is written. So the laws on items that go out speak of such records too.
 use Rattle.std.proofs.Common.{◌≡◌, ◌≢◌, ⊎_elim, ℕ, ◌<◌, List, [], ◌∷◌, refl, ap, sym, ◌∙◌, subst, lit<, Option, Some, true, false}
 use Rattle.std.specs.Prelude.{◌==◌, ◌&&◌}
 use Rattle.std.specs.Option.{option_map_or}
@@ -20,7 +20,7 @@ use Rattle.law_state.specs.RemovalLaws.{IsUnlinking}
 use Rattle.law_state.proofs.Links.{next-links}
 use Rattle.law_state.proofs.RecordSteps.{next-leaves, next-outside, next-sealed, next-shown, rewritten}
 
--- a record stands behind another one in the chain of a bucket, which has no more, and in no other chain; and what is in others is not the one before it
+-- a record comes after another one in the chain of a bucket, which has no more, and in no other chain; and what is in others is not the one before it
 pub record IsBehind (chains : ℕ → List ℕ) (bucket previous contents : ℕ) : Type 0 where
   pub small : bucket < 65536
   pub both : chains bucket ≡ previous ∷ contents ∷ []
@@ -32,7 +32,7 @@ pub record IsBehind (chains : ℕ → List ℕ) (bucket previous contents : ℕ)
 abbrev pub shortened : Image → ℕ → Image
 shortened from previous = rewritten from previous ((4, 0) ∷ [])
 
--- the record behind another is out of its chain, and the one before it is sealed
+-- the record after another is out of its chain, and the one before it is sealed
 pub record IsOutBehind (chains : ℕ → List ℕ) (previous contents : ℕ) (from : Image) : Type 0 where
   pub unlinking : (layout : Layout) → IsUnlinking (record layout { chains = chains }) (chains_but chains contents) from (shortened from previous)
   pub leaves : LeavesFiles from (shortened from previous)

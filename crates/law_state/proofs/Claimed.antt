@@ -1,4 +1,4 @@
--- Words that share no block and no external number, in whatever order they stand.
+-- Words that share no block and no external number, in whatever order they are.
 use Rattle.std.proofs.Common.{◌≡◌, ℕ, ◌+◌, ◌≤◌, List, [], ◌∷◌, refl, ap, sym, ◌∙◌, subst, Bool, true, false, cond, arith, ⊎_elim}
 use Rattle.std.specs.List.{sum_by}
 use Rattle.std.specs.List.Sorted.{IsPermutation}
@@ -9,7 +9,7 @@ use Rattle.spec_format.specs.Claims.{Claim, claims_of, claims_of_all, has_claim,
 use Rattle.law_folder.proofs.claims.ClaimLists.{claim-head, no-claim}
 use Rattle.law_folder.proofs.states.Laid.{same_claim-eq, same_claim-self}
 
--- how often a claim stands in a list
+-- how often a used block occurs in a list
 abbrev times_in : Claim → List Claim → ℕ
 times_in c claims = sum_by (λ d. cond (same_claim c d) 1 0) claims
 
@@ -50,7 +50,7 @@ few-once (d ∷ cs) few = or_from (has_claim cs d) (repeats cs)
     fewer c true e = let a = first-time c d true e cs in let b = few c in omega (arith, a, b)
     fewer c false e = let a = first-time c d false e cs in let b = few c in omega (arith, a, b)
 
--- in the claims of words
+-- in the used blocks of words
 of-words : (c : Claim) (ws : List ℕ) → times_in c (claims_of_all ws) ≡ sum_by (λ w. times_in c (claims_of w)) ws
 of-words c [] = refl
 of-words c (w ∷ ws) = sum_by-append (λ d. cond (same_claim c d) 1 0) (claims_of w) (claims_of_all ws) ∙ ap (λ (n : ℕ). times_in c (claims_of w) + n) (of-words c ws) ∙ sym (sum_by-cons (λ v. times_in c (claims_of v)) w ws)

@@ -1,4 +1,4 @@
--- Where each command ends, and what a stop in it may leave.
+-- Where each command ends, and what a crash in it may leave.
 use Rattle.std.proofs.Common.{◌≡◌, ℕ, zero, suc, ◌<◌, ◌≤◌, List, [], ◌∷◌, ◌++◌, refl, ap, ap₂, sym, ◌∙◌, subst, Bool, true, false, arith, cond, get_or, set, Option, Some, None, ⊎_elim, not, length, map}
 use Rattle.std.specs.Prelude.{slice_set, unwrap_or, nat_le, ◌||◌, ◌&&◌}
 use Rattle.std.specs.List.{filter}
@@ -33,7 +33,7 @@ pub passed : PassedRequestsTakeEffect
 unfolding step outcome
 passed state moment request passes = (ap (λ o. (outcome moment request state o).state) passes, ap (λ o. (outcome moment request state o).reply) passes)
 
--- what is at rest in the state after a request may be left, however that state is told
+-- the durable contents in the state after a request may be left, however that state is told
 after-left : (state : State) (moment : ℕ) (request : Request) (end : State) → IsValidState state → IsRequest request → (step state moment request).state ≡ end → MayLeave state moment request (rest end)
 after-left state moment request end valid can ends = subst (λ (m : State). MayLeave state moment request (rest m)) ends (rest_after state moment request valid can)
 
@@ -136,7 +136,7 @@ writes-end state moment handle stream offset cut bytes number object is = writte
 pub doomed-writes-end : DoomedWritesEnd
 doomed-writes-end state moment handle stream offset cut bytes number object passes names here dead = written-dead state moment handle stream offset cut bytes number object passes names here dead
 
--- what ends amid a request's own object unsettles it
+-- what ends amid a request's own object makes it dirty
 unsettles : (state : State) (moment : ℕ) (request : Request) (number : ℕ) (object after : Object) (uses : List Item) → IsAffected state moment request number object → (step state moment request).state ≡ amidst (with_room state moment request) number after uses
     → IsUnsettled after object.key → Unsettles state moment request number object
 unsettles state moment request number object after uses affected ends unsettled =

@@ -41,7 +41,7 @@ reading_is_valid = step_valid pair 100 (to_open 5 a) pair_is_valid (omega arith,
 abbrev opened_object : Object
 opened_object = record (new_object a) { settled = true }
 
--- a stop in the Open may leave `a` in front
+-- a crash in the Open may leave `a` in front
 opened_left : MayLeave pair 100 (to_open 5 a) (rest (in_order (used (main a) pair.uses) pair))
 opened_left = opens-left pair 100 5 a pair_is_valid (unfold computing in refl)
 
@@ -84,7 +84,7 @@ changed_left : MayLeave reading 100 (to_write 5 0 0 false c) (rest (amidst (with
 unfolding computing
 changed_left = unsettled-left reading 100 (to_write 5 0 0 false c) 0 opened_object reading_is_valid written_unsettles changed reading.uses (record { key_is = refl; live = refl; unsettled = refl }) refl
 
--- a new object is closed: its last handle settles it
+-- a new object is closed: its last handle makes it clean
 abbrev making : State
 making = (step pair 100 (to_create 6 c)).state
 

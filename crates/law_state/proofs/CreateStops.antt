@@ -1,4 +1,4 @@
--- Where a Create may be stopped, and what is kept in the end.
+-- Where a Create may crash, and what is kept in the end.
 use Rattle.std.proofs.Common.{◌≡◌, ℕ, List, sym, subst}
 use Rattle.spec_image.specs.Image.{Image}
 use Rattle.blk_model.specs.Effects.{created}

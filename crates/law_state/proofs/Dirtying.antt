@@ -141,7 +141,7 @@ module _ (state : State) (layout : Layout) (unlinked : List ℕ) (from image : I
   pub leaves : LeavesFiles from image
   leaves = record { headers = only-node.headers; session = only-node.session; well_formed = only-node.well_formed }
 
-  -- what it claims is as before
+  -- what it uses is as before
   pub still-owned : (claim : Claim) (n : ℕ) → layout.owner claim ≡ Some n → ((n ≡ node) × (has_claim (all_claims (record l { dirty = mark })) claim ≡ true)) ⊎ (((node == n) ≡ false) × (layout.owner claim ≡ Some n))
   unfolding all_claims record_claims
   still-owned claim n is = ⊎_elim

@@ -1,4 +1,4 @@
--- What the steps of the use list's operations leave is done.
+-- What the steps of the LRU list's operations leave is done.
 use Rattle.spec_image.proofs.Runs.{until_last}
 use Rattle.spec_folder.specs.Completion.{insert, remove}
 use Rattle.spec_folder.specs.ListImages.{operation_steps, steps_of_touch, walked}

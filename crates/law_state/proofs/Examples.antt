@@ -88,7 +88,7 @@ pub doomed-keeps : Keeps (doomed_state true) (doomed_layout 0) [] (opened doomed
 doomed-keeps = opened-kept doomed_folder (numbered doomed_folder 7) (opened doomed_folder 7) (doomed_state true) (doomed_layout 0) (0 ∷ []) (doomed-is_valid true) doomed-is_well_formed folder-is_represented folder-is_allocated doomed-tidy
     (outside_write Index 20 (word_bytes 7) doomed_folder) (outside_write Index 32 (word_bytes 1) (numbered doomed_folder 7)) doomed-session
 
--- and it is sound, as its object is at rest
+-- and it is sound, as its object is durable
 whole-rests : AllAreAtRest (one.state true)
 whole-rests zero = refl
 whole-rests (suc n) = tt

@@ -79,7 +79,7 @@ module _ (from image : Image) (n : ℕ) (bytes : (m i : ℕ) → byte image (Blo
   unfolding max_entries_in
   blocks-here m = λ j. bytes m 20 j + 256 * bytes m 21 j + 65536 * bytes m 22 j + 16777216 * bytes m 23 j
 
-  -- words of blocks stand as they did
+  -- words of blocks are valid as they were
   stands-here : (m w : ℕ) → is_in_file m w ≡ true → stands_in from w ≡ true → stands_in image w ≡ true
   unfolding is_in_file
   stands-here m w in_file st = stands-same (file_claim n) from image agree w clear ∙ st where

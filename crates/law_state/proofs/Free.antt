@@ -22,7 +22,7 @@ use Rattle.law_state.specs.ChangeLaws.{UnlinkedPlacesMayChange, WhatIsKeptIsFoun
 use Rattle.law_state.proofs.Headers.{files-same, stand-same}
 use Rattle.law_state.proofs.Keeping.{kept-found}
 
--- what is loaded is a node and a record that stand
+-- what is loaded is a node and a record that are there
 pub record AreStanding (image : Image) (l : Loaded) : Type 0 where
   pub node : stands_as image rankings l.node ≡ true
   pub record_ : stands_as image blocks_256 l.contents ≡ true

@@ -23,7 +23,7 @@ use Rattle.law_state.specs.Keeping.{AllAreSealed, AreFiles, IsMapped, KeepsUncou
 use Rattle.law_state.proofs.Allocating.{apart-kind, blocks-only, its-file, other-in, owned-used, used-stand}
 use Rattle.law_state.proofs.Free.{sealed-same, session-same, standing-at}
 
--- a word whose claim is not among those of others is not among them
+-- a word whose used block is not among those of others is not among them
 lacks : (w : ℕ) (c : Claim) (ws : List ℕ) → has_claim (claims_of w) c ≡ true → has_claim (claims_of_all ws) c ≡ false → filter (λ x. not (x == w)) ws ≡ ws
 lacks w c [] has none = refl
 lacks w c (x ∷ ws) has none =

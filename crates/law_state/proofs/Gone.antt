@@ -96,7 +96,7 @@ module _ (state other : State) (layout now : Layout) (unlinked numbers : List �
       (subst (λ (ws : List ℕ). IsPermutation ws ((words_of was ++ unlinked) ++ words_at layout.at (prefix ++ suffix))) (append_assoc unlinked (words_of was) (words_at layout.at (prefix ++ suffix)))
       (IsPermutation-append_left (words_at layout.at (prefix ++ suffix)) (unlinked ++ words_of was) (words_of was ++ unlinked) (IsPermutation-append_comm unlinked (words_of was)))))
 
-  -- what is claimed by the words that are unlinked then
+  -- what is used by the words that are unlinked then
   whose : (c : Claim) → has_claim (claims_of_all (words_of was ++ unlinked)) c ≡ true → (layout.owner c ≡ None) ⊎ (layout.owner c ≡ Some node)
   whose c e = by-parts (has_claim (all_claims was) c) refl (sym (ap (λ (cs : List Claim). has_claim cs c) (flat_map-append claims_of (words_of was) unlinked ∙ ap (λ (cs : List Claim). cs ++ claims_of_all unlinked) (words-claims was)) ∙ claim-append (all_claims was) (claims_of_all unlinked) c) ∙ e) where
     by-parts : (t : Bool) → has_claim (all_claims was) c ≡ t → (has_claim (all_claims was) c || has_claim (claims_of_all unlinked) c) ≡ true → (layout.owner c ≡ None) ⊎ (layout.owner c ≡ Some node)

@@ -1,4 +1,4 @@
--- Several items go out of the use list and of the chains.
+-- Several items go out of the LRU list and of the chains.
 use Rattle.std.proofs.Common.{◌≡◌, ℕ, ◌<◌, List, [], ◌∷◌, ◌++◌, refl, ap, sym, ◌∙◌, subst, Bool, true, false, Option, Some, None, ⊎_elim, append_assoc}
 use Rattle.std.specs.Prelude.{◌||◌, ◌&&◌, ◌==◌, not, filter, IfSome, if◌then◌else◌}
 use Rattle.std.specs.Option.{option_map_or}
@@ -71,7 +71,7 @@ module _ (layout : Layout) (keep : Item → Bool) where
       subst (IsPermutation (w_of (i ∷ items))) (λ k. sym a k ++ sym b k) (subst (IsPermutation (w_of (i ∷ items))) (sym (append_assoc w gone stay)) first))
       (cases_Bool (keep i))
 
--- whose a claim of what lies at nodes is
+-- whose a used block of what lies at nodes is
 pub claimed-by : (layout : Layout) → ((n : ℕ) (l : Loaded) (c : Claim) → layout.at n ≡ Some l → has_claim (all_claims l) c ≡ true → layout.owner c ≡ Some n) → (ns : List ℕ) (c : Claim) → has_claim (claims_of_all (words_at layout.at ns)) c ≡ true → (n : ℕ) × ((is_among ns n ≡ true) × (layout.owner c ≡ Some n))
 claimed-by layout own [] c e = absurd (let z : false ≡ true = sym (no-claim c) ∙ e in cc)
 claimed-by layout own (n ∷ ns) c e = go (layout.at n) refl (λ h. claimed-by layout own ns c h) e where

@@ -1,4 +1,4 @@
--- Where headers, lengths and the presence of files are as before, maps, counters and what stands are.
+-- Where headers, lengths and the presence of files are as before, maps, counters and what is valid are.
 use Rattle.std.proofs.Common.{◌≡◌, ℕ, ◌+◌, ◌*◌, ◌/◌, ◌<◌, ◌≤◌, List, ap, sym, ◌∙◌, ◌++◌, subst, arith, Bool, true, None}
 use Rattle.std.specs.Prelude.{◌==◌, ◌%◌, is_some, filter}
 use Rattle.std.specs.Int.{bit_at}
@@ -19,7 +19,7 @@ use Rattle.law_folder.proofs.claims.ByteChanges.{same-links}
 use Rattle.law_state.specs.Changes.{SameHeaders}
 use Rattle.law_state.specs.Keeping.{AreFiles, IsMapped}
 
--- no block file of a well-formed folder is damaged
+-- no block file of a well-formed folder is corrupt
 pub undamaged : (image : Image) → IsWellFormed image → first_block_damage image ≡ None
 unfolding head_checks list_checks
 undamaged image well =

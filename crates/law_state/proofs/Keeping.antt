@@ -1,4 +1,4 @@
--- What a folder keeps is found, stood for, and sound where nothing is doomed or unsettled.
+-- What a folder keeps is found, stood for, and sound where nothing is doomed or dirty.
 use Rattle.std.proofs.Common.{◌≡◌, ℕ, List, [], ◌∷◌, ◌++◌, map, refl, ap, sym, ◌∙◌, subst, true, false, Option, Some, None}
 use Rattle.std.specs.Prelude.{◌&&◌, ◌==◌, is_some, if◌then◌else◌, IfSome}
 use Rattle.std.specs.Option.{option_and_then, IsSomeAnd}
@@ -33,7 +33,7 @@ use Rattle.law_folder.proofs.states.TidyOrder.{tidy-stands}
 use Rattle.law_state.specs.Keeping.{Keeps, all_loaded, words_in_use}
 use Rattle.law_state.specs.KeepingLaws.{AllAreAtRest, KeptStatesAreFound, KeptStatesAreStoodFor, KeptStatesAreSound}
 
--- the claims of the words in use
+-- the used blocks of the words in use
 pub used-claims : (unlinked : List ℕ) (ls : List Loaded) → claims_of_all (words_in_use unlinked ls) ≡ claims_of_all unlinked ++ claims_of_loaded ls
 used-claims unlinked ls = flat_map-append claims_of unlinked (flat_map words_of ls) ∙ ap (λ (cs : List Claim). claims_of_all unlinked ++ cs) (all-claims ls)
 
@@ -65,7 +65,7 @@ module _ (state : State) (layout : Layout) (image : Image) (k : Keeps state layo
   pub stands : StandsFor image state
   stands = tidy-stands image state layout k.entries.numbers k.entries.represents k.entries.valid allocated k.entries.well_formed tidy
 
--- ---- where each object is live and settled
+-- ---- where each object is live and clean
 
 module _ (state : State) (layout : Layout) (image : Image) (r : Represents (view_of image) state layout) (valid : IsValidState state) (stood : StandsFor image state) (at_rest : AllAreAtRest state) where
   -- each listed item is clean

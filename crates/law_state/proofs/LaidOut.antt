@@ -1,4 +1,4 @@
--- A layout that is given by a list of what lies at its nodes: what lies at a node, and whose a claim is, is looked up there.
+-- A layout that is given by a list of what lies at its nodes: what lies at a node, and whose a used block is, is looked up there.
 use Rattle.std.proofs.Common.{◌≡◌, ℕ, List, [], ◌∷◌, refl, ap, sym, ◌∙◌, subst, Bool, true, false, Option, Some, None}
 use Rattle.std.specs.Prelude.{if◌then◌else◌, ◌==◌, ◌||◌, is_some}
 use Rattle.std.specs.List.{AllByRecursion}
@@ -19,7 +19,7 @@ abbrev pub at_in : List Loaded → ℕ → Option Loaded
 at_in [] w = None
 at_in (l ∷ ls) w = if w == l.node then Some l else at_in ls w
 
--- the node that has a claim
+-- the node that a used block belongs to
 abbrev pub owner_in : List Loaded → Claim → Option ℕ
 owner_in [] claim = None
 owner_in (l ∷ ls) claim = if has_claim (all_claims l) claim then Some l.node else owner_in ls claim
@@ -32,13 +32,13 @@ looked P (k ∷ ks) all w l is = go (w == k.node) refl is (looked P ks all.1 w l
   go true e is later = let s : k ≡ l = cc in subst (λ (x : ℕ). P x l) (sym (eqb-true w k.node e)) (subst (P k.node) s all.0)
   go false e is later = later is
 
--- what claims among those of the list
+-- what uses a block, among those of the list
 pub record IsClaimant (Q : ℕ → Loaded → Type 0) (claim : Claim) (w : ℕ) : Type 0 where
   pub loaded : Loaded
   pub holds : Q w loaded
   pub claims : has_claim (all_claims loaded) claim ≡ true
 
--- an owner claims, and what holds of each in the list holds of it
+-- an owner uses the block, and what holds of each in the list holds of it
 pub claimant : (Q : ℕ → Loaded → Type 0) (ls : List Loaded) → AllByRecursion (λ l. Q l.node l) ls → (claim : Claim) (w : ℕ) → owner_in ls claim ≡ Some w → IsClaimant Q claim w
 claimant Q [] all claim w is = absurd (cc)
 claimant Q (k ∷ ks) all claim w is = go (has_claim (all_claims k) claim) refl is (claimant Q ks all.1 claim w) where
@@ -46,7 +46,7 @@ claimant Q (k ∷ ks) all claim w is = go (has_claim (all_claims k) claim) refl 
   go true e is later = let s : k.node ≡ w = cc in record { loaded = k; holds = subst (λ (x : ℕ). Q x k) s all.0; claims = e }
   go false e is later = later is
 
--- what lies at a node has its claims among those of the list
+-- what lies at a node has its used blocks among those of the list
 claims-in : (ls : List Loaded) (w : ℕ) (l : Loaded) (claim : Claim) → at_in ls w ≡ Some l → has_claim (all_claims l) claim ≡ true → has_claim (claims_of_loaded ls) claim ≡ true
 claims-in [] w l claim is has = absurd (cc)
 claims-in (k ∷ ks) w l claim is has = has_claim-append (all_claims k) (claims_of_loaded ks) claim ∙ go (w == k.node) is (claims-in ks w l claim) where
@@ -58,7 +58,7 @@ claims-in (k ∷ ks) w l claim is has = has_claim-append (all_claims k) (claims_
   go true is later = let s : k ≡ l = cc in let mine : has_claim (all_claims k) claim ≡ true = subst (λ (x : Loaded). has_claim (all_claims x) claim ≡ true) (sym s) has in rw mine refl
   go false is later = rw (later is has) (or-true (has_claim (all_claims k) claim))
 
--- where no claim is there twice, what claims is the owner
+-- where no used block is there twice, what uses it is the owner
 pub own-in : (ls : List Loaded) → repeats (claims_of_loaded ls) ≡ false → (w : ℕ) (l : Loaded) (claim : Claim) → at_in ls w ≡ Some l → has_claim (all_claims l) claim ≡ true → owner_in ls claim ≡ Some w
 own-in [] once w l claim is has = absurd (cc)
 own-in (k ∷ ks) once w l claim is has = go (w == k.node) refl is (own-in ks (repeats-tail (all_claims k) (claims_of_loaded ks) once) w l claim) where
@@ -70,7 +70,7 @@ own-in (k ∷ ks) once w l claim is has = go (w == k.node) refl is (own-in ks (r
   go true e is later = let s : k ≡ l = cc in let mine : has_claim (all_claims k) claim ≡ true = subst (λ (x : Loaded). has_claim (all_claims x) claim ≡ true) (sym s) has in rw mine (ap (λ (x : ℕ). Some x) (sym (eqb-true w k.node e)))
   go false e is later = let none : has_claim (all_claims k) claim ≡ false = other's is (has_claim (all_claims k) claim) refl in rw none (later is has)
 
--- a claim has an owner exactly where it is among those of the list
+-- a used block has an owner exactly where it is among those of the list
 pub is-owned : (ls : List Loaded) (claim : Claim) → is_some (owner_in ls claim) ≡ has_claim (claims_of_loaded ls) claim
 is-owned [] claim = sym (no-claim claim)
 is-owned (k ∷ ks) claim = go (has_claim (all_claims k) claim) (is-owned ks claim) ∙ sym (has_claim-append (all_claims k) (claims_of_loaded ks) claim) where

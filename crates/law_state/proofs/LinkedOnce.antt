@@ -36,7 +36,7 @@ module _ (image : Image) (kind : ℕ) where
   abbrev along : ℕ → ℕ → List ℕ
   along left k = files_along (next_file_in image) left k
 
-  -- the link of a file, and the checks behind it
+  -- the link of a file, and the checks after it
   link : (met : List ℕ) (left k : ℕ) → first_of (checks_along image kind met (suc left) k) ≡ None → (next_file_in image k == 0) ≡ false → IsNextLink (met ++ k ∷ []) (next_file_in image k) × (first_of (checks_along image kind (met ++ k ∷ []) left (next_file_in image k)) ≡ None)
   unfolding checks_along next_file_in
   link met left k none some =

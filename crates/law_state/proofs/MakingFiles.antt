@@ -25,7 +25,7 @@ use Rattle.law_state.proofs.Allocating.{owned-used}
 use Rattle.law_state.proofs.Free.{sealed-same, session-same, standing-at}
 use Rattle.law_state.proofs.Keeping.{used-claims}
 
--- a word of an external file claims its number alone
+-- a word of an external file uses its number alone
 pub its-claims : (w : ℕ) → (w == 0) ≡ false → (kind_of w == external) ≡ true → claims_of w ≡ ExternalOf (external_number w) ∷ []
 unfolding claims_of
 its-claims w some kind = rw (some, kind) refl
@@ -46,7 +46,7 @@ module _ (w : ℕ) (from image : Image) (a : AddsExternal from w image) (state :
   abbrev touched : Claim → Bool
   touched claim = same_claim claim (ExternalOf (external_number w))
 
-  -- what the word claims is the file
+  -- what the word uses is the file
   claimed : (c : Claim) → has_claim (claims_of w) c ≡ touched c
   claimed c = ap (λ (cs : List Claim). has_claim cs c) (its-claims w a.some a.external_kind) ∙ claim-head (ExternalOf (external_number w)) [] c ∙ ap (λ (t : Bool). touched c || t) (no-claim c) ∙ or-false (touched c)
 
@@ -196,7 +196,7 @@ module _ (w : ℕ) (from image : Image) (a : RemovesExternal from w image) (stat
       (λ (t : its_file c ≡ false). t)
       (cases_Bool (its_file c))
 
-  -- and no other word in use claims it
+  -- and no other word in use uses it
   left-free : (c : Claim) → its_file c ≡ true → has_claim (claims_of_all (words_in_use unlinked (all_loaded state layout k.numbers))) c ≡ false
   left-free c e = ap (λ (cs : List Claim). has_claim cs c) (used-claims unlinked (all_loaded state layout k.numbers)) ∙ claim-append (claims_of_all unlinked) (claims_of_loaded (all_loaded state layout k.numbers)) c
       ∙ or_from (has_claim (claims_of_all unlinked) c) (has_claim (claims_of_loaded (all_loaded state layout k.numbers)) c)

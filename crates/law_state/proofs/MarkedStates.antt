@@ -1,4 +1,4 @@
--- States in which an object is settled or unsettled.
+-- States in which an object is made clean or dirty.
 use Rattle.std.proofs.Common.{◌≡◌, ℕ, refl, ap, Bool, true, false, arith, cond, Some}
 use Rattle.std.specs.Prelude.{◌&&◌}
 use Rattle.blk_model.specs.Items.{Item, main, part}
@@ -10,7 +10,7 @@ use Rattle.blk_model.proofs.States.{if_some_is}
 use Rattle.law_state.specs.CommandEnds.{MarkedStatesAreValid}
 use Rattle.law_state.proofs.NotAtRest.{within-slots}
 
--- an object has the same items, settled or not
+-- an object has the same items, clean or not
 same-items : (object : Object) (settled : Bool) (item : Item) → has_item (record object { settled = settled }) item ≡ has_item object item
 same-items object settled (main key) = refl
 same-items object settled (part key n) = refl

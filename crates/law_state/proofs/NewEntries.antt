@@ -1,4 +1,4 @@
--- A new entry in the use list and in front of its chain.
+-- A new entry in the LRU list and in front of its chain.
 use Rattle.std.proofs.Common.{◌≡◌, ℕ, zero, suc, ◌+◌, ◌<◌, ◌≤◌, List, [], ◌∷◌, ◌++◌, length, map, refl, ap, sym, ◌∙◌, subst, arith, Bool, true, false, Option, Some, None, get_or, lit≤, ⊎_elim, append_assoc}
 use Rattle.std.proofs.lemmas.Bool.Decides.{nat_tests}
 use Rattle.std.specs.Prelude.{◌&&◌, ◌==◌, nat_le, nat_lt, IfSome, if◌then◌else◌}
@@ -177,7 +177,7 @@ pub table-leaves : (b : ℕ) (from image : Image) → SameOutside (one_word Inde
 table-leaves b from image same formed = leaves-files (one_word Index (place_of_bucket b)) from image (record { bytes = λ n i small. refl }) (λ file. refl) same
     (record { crash = table-word b 32 from image (lit≤ tt) same; id = table-word b 20 from image (lit≤ tt) same }) formed
 
--- and seals stand
+-- and seals hold
 pub table-seals : (b : ℕ) (from image : Image) (l : Loaded) → SameOutside (one_word Index (place_of_bucket b)) from image → AreSealed from l → AreSealed image l
 table-seals b from image l same s = record {
   node = ap (λ (f : ℕ → ℕ). node_is_sealed (node_in f (place l.node))) (bytes l.node) ∙ s.node;
@@ -274,7 +274,7 @@ module _ (state : State) (layout : Layout) (unlinked key : List ℕ) (l : Loaded
       table-seals (bucket_at between l.contents) between image other linked.outside (sealed-still from between writes l.node outside can-make.nodes n.good state layout k.represents inserted.sealed node other was (k.sealed node other was)))
       (cases_Bool (l.node == node))
 
-  -- the unsettled objects are marked, the new one too
+  -- the dirty objects are marked, the new one too
   marked : AreMarkedBy (this_id_of (byte from Index)) (created handle key state) now
   unfolding created
   marked number object is live unsettled = ⊎_elim

@@ -160,7 +160,7 @@ module _ (state : State) (objects : List (Option Object)) (layout : Layout) (unl
   same-claims : all_claims seen ≡ all_claims was
   same-claims = sym (words-claims seen) ∙ ap claims_of_all made.words ∙ words-claims was
 
-  -- what lies elsewhere, with the same claims
+  -- what lies elsewhere, with the same used blocks
   at-old : (node : ℕ) (x : Loaded) (claim : Claim) → (l.node == node) ≡ false → layout.at node ≡ Some x → has_claim (all_claims x) claim ≡ true → (y : Loaded) × ((now.at node ≡ Some y) × (has_claim (all_claims y) claim ≡ true))
   at-old node x claim apart is has = ⊎_elim
       (λ (e : (p == node) ≡ true).

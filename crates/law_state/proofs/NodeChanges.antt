@@ -41,7 +41,7 @@ pub first-of : (P : ℕ → Type 0) (xs ys : List ℕ) → AllByRecursion P (xs 
 first-of P [] ys all = tt
 first-of P (x ∷ xs) ys all = (all.0, first-of P xs ys all.1)
 
--- where a word stands in a list
+-- where a word is in a list
 pub record IsAmid (xs : List ℕ) (w : ℕ) : Type 0 where
   pub prefix : List ℕ
   pub suffix : List ℕ
@@ -146,7 +146,7 @@ module _ (state other : State) (layout : Layout) (unlinked left : List ℕ) (nod
   nodes-same : all_nodes other (changed_at layout node now owner) k.numbers ≡ all_nodes state layout k.numbers
   nodes-same = ap (λ (ns : List ℕ). ns ++ doomed_nodes layout k.numbers) uses
 
-  -- what was there, and what is unlinked, stands and is claimed once
+  -- what was there, and what is unlinked, is valid and is used once
   stood : AllByRecursion (λ w. stands_in from w ≡ true) (unlinked ++ words_of was)
   stood = join (λ w. stands_in from w ≡ true) unlinked (words_of was) k.unlinked_words.stand (words-stand from was (rule_of layout node, node, k.represents.holds.shows.each node was here))
 

@@ -1,4 +1,4 @@
--- What is nothing to what is at rest: handles, doomed objects, and what an unsettled object is.
+-- What is no matter for the durable contents: handles, doomed objects, and what a dirty object is.
 use Rattle.std.proofs.Common.{◌≡◌, ◌≢◌, ℕ, zero, suc, ◌+◌, ◌<◌, ◌≤◌, List, [], ◌∷◌, length, refl, ap, ap₂, sym, ◌∙◌, Bool, true, false, arith, cond, get_or, set, Option, Some, None, ⊎_elim, not}
 use Rattle.std.specs.Option.{option_and_then}
 use Rattle.std.specs.List.{filter, filter_map, cons_option}
@@ -30,7 +30,7 @@ handles-rest state names = filter_map-same (settled_row (with_names names state)
 
 -- ---- doomed objects
 
--- what is at rest of an object
+-- the durable contents of an object
 abbrev at_rest_in : Item → Object → Option Row
 at_rest_in item object = cond object.settled (row_in object item) None
 
@@ -63,7 +63,7 @@ pub doomed-rest : DoomedObjectsAreNotAtRest
 unfolding rest
 doomed-rest state number object slot here dead dead_after = filter_map-same (settled_row (with_slot number slot state)) (settled_row state) (doomed-row state number object slot here dead dead_after) state.uses
 
--- ---- an unsettled object
+-- ---- a dirty object
 
 -- what gives nothing may be left out
 filter_map-out : (f : Item → Option Row) (p : Item → Bool) → ((i : Item) → p i ≡ false → f i ≡ None) → (items : List Item) → filter_map f items ≡ filter_map f (filter p items)

@@ -82,7 +82,7 @@ doomed-find touched state layout unlinked from image number object k only here d
 -- ---- owners with something else at a node
 
 module _ (state : State) (layout : Layout) (unlinked left : List ℕ) (from : Image) (k : KeepsUncounted state layout unlinked from) (node : ℕ) (was now : Loaded) (here : layout.at node ≡ Some was) (same : IsPermutation (unlinked ++ words_of was) (left ++ words_of now)) where
-  -- what is claimed now was claimed then
+  -- what is used now was used then
   claimed : (c : Claim) → (has_claim (claims_of_all unlinked) c || has_claim (all_claims was) c) ≡ (has_claim (claims_of_all left) c || has_claim (all_claims now) c)
   claimed c = sym (both unlinked was c) ∙ claimed-alike c (unlinked ++ words_of was) (left ++ words_of now) same ∙ both left now c where
     both : (ws : List ℕ) (l : Loaded) (c : Claim) → has_claim (claims_of_all (ws ++ words_of l)) c ≡ (has_claim (claims_of_all ws) c || has_claim (all_claims l) c)

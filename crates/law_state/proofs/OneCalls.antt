@@ -87,7 +87,7 @@ closes-of-doomed-unlink state layout unlinked image moment handle number object 
     subst (λ (m : State). Keeps m (layout_without layout (layout.place_of_doomed number)) (words_of was ++ unlinked) image) (sym ends)
     (gone-uncounted state layout unlinked image number object was (slice_set state.names handle None) k at (subst IsValidState ends (step_valid state moment (to_close handle) k.entries.valid can)))
 
--- ---- unsettling
+-- ---- an object becomes dirty
 
 pub unsettling-stops-by-mark : UnsettlingMarksMayStop
 unsettling-stops-by-mark state layout unlinked from image moment request number mark object loaded valid is k named at some marking =

@@ -1,4 +1,4 @@
--- What a stop may leave in each order that a request makes.
+-- What a crash may leave in each order that a request makes.
 use Rattle.std.proofs.Common.{◌≡◌, ℕ, suc, List, [], ◌∷◌, None, refl, ap, sym, ◌∙◌, subst, arith, inl, inr, length, map, take, not, ◌++◌, ◌+◌}
 use Rattle.std.specs.List.{filter_map}
 use Rattle.std.proofs.lemmas.List.{append-nil, length-append}
@@ -27,14 +27,14 @@ left-stops state moment request held image left finds = record {
   left = subst (λ (rows : List Row). StopOutcome state moment request (step state moment request).state rows) (sym finds.1) left;
 }
 
--- an item that stays, or that nobody has, is at rest as it was
+-- an item that stays, or that nobody has, is durable as it was
 settled-both : (state : State) (groups : List Group) (item : Item) → StaysOrNobody state groups item → settled_row (without groups state) item ≡ settled_row state item
 unfolding without
 settled-both state [] item either = refl
 settled-both state (group ∷ groups) item (inl stays) = settled_left state group groups item stays
 settled-both state (group ∷ groups) item (inr none) = (settled_chooses (without (group ∷ groups) state)).nobody item (left_nobody state group groups item none) ∙ sym ((settled_chooses state).nobody item none)
 
--- what is at rest in another order
+-- the durable contents in another order
 pub rest-order : (uses : List Item) (state : State) → rest (in_order uses state) ≡ filter_map (settled_row state) uses
 unfolding rest settled_row
 rest-order uses state = filter_map-same (settled_row (in_order uses state)) (settled_row state) (λ item. refl) uses

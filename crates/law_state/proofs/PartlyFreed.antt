@@ -80,7 +80,7 @@ module _ (touched : Claim → Bool) (state : State) (layout : Layout) (keep : It
       let clear = clear-left n l is stays in
       sealed-same touched from image agree l (standing-loaded from layout n l (k.holds.each n l is stays)) clear.node clear.contents (k.sealed n l is stays)
 
--- what is left stands
+-- what is left is valid
 pub left-there : (state : State) (layout : Layout) (keep : Item → Bool) (chains : ℕ → List ℕ) (unlinked : List ℕ) (from : Image) → KeepsPartlyOut state layout keep chains unlinked from
     → (claim : Claim) (node : ℕ) → layout.owner claim ≡ Some node → is_among (gone_nodes state layout keep) node ≡ false → is_absent from claim ≡ false
 left-there state layout keep chains unlinked from k claim node is stays =

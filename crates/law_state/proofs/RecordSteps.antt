@@ -48,7 +48,7 @@ updated-sealed from image w changes bytes kind are done =
     ap (λ (body : List ℕ). word_at f (place w + 92) == hash body) (entry_body-in (place w) f (bytes (Block (file_selector w))) ∙ sym front)
     ∙ ap (λ (x : ℕ). x == hash (take 92 (record_at image w))) (sym (record_word image w 92 size)) ∙ eq-eqb _ _ seal
 
--- the blocks of a standing word end inside their file
+-- the blocks of a valid word end inside their file
 inside-file : (image : Image) (w : ℕ) → stands_in image w ≡ true → kind_of w ≢ external → place w + byte_size w ≤ length_of image (Block (file_selector w))
 unfolding stands_as_blocks
 inside-file image w st blocks = leb-true _ _ (and_parts (is_linked_as (linked_as image (file_selector w)) (kind_of w) && nat_le (first_block w + block_count w) (max_entries_in image (file_selector w))) _ (stands-blocks image w st blocks)).1

@@ -1,4 +1,4 @@
--- One item goes out of the use list and out of its chain.
+-- One item goes out of the LRU list and out of its chain.
 use Rattle.std.proofs.Common.{◌≡◌, ℕ, ◌<◌, List, [], ◌∷◌, ◌++◌, map, refl, ap, sym, ◌∙◌, subst, arith, Bool, true, false, Option, Some, None, ⊎_elim, append_assoc}
 use Rattle.std.specs.Prelude.{◌||◌, ◌&&◌, ◌==◌, not, nat_lt, filter, IfSome, if◌then◌else◌}
 use Rattle.std.proofs.lemmas.Bool.{and_parts, cases_Bool, eq-eqb, eqb-true, or_left, or_right}
@@ -214,7 +214,7 @@ module _ (state : State) (layout : Layout) (unlinked : List ℕ) (objects : List
   once-then : Distinct (nodes_of layout (filter keep state.uses))
   once-then = subst Distinct (sym new-order) (Distinct-without prefix node suffix (subst Distinct old-order k.represents.list.distinct))
 
-  -- so what is kept of the list without it is what is at rest without it
+  -- so what is kept of the list without it is the durable contents without it
   pub rest-then : (store : StoreView) → Shows store layout → map row_of_loaded (kept_among store held_rule (nodes_of layout (filter keep state.uses))) ≡ rest after
   rest-then store shows = listed-rest (λ n. false) store after (layout_unlisted layout node) (others-hold store shows) w.valid once-then (λ i there. refl)
 

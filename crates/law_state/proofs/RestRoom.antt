@@ -1,4 +1,4 @@
--- Room on the state without the first groups: what is pinned is the same, and what goes until there is enough are the others.
+-- Space on the state without the first groups: what is pinned is the same, and what goes until there is enough are the others.
 use Rattle.std.proofs.Common.{◌≡◌, ℕ, suc, ◌+◌, ◌-◌, ◌/◌, ◌≤◌, Bool, true, false, not, ◌&&◌, ◌||◌, cond, List, [], ◌∷◌, ◌++◌, Some, None, Option, refl, ap, ap₂, sym, ◌∙◌, subst, arith, get_or, map, reverse, append-nil, ◌⊎◌, inl, inr}
 use Rattle.std.specs.List.{filter, list_any, AllByRecursion}
 use Rattle.std.specs.Option.{option_and_then, option_map_or}
@@ -58,7 +58,7 @@ stays-pinned true false true x y e h = refl
 stays-pinned true false false x y e h = refl
 stays-pinned false named out x y e h = e
 
--- how room is decided
+-- how space is decided
 abbrev decided : Bool → Bool → Bool → List Group → Room
 decided none over all gone = cond none (after []) (cond over full (cond all (after []) (after gone)))
 
@@ -84,7 +84,7 @@ module _ (state : State) (valid : IsValidState state) (covers : List Item) (grou
   pinned-item (main key) stays = ap (λ (o : Option ℕ). option_map_or (is_named state) o false) (first-same (group ∷ groups) (main key) 0 state.objects stays)
   pinned-item (part key n) stays = refl
 
-  -- what could go behind the first groups
+  -- what could go after the first groups
   groups-behind : (behind : List Group) → groups_from_back (is_pinned state covers) (reverse state.uses) ≡ (group ∷ groups) ++ behind → groups_from_back (is_pinned (without (group ∷ groups) state) covers) (reverse (without (group ∷ groups) state).uses) ≡ behind
   unfolding without
   groups-behind behind e =
@@ -142,7 +142,7 @@ module _ (state : State) (valid : IsValidState state) (covers : List Item) (grou
     unfolding without
     limits-same = refl
 
-    -- room for as much is made by the others, or all fits
+    -- space for as much is made by the others, or all fits
     pub room-left : (bytes more : ℕ) (others : List Group) → is_full (room state covers bytes more) ≡ false → evicted_for (room state covers bytes more) ≡ (group ∷ groups) ++ others
         → (room (without (group ∷ groups) state) covers bytes more ≡ after others) ⊎ (room (without (group ∷ groups) state) covers bytes more ≡ after [])
     room-left bytes more others free goes = go (fits state.limits.max_bytes bytes more left) refl where

@@ -50,7 +50,7 @@ state = one.state true
 unchanged : (footprint : Footprint) (image : Image) → SameOutside footprint image image
 unchanged footprint image = record { bytes = λ file i out. refl; lengths = λ file out. refl; files = λ file out. refl }
 
--- before the first word of a touch of its item, a Read may be stopped
+-- before the first word of a touch of its item, a Read may crash
 before_use : IsMidUse (one.layout 0) (main (codes "a")) folder folder
 before_use = record { made = 0; within = omega arith; shown = record { list = refl; store = same-shown (store_of folder) }; outside = unchanged _ folder; well_formed = λ well. well }
 
@@ -85,7 +85,7 @@ key_is_out = record {
 out_is_doomed : Finds (rest (doomed 0 (doomed_state true) (Some (doomed_object true)))) (opened doomed_folder 7)
 out_is_doomed = out-doomed (doomed_state true) (doomed_layout 0) 0 (doomed_object true) (is_of_another (codes "a")) (opened doomed_folder 7) doomed-keeps.entries.valid refl key_is_out
 
--- a List is at its first stage, and a call that changes nothing may be stopped there
+-- a List is at its first stage, and a call that changes nothing may crash there
 abbrev told : Told
 told = record { files = Some folder; trail = None }
 

@@ -1,4 +1,4 @@
--- Where a request may be stopped, and when it is done.
+-- Where a request may crash, and when it is done.
 use Rattle.std.proofs.Common.{◌≡◌, ℕ, List, [], Option, None, Some, refl, ap, sym, ◌∙◌, subst}
 use Rattle.std.specs.Option.{ForSome}
 use Rattle.spec_image.specs.Image.{Image}

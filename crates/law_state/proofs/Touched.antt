@@ -40,7 +40,7 @@ words_at at nodes = flat_map words_of (filter_map at nodes)
 pub words-append : (at : ℕ → Option Loaded) (xs ys : List ℕ) → words_at at (xs ++ ys) ≡ words_at at xs ++ words_at at ys
 words-append at xs ys = ap (flat_map words_of) (filter_map-append at xs ys) ∙ flat_map-append words_of (filter_map at xs) (filter_map at ys)
 
--- what stands behind may come in front
+-- what comes after may come in front
 pub to-front : (xs ys zs : List ℕ) → IsPermutation (xs ++ (ys ++ zs)) (ys ++ (xs ++ zs))
 to-front xs ys zs = subst (λ (vs : List ℕ). IsPermutation vs (ys ++ (xs ++ zs))) (append_assoc xs ys zs) (subst (IsPermutation ((xs ++ ys) ++ zs)) (append_assoc ys xs zs) (IsPermutation-append_left zs (xs ++ ys) (ys ++ xs) (IsPermutation-append_comm xs ys)))
 

@@ -1,4 +1,4 @@
--- What a stop may leave once an object is unsettled, and while a doomed one changes.
+-- What a crash may leave once an object is dirty, and while a doomed one changes.
 use Rattle.std.proofs.Common.{◌≡◌, ◌≢◌, ℕ, List, [], refl, ap, sym, ◌∙◌, subst, Bool, true, false, arith, Option, Some, None, ⊎_elim, not}
 use Rattle.std.specs.Prelude.{◌&&◌, ◌||◌, cond}
 use Rattle.std.specs.Option.{option_and_then}
@@ -46,7 +46,7 @@ and-false : (b : Bool) → (b && false) ≡ false
 and-false true = refl
 and-false false = refl
 
--- two slots are as live and as settled
+-- two slots are as live and as clean
 abbrev Alike : Option Object → Option Object → Type 0
 Alike a b = (is_live_and_settled a ≡ is_live_and_settled b) × (is_live a ≡ is_live b)
 
@@ -57,7 +57,7 @@ module _ (state : State) (valid : IsValidState state) (moment : ℕ) (request : 
   abbrev end : State
   end = (step state moment request).state
 
-  -- the object alone unsettled
+  -- the object alone dirty
   abbrev loosened : State
   loosened = turned base number object false base.names
 
@@ -74,7 +74,7 @@ module _ (state : State) (valid : IsValidState state) (moment : ℕ) (request : 
       (ap is_live_and_settled same, ap is_live same))
       (eqb_tells k number)
 
-  -- so the same objects are safe, and the same turned
+  -- so the same objects are safe, and the same in transition
   pick-same : (with : Bool) (items : List Item) → pick base loosened with items ≡ pick base end with items
   unfolding pick picked picked_by is_safe is_turned
   pick-same with items = λ i. filter_map (λ item. option_and_then (λ k. cond (is_live_and_settled (object_at base k) && ((alike k).0 i || not ((alike k).1 i)) || (with && (is_live (object_at base k) && (alike k).1 i && differ (is_live_and_settled (object_at base k)) ((alike k).0 i)))) (row_of base item) None) (owner base item)) items

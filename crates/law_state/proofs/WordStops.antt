@@ -1,4 +1,4 @@
--- Where each command may be stopped, at each word of its calls.
+-- Where each command may crash, at each word of its calls.
 use Rattle.std.proofs.Common.{◌≡◌, ℕ, List, [], ◌∷◌, ◌++◌, map, refl, ap, sym, ◌∙◌, subst, Bool, true, false, inl, inr, Some}
 use Rattle.std.specs.Prelude.{◌⊎◌, if◌then◌else◌, nat_lt, take}
 use Rattle.std.specs.List.{filter}

@@ -1,4 +1,4 @@
--- In the worked folder a new object is made, whose record stands in front of that of `b` in their bucket; then `b` goes, whose record is behind it.
+-- In the worked folder a new object is made, whose record is in front of that of `b` in their bucket; then `b` goes, whose record is after it.
 use Rattle.std.proofs.Common.{◌≡◌, ◌≢◌, ℕ, ◌<◌, List, [], ◌∷◌, ◌++◌, refl, ap, sym, ◌∙◌, subst, arith, lit<, None, Some, true, false, codes, replicate}
 use Rattle.std.specs.Prelude.{◌==◌, filter, not}
 use Rattle.spec_image.specs.Footprint.{SameOutside}
@@ -118,7 +118,7 @@ between-leaves : LeavesFiles made_folder between
 between-leaves = leaves-files (touch_range removal_writes (nodes 2)) made_folder between (touch_spares removal_writes (nodes 2)) (touch_sizes removal_writes (nodes 2)) outside
     (record { crash = counter-same removal_writes (nodes 2) made_folder between outside 32 (omega arith); id = counter-same removal_writes (nodes 2) made_folder between outside 20 (omega arith) }) b-unlisted.partly.well_formed
 
--- ---- its record goes out of its chain, from behind the other
+-- ---- its record goes out of its chain, from its place after the other
 
 new-here : two_layout.at (nodes 3) ≡ Some fresh
 unfolding put
@@ -146,7 +146,7 @@ removed_behind = record {
   sealed = λ node loaded here was. links.next-sealed two two_layout (0xA0010005 ∷ []) made_folder between without_b (nodes 3) fresh two-keeps between-leaves new-here b-out.outside b-out.sealed node loaded here was;
 }
 
--- what is at rest without it is found, and its words are unlinked
+-- the durable contents without it are recovered, and its words are unlinked
 behind_is_not_found : Finds (rest (doomed 0 two (Some plain_object))) without_b
 behind_is_not_found = (removing-doomed two two_layout (0xA0010005 ∷ []) made_folder without_b 0 plain_object the_plain two-keeps refl refl refl refl).1 removed_behind.removing
 

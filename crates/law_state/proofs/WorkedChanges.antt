@@ -1,4 +1,4 @@
--- In the worked folder `b` is opened and unsettled; then a Write cuts its stream, and its record is written anew: meanwhile what was at rest is found, and in the end the state without its stream is kept.
+-- In the worked folder `b` is opened and made dirty; then a Write cuts its stream, and its record is written anew: meanwhile the old durable contents are recovered, and in the end the state without its stream is kept.
 use Rattle.std.proofs.Common.{◌≡◌, inl, inr, ℕ, ◌+◌, ◌≤◌, List, [], ◌∷◌, ◌++◌, length, refl, ap, sym, ◌∙◌, subst, arith, lit<, true, false, None, Ok, Some, codes, replicate}
 use Rattle.std.specs.Prelude.{◌⊎◌}
 use Rattle.std.proofs.lemmas.Bool.{or_right}
@@ -65,7 +65,7 @@ use Rattle.law_state.proofs.WorkedRemovals.{touched_b}
 use Rattle.law_state.proofs.WordStops.{unsettled-uses-stop}
 use Rattle.law_state.proofs.WorkedState.{doomed_object, nodes, plain_object, records, sparse_object, the_plain, worked, worked_layout}
 
--- ---- `b` is unsettled
+-- ---- `b` is dirty
 
 abbrev pub open_object : Object
 open_object = record plain_object { settled = false }
@@ -116,7 +116,7 @@ others-stay : KeepsOtherKeys (with_room opened 100 zz_write) (codes "b") open_st
 unfolding computing
 others-stay = refl
 
--- meanwhile a Write of it may be stopped
+-- meanwhile a Write of it may crash
 used_stops : MayStop opened 100 zz_write used_folder
 used_stops = unsettled-uses-stop opened 100 zz_write 0 plain_object open_object open_state.uses (main (codes "b")) unsettled_layout [] open_folder used_folder opened-valid write_unsettles (record { key_is = refl; live = refl; unsettled = refl }) others-stay refl
     (subst (λ (m : State). KeepsUncounted m unsettled_layout [] open_folder) (sym open-amidst) open-keeps) (subst (λ (m : State). is_listed m (main (codes "b")) ≡ true) (sym open-amidst) refl) open-used.touched
@@ -201,7 +201,7 @@ cut-only = rewritten-only open_folder (records 2) b_fields open-writable open-en
 cut-outside : SameOutside (record_range (records 2)) open_folder cut_folder
 cut-outside = rewritten-outside open_folder (records 2) b_fields open-writable open-entry refl (emptied_words 0) (are-changes (records 2) b-kind 0) (before-seal (records 2) b-kind 0)
 
--- it is a change inside of what is the node's, so meanwhile what was at rest is found
+-- it is a change inside of what is the node's, so meanwhile the old durable contents are recovered
 cut-inside : IsInsideNode (has_claim (claims_of (records 2))) (view_of open_folder) (view_of cut_folder) unsettled_layout (nodes 2) open_b
 cut-inside = updates-are-inside open_state unsettled_layout [] open_folder cut_folder (nodes 2) open_b b_fields cut_fields open-keeps open-here cut-written.0 open-entry cut-written.1 refl refl
 

@@ -76,7 +76,7 @@ fresh = emptied
 
 -- ---- it is that of a Create
 
--- its claims are among those of the words that are unlinked
+-- its used blocks are among those of the words that are unlinked
 of-three : (a b c x : Claim) → has_claim (a ∷ b ∷ []) x ≡ true → has_claim (a ∷ b ∷ c ∷ []) x ≡ true
 unfolding has_claim
 of-three a b c x h = go (same_claim x a) (same_claim x b) (same_claim x c) h where
@@ -185,7 +185,7 @@ listed_folder = after (operation_steps insert (nodes 3) entry_folder) entry_fold
 inserted : IsInsertDone entry_folder (nodes 3) listed_folder
 inserted = insert-done entry_folder (nodes 3) entry-writable can-be-inserted
 
--- it may be stopped then
+-- it may crash then
 insert_stops : MayStop closed 100 (to_create 5 twin) listed_folder
 insert_stops = inserts-stop closed 100 5 twin closed_layout (0xA0010005 ∷ []) fresh entry_folder listed_folder creating inserted.partly
 

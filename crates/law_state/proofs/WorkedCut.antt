@@ -51,7 +51,7 @@ others claim node owner other = let c : IsClaimant IsNoOther's claim node = clai
     ⊎_elim (λ (e : node ≡ nodes 3). absurd (let z : true ≡ false = subst (λ (n : ℕ). (nodes 3 == n) ≡ false) e other in cc))
     (λ (once : repeats (all_claims c.loaded ++ claims_of (records 3)) ≡ false). repeats-apart (all_claims c.loaded) (claims_of (records 3)) claim once c.claims) c.holds
 
--- meanwhile what was at rest is found
+-- meanwhile the old durable contents are recovered
 cut_finds : Finds (rest worked) (emptied_folder 2)
 cut_finds = doomed-find (has_claim (claims_of (records 3))) worked worked_layout [] worked_folder (emptied_folder 2) 2 doomed_object worked-keeps.entries (emptied-only 2 emptied-are.1) refl refl others
 

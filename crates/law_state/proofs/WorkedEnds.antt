@@ -204,7 +204,7 @@ doomed_names = record { names = refl; here = refl }
 doomed_read_ends : (step worked 100 (to_read 5 0 0 2)).state ≡ worked
 doomed_read_ends = doomed-reads-end worked 100 5 0 0 2 2 doomed_object (unfold computing in refl) doomed_names refl
 
--- ---- there is room for one item more
+-- ---- there is space for one item more
 
 room_is_left : HaveFewAllocations worked_folder 2 655362
 room_is_left = leave-room worked worked_layout [] worked_folder 2 1 worked-keeps.entries refl (lit≤ tt) (lit≤ tt)

@@ -242,7 +242,7 @@ index-none : (p : ℕ) → Neighbours p index_words → word_at (byte short_fold
 unfolding short_folder
 index-none p beside = words_beside p index_words (zeros index_length) beside ∙ word-zeros index_length p
 
--- a word of the index behind which only these were written
+-- a word of the index after which only these were written
 index-there : (ws later : List (ℕ × ℕ)) (p value : ℕ) → with_words index_words (zeros index_length) ≡ with_words later (with_word p value (with_words ws (zeros index_length))) → value < 2 ^ 32 → p + 4 ≤ index_length → Neighbours p later → word_at (byte short_folder Index) p ≡ value
 unfolding short_folder
 index-there ws later p value is small room beside =

@@ -1,4 +1,4 @@
--- In the worked folder, once `b` is out, its blocks begin to be freed: meanwhile what is at rest with it doomed is found.
+-- In the worked folder, once `b` is out, its blocks begin to be freed: meanwhile the durable contents with it doomed are recovered.
 use Rattle.std.proofs.Common.{◌≡◌, ℕ, ◌+◌, ◌*◌, ◌<◌, ◌≤◌, [], ◌++◌, refl, subst, sym, arith, lit<, lit≤, Bool, true, false, Some, codes}
 use Rattle.std.specs.Prelude.{◌&&◌, nat_le, nat_lt}
 use Rattle.std.proofs.lemmas.Bool.Decides.{nat_tests}
@@ -82,6 +82,6 @@ module _ (from : Image) where
 freeing_finds : Finds (rest (doomed 0 both (Some plain_object))) (begun without_b)
 freeing_finds = freeing-finds both worked_layout 0 plain_object but_b (chains_but chain_of (records 2)) (words_of the_plain ++ []) without_b (begun without_b) refl (own-items-leave (codes "b")).0 b_is_out (begun-grown without_b) (begun-formed without_b)
 
--- and before it is out, what is at rest
+-- and before it is out, the durable contents
 growth_finds : StillFinds [] worked_folder (begun worked_folder)
 growth_finds = growth-finds [] worked_folder (begun worked_folder) (begun-grown worked_folder) (begun-formed worked_folder)

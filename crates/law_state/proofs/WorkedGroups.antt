@@ -1,4 +1,4 @@
--- In the worked folder a Trim evicts `b` first and then `a`, whose main item is out while its part is listed still: it may be stopped there.
+-- In the worked folder a Trim evicts `b` first and then `a`, whose main item is out while its part is listed still: it may crash there.
 use Rattle.std.proofs.Common.{◌≡◌, ℕ, List, [], ◌∷◌, ◌++◌, refl, subst, sym, lit<, None, Some, true, codes}
 use Rattle.std.specs.Prelude.{not, ◌==◌}
 use Rattle.spec_image.specs.Image.{Image}
@@ -52,7 +52,7 @@ left_layout = layout_removed worked_layout (nodes 2) (records 2)
 left-keeps : KeepsUncounted left left_layout (words_of the_plain ++ []) without_b
 left-keeps = subst (λ (m : State). KeepsUncounted m left_layout (words_of the_plain ++ []) without_b) left-is b_is_evicted
 
--- the Trim may be stopped there
+-- the Trim may crash there
 once_evicted : MayStop worked 100 (to_trim 0) without_b
 once_evicted = stop-evicted worked 100 (to_trim 0) first others without_b worked-keeps.entries.valid evicts_both
     (subst (λ (m : State). Finds (rest m) without_b) (sym left-is) (left-keeps.well_formed, kept-found left left_layout (words_of the_plain ++ []) without_b left-keeps))
@@ -86,7 +86,7 @@ main-goes = goes-out left left_layout (λ item. true) left_chains (words_of the_
 main_is_out : KeepsPartlyOut left left_layout but_main (chains_but left_chains (records 0)) (words_of the_parent ++ words_of the_plain ++ []) without_main
 main_is_out = one-more-goes left left_layout (λ item. true) left_chains (words_of the_plain ++ []) (main (codes "a")) the_parent without_b without_main all_left refl refl main-goes
 
--- so the Trim may be stopped there, before its second group is out
+-- so the Trim may crash there, before its second group is out
 trim_stops : MayStop worked 100 (to_trim 0) without_main
 trim_stops = partly-out-groups-stop worked 100 (to_trim 0) first [] left_layout 1 sparse_object (0 ∷ []) but_main (chains_but left_chains (records 0)) (words_of the_parent ++ words_of the_plain ++ []) without_main worked-keeps.entries.valid evicts_both
     (unfold computing in refl) refl (unfold computing in refl) (own-items-leave (codes "a")).0 (subst (λ (m : State). KeepsPartlyOut m left_layout but_main (chains_but left_chains (records 0)) (words_of the_parent ++ words_of the_plain ++ []) without_main) (sym left-is) main_is_out)

@@ -156,7 +156,7 @@ below n is = folders.below n (ap is_some (sym (same-links whole_folder worked_fo
 its-kind : (n kind : ℕ) → linked_as worked_folder n ≡ Some kind → n + 1 ≡ kind
 its-kind n kind is = folders.its-type n kind (sym (same-links whole_folder worked_folder same-next n) ∙ is)
 
--- the claims are the blocks that are used
+-- what has an owner is the blocks that are used
 abbrev has : Claim → Bool
 has = has_claim ((BlockOf 0 0 ∷ BlockOf 1 0 ∷ BlockOf 3 0 ∷ BlockOf 3 1 ∷ BlockOf 3 2 ∷ []) ++ (BlockOf 0 1 ∷ BlockOf 1 1 ∷ BlockOf 1 6 ∷ BlockOf 1 7 ∷ []) ++ (BlockOf 0 2 ∷ BlockOf 1 2 ∷ BlockOf 1 4 ∷ []) ++ (BlockOf 0 3 ∷ BlockOf 1 3 ∷ BlockOf 1 5 ∷ []))
 
@@ -309,7 +309,7 @@ session-words : (crash_of (byte short_folder Index) ≡ 1) × (this_id_of (byte 
 unfolding short_folder zeros with_word spliced
 session-words = (refl, refl)
 
--- no live object is unsettled
+-- no live object is dirty
 all-settled : (number : ℕ) (object : Object) → object_at worked number ≡ Some object → object.live ≡ true → object.settled ≡ true
 all-settled zero object is live = let s : plain_object ≡ object = cc in ap (λ (o : Object). o.settled) (sym s)
 all-settled (suc zero) object is live = let s : sparse_object ≡ object = cc in ap (λ (o : Object). o.settled) (sym s)

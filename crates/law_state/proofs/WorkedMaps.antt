@@ -30,7 +30,7 @@ map_byte (suc zero) = 255
 map_byte (suc (suc zero)) = 0
 map_byte (suc (suc (suc n))) = 7
 
--- words that lie before the second word of the map, or behind the header
+-- words that lie before the second word of the map, or after the header
 abbrev are_beside : List (ℕ × ℕ) → Bool
 are_beside [] = true
 are_beside (w ∷ ws) = (nat_le (w.0 + 4) 84 || nat_le 8192 w.0) && are_beside ws

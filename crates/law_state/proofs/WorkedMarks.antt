@@ -1,4 +1,4 @@
--- In the worked folder `b` is opened, unsettled by a Write, and settled again by its Close; and the doomed object is settled.
+-- In the worked folder `b` is opened, made dirty by a Write, and made clean by its Close; and the doomed object is made clean.
 use Rattle.std.proofs.Common.{◌≡◌, [], refl, sym, ◌∙◌, subst, arith, lit<, Bool, Some, true, false, codes}
 use Rattle.std.specs.Prelude.{◌||◌}
 use Rattle.spec_image.specs.Image.{Image, Index, byte}
@@ -54,7 +54,7 @@ opened-keeps = opens-end-by-touch worked worked_layout [] worked_folder opened_f
 pub opened-writable : IsWritable opened_folder
 opened-writable = until_last IsWritable IsWritable (steps_of_touch (nodes 2) 70 worked_folder) worked_folder (touches-go_on worked_folder (nodes 2) 70 worked-writable)
 
--- ---- a Write unsettles it
+-- ---- a Write makes it dirty
 
 write_names : IsNamedBy opened 100 (to_write 6 0 0 false (codes "zz")) 6 0 plain_object
 unfolding computing
@@ -70,7 +70,7 @@ b_checks = opened-keeps.entries.represents.list.linked.0.good
 pub b_is_marked : IsMarked opened_folder (nodes 2) 7 (marked_at opened_folder (nodes 2) 7)
 b_is_marked = marks-done opened_folder (nodes 2) 7 opened-writable b_checks (lit< tt)
 
--- it evicts nothing, so it may be stopped then
+-- it evicts nothing, so it may crash then
 room-is : with_room opened 100 (to_write 6 0 0 false (codes "zz")) ≡ opened
 unfolding computing
 room-is = refl
@@ -83,7 +83,7 @@ b-placed : IsPlacedAsLive opened worked_layout 0 plain_object the_plain
 unfolding computing
 b-placed = record { here = refl; live = refl; at = refl }
 
--- and the state with it unsettled is kept: its dirty word is the number of the session
+-- and the state with it dirty is kept: its dirty word is the number of the session
 abbrev pub unsettled : State
 unsettled = marked opened 0 plain_object false
 
@@ -99,7 +99,7 @@ session-is = counter-same (touch_writes (nodes 2) (list_of worked_folder)) (node
 pub unsettled-keeps : Keeps unsettled unsettled_layout [] (marked_at opened_folder (nodes 2) 7)
 unsettled-keeps = marking-counts opened worked_layout [] opened_folder (marked_at opened_folder (nodes 2) 7) 0 plain_object the_plain 7 opened-keeps b-placed unsettled-valid (λ some. sym session-is) b_is_marked
 
--- ---- its Close settles it
+-- ---- its Close makes it clean
 
 abbrev unsettled_object : Object
 unsettled_object = record plain_object { settled = false }
@@ -125,7 +125,7 @@ close_stops = closes-stop-by-mark unsettled unsettled_layout [] (marked_at opene
 closed-keeps : Keeps (step unsettled 100 (to_close 6)).state (dirtied unsettled_layout (nodes 2) (record the_plain { dirty = 7 }) 0) [] (marked_at (marked_at opened_folder (nodes 2) 7) (nodes 2) 0)
 closed-keeps = closes-end-by-mark unsettled unsettled_layout [] (marked_at opened_folder (nodes 2) 7) (marked_at (marked_at opened_folder (nodes 2) 7) (nodes 2) 0) 100 6 0 unsettled_object (record the_plain { dirty = 7 }) unsettled-keeps (omega arith) last_of_b unsettled-placed b_is_cleared
 
--- ---- the doomed object is settled
+-- ---- the doomed object is clean
 
 pub doomed_checks : (list_of worked_folder).checks (nodes 3) ≡ true
 unfolding list_of checks_at node_checks

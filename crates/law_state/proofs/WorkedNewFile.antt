@@ -1,4 +1,4 @@
--- In a whole folder a fifth block file is made, with its first node marked, and linked behind data_0: it is an allocation in a file that was not linked before.
+-- In a whole folder a fifth block file is made, with its first node marked, and linked after data_0: it is an allocation in a file that was not linked before.
 use Rattle.std.proofs.Common.{◌≡◌, ◌≢◌, inr, ℕ, zero, suc, ◌+◌, ◌*◌, ◌/◌, ◌%◌, ◌≤◌, List, [], ◌∷◌, refl, ap, sym, ◌∙◌, subst, arith, lit<, lit≤, Bool, true, false, None, Some}
 use Rattle.std.specs.Prelude.{◌==◌, if◌then◌else◌, is_some, nat_lt}
 use Rattle.std.specs.Int.{bit_at}

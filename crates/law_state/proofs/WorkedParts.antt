@@ -1,4 +1,4 @@
--- In the worked folder `a` is unsettled, its part goes, and is made again in its blocks, which are unlinked then.
+-- In the worked folder `a` is dirty, its part goes, and is made again in its blocks, which are unlinked then.
 use Rattle.std.proofs.Common.{◌≡◌, inl, inr, ℕ, List, [], ◌∷◌, ◌++◌, refl, ap, sym, ◌∙◌, subst, arith, lit<, lit≤, Bool, true, false, None, Ok, Option, Some, codes}
 use Rattle.std.specs.Prelude.{◌||◌, if◌then◌else◌, map, nat_lt, slice_set}
 use Rattle.spec_image.specs.Footprint.{SameOutside}
@@ -72,7 +72,7 @@ use Rattle.law_state.proofs.WorkedDooms.{both, both-id, both-keeps, both-writabl
 use Rattle.law_state.proofs.WorkedRemovals.{alone_part}
 use Rattle.law_state.proofs.WorkedState.{chain_of, doomed_object, nodes, part_index, part_name, part_value, plain_object, records, sparse_object, the_parent, the_part, worked-valid, worked_layout}
 
--- ---- `a` is unsettled
+-- ---- `a` is dirty
 
 abbrev pub unsettled_object : Object
 unsettled_object = record sparse_object { settled = false }
@@ -253,7 +253,7 @@ listed_folder = after (operation_steps insert (nodes 1) bare_folder) bare_folder
 inserted : IsInsertDone bare_folder (nodes 1) listed_folder
 inserted = insert-done bare_folder (nodes 1) bare-writable can-be-inserted
 
--- what is at rest is found then
+-- the durable contents are recovered then
 insert_finds : Finds (if nat_lt inserted.partly.made 2 then rest bare else rest (with_first bare objects (part (codes "a") 0))) listed_folder
 insert_finds = part-inserts-find bare objects bare_layout (words_of the_part ++ []) (codes "a") 0 dirty_parent dirty_parent the_part bare_folder listed_folder bare-keeps written inserted.partly
 
@@ -309,7 +309,7 @@ insert-leaves = leaves-files (touch_range insert_writes (nodes 1)) bare_folder l
 insert-can : CanBeMade bare_folder insert_writes
 insert-can = inserts-can bare_folder (nodes 1) (walked bare_folder) can-be-inserted
 
--- the seals of the part stand after its removal and after its insert
+-- the seals of the part hold after its removal and after its insert
 abbrev removal_writes : List ListWrite
 removal_writes = writes_of remove (nodes 1) (list_of dirty_folder)
 

@@ -168,7 +168,7 @@ b-unlisted = out-of-list worked worked_layout (λ item. true) chain_of [] worked
 pub b-ready : IsWritable without_b
 b-ready = ready-out worked worked_layout (λ item. true) chain_of [] worked_folder all_kept worked-writable (main (codes "b")) the_plain refl (nodes 1 ∷ nodes 0 ∷ []) [] refl 0xA0E1 alone_b
 
--- what is at rest without it is found
+-- the durable contents without it are recovered
 b_is_not_found : Finds (rest (doomed 0 worked (Some plain_object))) without_b
 b_is_not_found = (removing-doomed worked worked_layout [] worked_folder without_b 0 plain_object the_plain worked-keeps.entries refl refl refl refl).1 removed_b.removing
 
@@ -252,7 +252,7 @@ main_is_out = one-more-goes worked worked_layout (λ item. true) chain_of [] (ma
 main_leaves_others : LeavesOtherKeys (codes "a") but_main
 main_leaves_others = (own-items-leave (codes "a")).0
 
--- so a DoomKey of `a` may be stopped there
+-- so a DoomKey of `a` may crash there
 stops_between : MayStop worked 100 (to_doom_key (codes "a")) without_main
 stops_between = partly-out-dooms-stop worked 100 (to_doom_key (codes "a")) worked_layout 1 sparse_object but_main (chains_but chain_of (records 0)) (words_of the_parent ++ []) without_main (codes_are_bytes (codes "a") (omega arith, tt)) (unfold computing in refl) (unfold computing in refl) refl main_leaves_others main_is_out
 
@@ -272,7 +272,7 @@ a-writable = ready-out worked worked_layout but_main (chains_but chain_of (recor
 follows-unlisted : IsRemovalDone without_main (nodes 1) (unlisted without_main (nodes 1))
 follows-unlisted = out-of-list worked worked_layout but_main (chains_but chain_of (records 0)) (words_of the_parent ++ []) without_main main_is_out main-writable (part (codes "a") 0) the_part refl [] (nodes 2 ∷ []) refl 0xB6C alone_after
 
--- while it goes, what is at rest with `a` doomed is found
+-- while it goes, the durable contents with `a` doomed are recovered
 next_part_finds : Finds (rest (doomed 1 worked (Some sparse_object))) (unlisted without_main (nodes 1))
 next_part_finds = next-parts-find worked worked_layout 1 sparse_object but_main (chains_but chain_of (records 0)) (words_of the_parent ++ []) 0 without_main (unlisted without_main (nodes 1)) refl main_leaves_others main_is_out refl refl follows-unlisted.partly
 

@@ -1,4 +1,4 @@
--- A state with a plain, a sparse and a doomed object: `b` has the stream `zz`; `a` is sparse, and its part 0 has the bytes `xx`; a third object, doomed and not settled, has the stream `yyy` and the handle 5, and its key is one of the bucket of `b`.
+-- A state with a plain, a sparse and a doomed object: `b` has the stream `zz`; `a` is sparse, and its part 0 has the bytes `xx`; a third object, doomed and not clean, has the stream `yyy` and the handle 5, and its key is one of the bucket of `b`.
 use Rattle.std.proofs.Common.{◌≡◌, ℕ, zero, suc, ◌+◌, ◌<◌, List, [], ◌∷◌, ◌++◌, refl, ap, sym, ◌∙◌, subst, arith, Bool, true, false, Some, None}
 use Rattle.std.specs.Prelude.{if◌then◌else◌, ◌==◌, ◌&&◌, nat_lt, codes, replicate}
 use Rattle.std.specs.Str.{bytes_eq}
@@ -99,7 +99,7 @@ with-c state valid = step_valid _ 100 (to_doom 5) (after-valid state twin (codes
 pub worked-valid : IsValidState worked
 worked-valid = subst IsValidState reached (with-c _ (with-a _ with-b))
 
--- and so it is where the doomed object was closed before it was opened and doomed, and so is settled
+-- and so it is where the doomed object was closed before it was opened and doomed, and so is clean
 abbrev settled_twin : List Request
 settled_twin = to_create 5 twin ∷ to_write 5 0 0 false (codes "yyy") ∷ to_close 5 ∷ to_open 5 twin ∷ to_doom 5 ∷ []
 
@@ -178,7 +178,7 @@ worked_layout = record {
   owner = owner_in all_four;
 }
 
--- ---- claims
+-- ---- used blocks
 
 pub their-claims : claims_of_loaded all_four
     ≡ (BlockOf 0 0 ∷ BlockOf 1 0 ∷ BlockOf 3 0 ∷ BlockOf 3 1 ∷ BlockOf 3 2 ∷ []) ++ (BlockOf 0 1 ∷ BlockOf 1 1 ∷ BlockOf 1 6 ∷ BlockOf 1 7 ∷ []) ++ (BlockOf 0 2 ∷ BlockOf 1 2 ∷ BlockOf 1 4 ∷ []) ++ (BlockOf 0 3 ∷ BlockOf 1 3 ∷ BlockOf 1 5 ∷ [])

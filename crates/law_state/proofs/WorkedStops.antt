@@ -1,4 +1,4 @@
--- In the worked folder requests may be stopped: an Open, a Read, and a Doom, and while an item goes out.
+-- In the worked folder requests may crash: an Open, a Read, and a Doom, and while an item goes out.
 use Rattle.std.proofs.Common.{◌≡◌, [], ◌∷◌, refl, sym, subst, lit<, false, None, Some, codes, true}
 use Rattle.std.specs.Prelude.{if◌then◌else◌, nat_lt, slice_set}
 use Rattle.spec_image.specs.Image.{Image}
@@ -80,7 +80,7 @@ read_has_effect = record {
   kept = λ image is. subst (λ (i : Image). Keeps (effect 100 (to_read 6 0 0 2) (with_room opened 100 (to_read 6 0 0 2))) worked_layout [] i) (some_inj is) (subst (λ (m : State). Keeps m worked_layout [] read_folder) (sym read-effect) read_ends);
 }
 
--- before its first word what a stop may leave is found
+-- before its first word what a crash may leave is found
 read_finds_left : FindsLeft opened 100 (to_read 6 0 0 2) opened_folder
 read_finds_left = record { held = rest opened; left = rest_before opened 100 (to_read 6 0 0 2) opened-keeps.entries.valid; finds = (opened-keeps.entries.well_formed, kept-found opened worked_layout [] opened_folder opened-keeps.entries) }
 

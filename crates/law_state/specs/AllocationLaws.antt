@@ -32,7 +32,7 @@ pub record AreFreed (from : Image) (w : ℕ) (image : Image) : Type 0 where
 abbrev pub FreedBlocksAreRemoved : Type 0
 FreedBlocksAreRemoved = (from image : Image) (w : ℕ) → AreFreed from w image → RemovesAllocation from w image
 
--- the blocks of a word are allocated: they stand; of other files at most the links have changed, and the same are linked; its file has one allocation more, or was not linked and has this alone, and has all its blocks
+-- the blocks of a word are allocated: they are valid; of other files at most the links have changed, and the same are linked; its file has one allocation more, or was not linked and has this alone, and has all its blocks
 pub record AreAllocated (from : Image) (w : ℕ) (image : Image) : Type 0 where
   pub block_kind : kind_of w ≢ external
   pub footprint : Footprint

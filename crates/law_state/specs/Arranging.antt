@@ -1,4 +1,4 @@
--- A call that leaves the files as they stand: what is in use is the same, and another state may be kept by it.
+-- A call that leaves the files as they are: what is in use is the same, and another state may be kept by it.
 use Rattle.std.specs.Prelude.{List, ℕ}
 use Rattle.std.specs.List.Sorted.{IsPermutation}
 use Rattle.blk_model.specs.State.{State, IsValidState}
@@ -30,6 +30,6 @@ abbrev pub StatesAreRearranged : Type 0
 StatesAreRearranged = (state other : State) (layout now : Layout) (unlinked left numbers : List ℕ) (from image : Image) → (k : KeepsUncounted state layout unlinked from) → LeavesFiles from image → IsArranged other now numbers left image
     → IsPermutation (words_in_use unlinked (all_loaded state layout k.numbers)) (words_in_use left (all_loaded other now numbers)) → KeepsUncounted other now left image
 
--- so it is kept in whatever order its unlinked words stand
+-- so it is kept in whatever order its unlinked words are
 abbrev pub KeptInAnyOrder : Type 0
 KeptInAnyOrder = (state : State) (layout : Layout) (unlinked left : List ℕ) (image : Image) → KeepsUncounted state layout unlinked image → IsPermutation unlinked left → KeepsUncounted state layout left image

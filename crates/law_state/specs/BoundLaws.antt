@@ -1,4 +1,4 @@
--- How many allocations the block files of a kind have: so few that there is always room for more.
+-- How many allocations the block files of a kind have: so few that there is always space for more.
 use Rattle.std.specs.Prelude.{◌≡◌, ◌≤◌, ◌+◌, ◌*◌, ℕ, List, length, true}
 use Rattle.std.specs.List.{sum_by}
 use Rattle.blk_model.specs.Room.{items}
@@ -25,7 +25,7 @@ pub record HaveFewAllocations (image : Image) (kind most : ℕ) : Type 0 where
 abbrev pub KeptAllocationsAreFew : Type 0
 KeptAllocationsAreFew = (state : State) (layout : Layout) (unlinked : List ℕ) (image : Image) (kind : ℕ) → KeepsUncounted state layout unlinked image → is_block_kind kind ≡ true → HaveFewAllocations image kind (most_words * items state + length unlinked)
 
--- so while a command has so many items to add, and each of them has no more than its words unlinked, and two more words are, they are no more than the 655362 that always leave room
+-- so while a command has so many items to add, and each of them has no more than its words unlinked, and two more words are, they are no more than the 655362 that always leave space
 abbrev pub KeptAllocationsLeaveRoom : Type 0
 KeptAllocationsLeaveRoom =
     (state : State) (layout : Layout) (unlinked : List ℕ) (image : Image) (kind more : ℕ) → KeepsUncounted state layout unlinked image

@@ -15,7 +15,7 @@ use Rattle.law_state.specs.Changes.{AddsAllocation, AddsExternal, AreOfWords, Ch
 
 -- Any call.
 
--- where a state is kept at a moment, what is at rest in it is found
+-- where a state is kept at a moment, the durable contents in it are recovered
 abbrev pub WhatIsKeptIsFound : Type 0
 WhatIsKeptIsFound = (before after : List ℕ) (from image : Image) → KeepsWith before after from image → StillFinds before from image
 
@@ -29,7 +29,7 @@ SameCountersCountTheSame = (state : State) (layout : Layout) (before after : Lis
 abbrev pub UnlinkedPlacesMayChange : Type 0
 UnlinkedPlacesMayChange = (touched : Claim → Bool) (words : List ℕ) (from image : Image) → AreOfWords touched words → ChangesOnly touched from image → KeepsWith words words from image
 
--- the bytes of the blocks of a standing address are such a change
+-- the bytes of the blocks of a valid address are such a change
 abbrev pub BlockWritesChangeOnly : Type 0
 BlockWritesChangeOnly = (from image : Image) (w at n : ℕ) → stands_in from w ≡ true → kind_of w ≢ external → place w ≤ at → at + n ≤ place w + byte_size w → SameOutside (range (Block (file_selector w)) at n) from image → ChangesOnly (has_claim (claims_of w)) from image
 
@@ -50,7 +50,8 @@ OtherWordsChangeOnly = (from image : Image) (at : ℕ) → at % 4 ≡ 0 → at <
 
 -- Growth.
 
--- while block files grow or are added, their maps and counters change, in a folder that stays well formed, what is at rest is found
+-- while block files grow or are added, their maps and counters change, in a folder that stays well formed, the durable contents are
+-- recovered
 abbrev pub GrowthFindsTheSame : Type 0
 GrowthFindsTheSame = (words : List ℕ) (from image : Image) → HaveGrown from image → (IsWellFormed from → IsWellFormed image) → StillFinds words from image
 

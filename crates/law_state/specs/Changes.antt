@@ -21,7 +21,7 @@ use Rattle.law_state.specs.Keeping.{IsMapped, KeepsUncounted}
 abbrev pub Finds : List Row → Image → Type 0
 Finds rows image = IsWellFormed image × (found image ≡ rows)
 
--- at a moment of a call: whatever state was kept with these words unlinked, what is found is what is at rest in it
+-- at a moment of a call: whatever state was kept with these words unlinked, the recovered contents are the durable ones in it
 abbrev pub StillFinds : List ℕ → Image → Image → Type 0
 StillFinds words from image = (state : State) (layout : Layout) (unlinked : List ℕ) → KeepsUncounted state layout (words ++ unlinked) from → Finds (rest state) image
 

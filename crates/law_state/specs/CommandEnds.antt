@@ -1,4 +1,4 @@
--- Where each command ends, and what a stop in it may leave.
+-- Where each command ends, and what a crash in it may leave.
 use Rattle.std.specs.Prelude.{◌≡◌, ◌==◌, ℕ, Bool, filter, not, List, [], ◌∷◌, ◌++◌, None, Some, true, false, slice_set}
 use Rattle.blk_model.specs.Items.{Item, main, part, same_item}
 use Rattle.blk_model.specs.State.{Object, State, IsValidState, is_named, live_with, named_by, object_at}
@@ -19,7 +19,7 @@ abbrev pub PassedRequestsTakeEffect : Type 0
 PassedRequestsTakeEffect = (state : State) (moment : ℕ) (request : Request) → refused moment request state ≡ None
     → ((step state moment request).state ≡ effect moment request (with_room state moment request)) × ((step state moment request).reply ≡ reply request (evicted moment request state) state)
 
--- groups go one after another
+-- groups are evicted one after another
 abbrev pub GroupsGoInTurn : Type 0
 GroupsGoInTurn = (state : State) (first others : List Group) → without others (without first state) ≡ without (first ++ others) state
 
@@ -36,7 +36,7 @@ abbrev pub PartsGoAlone : Type 0
 PartsGoAlone = (state : State) (number : ℕ) (object : Object) (n : ℕ) → IsValidState state → object_at state number ≡ Some object → object.live ≡ true
     → without (single object.key n ∷ []) state ≡ in_order (filter (λ item. not (same_item (part object.key n) item)) state.uses) (with_slot number (Some (without_part object n)) state)
 
--- an object that is settled, or unsettled and named, leaves the state valid
+-- an object that is clean, or dirty and named, leaves the state valid
 abbrev pub MarkedStatesAreValid : Type 0
 MarkedStatesAreValid = (state : State) (number : ℕ) (object : Object) (settled : Bool) → IsValidState state → object_at state number ≡ Some object → object.live ≡ true → (settled ≡ false → is_named state number ≡ true) → IsValidState (marked state number object settled)
 
@@ -53,7 +53,7 @@ OnlyUses request = ⊥
 abbrev pub UsesEnd : Type 0
 UsesEnd = (state : State) (moment : ℕ) (request : Request) → OnlyUses request → refused moment request state ≡ None → (step state moment request).state ≡ in_order (used_all (uses_of request state) state.uses) state
 
--- a stop in it may leave what is at rest once the first items are used
+-- a crash in it may leave the durable contents once the first items are used
 abbrev pub OnlyUsesMayBeLeft : Type 0
 OnlyUsesMayBeLeft = (state : State) (moment : ℕ) (request : Request) (first others : List Item) → IsValidState state → OnlyUses request → refused moment request state ≡ None → uses_of request state ≡ first ++ others
     → MayLeave state moment request (rest (in_order (used_all first state.uses) state))
@@ -63,17 +63,17 @@ abbrev pub OpensEndOnceUsed : Type 0
 OpensEndOnceUsed = (state : State) (moment handle : ℕ) (key : List ℕ) → refused moment (to_open handle key) state ≡ None
     → (step state moment (to_open handle key)).state ≡ with_names (slice_set state.names handle (live_with state key)) (in_order (used (main key) state.uses) state)
 
--- a stop in it may leave what is at rest with the item in front
+-- a crash in it may leave the durable contents with the item in front
 abbrev pub OpensMayLeave : Type 0
 OpensMayLeave = (state : State) (moment handle : ℕ) (key : List ℕ) → IsValidState state → refused moment (to_open handle key) state ≡ None → MayLeave state moment (to_open handle key) (rest (in_order (used (main key) state.uses) state))
 
 -- Create.
 
--- a Create ends with the new object behind all others, once all that it evicts is out
+-- a Create ends with the new object after all others, once all that it evicts is out
 abbrev pub CreatesEndOnceMade : Type 0
 CreatesEndOnceMade = (state : State) (moment handle : ℕ) (key : List ℕ) → refused moment (to_create handle key) state ≡ None → (step state moment (to_create handle key)).state ≡ created handle key (with_room state moment (to_create handle key))
 
--- a stop in it may leave what is at rest with the new object, whatever handle names it
+-- a crash in it may leave the durable contents with the new object, whatever handle names it
 abbrev pub CreatesMayLeave : Type 0
 CreatesMayLeave = (state : State) (moment handle name : ℕ) (key : List ℕ) → IsValidState state → IsRequest (to_create handle key) → refused moment (to_create handle key) state ≡ None
     → MayLeave state moment (to_create handle key) (rest (created name key (with_room state moment (to_create handle key))))
@@ -89,7 +89,7 @@ pub record IsNamedBy (state : State) (moment : ℕ) (request : Request) (handle 
   pub affected : IsAffected state moment request number object
   pub names : named_by state handle ≡ Some number
 
--- a Write unsettles its object, where that is live
+-- a Write makes its object dirty, where that is live
 abbrev pub WritesUnsettle : Type 0
 WritesUnsettle = (state : State) (moment handle stream offset : ℕ) (cut : Bool) (bytes : List ℕ) (number : ℕ) (object : Object) → IsNamedBy state moment (to_write handle stream offset cut bytes) handle number object
     → Unsettles state moment (to_write handle stream offset cut bytes) number object
@@ -107,7 +107,7 @@ DoomedWritesEnd = (state : State) (moment handle stream offset : ℕ) (cut : Boo
 
 -- SparseWrite.
 
--- a SparseWrite of some bytes unsettles its object
+-- a SparseWrite of some bytes makes its object dirty
 abbrev pub SparseWritesUnsettle : Type 0
 SparseWritesUnsettle = (state : State) (moment handle offset byte : ℕ) (bytes : List ℕ) (number : ℕ) (object : Object) → IsNamedBy state moment (to_sparse_write handle offset (byte ∷ bytes)) handle number object
     → Unsettles state moment (to_sparse_write handle offset (byte ∷ bytes)) number object
@@ -129,11 +129,11 @@ abbrev pub ClosesFreeTheName : Type 0
 ClosesFreeTheName = (state : State) (moment handle number : ℕ) → IsValidState state → named_by state handle ≡ Some number → is_named (with_name handle None state) number ≡ true
     → (step state moment (to_close handle)).state ≡ with_names (slice_set state.names handle None) state
 
--- one of the last handle of a live object settles it
+-- one of the last handle of a live object makes it clean
 abbrev pub ClosesSettle : Type 0
 ClosesSettle = (state : State) (moment handle number : ℕ) (object : Object) → IsValidState state → IsLast state handle number object → (step state moment (to_close handle)).state ≡ turned state number object true (slice_set state.names handle None)
 
--- a stop in it may leave what is at rest with the object settled
+-- a crash in it may leave the durable contents with the object clean
 abbrev pub ClosesMayLeave : Type 0
 ClosesMayLeave = (state : State) (moment handle number : ℕ) (object : Object) → IsValidState state → IsRequest (to_close handle) → IsLast state handle number object → MayLeave state moment (to_close handle) (rest (marked state number object true))
 
@@ -149,7 +149,7 @@ abbrev pub DoomsEndOnceDoomed : Type 0
 DoomsEndOnceDoomed = (state : State) (moment : ℕ) (request : Request) (number : ℕ) (object : Object) → refused moment request state ≡ None → IsDoomOf request state number → object_at state number ≡ Some object
     → (step state moment request).state ≡ doomed number state (Some object)
 
--- and a stop in it may leave what is at rest then
+-- and a crash in it may leave the durable contents then
 abbrev pub DoomsMayLeave : Type 0
 DoomsMayLeave = (state : State) (moment : ℕ) (request : Request) (number : ℕ) (object : Object) → IsValidState state → IsRequest request → refused moment request state ≡ None → IsDoomOf request state number → object_at state number ≡ Some object
     → MayLeave state moment request (rest (doomed number state (Some object)))
@@ -160,6 +160,6 @@ DoomsMayLeave = (state : State) (moment : ℕ) (request : Request) (number : ℕ
 abbrev pub TrimsEndOnceOut : Type 0
 TrimsEndOnceOut = (state : State) (moment bytes : ℕ) → (step state moment (to_trim bytes)).state ≡ with_room state moment (to_trim bytes)
 
--- so a stop in it may leave what is at rest without the first groups
+-- so a crash in it may leave the durable contents without the first groups
 abbrev pub TrimsMayLeave : Type 0
 TrimsMayLeave = (state : State) (moment bytes : ℕ) (first others : List Group) → IsValidState state → evicted moment (to_trim bytes) state ≡ first ++ others → MayLeave state moment (to_trim bytes) (rest (without first state))

@@ -19,21 +19,21 @@ use Rattle.law_state.specs.Keeping.{KeepsUncounted}
 use Rattle.law_state.specs.Changes.{Finds, StillFinds}
 use Rattle.law_state.specs.Commands.{Does, ForKept, MayStop, MayStopAtEach}
 
--- Stops.
+-- Crashes.
 
--- where what was at rest before a request is found, it may be stopped
+-- where the durable contents before a request are recovered, it may crash
 abbrev pub RequestsMayStopBefore : Type 0
 RequestsMayStopBefore = (state : State) (moment : ℕ) (request : Request) (image : Image) → IsValidState state → Finds (rest state) image → MayStop state moment request image
 
--- and where what is at rest after it is found
+-- and where the durable contents after it are recovered
 abbrev pub RequestsMayStopAfter : Type 0
 RequestsMayStopAfter = (state : State) (moment : ℕ) (request : Request) (image : Image) → IsValidState state → IsRequest request → Finds (rest (step state moment request).state) image → MayStop state moment request image
 
--- and once the first groups are evicted, where what is at rest without them is found
+-- and once the first groups are evicted, where the durable contents without them are recovered
 abbrev pub RequestsMayStopOnceEvicted : Type 0
 RequestsMayStopOnceEvicted = (state : State) (moment : ℕ) (request : Request) (first others : List Group) (image : Image) → IsValidState state → EvictsFirst state moment request first others → Finds (rest (without first state)) image → MayStop state moment request image
 
--- so before its first word each request may be stopped, where its state is kept
+-- so before its first word each request may crash, where its state is kept
 abbrev pub KeptStatesMayStop : Type 0
 KeptStatesMayStop = (state : State) (layout : Layout) (unlinked : List ℕ) (image : Image) → KeepsUncounted state layout unlinked image → (moment : ℕ) (request : Request) → MayStop state moment request image
 
@@ -43,7 +43,7 @@ KeptStatesMayStop = (state : State) (layout : Layout) (unlinked : List ℕ) (ima
 abbrev pub SaysKept : (State → Image → Type 0) → Type 0
 SaysKept keeps = (state : State) (image : Image) → keeps state image → (layout : Layout) × (unlinked : List ℕ) × KeepsUncounted state layout unlinked image
 
--- where nothing is done, a request may be stopped
+-- where nothing is done, a request may crash
 abbrev pub NothingMayStop : (keeps : State → Image → Type 0) → Type 0
 NothingMayStop keeps = SaysKept keeps → (told now : Told) (moment : ℕ) (request : Request) → Stays told now → MayStopAtEach keeps told now moment request
 
@@ -60,6 +60,6 @@ RefusalsAreDone keeps = (told now : Told) (moment : ℕ) (request : Request) (wh
 abbrev pub QuietRequestsKeepTheState : Type 0
 QuietRequestsKeepTheState = (state : State) (moment handle stream : ℕ) → ((step state moment to_list).state ≡ state) × (((step state moment to_total).state ≡ state) × ((step state moment (to_size handle stream)).state ≡ state))
 
--- a call after each of whose words what was at rest is still found may be stopped at each
+-- a call after each of whose words the old durable contents are still recovered may crash at each
 abbrev pub CallsMayStop : (keeps : State → Image → Type 0) → Type 0
 CallsMayStop keeps = SaysKept keeps → (told now : Told) (moment : ℕ) (request : Request) → Passes told now (λ image. ForSome told.files (λ from. StillFinds [] from image)) → MayStopAtEach keeps told now moment request

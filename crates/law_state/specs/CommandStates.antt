@@ -10,7 +10,7 @@ use Rattle.blk_model.specs.Step.{step}
 use Rattle.blk_model.specs.Stops.{StopOutcome}
 use Rattle.spec_folder.specs.Removal.{is_of_another}
 
--- a stop in a request may leave these rows
+-- a crash in a request may leave these rows
 abbrev pub MayLeave : State → ℕ → Request → List Row → Type 0
 MayLeave state moment request held = StopOutcome state moment request (step state moment request).state held
 
@@ -18,7 +18,7 @@ MayLeave state moment request held = StopOutcome state moment request (step stat
 abbrev pub with_room : State → ℕ → Request → State
 with_room state moment request = without (evicted moment request state) state
 
--- the state with another use list
+-- the state with another LRU list
 abbrev pub in_order : List Item → State → State
 in_order uses state = record state { uses = uses }
 
@@ -26,17 +26,17 @@ in_order uses state = record state { uses = uses }
 abbrev pub with_names : List (Option ℕ) → State → State
 with_names names state = record state { names = names }
 
--- the state where a number has another object, and the use list is another one
+-- the state where a number has another object, and the LRU list is another one
 abbrev pub amidst : State → ℕ → Object → List Item → State
 amidst state number object uses = in_order uses (with_slot number (Some object) state)
 
--- an unsettled live object with a key
+-- a dirty live object with a key
 pub record IsUnsettled (object : Object) (key : List ℕ) : Type 0 where
   pub key_is : object.key ≡ key
   pub live : object.live ≡ true
   pub unsettled : object.settled ≡ false
 
--- the items of other keys stand as in a state
+-- the items of other keys are as in a state
 abbrev pub KeepsOtherKeys : State → List ℕ → List Item → Type 0
 KeepsOtherKeys state key uses = filter (is_of_another key) uses ≡ filter (is_of_another key) state.uses
 
@@ -46,7 +46,7 @@ pub record IsAffected (state : State) (moment : ℕ) (request : Request) (number
   pub here : object_at (with_room state moment request) number ≡ Some object
   pub live : object.live ≡ true
 
--- a request unsettles this object, and no other object
+-- a request makes this object dirty, and no other
 pub record Unsettles (state : State) (moment : ℕ) (request : Request) (number : ℕ) (object : Object) : Type 0 where
   pub affected : IsAffected state moment request number object
   pub after : Object

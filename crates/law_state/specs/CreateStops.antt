@@ -1,4 +1,4 @@
--- A Create, once all that it evicts is out and its entry is written: where it may be stopped, and what is kept in the end.
+-- A Create, once all that it evicts is out and its entry is written: where it may crash, and what is kept in the end.
 use Rattle.std.specs.Prelude.{◌≡◌, ◌++◌, ℕ, List, None, length}
 use Rattle.spec_image.specs.Image.{Image}
 use Rattle.law_folder.specs.IndexWrites.{IsIndexWord}
@@ -28,7 +28,7 @@ pub record IsCreating (state : State) (moment handle : ℕ) (key : List ℕ) (la
   pub kept : KeepsUncounted (with_room state moment (to_create handle key)) layout (words_of loaded ++ unlinked) from
   pub entry : IsNewEntryOf (with_room state moment (to_create handle key)) layout key loaded from
 
--- at each word of the insert of its node it may be stopped
+-- at each word of the insert of its node it may crash
 abbrev pub InsertsMayStop : Type 0
 InsertsMayStop = (state : State) (moment handle : ℕ) (key : List ℕ) (layout : Layout) (unlinked : List ℕ) (loaded : Loaded) (from image : Image) → IsCreating state moment handle key layout unlinked loaded from
     → IsPartly from (writes_of insert loaded.node (list_of from)) image → MayStop state moment (to_create handle key) image

@@ -1,4 +1,4 @@
--- What the steps of the use list's operations leave is what is asked of them when they are done: so each may be done in every folder of bytes.
+-- What the steps of the LRU list's operations leave is what is asked of them when they are done: so each may be done in every folder of bytes.
 use Rattle.std.specs.Prelude.{ℕ, List, ◌∷◌, ◌++◌}
 use Rattle.spec_image.specs.Image.{Image}
 use Rattle.spec_image.specs.Steps.{after}

@@ -1,4 +1,4 @@
--- Several items go out of the use list and of the chains, as an object with its parts: their words are unlinked then.
+-- Several items go out of the LRU list and of the chains, as an object with its parts: their words are unlinked then.
 use Rattle.std.specs.Prelude.{◌≡◌, ℕ, ◌<◌, List, ◌++◌, Bool, true, false, not, ◌==◌, filter, if◌then◌else◌}
 use Rattle.std.specs.List.{flat_map}
 use Rattle.std.specs.Option.{option_map_or}
@@ -37,7 +37,7 @@ owners_without layout gone claim = if option_map_or (is_among gone) (layout.owne
 abbrev pub layout_less : Layout → List ℕ → (ℕ → List ℕ) → Layout
 layout_less layout gone chains = placed_less layout (at_without layout gone) chains (owners_without layout gone)
 
--- a state without some items: the objects then, none of them doomed by it, and each unsettled one was there
+-- a state without some items: the objects then, none of them doomed by it, and each dirty one was there
 pub record IsLess (state : State) (objects : List (Option Object)) (keep : Item → Bool) : Type 0 where
   pub lists : ListsLess state objects keep
   pub valid : IsValidState (without_items state objects keep)

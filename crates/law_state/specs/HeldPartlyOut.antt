@@ -21,7 +21,7 @@ use Rattle.law_state.specs.Keeping.{KeepsUncounted}
 use Rattle.law_state.specs.PartlyOut.{KeepsPartlyOut}
 use Rattle.law_state.specs.WholeRemovals.{layout_doomed_whole}
 
--- its items are out, the words of its main item are unlinked and stand in front of the others, and its node loads as that of a doomed object and is sealed
+-- its items are out, the words of its main item are unlinked and are in front of the others, and its node loads as that of a doomed object and is sealed
 pub record IsHeldOut (state : State) (layout : Layout) (number : ℕ) (object : Object) (loaded : Loaded) (chains : ℕ → List ℕ) (unlinked : List ℕ) (image : Image) : Type 0 where
   pub placed : IsPlacedAsLive state layout number object loaded
   pub named : is_named state number ≡ true

@@ -55,7 +55,7 @@ pub record AreOwners (state : State) (layout : Layout) (numbers : List ℕ) : Ty
   pub once : Distinct (all_nodes state layout numbers)
   pub doomed : AreNumbers state layout numbers
 
--- unlinked words stand, are nobody's, and share no block and no external number
+-- unlinked words are valid, are nobody's, and share no block and no external number
 pub record AreUnlinked (image : Image) (layout : Layout) (unlinked : List ℕ) : Type 0 where
   pub stand : AllByRecursion (λ w. stands_in image w ≡ true) unlinked
   pub free : (claim : Claim) → has_claim (claims_of_all unlinked) claim ≡ true → layout.owner claim ≡ None
@@ -73,11 +73,11 @@ pub record CountsItems (image : Image) (state : State) (layout : Layout) : Type 
   pub num_entries : num_entries_of (byte image Index) ≡ length state.uses
   pub num_bytes : num_bytes_of (byte image Index) ≡ sum_by charge_of (loaded_at layout (order state layout)) % 2 ^ 32
 
--- the dirty word of each live object that isn't settled is this number
+-- the dirty word of each live object that is dirty is this number
 abbrev pub AreMarkedBy : ℕ → State → Layout → Type 0
 AreMarkedBy id state layout = (number : ℕ) (object : Object) → object_at state number ≡ Some object → object.live ≡ true → object.settled ≡ false → IfSome (layout.at (layout.place (main object.key))) (λ loaded. loaded.dirty ≡ id)
 
--- a session is open: the crash word is 1, and its number, which isn't 0, marks what isn't settled
+-- a session is open: the crash word is 1, and its number, which isn't 0, marks what is dirty
 pub record IsInSession (image : Image) (state : State) (layout : Layout) : Type 0 where
   pub crash : crash_of (byte image Index) ≡ 1
   pub id : this_id_of (byte image Index) ≢ 0

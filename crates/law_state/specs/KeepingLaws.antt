@@ -16,7 +16,7 @@ use Rattle.spec_folder.specs.Tidy.{IsTidy}
 use Rattle.law_folder.specs.BareLaws.{HasNoEntries}
 use Rattle.law_state.specs.Keeping.{IsInSession, KeepsUncounted, Keeps}
 
--- what is found is what is at rest, whatever is unlinked or uncounted
+-- the recovered contents are the durable ones, whatever is unlinked or uncounted
 abbrev pub KeptStatesAreFound : Type 0
 KeptStatesAreFound = (state : State) (layout : Layout) (unlinked : List ℕ) (image : Image) → KeepsUncounted state layout unlinked image → found image ≡ rest state
 
@@ -24,11 +24,11 @@ KeptStatesAreFound = (state : State) (layout : Layout) (unlinked : List ℕ) (im
 abbrev pub KeptStatesAreStoodFor : Type 0
 KeptStatesAreStoodFor = (state : State) (layout : Layout) (image : Image) → Keeps state layout [] image → StandsFor image state
 
--- each object is live and settled
+-- each object is live and clean
 abbrev pub AllAreAtRest : State → Type 0
 AllAreAtRest state = (number : ℕ) → IfSome (object_at state number) (λ object. (object.live && object.settled) ≡ true)
 
--- and it is sound, where each object is live and settled
+-- and it is sound, where each object is live and clean
 abbrev pub KeptStatesAreSound : Type 0
 KeptStatesAreSound = (state : State) (layout : Layout) (image : Image) → Keeps state layout [] image → AllAreAtRest state → IsSound image
 

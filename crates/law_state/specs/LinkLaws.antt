@@ -47,7 +47,7 @@ TableWordsLeaveSeals = (from image : Image) (bucket : ℕ) (loaded : Loaded) →
 abbrev pub ChainNextsChangeLinks : Type 0
 ChainNextsChangeLinks = (from image : Image) (w : ℕ) → OnlyChainNextChanges w from image → OnlyLinksChange w (store_of from) (store_of image)
 
--- and all seals of a layout stand where that of its record does, also after calls that left the files
+-- and all seals of a layout hold where that of its record does, also after calls that left the files
 abbrev pub ChainNextsLeaveSeals : Type 0
 ChainNextsLeaveSeals = (state : State) (layout : Layout) (unlinked : List ℕ) (from between image : Image) (node : ℕ) (was : Loaded) → KeepsUncounted state layout unlinked from → LeavesFiles from between → layout.at node ≡ Some was → SameOutside (record_range was.contents) between image
     → entry_is_sealed (entry_at image was.contents) ≡ true → (other : ℕ) (loaded : Loaded) → layout.at other ≡ Some loaded → AreSealed between loaded → AreSealed image loaded

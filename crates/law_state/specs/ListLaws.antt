@@ -1,4 +1,4 @@
--- The use list of a folder that keeps a state: touches.
+-- The LRU list of a folder that keeps a state: touches.
 use Rattle.std.specs.Prelude.{◌≡◌, ℕ, List, ◌∷◌, ◌++◌, true}
 use Rattle.blk_model.specs.Effects.{used}
 use Rattle.blk_model.specs.Items.{Item}
@@ -11,7 +11,7 @@ use Rattle.spec_folder.specs.ListSteps.{IsTouched, KeepsSealed}
 use Rattle.spec_folder.specs.View.{list_of}
 use Rattle.law_state.specs.Keeping.{Keeps, KeepsUncounted}
 
--- a touch of a node is done: the node is in front of the list, and each seal that stood stands
+-- a touch of a node is done: the node is in front of the list, and each seal that held still holds
 pub record IsTouchDone (from : Image) (node : ℕ) (image : Image) : Type 0 where
   pub touched : IsTouched from node (touch_writes node (list_of from)) image
   pub moved : (prefix suffix : List ℕ) → HasListAtRest (prefix ++ node ∷ suffix) from → HasListAtRest (node ∷ prefix ++ suffix) image

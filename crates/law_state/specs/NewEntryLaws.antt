@@ -1,4 +1,4 @@
--- The entry of a new object, written and unlinked, comes into the use list and in front of its chain.
+-- The entry of a new object, written and unlinked, comes into the LRU list and in front of its chain.
 use Rattle.std.specs.Prelude.{◌≡◌, ◌<◌, ◌+◌, ℕ, List, ◌∷◌, ◌++◌, length, true}
 use Rattle.std.specs.List.{sum_by}
 use Rattle.std.specs.declared.option.Option.TheVariants.{None}
@@ -26,7 +26,7 @@ use Rattle.spec_folder.specs.View.{list_of, store_of}
 use Rattle.law_state.specs.Changes.{Finds}
 use Rattle.law_state.specs.Keeping.{KeepsUncounted}
 
--- an entry is written: it loads as a new object of a key that no live object has, its record goes in front of its chain, it is sealed and dirty by the number of the session, and the list has room for it
+-- an entry is written: it loads as a new object of a key that no live object has, its record goes in front of its chain, it is sealed and dirty by the number of the session, and the list has space for it
 pub record IsNewEntryOf (state : State) (layout : Layout) (key : List ℕ) (loaded : Loaded) (image : Image) : Type 0 where
   pub entry : IsNewEntry (store_of image) layout key loaded
   pub prefix : IsFrontOfChain (store_of image) layout loaded
@@ -36,7 +36,7 @@ pub record IsNewEntryOf (state : State) (layout : Layout) (key : List ℕ) (load
   pub few : length (order state layout) < most_nodes
   pub missing : owner state (main key) ≡ None
 
--- a node is inserted: it is in front of the list, and each seal that stood stands
+-- a node is inserted: it is in front of the list, and each seal that held still holds
 pub record IsInsertDone (from : Image) (node : ℕ) (image : Image) : Type 0 where
   pub partly : IsPartly from (writes_of insert node (list_of from)) image
   pub inserted : CanBeInserted (list_of from) (walked from) node → HasListAtRest (node ∷ walked from) image
@@ -49,7 +49,7 @@ pub record HasRecordInFront (from : Image) (w : ℕ) (image : Image) : Type 0 wh
   pub well_formed : IsWellFormed from → IsWellFormed image
   pub outside : SameOutside (one_word Index (place_of_bucket (bucket_at from w))) from image
 
--- at each word of the insert what was at rest is found
+-- at each word of the insert the old durable contents are recovered
 abbrev pub InsertsFindTheSame : Type 0
 InsertsFindTheSame = (state : State) (layout : Layout) (unlinked key : List ℕ) (loaded : Loaded) (from image : Image) → KeepsUncounted state layout unlinked from → IsNewEntryOf state layout key loaded from
     → IsPartly from (writes_of insert loaded.node (list_of from)) image → Finds (rest state) image

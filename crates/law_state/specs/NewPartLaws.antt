@@ -1,4 +1,4 @@
--- A part that is made: its node comes into the use list, its record in front of its chain, and then its parent has its bit. The laws on what is shown.
+-- A part that is made: its node comes into the LRU list, its record in front of its chain, and then its parent has its bit. The laws on what is shown.
 use Rattle.std.specs.Prelude.{◌≡◌, ℕ, ◌<◌, List, length, map, take, Bool, true, false, ◌||◌, ◌==◌, nat_lt, if◌then◌else◌}
 use Rattle.std.specs.declared.option.Option.{Option}
 use Rattle.std.specs.declared.option.Option.TheVariants.{None, Some}
@@ -33,7 +33,7 @@ with_bit layout key seen = changed_at layout (layout.place (main key)) seen layo
 abbrev pub with_new_part : Layout → List ℕ → ℕ → Loaded → Loaded → Layout
 with_new_part layout key n seen loaded = with_item (with_bit layout key seen) (part key n) loaded
 
--- a part is made of an unsettled object, whose parent record was one thing and shall be seen with the part's bit; its own record and node are written, outside what is anybody's
+-- a part is made of a dirty object, whose parent record was one thing and shall be seen with the part's bit; its own record and node are written, outside what is anybody's
 pub record IsPartWritten (view : View) (state : State) (objects : List (Option Object)) (layout : Layout) (key : List ℕ) (n : ℕ) (was seen loaded : Loaded) : Type 0 where
   pub represents : Represents view state layout
   pub valid : IsValidState state
@@ -69,13 +69,13 @@ NewPartsHoldTheOthers = (view : View) (state : State) (objects : List (Option Ob
     → (store : StoreView) (chains : ℕ → List ℕ) → IsMidPart store layout key loaded chains
     → HoldsExcept (is_part_or_parent layout key loaded) store (with_first state objects (part key n)) (record (with_new_part layout key n seen loaded) { chains = chains })
 
--- and what is kept is what is at rest, whatever the parent's record says in the midst
+-- and what is kept is the durable contents, whatever the parent's record says in the midst
 abbrev pub NewPartsAreAtRest : Type 0
 NewPartsAreAtRest = (view : View) (state : State) (objects : List (Option Object)) (layout : Layout) (key : List ℕ) (n : ℕ) (was seen loaded : Loaded) → IsPartWritten view state objects layout key n was seen loaded
     → (store : StoreView) (chains : ℕ → List ℕ) → IsMidPart store layout key loaded chains
     → map row_of_loaded (kept_among store held_rule (order (with_first state objects (part key n)) (with_new_part layout key n seen loaded))) ≡ rest (with_first state objects (part key n))
 
--- while its node is inserted and the same is shown beside the list, what is kept is what is at rest before, and from the second write on what is at rest after
+-- while its node is inserted and the same is shown beside the list, what is kept is the durable contents before, and from the second write on the durable contents after
 abbrev pub NewPartsAtEachWrite : Type 0
 NewPartsAtEachWrite = (view : View) (state : State) (objects : List (Option Object)) (layout : Layout) (key : List ℕ) (n : ℕ) (was seen loaded : Loaded) → IsPartWritten view state objects layout key n was seen loaded
     → (store : StoreView) → ShowsTheSame view.store store → (count : ℕ) → map row_of_loaded (kept_by held_rule (completed (record { list = after_writes (take count (writes_of insert loaded.node view.list)) view.list; store = store })))

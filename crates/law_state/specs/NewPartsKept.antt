@@ -24,7 +24,7 @@ use Rattle.law_state.specs.Keeping.{KeepsUncounted}
 use Rattle.law_state.specs.NewPartLaws.{IsMidPart, IsPartWritten, with_new_part}
 use Rattle.law_state.specs.PartStates.{with_value}
 
--- at each word of the insert of the part's node what was at rest is found, and from the second write on what is at rest with the part, which is the same while its object is unsettled
+-- at each word of the insert of the part's node the old durable contents are recovered, and from the second write on the durable contents with the part, which are the same while its object is dirty
 abbrev pub PartInsertsFindEither : Type 0
 PartInsertsFindEither = (state : State) (objects : List (Option Object)) (layout : Layout) (unlinked key : List ℕ) (n : ℕ) (was seen loaded : Loaded) (from image : Image) → KeepsUncounted state layout unlinked from → IsPartWritten (view_of from) state objects layout key n was seen loaded
     → (partly : IsPartly from (writes_of insert loaded.node (list_of from)) image) → Finds (if nat_lt partly.made 2 then rest state else rest (with_first state objects (part key n))) image
@@ -35,14 +35,14 @@ pub record IsMakingPart (state : State) (layout : Layout) (key : List ℕ) (load
   pub list : HasListAtRest (loaded.node ∷ order state layout) image
   pub others : IsMidPart (store_of image) layout key loaded chains
 
--- from then on what is at rest with the part is found, while its record is linked and its parent's bit set
+-- from then on the durable contents with the part are recovered, while its record is linked and its parent's bit set
 abbrev pub MakingPartsFindsTheNext : Type 0
 MakingPartsFindsTheNext =
     (state : State) (objects : List (Option Object)) (layout : Layout) (unlinked key : List ℕ) (n : ℕ) (was seen loaded : Loaded) (chains : ℕ → List ℕ) (from image : Image)
     → KeepsUncounted state layout unlinked from → IsPartWritten (view_of from) state objects layout key n was seen loaded
     → IsMakingPart state layout key loaded chains image → Finds (rest (with_first state objects (part key n))) image
 
--- the objects of a state are others, by which none is doomed, and each unsettled one was so
+-- the objects of a state are others, by which none is doomed, and each dirty one was so
 pub record KeepsUnsettled (state : State) (objects : List (Option Object)) : Type 0 where
   pub dead : (number : ℕ) → is_doomed_slot (object_at (record state { objects = objects }) number) ≡ is_doomed_slot (object_at state number)
   pub unsettled : (number : ℕ) (object : Object) → object_at (record state { objects = objects }) number ≡ Some object → object.live ≡ true → object.settled ≡ false

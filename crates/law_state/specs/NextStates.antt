@@ -56,7 +56,7 @@ EmptySparseWritesKeepNext = (state : State) (moment handle offset number : ℕ) 
 abbrev pub ClosesOfManyKeepNext : Type 0
 ClosesOfManyKeepNext = (state : State) (moment handle number : ℕ) → IsValidState state → IsRequest (to_close handle) → named_by state handle ≡ Some number → is_named (with_name handle None state) number ≡ true → KeepsNext state state moment (to_close handle)
 
--- one of the last handle of a live object, once that is settled
+-- one of the last handle of a live object, once that is clean
 abbrev pub ClosesKeepNext : Type 0
 ClosesKeepNext = (state : State) (moment handle number : ℕ) (object : Object) → IsValidState state → IsRequest (to_close handle) → IsLast state handle number object → KeepsNext (marked state number object true) state moment (to_close handle)
 

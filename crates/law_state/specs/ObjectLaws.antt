@@ -34,7 +34,7 @@ HandlesAreNotCounted = (state : State) (layout : Layout) (unlinked : List ℕ) (
 
 -- At each word.
 
--- while what lies at the node of an item of an unsettled object changes, and what unlinked words name, what was at rest is found; the record keeps its place in its chain, and a part its name
+-- while what lies at the node of an item of a dirty object changes, and what unlinked words name, the old durable contents are recovered; the record keeps its place in its chain, and a part its name
 abbrev pub UnsettledItemsFindTheSame : Type 0
 UnsettledItemsFindTheSame = (touched : Claim → Bool) (state : State) (layout : Layout) (unlinked : List ℕ) (from image : Image) (number : ℕ) (object : Object) (item : Item) (loaded : Loaded) → KeepsUncounted state layout unlinked from → ChangesOnly touched from image
     → object_at state number ≡ Some object → has_item object item ≡ true → object.settled ≡ false → layout.at (layout.place item) ≡ Some loaded
@@ -51,7 +51,7 @@ DoomedObjectsFindTheSame = (touched : Claim → Bool) (state : State) (layout : 
 abbrev pub is_owned_by : ℕ → Option ℕ → Bool
 is_owned_by node owner = option_map_or (λ n. n == node) owner false
 
--- the owners with something else at a node: what it claims is its own, what was the node's and it doesn't claim is nobody's
+-- the owners with something else at a node: what it uses is its own, what was the node's and it doesn't use is nobody's
 abbrev pub owner_after : Layout → ℕ → Loaded → Claim → Option ℕ
 owner_after layout node now claim = if has_claim (all_claims now) claim then Some node else if is_owned_by node (layout.owner claim) then None else layout.owner claim
 
@@ -69,7 +69,7 @@ pub record IsItemNow (state other : State) (layout : Layout) (item : Item) (was 
   pub parent : HasParentAt state layout item now
   pub of : (name : Name) → is_parent_of name was ≡ true → is_parent_of name now ≡ true
 
--- the object of a number has become another one, with the same key, live and settled as it was, and differs in the value of one item
+-- the object of a number has become another one, with the same key, live and clean as it was, and differs in the value of one item
 pub record IsObjectNow (state : State) (number : ℕ) (object other : Object) (item : Item) : Type 0 where
   pub here : object_at state number ≡ Some object
   pub key : object.key ≡ other.key

@@ -1,4 +1,4 @@
--- Commands of one call, from the moments of that call: Open, Read and Close; and the call by which a request unsettles its object.
+-- Commands of one call, from the moments of that call: Open, Read and Close; and the call by which a request makes its object dirty.
 use Rattle.std.specs.Prelude.{◌≡◌, ◌++◌, ◌==◌, ℕ, List, None, Some, false, true}
 use Rattle.spec_image.specs.Image.{Image}
 use Rattle.blk_model.specs.Effects.{with_name}
@@ -24,7 +24,7 @@ pub record Names (state : State) (handle number : ℕ) (object : Object) : Type 
   pub names : named_by state handle ≡ Some number
   pub here : object_at state number ≡ Some object
 
--- Open: where it may be stopped at each word is said of touches.
+-- Open: where it may crash at each word is said of touches.
 
 -- once the item of its key is touched, the state after it is kept
 abbrev pub OpensEndByTouch : Type 0
@@ -33,7 +33,7 @@ OpensEndByTouch = (state : State) (layout : Layout) (unlinked : List ℕ) (from 
 
 -- Read.
 
--- at each word of the touch of its object's main item it may be stopped
+-- at each word of the touch of its object's main item it may crash
 abbrev pub ReadsMayStop : Type 0
 ReadsMayStop = (state : State) (layout : Layout) (unlinked : List ℕ) (from image : Image) (moment handle stream offset count number : ℕ) (object : Object) → KeepsUncounted state layout unlinked from → refused moment (to_read handle stream offset count) state ≡ None
     → Names state handle number object → object.live ≡ true → IsMidUse layout (main object.key) from image → MayStop state moment (to_read handle stream offset count) image
@@ -49,7 +49,7 @@ DoomedReadsEnd = (state : State) (moment handle stream offset count number : ℕ
 
 -- Close.
 
--- while the dirty word of the object of its last handle becomes 0 it may be stopped
+-- while the dirty word of the object of its last handle becomes 0 it may crash
 abbrev pub ClosesMayStop : Type 0
 ClosesMayStop = (state : State) (layout : Layout) (unlinked : List ℕ) (from image : Image) (moment handle number : ℕ) (object : Object) (loaded : Loaded) → KeepsUncounted state layout unlinked from → IsRequest (to_close handle) → IsLast state handle number object
     → layout.at (layout.place (main object.key)) ≡ Some loaded → IsMarking from (layout.place (main object.key)) 0 image → MayStop state moment (to_close handle) image
@@ -67,9 +67,9 @@ ClosesOfDoomedUnlink =
     → is_named (with_name handle None state) number ≡ false
     → IsPlacedAsDoomed state layout number object was → Keeps (step state moment (to_close handle)).state (layout_without layout (layout.place_of_doomed number)) (words_of was ++ unlinked) image
 
--- Unsettling.
+-- An object becomes dirty.
 
--- while the dirty word of the object that a request unsettles becomes a mark that isn't 0, the request may be stopped
+-- while the dirty word of the object that a request makes dirty becomes a mark that isn't 0, the request may crash
 abbrev pub UnsettlingMarksMayStop : Type 0
 UnsettlingMarksMayStop = (state : State) (layout : Layout) (unlinked : List ℕ) (from image : Image) (moment : ℕ) (request : Request) (number mark : ℕ) (object : Object) (loaded : Loaded) → IsValidState state → Unsettles state moment request number object
     → KeepsUncounted (with_room state moment request) layout unlinked from → is_named (with_room state moment request) number ≡ true → layout.at (layout.place (main object.key)) ≡ Some loaded → (mark == 0) ≡ false

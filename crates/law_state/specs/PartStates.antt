@@ -25,7 +25,7 @@ abbrev pub PartsChangeAlone : Type 0
 PartsChangeAlone = (state : State) → IsValidState state → (number : ℕ) (object : Object) → object_at state number ≡ Some object → object.live ≡ true → (n : ℕ) (value : PartValue)
     → OneChanged state (slice_set state.objects number (Some (with_value object n value))) (part object.key n) × (row_of (with_object state number (with_value object n value)) (part object.key n) ≡ Some (part_row object.key n value))
 
--- an unsettled sparse object leaves the state valid with a part more, which is first
+-- a dirty sparse object leaves the state valid with a part more, which is first
 abbrev pub NewPartsKeepValid : Type 0
 NewPartsKeepValid = (state : State) → IsValidState state → (number : ℕ) (object : Object) → object_at state number ≡ Some object → IsUnsettled object object.key → is_sparse object.shape ≡ true → (n : ℕ) (value : PartValue) → n < part_count → IsPartValue value
     → is_some (part_at object n) ≡ false → IsValidState (with_first state (slice_set state.objects number (Some (with_value object n value))) (part object.key n))

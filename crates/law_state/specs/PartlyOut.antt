@@ -97,7 +97,7 @@ FilesAreDeletedPartlyOut =
     → KeepsPartlyOut state layout keep chains (w ∷ unlinked) from → RemovesExternal from w image
     → KeepsPartlyOut state layout keep chains unlinked image
 
--- in whatever order the unlinked words stand
+-- in whatever order the unlinked words are valid
 abbrev pub PartlyOutInAnyOrder : Type 0
 PartlyOutInAnyOrder =
     (state : State) (layout : Layout) (keep : Item → Bool) (chains : ℕ → List ℕ) (unlinked left : List ℕ) (image : Image)

@@ -1,4 +1,4 @@
--- What is found while an object goes out part after part, and where a request may be stopped then.
+-- What is found while an object goes out part after part, and where a request may crash then.
 use Rattle.std.specs.Prelude.{◌≡◌, ℕ, List, ◌∷◌, Bool, false, true}
 use Rattle.std.specs.declared.option.Option.TheVariants.{None, Some}
 use Rattle.blk_model.specs.Effects.{doomed}
@@ -38,7 +38,7 @@ abbrev pub PartlyOutIsOut : Type 0
 PartlyOutIsOut = (state : State) (layout : Layout) (key : List ℕ) (keep : Item → Bool) (chains : ℕ → List ℕ) (unlinked : List ℕ) (image : Image) → LeavesOtherKeys key keep → KeepsPartlyOut state layout keep chains unlinked image
     → IsOut state (record layout { chains = chains }) key keep image
 
--- so what is at rest with its object doomed is found
+-- so the durable contents with its object doomed are recovered
 abbrev pub PartlyOutFindsDoomed : Type 0
 PartlyOutFindsDoomed = (state : State) (layout : Layout) (number : ℕ) (object : Object) (keep : Item → Bool) (chains : ℕ → List ℕ) (unlinked : List ℕ) (image : Image) → object_at state number ≡ Some object → LeavesOtherKeys object.key keep
     → KeepsPartlyOut state layout keep chains unlinked image → Finds (rest (doomed number state (Some object))) image
@@ -64,12 +64,12 @@ abbrev pub DeletingFindsDoomed : Type 0
 DeletingFindsDoomed = (state : State) (layout : Layout) (number : ℕ) (object : Object) (keep : Item → Bool) (chains : ℕ → List ℕ) (w : ℕ) (unlinked : List ℕ) (from image : Image) → object_at state number ≡ Some object → LeavesOtherKeys object.key keep
     → KeepsPartlyOut state layout keep chains (w ∷ unlinked) from → kind_of w ≡ external → SameOutside (whole (External (external_number w))) from image → Finds (rest (doomed number state (Some object))) image
 
--- so a Doom and a DoomKey may be stopped between them
+-- so a Doom and a DoomKey may crash between them
 abbrev pub PartlyOutDoomsMayStop : Type 0
 PartlyOutDoomsMayStop = (state : State) (moment : ℕ) (request : Request) (layout : Layout) (number : ℕ) (object : Object) (keep : Item → Bool) (chains : ℕ → List ℕ) (unlinked : List ℕ) (image : Image) → IsRequest request → refused moment request state ≡ None → IsDoomOf request state number
     → object_at state number ≡ Some object → LeavesOtherKeys object.key keep → KeepsPartlyOut state layout keep chains unlinked image → MayStop state moment request image
 
--- and a request while its next group goes
+-- and a request while its next group is evicted
 abbrev pub PartlyOutGroupsMayStop : Type 0
 PartlyOutGroupsMayStop = (state : State) (moment : ℕ) (request : Request) (first others : List Group) (layout : Layout) (number : ℕ) (object : Object) (parts : List ℕ) (keep : Item → Bool) (chains : ℕ → List ℕ) (unlinked : List ℕ) (image : Image) → IsValidState state
     → EvictsFirst state moment request first (room.whole object.key parts ∷ others) → object_at (without first state) number ≡ Some object → object.live ≡ true → is_named (without first state) number ≡ false → LeavesOtherKeys object.key keep

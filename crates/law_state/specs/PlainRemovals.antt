@@ -42,7 +42,7 @@ pub record IsRemoved (layout : Layout) (item : Item) (was : Loaded) (from image 
   pub leaves : LeavesFiles removing.between image
   pub sealed : (node : ℕ) (loaded : Loaded) → layout.at node ≡ Some loaded → AreSealed removing.between loaded → AreSealed image loaded
 
--- while the record of such an object goes out of its chain what is at rest with it doomed is found, before the word that takes it out and from then on
+-- while the record of such an object goes out of its chain the durable contents with it doomed are recovered, before the word that takes it out and from then on
 abbrev pub RemovingFindsDoomed : Type 0
 RemovingFindsDoomed = (state : State) (layout : Layout) (unlinked : List ℕ) (from image : Image) (number : ℕ) (object : Object) (was : Loaded) → KeepsUncounted state layout unlinked from → object_at state number ≡ Some object → object.live ≡ true → object.parts ≡ [] → is_named state number ≡ false
     → (IsRemoving layout (main object.key) was layout.chains from image → Finds (rest (doomed number state (Some object))) image) × (IsRemoving layout (main object.key) was (chains_without layout was.contents) from image → Finds (rest (doomed number state (Some object))) image)

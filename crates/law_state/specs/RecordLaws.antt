@@ -1,4 +1,4 @@
--- Nodes and records that change where they lie: the dirty word of an object, the record and the data of an unsettled one.
+-- Nodes and records that change where they lie: the dirty word of an object, the record and the data of a dirty one.
 use Rattle.std.specs.Prelude.{◌≡◌, ◌⊎◌, ℕ, List, ◌==◌, false, true}
 use Rattle.blk_model.specs.Holding.{rest}
 use Rattle.blk_model.specs.Items.{main}
@@ -19,7 +19,7 @@ use Rattle.law_state.specs.Changes.{ChangesOnly, Finds, SameCounters}
 use Rattle.law_state.specs.Keeping.{Keeps, KeepsUncounted}
 use Rattle.law_state.specs.ObjectLaws.{layout_after}
 
--- a sealed update of the record of a standing address is a change of its blocks
+-- a sealed update of the record of a valid address is a change of its blocks
 abbrev pub RecordUpdatesChangeOnly : Type 0
 RecordUpdatesChangeOnly = (from image : Image) (w : ℕ) → stands_in from w ≡ true → BeginsWithRecord w → SameOutside (record_range w) from image → ChangesOnly (has_claim (claims_of w)) from image
 
@@ -43,12 +43,12 @@ pub record IsMarked (from : Image) (node mark : ℕ) (image : Image) : Type 0 wh
   pub now : (node_at image node).dirty ≡ mark
   pub sealed : IsSealed image node
 
--- at each word of it the object of a main item is settled or not as before, or as it is afterwards
+-- at each word of it the object of a main item is clean or not as before, or as it is afterwards
 abbrev pub MarkingFindsEither : Type 0
 MarkingFindsEither = (state : State) (layout : Layout) (unlinked : List ℕ) (from image : Image) (number : ℕ) (object : Object) (loaded : Loaded) (mark : ℕ) → KeepsUncounted state layout unlinked from → IsPlacedAsLive state layout number object loaded
     → IsValidState (marked state number object (mark == 0)) → IsMarking from (layout.place (main object.key)) mark image → Finds (rest state) image ⊎ Finds (rest (marked state number object (mark == 0))) image
 
--- and in the end it is settled where the word is 0, and unsettled where it is the number of the session
+-- and in the end it is clean where the word is 0, and dirty where it is the number of the session
 abbrev pub MarkingKeepsTheState : Type 0
 MarkingKeepsTheState = (state : State) (layout : Layout) (unlinked : List ℕ) (from image : Image) (number : ℕ) (object : Object) (loaded : Loaded) (mark : ℕ) → KeepsUncounted state layout unlinked from → IsPlacedAsLive state layout number object loaded
     → IsValidState (marked state number object (mark == 0)) → ((mark == 0) ≡ false → mark ≡ this_id_of (byte from Index)) → IsMarked from (layout.place (main object.key)) mark image
@@ -60,14 +60,14 @@ MarkingKeepsTheCounters = (state : State) (layout : Layout) (unlinked : List ℕ
     → IsValidState (marked state number object (mark == 0)) → ((mark == 0) ≡ false → mark ≡ this_id_of (byte from Index)) → IsMarked from (layout.place (main object.key)) mark image
     → Keeps (marked state number object (mark == 0)) (dirtied layout (layout.place (main object.key)) loaded mark) unlinked image
 
--- The dirty word of a doomed object, which a Write to a settled one sets.
+-- The dirty word of a doomed object, which a Write to a clean one sets.
 
--- at each word of it what was at rest is found
+-- at each word of it the old durable contents are recovered
 abbrev pub DoomedMarkingFindsTheSame : Type 0
 DoomedMarkingFindsTheSame = (state : State) (layout : Layout) (unlinked : List ℕ) (from image : Image) (number : ℕ) (object : Object) (loaded : Loaded) (mark : ℕ) → KeepsUncounted state layout unlinked from → IsPlacedAsDoomed state layout number object loaded
     → IsMarking from (layout.place_of_doomed number) mark image → Finds (rest state) image
 
--- and in the end it is settled where the word is 0, and else unsettled
+-- and in the end it is clean where the word is 0, and else dirty
 abbrev pub DoomedMarkingKeepsTheState : Type 0
 DoomedMarkingKeepsTheState = (state : State) (layout : Layout) (unlinked : List ℕ) (from image : Image) (number : ℕ) (object : Object) (loaded : Loaded) (mark : ℕ) → KeepsUncounted state layout unlinked from → IsPlacedAsDoomed state layout number object loaded
     → IsValidState (marked state number object (mark == 0)) → IsMarked from (layout.place_of_doomed number) mark image

@@ -1,4 +1,4 @@
--- One item goes out of the use list and out of its chain, and its words are unlinked then.
+-- One item goes out of the LRU list and out of its chain, and its words are unlinked then.
 use Rattle.std.specs.Prelude.{◌≡◌, ℕ, ◌<◌, List, ◌++◌, ◌∷◌, Bool, true, false, not, ◌==◌, nat_lt, if◌then◌else◌, filter}
 use Rattle.std.specs.declared.option.Option.{Option}
 use Rattle.std.specs.declared.option.Option.TheVariants.{None, Some}
@@ -26,13 +26,13 @@ use Rattle.law_state.specs.Changes.{Finds}
 use Rattle.law_state.specs.GoneLaws.{owner_without}
 use Rattle.law_state.specs.Keeping.{KeepsUncounted}
 
--- a removal of a node is done: it is out of the list, and each seal that stood stands
+-- a removal of a node is done: it is out of the list, and each seal that held still holds
 pub record IsRemovalDone (from : Image) (node : ℕ) (image : Image) : Type 0 where
   pub partly : IsPartly from (writes_of remove node (list_of from)) image
   pub removed : (prefix suffix : List ℕ) → HasListAtRest (prefix ++ node ∷ suffix) from → HasListAtRest (prefix ++ suffix) image
   pub sealed : KeepsSealed from image
 
--- a state without one listed item: which items stay, the objects then, none of them doomed by it, and each unsettled one was there
+-- a state without one listed item: which items stay, the objects then, none of them doomed by it, and each dirty one was there
 pub record IsWithout (state : State) (objects : List (Option Object)) (keep : Item → Bool) (item : Item) : Type 0 where
   pub listed : is_listed state item ≡ true
   pub but : (other : Item) → is_listed state other ≡ true → keep other ≡ not (same_item item other)
@@ -53,7 +53,7 @@ layout_unlisted layout node = placed_less layout (put layout.at node None) layou
 abbrev pub layout_removed : Layout → ℕ → ℕ → Layout
 layout_removed layout node contents = placed_less layout (put layout.at node None) (chains_without layout contents) (owner_without layout node)
 
--- at each word of the removal what was at rest is found, and from the second write on what is at rest without the item
+-- at each word of the removal the old durable contents are recovered, and from the second write on the durable contents without the item
 abbrev pub RemovalsFindEither : Type 0
 RemovalsFindEither =
     (state : State) (layout : Layout) (unlinked : List ℕ) (objects : List (Option Object)) (keep : Item → Bool) (item : Item) (was : Loaded) (from image : Image)
@@ -71,7 +71,7 @@ pub record IsUnlinking (layout : Layout) (chains : ℕ → List ℕ) (from image
   pub whole : (other : ℕ) → other < table_length → IsChain (store_of image) other (chains other)
   pub well_formed : IsWellFormed from → IsWellFormed image
 
--- while its record goes out of its chain then, what is at rest without the item is found
+-- while its record goes out of its chain then, the durable contents without the item are recovered
 abbrev pub UnlinkingFindsTheOthers : Type 0
 UnlinkingFindsTheOthers =
     (state : State) (layout : Layout) (unlinked : List ℕ) (objects : List (Option Object)) (keep : Item → Bool) (item : Item) (was : Loaded) (from between image : Image)

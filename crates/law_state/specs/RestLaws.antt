@@ -37,12 +37,12 @@ abbrev pub RestsEndAlike : Type 0
 RestsEndAlike = (state : State) (moment : ℕ) (request : Request) (first others : List Group) → IsValidState state → EvictsFirst state moment request first others → EvictsTheRest state moment request first others
     → (step (without first state) moment request).state ≡ (step state moment request).state
 
--- so a stop in the rest of a command is one in the whole of it
+-- so a crash in the rest of a command is one in the whole of it
 abbrev pub StopsInRestsAreInTheWhole : Type 0
 StopsInRestsAreInTheWhole = (state : State) (moment : ℕ) (request : Request) (first others : List Group) (held : List Row) → IsValidState state → EvictsFirst state moment request first others → EvictsTheRest state moment request first others
     → StopOutcome (without first state) moment request (step (without first state) moment request).state held → StopOutcome state moment request (step state moment request).state held
 
--- a stop in the rest of a command that is none in the whole of it
+-- a crash in the rest of a command that is none in the whole of it
 pub record StopOnlyInTheRest : Type 0 where
   pub state : State
   pub moment : ℕ

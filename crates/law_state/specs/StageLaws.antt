@@ -22,7 +22,7 @@ use Rattle.law_state.specs.Keeping.{Keeps, KeepsUncounted}
 
 -- Stages.
 
--- between two calls of a request, with these words unlinked and maybe more: the folder keeps a state, and what is at rest in it may be left by a stop in the request
+-- between two calls of a request, with these words unlinked and maybe more: the folder keeps a state, and the durable contents in it may be left by a crash in the request
 pub record IsAtStage (words : List ℕ) (state : State) (moment : ℕ) (request : Request) (image : Image) : Type 0 where
   pub inner : State
   pub layout : Layout
@@ -30,13 +30,13 @@ pub record IsAtStage (words : List ℕ) (state : State) (moment : ℕ) (request 
   pub kept : KeepsUncounted inner layout (words ++ unlinked) image
   pub left : MayLeave state moment request (rest inner)
 
--- here what a stop in the request may leave is found
+-- here what a crash in the request may leave is found
 pub record FindsLeft (state : State) (moment : ℕ) (request : Request) (image : Image) : Type 0 where
   pub held : List Row
   pub left : MayLeave state moment request held
   pub finds : Finds held image
 
--- from now to later the request may be stopped at each word, whatever state was kept before it began; where that was now, this is `MayStopAtEach`
+-- from now to later the request may crash at each word, whatever state was kept before it began; where that was now, this is `MayStopAtEach`
 abbrev pub MayStopBetween : (State → Image → Type 0) → (told now later : Told) → ℕ → Request → Type 0
 MayStopBetween keeps told now later moment request = ForKept keeps told (λ state. Passes now later (MayStop state moment request))
 
@@ -44,12 +44,12 @@ MayStopBetween keeps told now later moment request = ForKept keeps told (λ stat
 abbrev pub StagesGoOn : Type 0
 StagesGoOn = (before after : List ℕ) (state : State) (moment : ℕ) (request : Request) (from image : Image) → KeepsWith before after from image → IsAtStage before state moment request from → IsAtStage after state moment request image
 
--- at a stage, a call after each of whose words what was at rest is found may be stopped at each
+-- at a stage, a call after each of whose words the old durable contents are recovered may crash at each
 abbrev pub StagesMayStop : (keeps : State → Image → Type 0) → Type 0
 StagesMayStop keeps = (told now later : Told) (moment : ℕ) (request : Request) (words : List ℕ) → ForKept keeps told (λ state. ForSome now.files (IsAtStage words state moment request))
     → Passes now later (λ image. ForSome now.files (λ from. StillFinds words from image)) → MayStopBetween keeps told now later moment request
 
--- and so may one at each of whose words something that a stop may leave is found
+-- and so may one at each of whose words something that a crash may leave is found
 abbrev pub WhatIsFoundMayStop : (keeps : State → Image → Type 0) → Type 0
 WhatIsFoundMayStop keeps = (told now later : Told) (moment : ℕ) (request : Request) → ForKept keeps told (λ state. Passes now later (FindsLeft state moment request)) → MayStopBetween keeps told now later moment request
 
@@ -74,7 +74,7 @@ pub record HasEffect (keeps : State → Image → Type 0) (now : Told) (moment :
 abbrev pub EffectsAreDone : (keeps : State → Image → Type 0) → Type 0
 EffectsAreDone keeps = (told now : Told) (moment : ℕ) (request : Request) (answer : Answer) → ForKept keeps told (HasEffect keeps now moment request answer) → Does keeps keeps told now moment request answer
 
--- and with its note, behind all else, it is stepped
+-- and with its note, after all else, it is stepped
 abbrev pub NotesEndSteps : Type 0
 NotesEndSteps = (told done now : Told) (moment : ℕ) (request : Request) (number : ℕ) (state : State) → Passes told done (MayStop state moment request) → ForSome done.files (λ image. StandsFor image (step state moment request).state)
     → Applies done now (Note number ∷ []) → IsStepped told now moment request number state

@@ -1,4 +1,4 @@
--- What a stop may leave, for every request.
+-- What a crash may leave, for every request.
 use Rattle.std.specs.Prelude.{◌≡◌, ℕ, ◌≤◌, List, [], ◌∷◌, ◌++◌, length, take, Option, Some, None, true, false}
 use Rattle.spec_image.specs.Image.{Image}
 use Rattle.blk_model.specs.EvictionLaws.{EvictsFirst, later_steps}
@@ -15,13 +15,13 @@ use Rattle.law_state.specs.Changes.{Finds}
 use Rattle.law_state.specs.Commands.{MayStop}
 use Rattle.law_state.specs.CommandStates.{IsUnsettled, KeepsOtherKeys, MayLeave, Unsettles, amidst, in_order, with_names, with_room}
 
--- where what a stop may leave is found, a request may be stopped
+-- where what a crash may leave is found, a request may crash
 abbrev pub WhatIsLeftMayStop : Type 0
 WhatIsLeftMayStop = (state : State) (moment : ℕ) (request : Request) (held : List Row) (image : Image) → MayLeave state moment request held → Finds held image → MayStop state moment request image
 
 -- Orders.
 
--- once the first groups are out and some of the later list steps are made, a stop may leave what is at rest in that order
+-- once the first groups are out and some of the later list steps are made, a crash may leave the durable contents in that order
 abbrev pub OrdersMayBeLeft : Type 0
 OrdersMayBeLeft = (state : State) (moment : ℕ) (request : Request) (first others : List Group) → IsValidState state → EvictsFirst state moment request first others → (count : ℕ) → count ≤ length (later_steps state request others)
     → MayLeave state moment request (rest (in_order (after_steps (take count (later_steps state request others)) (without first state).uses) (without first state)))
@@ -39,9 +39,9 @@ UsesGoOn = (first : List Item) (item : Item) (uses : List Item) → used_all (fi
 abbrev pub RoomMayBeLeft : Type 0
 RoomMayBeLeft = (state : State) (moment : ℕ) (request : Request) → IsValidState state → refused moment request state ≡ None → MayLeave state moment request (rest (with_room state moment request))
 
--- What is not at rest.
+-- What is not durable.
 
--- which handles there are is nothing to what is at rest
+-- which handles there are is no matter for the durable contents
 abbrev pub HandlesAreNotAtRest : Type 0
 HandlesAreNotAtRest = (state : State) (names : List (Option ℕ)) → rest (with_names names state) ≡ rest state
 
@@ -49,7 +49,7 @@ HandlesAreNotAtRest = (state : State) (names : List (Option ℕ)) → rest (with
 abbrev pub DoomedObjectsAreNotAtRest : Type 0
 DoomedObjectsAreNotAtRest = (state : State) (number : ℕ) (object : Object) (slot : Option Object) → object_at state number ≡ Some object → object.live ≡ false → is_live slot ≡ false → rest (with_slot number slot state) ≡ rest state
 
--- nor is an unsettled one, whatever it becomes but settled, nor where its items stand
+-- nor is a dirty one, whatever it becomes but clean, nor where its items are
 abbrev pub UnsettledObjectsAreNotAtRest : Type 0
 UnsettledObjectsAreNotAtRest = (state : State) (number : ℕ) (object one other : Object) (uses items : List Item) → IsValidState state → object_at state number ≡ Some object → object.live ≡ true → IsUnsettled one object.key → IsUnsettled other object.key
     → KeepsOtherKeys state object.key uses → KeepsOtherKeys state object.key items → rest (amidst state number one uses) ≡ rest (amidst state number other items)
@@ -60,12 +60,12 @@ OwnUsesKeepOthers = (state : State) (key : List ℕ) (item : Item) (uses : List 
 
 -- Objects that a request changes.
 
--- once the object that a request unsettles isn't settled, a stop may leave what is at rest, whatever became of it and of the places of its items
+-- once a request has made its object dirty, a crash may leave the durable contents, whatever became of it and of the places of its items
 abbrev pub OthersMayBeLeftOnceUnsettled : Type 0
 OthersMayBeLeftOnceUnsettled = (state : State) (moment : ℕ) (request : Request) (number : ℕ) (object : Object) → IsValidState state → Unsettles state moment request number object → (changed : Object) (uses : List Item) → IsUnsettled changed object.key
     → KeepsOtherKeys (with_room state moment request) object.key uses → MayLeave state moment request (rest (amidst (with_room state moment request) number changed uses))
 
--- a stop may leave what is at rest, whatever becomes of a doomed object
+-- a crash may leave the durable contents, whatever becomes of a doomed object
 abbrev pub OthersMayBeLeftWhileDoomed : Type 0
 OthersMayBeLeftWhileDoomed = (state : State) (moment : ℕ) (request : Request) (number : ℕ) (object : Object) (slot : Option Object) → IsValidState state → refused moment request state ≡ None → object_at (with_room state moment request) number ≡ Some object → object.live ≡ false
     → is_live slot ≡ false → MayLeave state moment request (rest (with_slot number slot (with_room state moment request)))

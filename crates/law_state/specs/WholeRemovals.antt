@@ -92,7 +92,7 @@ HeldWholeDoomsEnd =
 
 -- Groups.
 
--- and once the object of the next group is out, what is kept is the state without one group more, as in a Trim and where room is made
+-- and once the object of the next group is out, what is kept is the state without one group more, as in a Trim and where space is made
 abbrev pub WholeGroupsGo : Type 0
 WholeGroupsGo = (state : State) (first : List Group) (layout : Layout) (unlinked : List ℕ) (chains : ℕ → List ℕ) (from image : Image) (number : ℕ) (object : Object) (parts : List ℕ) → KeepsUncounted (without first state) layout unlinked from → object_at (without first state) number ≡ Some object
     → object.live ≡ true → is_named (without first state) number ≡ false → IsWholeOut (without first state) layout object.key chains from image

@@ -1,4 +1,4 @@
--- Where each command may be stopped, at each word of its calls: uses of items, dirty words, removals and groups.
+-- Where each command may crash, at each word of its calls: uses of items, dirty words, removals and groups.
 use Rattle.std.specs.Prelude.{◌≡◌, ◌⊎◌, ℕ, Bool, List, [], ◌∷◌, ◌++◌, None, Some, filter, false, not, if◌then◌else◌, nat_lt, true}
 use Rattle.spec_image.specs.Image.{Image}
 use Rattle.spec_format.specs.BlockFiles.{IsWellFormed}
@@ -30,13 +30,13 @@ use Rattle.law_state.specs.Keeping.{KeepsUncounted}
 abbrev pub IsMidUse : Layout → Item → Image → Image → Type 0
 IsMidUse layout item from image = IsTouched from (layout.place item) (touch_writes (layout.place item) (list_of from)) image
 
--- at each word of the touch of the next item that a request uses it may be stopped, as an Open, a Read, and the sparse reads
+-- at each word of the touch of the next item that a request uses it may crash, as an Open, a Read, and the sparse reads
 abbrev pub UsesMayStop : Type 0
 UsesMayStop = (state : State) (moment : ℕ) (request : Request) (first others : List Item) (item : Item) (layout : Layout) (unlinked : List ℕ) (from image : Image) → IsValidState state → refused moment request state ≡ None → dooms request state ≡ []
     → uses_of request state ≡ first ++ item ∷ others → KeepsUncounted (in_order (used_all first (with_room state moment request).uses) (with_room state moment request)) layout unlinked from
     → is_listed (in_order (used_all first (with_room state moment request).uses) (with_room state moment request)) item ≡ true → IsMidUse layout item from image → MayStop state moment request image
 
--- and at each word of that of an item of the object that it has unsettled
+-- and at each word of that of an item of the object that it has made dirty
 abbrev pub UnsettledUsesMayStop : Type 0
 UnsettledUsesMayStop = (state : State) (moment : ℕ) (request : Request) (number : ℕ) (object changed : Object) (uses : List Item) (item : Item) (layout : Layout) (unlinked : List ℕ) (from image : Image) → IsValidState state → Unsettles state moment request number object
     → IsUnsettled changed object.key → KeepsOtherKeys (with_room state moment request) object.key uses → key_of item ≡ object.key → KeepsUncounted (amidst (with_room state moment request) number changed uses) layout unlinked from
@@ -44,12 +44,12 @@ UnsettledUsesMayStop = (state : State) (moment : ℕ) (request : Request) (numbe
 
 -- Dirty words.
 
--- while a request unsettles its object it may be stopped
+-- while a request makes its object dirty it may crash
 abbrev pub UnsettlingMayStop : Type 0
 UnsettlingMayStop = (state : State) (moment : ℕ) (request : Request) (number : ℕ) (object : Object) (image : Image) → IsValidState state → Unsettles state moment request number object
     → Finds (rest (with_room state moment request)) image ⊎ Finds (rest (marked (with_room state moment request) number object false)) image → MayStop state moment request image
 
--- and a Close while it settles it
+-- and a Close while it makes it clean
 abbrev pub SettlingMayStop : Type 0
 SettlingMayStop = (state : State) (moment handle number : ℕ) (object : Object) (image : Image) → IsValidState state → IsRequest (to_close handle) → IsLast state handle number object
     → Finds (rest state) image ⊎ Finds (rest (marked state number object true)) image → MayStop state moment (to_close handle) image
@@ -60,7 +60,7 @@ SettlingMayStop = (state : State) (moment handle number : ℕ) (object : Object)
 abbrev pub IsMidRemoval : Layout → Item → Image → Image → Type 0
 IsMidRemoval layout item from image = IsPartly from (writes_of remove (layout.place item) (list_of from)) image
 
--- at each word of the removal of an object's main item what was at rest is found, and from the second write on what is at rest with the object doomed
+-- at each word of the removal of an object's main item the old durable contents are recovered, and from the second write on the durable contents with the object doomed
 abbrev pub DoomsFindEither : Type 0
 DoomsFindEither = (state : State) (layout : Layout) (unlinked : List ℕ) (from image : Image) (number : ℕ) (object : Object) → KeepsUncounted state layout unlinked from → object_at state number ≡ Some object → object.live ≡ true
     → (removed : IsMidRemoval layout (main object.key) from image) → Finds (if nat_lt removed.made 2 then rest state else rest (doomed number state (Some object))) image
@@ -75,7 +75,7 @@ pub record IsOut (state : State) (layout : Layout) (key : List ℕ) (keep : Item
   pub there : (item : Item) → is_listed state item ≡ true → keep item ≡ true → except (layout.place item) ≡ false
   pub list : HasListAtRest (nodes_of layout (filter keep state.uses)) image
 
--- from then on what is at rest with it doomed is found, while its record is unlinked and marked or freed
+-- from then on the durable contents with it doomed are recovered, while its record is unlinked and marked or freed
 abbrev pub OutIsDoomed : Type 0
 OutIsDoomed = (state : State) (layout : Layout) (number : ℕ) (object : Object) (keep : Item → Bool) (image : Image) → IsValidState state → object_at state number ≡ Some object → IsOut state layout object.key keep image → Finds (rest (doomed number state (Some object))) image
 
@@ -84,14 +84,15 @@ abbrev pub DoomedPartsFindTheSame : Type 0
 DoomedPartsFindTheSame = (state : State) (layout : Layout) (number : ℕ) (object : Object) (keep : Item → Bool) (n : ℕ) (from image : Image) → IsValidState state → object_at state number ≡ Some object → IsOut state layout object.key keep from
     → is_listed state (part object.key n) ≡ true → keep (part object.key n) ≡ true → IsMidRemoval layout (part object.key n) from image → Finds (rest (doomed number state (Some object))) image
 
--- so a Doom and a DoomKey may be stopped at each word
+-- so a Doom and a DoomKey may crash at each word
 abbrev pub DoomsMayStop : Type 0
 DoomsMayStop = (state : State) (moment : ℕ) (request : Request) (number : ℕ) (object : Object) (before : Bool) (image : Image) → IsValidState state → IsRequest request → refused moment request state ≡ None → IsDoomOf request state number → object_at state number ≡ Some object
     → Finds (if before then rest state else rest (doomed number state (Some object))) image → MayStop state moment request image
 
 -- Parts that go alone.
 
--- at each word of the removal of a part what was at rest is found, and from the second write on what is at rest without it
+-- at each word of the removal of a part the old durable contents are recovered, and from the second write on the durable contents without
+-- it
 abbrev pub PartsFindEither : Type 0
 PartsFindEither = (state : State) (layout : Layout) (unlinked : List ℕ) (from image : Image) (key : List ℕ) (n : ℕ) → KeepsUncounted state layout unlinked from → is_listed state (part key n) ≡ true
     → (removed : IsMidRemoval layout (part key n) from image) → Finds (if nat_lt removed.made 2 then rest state else rest (without (single key n ∷ []) state)) image
@@ -104,13 +105,13 @@ pub record IsPartOut (state : State) (layout : Layout) (key : List ℕ) (n : ℕ
   pub there : (item : Item) → is_listed state item ≡ true → same_item (part key n) item ≡ false → except (layout.place item) ≡ false
   pub list : HasListAtRest (nodes_of layout (filter (λ item. not (same_item (part key n) item)) state.uses)) image
 
--- from then on what is at rest without it is found
+-- from then on the durable contents without it are recovered
 abbrev pub PartOutIsGone : Type 0
 PartOutIsGone = (state : State) (layout : Layout) (key : List ℕ) (n : ℕ) (image : Image) → IsValidState state → IsPartOut state layout key n image → Finds (rest (without (single key n ∷ []) state)) image
 
 -- Groups.
 
--- while the next group goes, a request may be stopped
+-- while the next group is evicted, a request may crash
 abbrev pub GroupsMayStop : Type 0
 GroupsMayStop = (state : State) (moment : ℕ) (request : Request) (first others : List Group) (group : Group) (before : Bool) (image : Image) → IsValidState state → EvictsFirst state moment request first (group ∷ others)
     → Finds (if before then rest (without first state) else rest (without (group ∷ []) (without first state))) image → MayStop state moment request image

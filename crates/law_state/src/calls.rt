@@ -32,7 +32,7 @@ pub fn touches_keep_states()
     ensures counted { TouchesKeepTheCounters }
 {}
 
-/// An update of a record is a change of its blocks; the dirty word of a main item settles or unsettles its object, at each word and in the end.
+/// An update of a record is a change of its blocks; the dirty word of a main item makes its object clean or dirty, at each word and in the end.
 pub fn objects_are_marked()
     ensures blocks { RecordUpdatesChangeOnly }
     ensures counters { RecordUpdatesLeaveCounters }
@@ -41,7 +41,8 @@ pub fn objects_are_marked()
     ensures counted { MarkingKeepsTheCounters }
 {}
 
-/// The dirty word of a doomed object may be set and cleared: what was at rest is found at each word, and in the end the object is unsettled or settled, which is not counted.
+/// The dirty word of a doomed object may be set and cleared: the old durable contents are recovered at each word, and in the end the object is dirty or clean, which is not
+/// counted.
 pub fn doomed_objects_are_marked()
     ensures find { DoomedMarkingFindsTheSame }
     ensures uncounted { DoomedMarkingKeepsTheState }
@@ -54,7 +55,7 @@ pub fn counters_are_written()
     ensures counted { WrittenCountersCount }
 {}
 
-/// While an external file is made or deleted what is at rest is found, and in the end it is made or deleted.
+/// While an external file is made or deleted the durable contents are recovered, and in the end it is made or deleted.
 pub fn external_files_come_and_go()
     ensures making { MakingFilesFindsTheSame }
     ensures made { MadeFilesAreAdded }
@@ -62,7 +63,8 @@ pub fn external_files_come_and_go()
     ensures deleted { DeletedFilesAreRemoved }
 {}
 
-/// While the entry of a new object comes into the list and its chain what was at rest is found; then the state with the object is kept, which has one item more.
+/// While the entry of a new object comes into the list and its chain the old durable contents are recovered; then the state with the object is kept, which has
+/// one item more.
 pub fn new_entries_are_kept()
     ensures inserting { InsertsFindTheSame }
     ensures linking { LinksFindTheSame }
@@ -70,7 +72,8 @@ pub fn new_entries_are_kept()
     ensures one_more { NewEntriesAreOneMore }
 {}
 
-/// While a part is made, and until its parent has its bit, all but these two stay as they were, and what is shown is what is at rest; in the end the state with the part is represented.
+/// While a part is made, and until its parent has its bit, all but these two stay as they were, and what is shown is the durable contents; in the end the state with the part is
+/// represented.
 pub fn new_parts_are_shown()
     ensures others { NewPartsHoldTheOthers }
     ensures at_rest { NewPartsAreAtRest }
@@ -81,7 +84,8 @@ pub fn new_parts_are_shown()
     ensures ends { NewPartsEnd }
 {}
 
-/// So it is in a folder: while a part is made what is at rest is found, and in the end the state with the part is kept, whose words are unlinked no longer.
+/// So it is in a folder: while a part is made the durable contents are recovered, and in the end the state with the part is kept, whose words are unlinked
+/// no longer.
 pub fn new_parts_are_kept()
     ensures inserting { PartInsertsFindEither }
     ensures making { MakingPartsFindsTheNext }
@@ -89,7 +93,8 @@ pub fn new_parts_are_kept()
     ensures kept { NewPartsAreKept }
 {}
 
-/// The allocations of the files of a kind are at most five for each item and doomed object, and one for each unlinked word; so they leave room where a state and what a command adds have no more items than a cache may have.
+/// The allocations of the files of a kind are at most five for each item and doomed object, and one for each unlinked word; so they leave space where a state and what a command adds have no more items than a cache may
+/// have.
 pub fn kept_allocations_are_few()
     ensures few { KeptAllocationsAreFew }
     ensures room { KeptAllocationsLeaveRoom }
@@ -101,7 +106,8 @@ pub fn handles_are_not_kept()
     ensures counted { HandlesAreNotCounted }
 {}
 
-/// While an unsettled or a doomed object changes what was at rest is found, and in the end the state with the changed object is kept.
+/// While a dirty or a doomed object changes the old durable contents are recovered, and in the end the state with the changed object
+/// is kept.
 pub fn changed_objects_are_kept()
     ensures unsettled { UnsettledItemsFindTheSame }
     ensures dead { DoomedObjectsFindTheSame }
@@ -115,7 +121,8 @@ pub fn gone_objects_are_unlinked()
     ensures counted { GoneObjectsAreNotCounted }
 {}
 
-/// While an item goes out of the list what was at rest is found, or what is without it, and that while it goes out of its chain; then its words are unlinked.
+/// While an item goes out of the list the old durable contents are recovered, or those without it, and these while it goes out of its chain; then its words
+/// are unlinked.
 pub fn removed_items_are_unlinked()
     ensures removing { RemovalsFindEither }
     ensures unlinking { UnlinkingFindsTheOthers }

@@ -1,4 +1,4 @@
-//! What a stop in a command may leave, and how commands end: laws, each the contract of a function with an empty body.
+//! What a crash in a command may leave, and how commands end: laws, each the contract of a function with an empty body.
 ghost use Rattle.law_state.specs.CommandEnds.{PassedRequestsTakeEffect, GroupsGoInTurn, WholeGroupsGoAsDoomed, PartsGoAlone, MarkedStatesAreValid, UsesEnd, OnlyUsesMayBeLeft, OpensEndOnceUsed, OpensMayLeave, CreatesEndOnceMade, CreatesMayLeave, WritesUnsettle, WritesEndOnceWritten, DoomedWritesEnd, SparseWritesUnsettle, SparseWritesEnd, EmptySparseWritesEnd, ClosesFreeTheName, ClosesSettle, ClosesMayLeave, ClosesOfDoomedEnd, DoomsEndOnceDoomed, DoomsMayLeave, TrimsEndOnceOut, TrimsMayLeave};
 ghost use Rattle.law_state.specs.Keeping.{KeepsSome};
 ghost use Rattle.law_state.specs.PartStates.{PartsChangeAlone, NewPartsKeepValid, PartsAreLeftOut};
@@ -16,7 +16,8 @@ ghost use Rattle.law_state.specs.CreateStops.{InsertsMayStop, LinksMayStop, Crea
 ghost use Rattle.law_state.specs.RestLaws.{RestsAreNotRefused, RestsEvictTheOthersOrNone, TrimsGoOn, RestsHaveTheLaterSteps, RestsEndAlike, StopsInRestsAreInTheWhole, StopOnlyInTheRest};
 ghost use Rattle.law_state.specs.StopLaws.{WhatIsLeftMayStop, OrdersMayBeLeft, UsesMayBeLeft, UsesGoOn, RoomMayBeLeft, HandlesAreNotAtRest, DoomedObjectsAreNotAtRest, UnsettledObjectsAreNotAtRest, OwnUsesKeepOthers, OthersMayBeLeftOnceUnsettled, OthersMayBeLeftWhileDoomed};
 
-/// Once some groups are out and some of the later list steps are made, a stop may leave what is at rest in that order; where that is found the request may be stopped.
+/// Once some groups are out and some of the later list steps are made, a crash may leave the durable contents in that order; where that is found the request may
+/// crash.
 pub fn orders_may_be_left()
     ensures stops { WhatIsLeftMayStop }
     ensures orders { OrdersMayBeLeft }
@@ -25,7 +26,7 @@ pub fn orders_may_be_left()
     ensures room { RoomMayBeLeft }
 {}
 
-/// Which handles there are is nothing to what is at rest; nor is a doomed object, whatever becomes of it, nor an unsettled one and where its items stand. A live object that is settled, or unsettled and named, leaves the state valid.
+/// Which handles there are is no matter for the durable contents; nor is a doomed object, whatever becomes of it, nor a dirty one and where its items are. A live object that is clean, or dirty and named, leaves the state valid.
 pub fn rests_leave_them_out()
     ensures handles { HandlesAreNotAtRest }
     ensures doomed { DoomedObjectsAreNotAtRest }
@@ -34,13 +35,14 @@ pub fn rests_leave_them_out()
     ensures marked { MarkedStatesAreValid }
 {}
 
-/// Once the object that a request unsettles isn't settled, a stop may leave what is at rest, whatever became of it; and so while a doomed object changes.
+/// Once a request has made its object dirty, a crash may leave the durable contents, whatever became of it; and so while a doomed object changes.
 pub fn others_may_be_left()
     ensures unsettled { OthersMayBeLeftOnceUnsettled }
     ensures doomed { OthersMayBeLeftWhileDoomed }
 {}
 
-/// A request that isn't refused has its effect once all that it evicts is out, group after group. A Trim ends there, and a stop in it may leave what is at rest without the first groups.
+/// A request that isn't refused has its effect once all that it evicts is out, group after group. A Trim ends there, and a crash in it may leave the durable contents without the first
+/// groups.
 pub fn requests_take_effect()
     ensures effect { PassedRequestsTakeEffect }
     ensures in_turn { GroupsGoInTurn }
@@ -50,7 +52,8 @@ pub fn requests_take_effect()
     ensures trims_leave { TrimsMayLeave }
 {}
 
-/// A Read and the two sparse reads end once their items are used, an Open once its item is used and its handle bound. A stop may leave what is at rest in each order between.
+/// A Read and the two sparse reads end once their items are used, an Open once its item is used and its handle bound. A crash may leave the durable contents in each order
+/// between.
 pub fn reads_end_once_used()
     ensures ends { UsesEnd }
     ensures leaves { OnlyUsesMayBeLeft }
@@ -58,13 +61,14 @@ pub fn reads_end_once_used()
     ensures opens_leave { OpensMayLeave }
 {}
 
-/// A Create ends with the new object, whose rest a stop may leave.
+/// A Create ends with the new object, whose durable contents a crash may leave.
 pub fn creates_end_once_made()
     ensures ends { CreatesEndOnceMade }
     ensures leaves { CreatesMayLeave }
 {}
 
-/// A Write and a SparseWrite of some bytes unsettle their object, and end once it is written and used; of no bytes a SparseWrite uses the main item alone, and of a doomed object a Write makes no use.
+/// A Write and a SparseWrite of some bytes make their object dirty, and end once it is written and used; of no bytes a SparseWrite uses the main item alone, and of a doomed object a Write makes no
+/// use.
 pub fn writes_end_once_written()
     ensures unsettle { WritesUnsettle }
     ensures ends { WritesEndOnceWritten }
@@ -81,7 +85,8 @@ pub fn parts_change_alone()
     ensures less { PartsAreLeftOut }
 {}
 
-/// A Close frees its name; of the last handle it settles a live object, whose rest a stop may leave, and ends without a doomed one.
+/// A Close frees its name; of the last handle it makes a live object clean, whose durable contents a crash may leave, and ends
+/// without a doomed one.
 pub fn closes_settle()
     ensures several { ClosesFreeTheName }
     ensures ends { ClosesSettle }
@@ -89,13 +94,14 @@ pub fn closes_settle()
     ensures doomed { ClosesOfDoomedEnd }
 {}
 
-/// A Doom and a DoomKey end with the object doomed, and a stop may leave what is at rest then.
+/// A Doom and a DoomKey end with the object doomed, and a crash may leave the durable contents then.
 pub fn dooms_end_once_doomed()
     ensures ends { DoomsEndOnceDoomed }
     ensures leaves { DoomsMayLeave }
 {}
 
-/// The calls of a command follow each other: between them the folder keeps a state whose rest a stop may leave, and at each word of a call from there the command may be stopped, also where the call failed.
+/// The calls of a command follow each other: between them the folder keeps a state whose durable contents a crash may leave, and at each word of a call from there the command may crash, also where the call
+/// failed.
 pub fn calls_follow_each_other()
     ensures go_on { StagesGoOn }
     ensures stop { StagesMayStop KeepsSome }
@@ -103,14 +109,14 @@ pub fn calls_follow_each_other()
     ensures follow { CallsFollow KeepsSome }
 {}
 
-/// A command is done where its effect is kept and its answer is the map's, whatever handles there are; with its note behind all else it is stepped.
+/// A command is done where its effect is kept and its answer is the map's, whatever handles there are; with its note after all else it is stepped.
 pub fn commands_are_done()
     ensures ends { EndsAreKept }
     ensures done { EffectsAreDone KeepsSome }
     ensures noted { NotesEndSteps }
 {}
 
-/// At each word of the touch of the next item that a request uses it may be stopped, also of an item of the object that it has unsettled; and while it settles or unsettles its object.
+/// At each word of the touch of the next item that a request uses it may crash, also of an item of the object that it has made dirty; and while it makes its object clean or dirty.
 pub fn uses_may_be_stopped()
     ensures uses { UsesMayStop }
     ensures unsettled_uses { UnsettledUsesMayStop }
@@ -118,7 +124,8 @@ pub fn uses_may_be_stopped()
     ensures settles { SettlingMayStop }
 {}
 
-/// At each word of the removal of an object's main item what was at rest is found, or what is with it doomed, and this from then on; a part that goes alone is found, or not, likewise. So a Doom may be stopped, and a request while a group goes.
+/// At each word of the removal of an object's main item the old durable contents are recovered, or those with it doomed, and these from then on; a part that goes alone is found, or not, likewise. So a Doom may crash, and a request while a
+/// group is evicted.
 pub fn removals_may_be_stopped()
     ensures either { DoomsFindEither }
     ensures out { OutIsDoomed }
@@ -145,7 +152,7 @@ pub fn commands_keep_the_next_state()
     ensures trims { TrimsKeepNext }
 {}
 
-/// Open, Read and Close from the moments of their calls: where each may be stopped, and what is kept in the end. So is a request while it unsettles its object.
+/// Open, Read and Close from the moments of their calls: where each may crash, and what is kept in the end. So is a request while it makes its object dirty.
 pub fn commands_of_one_call()
     ensures opens_end { OpensEndByTouch }
     ensures reads_stop { ReadsMayStop }
@@ -157,7 +164,8 @@ pub fn commands_of_one_call()
     ensures unsettling_stops { UnsettlingMarksMayStop }
 {}
 
-/// While a plain object that no handle names, or a part that goes alone, is removed, what is at rest without it is found, and in the end the state without it is kept and its words are unlinked. So a Doom or a DoomKey of a plain object ends, with or without a handle, and so the next group goes.
+/// While a plain object that no handle names, or a part that goes alone, is removed, the durable contents without it are recovered, and in the end the state without it is kept and its words are unlinked. So a Doom or a DoomKey of a plain object ends, with or without a handle, and so the next
+/// group is evicted.
 pub fn plain_objects_are_removed()
     ensures part { PartGoneIsWithout }
     ensures removing { RemovingFindsDoomed }
@@ -170,7 +178,8 @@ pub fn plain_objects_are_removed()
     ensures parts { LonePartsGo }
 {}
 
-/// Once an object is out with its parts, the state with it doomed is kept: of one that no handle names its words are unlinked, of one that is held those of its parts. So a Doom or a DoomKey ends, and so the next group goes.
+/// Once an object is out with its parts, the state with it doomed is kept: of one that no handle names its words are unlinked, of one that is held those of its parts. So a Doom or a DoomKey ends, and so the next group is
+/// evicted.
 pub fn whole_objects_are_removed()
     ensures removed { WholeObjectsAreRemoved }
     ensures unheld_dooms { UnheldWholeDoomsEnd }
@@ -191,7 +200,8 @@ pub fn held_objects_go_part_after_part()
     ensures dooms { HeldOutDoomsEnd }
 {}
 
-/// While the parts of an object go out, its main item first, what is at rest with it doomed is found, also at each word of the removal of a part, of the unlinking of an item, of a freeing and of a deletion. So a Doom or a DoomKey may be stopped there, and a request whose next group goes.
+/// While the parts of an object go out, its main item first, the durable contents with it doomed are recovered, also at each word of the removal of a part, of the unlinking of an item, of a freeing and of a deletion. So a Doom or a DoomKey may crash there, and a request whose next group
+/// is evicted.
 pub fn parts_may_be_stopped_between()
     ensures leave { ItemsOfAKeyLeaveOthers }
     ensures out { PartlyOutIsOut }
@@ -212,14 +222,15 @@ pub fn parts_are_counted()
     ensures made { NewPartsAreOneMore }
 {}
 
-/// A Create may be stopped at each word of the insert of its node, and where its record is linked; once the counters are written too the state after it is kept.
+/// A Create may crash at each word of the insert of its node, and where its record is linked; once the counters are written too the state after it is kept.
 pub fn creates_may_be_stopped()
     ensures inserts { InsertsMayStop }
     ensures links { LinksMayStop }
     ensures ends { CreatesEndOnceCounted }
 {}
 
-/// On the state without the first groups that it evicts a command isn't refused, and evicts the others, or nothing where all fits before they are out, which a Trim never does. Where it evicts the others its steps are the later ones, it ends alike, and a stop in it is one in the whole command; where it evicts nothing one need not be.
+/// On the state without the first groups that it evicts a command isn't refused, and evicts the others, or nothing where all fits before they are out, which a Trim never does. Where it evicts the others its steps are the later ones, it ends alike, and a crash in it is one in the whole command; where it evicts nothing one need not
+/// be.
 pub fn rests_of_commands_may_be_stopped()
     ensures passes { RestsAreNotRefused }
     ensures evicts { RestsEvictTheOthersOrNone }

@@ -29,7 +29,8 @@ pub use commands::{
     whole_objects_are_removed, writes_end_once_written,
 };
 
-/// What is found in a folder that keeps a state is what is at rest in it. With nothing unlinked the folder stands for the state, and it is sound where each object is live and settled.
+/// What is found in a folder that keeps a state is the durable contents of it. With nothing unlinked the folder stands for the state, and it is sound where each object is live and
+/// clean.
 pub fn kept_states_are_stood_for()
     ensures found { KeptStatesAreFound }
     ensures stands { KeptStatesAreStoodFor }
@@ -46,7 +47,8 @@ pub fn opened_folders_keep_their_state()
     ensures { OpenedFoldersKeepTheirState }
 {}
 
-/// Where a call keeps the state what is at rest is found, and where it leaves the counters of the index they count the same.
+/// Where a call keeps the state the durable contents are recovered, and where it leaves the counters of the index they count
+/// the same.
 pub fn calls_keep_states()
     ensures found { WhatIsKeptIsFound }
     ensures counters { SameCountersCountTheSame }
@@ -60,14 +62,16 @@ pub fn unlinked_places_may_change()
     ensures index { OtherWordsChangeOnly }
 {}
 
-/// While block files grow, what is at rest is found; blocks that are allocated are unlinked, and unlinked ones that are freed are in use no longer.
+/// While block files grow, the durable contents are recovered; blocks that are allocated are unlinked, and unlinked ones that are freed are in use
+/// no longer.
 pub fn blocks_are_allocated()
     ensures growth { GrowthFindsTheSame }
     ensures unlinked { AllocatedBlocksAreUnlinked }
     ensures freed { FreedBlocksAreGone }
 {}
 
-/// A request may be stopped where what is at rest before it is found, and so before its first word; where what is at rest after it is found; and once its first groups are evicted.
+/// A request may crash where the durable contents before it are recovered, and so before its first word; where the durable contents after it are recovered; and once its first
+/// groups are evicted.
 pub fn requests_may_be_stopped()
     ensures before { RequestsMayStopBefore }
     ensures after { RequestsMayStopAfter }
@@ -75,7 +79,7 @@ pub fn requests_may_be_stopped()
     ensures kept { KeptStatesMayStop }
 {}
 
-/// How a command ends: nothing is written, and it may be stopped, and is done where the map says so, as for a refusal, a List, a Total and a Size; or after a call.
+/// How a command ends: nothing is written, and it may crash, and is done where the map says so, as for a refusal, a List, a Total and a Size; or after a call.
 pub fn commands_end()
     ensures says { SaysKept KeepsSome }
     ensures stays_stops { NothingMayStop KeepsSome }
@@ -85,7 +89,7 @@ pub fn commands_end()
     ensures calls_stop { CallsMayStop KeepsSome }
 {}
 
-/// At each word of a touch the old or the new order is found, and an Open may be stopped.
+/// At each word of a touch the old or the new order is found, and an Open may crash.
 pub fn items_are_touched()
     ensures find { TouchesFindEither }
     ensures opens { OpensMayStop }

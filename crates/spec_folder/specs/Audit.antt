@@ -22,7 +22,7 @@ use Rattle.spec_folder.specs.Loads.{Rule, Loaded, load, is_part, record_claims, 
 
 -- The reasons 13 to 15, against those that are kept so far.
 
--- a record shares a block or an external number with what is kept, or claims one twice
+-- a record shares a block or an external number with what is kept, or uses one twice
 abbrev pub collides : List Loaded → Loaded → Bool
 collides kept loaded = repeats (record_claims loaded) || overlap (claims_of_loaded kept) (all_claims loaded)
 

@@ -66,7 +66,7 @@ abbrev pub checked_fields : Option RecordFields → Option RecordFields
 checked_fields None = None
 checked_fields (Some fields) = if fields.checks then Some fields else None
 
--- on a record: it stands in both or in neither, checks in both or in neither, and then has the same fields but next and seal, and the same data
+-- on a record: it is there in both or in neither, checks in both or in neither, and then has the same fields but next and seal, and the same data
 pub record SameRecord (old new : StoreView) (contents : ℕ) : Type 0 where
   pub there : is_some (old.entry contents) ≡ is_some (new.entry contents)
   pub checked : checked_fields (old.entry contents) ≡ checked_fields (new.entry contents)

@@ -55,7 +55,7 @@ abbrev pub Linked : StoreView → ℕ → ℕ → List ℕ → Type 0
 Linked store bucket word [] = word ≡ 0
 Linked store bucket word (w ∷ words) = (word ≡ w) × (is_of_bucket store bucket w ≡ true) × Linked store bucket (store.chain_next w) words
 
--- these are the records of the chain of a bucket, which ends at the word 0: no first block stands twice
+-- these are the records of the chain of a bucket, which ends at the word 0: no first block occurs twice
 pub record IsChain (store : StoreView) (bucket : ℕ) (words : List ℕ) : Type 0 where
   pub linked : Linked store bucket (store.table bucket) words
   pub once : Distinct (map file_and_block words)

@@ -1,4 +1,4 @@
--- The operation in flight on the use list, completed.
+-- The operation in flight on the LRU list, completed.
 use Rattle.std.specs.Prelude.{ℕ, Bool, not, ◌&&◌, ◌||◌, ◌==◌, if◌then◌else◌, List, [], ◌∷◌, ◌++◌}
 use Rattle.spec_folder.specs.ListView.{ListView, ListWrite, Next, Prev, Head, Tail, after_writes}
 
@@ -14,19 +14,19 @@ remove = 2
 abbrev pub move : ℕ
 move = 3
 
--- the head is 0 or names a node that stands and checks
+-- the head is 0 or names a node that is there and checks
 abbrev pub head_counts : ListView → Bool
 head_counts list = (list.head == 0) || list.checks list.head
 
--- a node's next is 0, or its next and its prev name nodes that stand and check
+-- a node's next is 0, or its next and its prev name nodes that are there and check
 abbrev pub links_count : ListView → ℕ → Bool
 links_count list node = (list.next node == 0) || (list.checks (list.next node) && list.checks (list.prev node))
 
 -- The transaction counts exactly where all of these hold:
--- its word is not 0 and names a node that stands and checks;
+-- its word is not 0 and names a node that is there and checks;
 -- the operation is 1, 2 or 3;
--- for operations 1 and 3, the head is 0 or names a node that stands and checks;
--- for operations 2 and 3, where the node's next is not 0, its next and its prev name nodes that stand and check.
+-- for operations 1 and 3, the head is 0 or names a node that is there and checks;
+-- for operations 2 and 3, where the node's next is not 0, its next and its prev name nodes that are there and check.
 unfoldable pub counts : ListView → Bool
 counts list =
     not (list.transaction == 0) && list.checks list.transaction

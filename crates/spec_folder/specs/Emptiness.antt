@@ -5,7 +5,7 @@ use Rattle.spec_folder.specs.ListView.{ListView}
 use Rattle.spec_folder.specs.View.{StoreView, View}
 use Rattle.spec_folder.specs.Layout.{Layout}
 
--- a use list of no node
+-- an LRU list of no node
 abbrev pub no_list : ListView
 no_list = record { head = 0; tail = 0; transaction = 0; operation = 0; checks = λ w. false; next = λ w. 0; prev = λ w. 0 }
 

@@ -31,7 +31,7 @@ unfoldable pub is_key_length : ℕ → RecordFields → Bool
 is_key_length contents fields =
     nat_le 1 fields.key_len && nat_le fields.key_len (longest_key_with fields) && (block_count contents == entry_blocks fields.key_len)
 
--- the key: in its place in the record, or stored with one zero byte behind it
+-- the key: in its place in the record, or stored with one zero byte after it
 unfoldable pub stored_key : StoreView → ℕ → RecordFields → Option (List ℕ)
 stored_key store contents fields =
     if nat_le fields.key_len longest_short_key

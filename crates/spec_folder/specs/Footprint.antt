@@ -130,12 +130,12 @@ pub record AgreeBut (touched : Claim → Bool) (old new : Image) : Type 0 where
       → byte new (Block n) i ≡ byte old (Block n) i
   pub externals : (n : ℕ) → touched (ExternalOf n) ≡ false → new (External n) ≡ old (External n)
 
--- a claim is of a block that no linked file has
+-- a used block is one that no linked file has
 abbrev pub is_past : Image → Claim → Bool
 is_past image (BlockOf n b) = not (is_some (linked_as image n)) || nat_le (max_entries_in image n) b
 is_past image (ExternalOf n) = false
 
--- a claim is of a block that isn't there
+-- a used block isn't there
 unfoldable pub is_absent : Image → Claim → Bool
 is_absent image (BlockOf n b) = not (option_map_or (λ kind. is_there image n kind b) (linked_as image n) false)
 is_absent image (ExternalOf n) = false

@@ -26,7 +26,7 @@ row_of_loaded loaded = row_with loaded.key loaded.role loaded.streams
 abbrev pub charge_of : Loaded → ℕ
 charge_of loaded = length loaded.key + sum_by length loaded.streams
 
--- what is shown once the operation in flight on the use list is completed: nothing else changes
+-- what is shown once the operation in flight on the LRU list is completed: nothing else changes
 abbrev pub completed : View → View
 completed view = record view { list = completed_list view.list }
 

@@ -44,7 +44,7 @@ is_listed state item = is_in state.uses item
 abbrev pub nodes_of : Layout → List Item → List ℕ
 nodes_of layout items = map layout.place items
 
--- the nodes of the use list, in its order
+-- the nodes of the LRU list, in its order
 abbrev pub order : State → Layout → List ℕ
 order state layout = nodes_of layout state.uses
 
@@ -52,11 +52,11 @@ order state layout = nodes_of layout state.uses
 abbrev pub rule_of : Layout → ℕ → Rule
 rule_of layout node = unchained_rule (layout.state node)
 
--- whether the live object with a key is settled, if there is one
+-- whether the live object with a key is clean, if there is one
 abbrev pub settled_with : State → List ℕ → Option Bool
 settled_with state key = option_map (λ object. object.settled) (model.owner_object state (main key))
 
--- the dirty word of a main item is 0 exactly where its object is settled, and that of a part is 0
+-- the dirty word of a main item is 0 exactly where its object is clean, and that of a part is 0
 abbrev pub HasDirtyMark : State → Item → Loaded → Type 0
 HasDirtyMark state (main key) loaded = IfSome (model.owner_object state (main key)) (λ object. (loaded.dirty == 0) ≡ object.settled)
 HasDirtyMark state (part key n) loaded = loaded.dirty ≡ 0
@@ -126,7 +126,7 @@ pub record Holds (store : StoreView) (state : State) (layout : Layout) : Type 0 
   pub shows : Shows store layout
   pub lies : IsLayoutOf state layout
 
--- and the use list is whole, with the items' nodes in the order of the state, and no operation is in flight
+-- and the LRU list is whole, with the items' nodes in the order of the state, and no operation is in flight
 pub record Represents (view : View) (state : State) (layout : Layout) : Type 0 where
   pub holds : Holds view.store state layout
   pub list : IsList view.list (order state layout)
@@ -147,7 +147,7 @@ pub record HoldsExcept (except : ℕ → Bool) (store : StoreView) (state : Stat
       → layout.owner claim ≡ Some node
   pub single : (node : ℕ) (loaded : Loaded) → layout.at node ≡ Some loaded → repeats (all_claims loaded) ≡ false
 
--- the records in the midst are those of the unsettled object of a key: its node is dirty, and its parts keep their keys
+-- the records in the midst are those of the dirty object of a key: its node is dirty, and its parts keep their keys
 pub record IsInProgress (except : ℕ → Bool) (store : StoreView) (state : State) (layout : Layout) (key : List ℕ) : Type 0 where
   pub of_key : (item : Item) → is_listed state item ≡ true → except (layout.place item) ≡ true → key_of item ≡ key
   pub unsettled : (loaded : Loaded) → layout.at (layout.place (main key)) ≡ Some loaded → (loaded.dirty == 0) ≡ false

@@ -1,4 +1,4 @@
--- The use list of an image, the steps of its operations, and what completing leaves.
+-- The LRU list of an image, the steps of its operations, and what completing leaves.
 use Rattle.std.specs.Prelude.{◌≡◌, ◌≤◌, ℕ, true, List, [], ◌∷◌, take}
 use Rattle.spec_image.specs.Image.{Index, Image, AreBytes, length_of}
 use Rattle.spec_image.specs.Steps.{TrailStep, after}
@@ -17,7 +17,7 @@ pub record IsWritable (image : Image) : Type 0 where
   pub bytes : AreBytes image
   pub has_header : header_length ≤ length_of image Index
 
--- the nodes that are written stand and check, and the words are below 2 ^ 32
+-- the nodes that are written are there and check, and the words are below 2 ^ 32
 pub record CanBeMade (image : Image) (writes : List ListWrite) : Type 0 where
   pub nodes : AreOf (λ node. (list_of image).checks node ≡ true) writes
   pub words : AllWriteWords writes
@@ -61,7 +61,7 @@ pub record IsCompleted (from image : Image) : Type 0 where
   pub walk : walked image ≡ completed_walk from
   pub store : ShowsTheSame (store_of from) (store_of image)
 
--- a completion, stopped after so many words, and begun again on what is there then, as often as there are numbers
+-- a completion, crashed after so many words, and begun again on what is there then, as often as there are numbers
 abbrev pub stopped_folder : List ℕ → Image → Image
 stopped_folder [] image = image
 stopped_folder (count ∷ counts) image = stopped_folder counts (after (take count (completion_steps image)) image)

@@ -1,4 +1,4 @@
--- What an operation on the use list writes, in its order.
+-- What an operation on the LRU list writes, in its order.
 use Rattle.std.specs.Prelude.{◌≡◌, ℕ, ◌==◌, if◌then◌else◌, nat_lt, take, List, [], ◌∷◌, ◌++◌, Bool, Option, None, Some}
 use Rattle.spec_folder.specs.ListView.{ListView, ListWrite, Next, Head, Tail, Transaction, Operation, with_write, after_writes}
 use Rattle.spec_folder.specs.Completion.{insert, remove, move, counts, taking_out, putting_in_front, take_out, completed_list}
@@ -59,7 +59,7 @@ AtEachWrite P (write ∷ writes) list = P list × AtEachWrite P writes (with_wri
 abbrev pub CommitsAtTwo : ListView → List ListWrite → (old new : List ℕ) → Type 0
 CommitsAtTwo list writes old new = (count : ℕ) → walk (completed_list (after_writes (take count writes) list)) ≡ (if nat_lt count 2 then old else new)
 
--- completing, stopped after so many writes, and begun again, as often as there are numbers
+-- completing, crashed after so many writes, and begun again, as often as there are numbers
 abbrev pub stopped : List ℕ → ListView → ListView
 stopped [] list = list
 stopped (count ∷ counts) list = stopped counts (after_writes (take count (completion_writes list)) list)

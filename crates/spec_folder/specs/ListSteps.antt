@@ -1,4 +1,4 @@
--- Writes into the use list as steps of a folder.
+-- Writes into the LRU list as steps of a folder.
 use Rattle.std.specs.Prelude.{ℕ, ◌≡◌, ◌≤◌, ◌<◌, ◌^◌, ◌/◌, ◌%◌, true, List, [], ◌∷◌, ◌++◌, length, take}
 use Rattle.spec_image.specs.Image.{Index, Image}
 use Rattle.spec_image.specs.Steps.{TrailStep, word_step, after}
@@ -39,7 +39,7 @@ abbrev pub touched_by_writes : List ListWrite → Footprint
 touched_by_writes [] = nothing
 touched_by_writes (write ∷ writes) = either (touched_by_write write) (touched_by_writes writes)
 
--- in the midst of some writes a front of them is made: the list is the old one after them, and what nodes name, the chains, the records and the
+-- in the midst of some writes a prefix of them is made: the list is the old one after them, and what nodes name, the chains, the records and the
 -- data are as before, and so is every byte outside the nodes and the words of the index that are written
 pub record IsPartly (from : Image) (writes : List ListWrite) (image : Image) : Type 0 where
   pub made : ℕ
@@ -102,7 +102,7 @@ times_of moment = (0, moment % 2 ^ 32) ∷ (4, moment / 2 ^ 32) ∷ (8, moment %
 abbrev pub touch_steps : ℕ → ℕ → List ListWrite → Image → List TrailStep
 touch_steps node moment writes image = steps_of_writes writes image ++ sealed_steps (after (steps_of_writes writes image) image) node (times_of moment)
 
--- in the midst of a touch a front of its writes is made; nothing else is shown to change, and every byte is as before outside the words of the index
+-- in the midst of a touch a prefix of its writes is made; nothing else is shown to change, and every byte is as before outside the words of the index
 -- and the nodes that are written and the node itself
 pub record IsTouched (from : Image) (node : ℕ) (writes : List ListWrite) (image : Image) : Type 0 where
   pub made : ℕ

@@ -1,9 +1,9 @@
--- The use list as an image shows it, what is written into it, and lists that are whole.
+-- The LRU list as an image shows it, what is written into it, and lists that are whole.
 use Rattle.std.specs.Prelude.{◌≡◌, ℕ, ◌≤◌, ◌<◌, Bool, true, false, ◌==◌, if◌then◌else◌, List, [], ◌∷◌, length}
 use Rattle.blk_model.specs.Sizes.{most_items}
 use Rattle.spec_format.specs.BlockFiles.{is_among}
 
--- what the list needs of an image; a word that names no node that stands and checks has `checks` false
+-- what the list needs of an image; a word that names no node that is there and checks has `checks` false
 pub record ListView : Type 0 where
   pub head : ℕ
   pub tail : ℕ
@@ -54,7 +54,7 @@ abbrev pub last_or : ℕ → List ℕ → ℕ
 last_or other [] = other
 last_or other (word ∷ words) = last_or word words
 
--- no word stands twice
+-- no word occurs twice
 abbrev pub Distinct : List ℕ → Type 0
 Distinct [] = Unit {0}
 Distinct (word ∷ words) = (is_among words word ≡ false) × Distinct words
@@ -84,7 +84,7 @@ pub record IsAtRest (list : ListView) (nodes : List ℕ) : Type 0 where
   pub whole : IsList list nodes
   pub idle : list.transaction ≡ 0
 
--- a node that checks and isn't in a list at rest, which has room for one more
+-- a node that checks and isn't in an idle list, which has space for one more
 pub record CanBeInserted (list : ListView) (nodes : List ℕ) (node : ℕ) : Type 0 where
   pub rest : IsAtRest list nodes
   pub lacks : is_among nodes node ≡ false

@@ -81,7 +81,7 @@ is_part_role (IsPart name index) = true
 abbrev pub is_part : Loaded → Bool
 is_part loaded = is_part_role loaded.role
 
--- the claims of a record, its long key and its streams
+-- the used blocks of a record, its long key and its streams
 unfoldable pub record_claims : Loaded → List Claim
 record_claims loaded = claims_of_all (loaded.contents ∷ loaded.others)
 
@@ -89,6 +89,6 @@ record_claims loaded = claims_of_all (loaded.contents ∷ loaded.others)
 unfoldable pub all_claims : Loaded → List Claim
 all_claims loaded = claims_of loaded.node ++ record_claims loaded
 
--- the claims of several
+-- the used blocks of several
 abbrev pub claims_of_loaded : List Loaded → List Claim
 claims_of_loaded loaded = flat_map all_claims loaded

@@ -11,7 +11,7 @@ use Rattle.spec_folder.specs.Entries.{is_key_length}
 use Rattle.spec_folder.specs.Footprint.{IsClear, SameStore, SameBut}
 use Rattle.spec_format.specs.Storage.{longest_short_key}
 
--- what is shown changes only inside the blocks of a word, and what stands and what is well formed stays so
+-- what is shown changes only inside the blocks of a word, and what is valid and what is well formed stays so
 pub record ChangesInside (w : ℕ) (from image : Image) : Type 0 where
   pub shown : SameBut (has_claim (claims_of w)) (view_of from) (view_of image)
   pub stands : (u : ℕ) → stands_in image u ≡ stands_in from u
@@ -22,7 +22,7 @@ pub record ShowsTheSame (old new : StoreView) : Type 0 where
   pub store : SameStore (λ claim. false) old new
   pub table : (bucket : ℕ) → old.table bucket ≡ new.table bucket
 
--- only the use list changes, by these writes
+-- only the LRU list changes, by these writes
 pub record OnlyListChanges (writes : List ListWrite) (from image : Image) : Type 0 where
   pub list : list_of image ≡ after_writes writes (list_of from)
   pub store : ShowsTheSame (store_of from) (store_of image)

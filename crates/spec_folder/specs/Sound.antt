@@ -1,4 +1,4 @@
--- An image in which nothing is to be mended.
+-- An image in which nothing is to be repaired.
 use Rattle.std.specs.Prelude.{◌≡◌, ℕ, ◌%◌, ◌^◌, ◌<◌, ◌≤◌, ◌⊎◌, List, [], ◌∷◌, ◌++◌, length, map, true, false, not, ◌==◌, is_some}
 use Rattle.std.specs.List.{sum_by, count_by, flat_map, filter, AllByRecursion}
 use Rattle.std.specs.declared.option.Option.TheVariants.{Some}
@@ -28,15 +28,15 @@ ChainsEnd store = (bucket : ℕ) → bucket < table_length → (chain store buck
 
 -- Owners.
 
--- each map marks exactly the blocks that are claimed, also past the file's number of blocks
+-- each map marks exactly the blocks that are used, also past the file's number of blocks
 abbrev pub MapsAre : Image → List Claim → Type 0
 MapsAre image claims = (n b : ℕ) → is_some (linked_as image n) ≡ true → b < most_blocks → is_block_marked image n b ≡ has_claim claims (BlockOf n b)
 
--- the external files that are there are the claimed ones
+-- the external files that are there are the used ones
 abbrev pub OnlyClaimed : Image → List Claim → Type 0
 OnlyClaimed image claims = (n : ℕ) → n < 2 ^ 32 → has_file image (External n) ≡ has_claim claims (ExternalOf n)
 
--- each block and each external number of some claims has one owner, and the maps and the external files are exactly those
+-- each used block and each used external number has one owner, and the maps and the external files are exactly those
 pub record AreOwned (image : Image) (claims : List Claim) : Type 0 where
   pub one_owner : repeats claims ≡ false
   pub maps : MapsAre image claims
@@ -82,7 +82,7 @@ pub record IsInOrder (image : Image) (listed doomed : List Loaded) : Type 0 wher
   pub index : IsIndexCounted image listed
   pub sealed : AllByRecursion (AreSealed image) (listed ++ doomed)
 
--- nothing is to be mended
+-- nothing is to be repaired
 pub record IsSound (image : Image) : Type 0 where
   pub well_formed : IsWellFormed image
   pub transaction : (view_of image).list.transaction ≡ 0

@@ -65,7 +65,7 @@ pub record StandsFor (image : Image) (state : State) : Type 0 where
 abbrev pub doomed_of : Layout → List ℕ → List (ℕ × Loaded)
 doomed_of layout numbers = filter_map (λ number. option_map (λ loaded. (number, loaded)) (layout.at (layout.place_of_doomed number))) numbers
 
--- a node of the layout, listed or doomed, that claims
+-- a node of the layout, listed or doomed, that uses it
 pub record IsOwner (state : State) (layout : Layout) (doomed_nodes : List ℕ) (claim : Claim) (node : ℕ) : Type 0 where
   pub among : is_among (order state layout ++ doomed_nodes) node ≡ true
   pub loaded : Loaded

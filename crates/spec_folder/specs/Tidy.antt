@@ -1,4 +1,4 @@
--- Files, counters and seals in order, told by a layout, and what leaves files as they stand.
+-- Files, counters and seals in order, told by a layout, and what leaves files as they are.
 use Rattle.std.specs.Prelude.{◌≡◌, ℕ, ◌%◌, ◌^◌, ◌<◌, List, ◌++◌, length, map, is_some, true, false}
 use Rattle.std.specs.List.{filter_map, flat_map, sum_by}
 use Rattle.std.specs.declared.option.Option.TheVariants.{Some}
@@ -44,14 +44,14 @@ pub record HasState (state : State) (layout : Layout) (numbers : List ℕ) (imag
   pub allocated : AllIsOwned image state layout numbers
   pub tidy : IsTidy image state layout numbers
 
--- Changes behind the headers.
+-- Changes after the headers.
 
 -- a change of bytes that touches no header of a block file, and by which no file comes, goes or changes its length
 pub record IsBehindHeaders (footprint : Footprint) : Type 0 where
   pub bytes : (n i : ℕ) → i < header_size → footprint.bytes (Block n) i ≡ false
   pub sizes : (file : File) → footprint.sizes file ≡ false
 
--- files stand as they did: the same are linked, with the same marks and counters, and as long, and the same external files are there
+-- files are as they were: the same are linked, with the same marks and counters, and as long, and the same external files are there
 pub record FilesStand (from image : Image) : Type 0 where
   pub links : (n : ℕ) → linked_as image n ≡ linked_as from n
   pub marks : (n b : ℕ) → b < most_blocks → is_block_marked image n b ≡ is_block_marked from n b

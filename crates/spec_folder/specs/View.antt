@@ -1,4 +1,4 @@
--- What an image shows, cut into the pieces that change apart from one another: the links of the use list, what the nodes name,
+-- What an image shows, cut into the pieces that change apart from one another: the links of the LRU list, what the nodes name,
 -- the table and the links of the chains, the records without link and seal, and stored data by its address words.
 use Rattle.std.specs.Prelude.{ℕ, ◌+◌, List, [], Bool, not, ◌&&◌, ◌==◌, if◌then◌else◌, slice_index}
 use Rattle.std.specs.declared.option.Option.{Option}
@@ -12,7 +12,7 @@ use Rattle.spec_format.specs.Records.{Node, node_in, node_checks, Entry, entry_i
 use Rattle.spec_format.specs.BlockFiles.{stands_in}
 use Rattle.spec_folder.specs.ListView.{ListView}
 
--- whether a word is an address of a kind that stands
+-- whether a word is a valid address of a kind
 abbrev pub stands_as : Image → ℕ → ℕ → Bool
 stands_as image kind w = stands_in image w && (kind_of w == kind)
 
@@ -28,13 +28,13 @@ node_at image w = node_in (block_bytes image w) (place w)
 abbrev pub entry_at : Image → ℕ → Entry
 entry_at image w = entry_in (block_bytes image w) (place w)
 
--- The use list.
+-- The LRU list.
 
--- whether a word names a node that stands and checks
+-- whether a word names a node that is there and checks
 unfoldable pub checks_at : Image → ℕ → Bool
 checks_at image w = stands_as image rankings w && node_checks (node_at image w)
 
--- a node's next, or 0 where no node stands
+-- a node's next, or 0 where there is no node
 unfoldable pub next_at : Image → ℕ → ℕ
 next_at image w = if stands_as image rankings w then (node_at image w).next else 0
 
@@ -42,7 +42,7 @@ next_at image w = if stands_as image rankings w then (node_at image w).next else
 unfoldable pub prev_at : Image → ℕ → ℕ
 prev_at image w = if stands_as image rankings w then (node_at image w).prev else 0
 
--- the use list of an image
+-- the LRU list of an image
 unfoldable pub list_of : Image → ListView
 list_of image = record {
   head = heads_of (byte image Index) 0;
@@ -54,7 +54,7 @@ list_of image = record {
   prev = prev_at image;
 }
 
--- All but the use list.
+-- All but the LRU list.
 
 -- what a node says of its record
 pub record NodeFields : Type 0 where
@@ -103,7 +103,7 @@ address_of fields i = slice_index fields.data_addr i
 unfoldable pub fields_at : Image → ℕ → Option RecordFields
 fields_at image w = if stands_as image blocks_256 w then Some (fields_of (entry_at image w)) else None
 
--- a record's next, or 0 where no record stands
+-- a record's next, or 0 where there is no record
 unfoldable pub follow_at : Image → ℕ → ℕ
 follow_at image w = if stands_as image blocks_256 w then (entry_at image w).next else 0
 
@@ -111,7 +111,7 @@ follow_at image w = if stands_as image blocks_256 w then (entry_at image w).next
 unfoldable pub key_place_at : Image → ℕ → ℕ → List ℕ
 key_place_at image w n = range_at (block_bytes image w) (place w + entry_size) n
 
--- the data of a size that a word names: the word is the right storage of the size, it stands, and an external file has that length
+-- the data of a size that a word names: the word is the right storage of the size, it is valid, and an external file has that length
 unfoldable pub stored_at : Image → ℕ → ℕ → Option (List ℕ)
 stored_at image size w =
     if not (is_storage size w) then None else
@@ -121,7 +121,7 @@ stored_at image size w =
     then (if length_of image (External (external_number w)) == size then Some (range_at (byte image (External (external_number w))) 0 size) else None)
     else Some (range_at (block_bytes image w) (place w) size)
 
--- all but the use list: what each node says, the table, each record's next, each record, its key place, and data by size and address word
+-- all but the LRU list: what each node says, the table, each record's next, each record, its key place, and data by size and address word
 pub record StoreView : Type 0 where
   pub node_fields : ℕ → Option NodeFields
   pub table : ℕ → ℕ

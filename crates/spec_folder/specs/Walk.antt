@@ -1,9 +1,9 @@
--- The walk of the use list.
+-- The walk of the LRU list.
 use Rattle.std.specs.Prelude.{ℕ, zero, suc, Bool, not, ◌&&◌, ◌==◌, if◌then◌else◌, List, [], ◌∷◌}
 use Rattle.spec_format.specs.BlockFiles.{is_among}
 use Rattle.spec_folder.specs.ListView.{ListView, most_nodes}
 
--- the nodes from a word on, at most so many, where some were met and one is the node before; a node is walked where it stands and checks,
+-- the nodes from a word on, at most so many, where some were met and one is the node before; a node is walked where it is there and checks,
 -- was not met, and its prev is the node before it; the walk ends after a node whose next is itself, and before one that isn't walked
 unfoldable pub walk_from : (checks : ℕ → Bool) (next prev : ℕ → ℕ) (most : ℕ) (met : List ℕ) (before word : ℕ) → List ℕ
 walk_from checks next prev zero met before word = []

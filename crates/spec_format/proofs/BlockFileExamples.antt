@@ -15,11 +15,11 @@ use Rattle.spec_format.specs.BlockFiles.{next_file_in, max_entries_in, files_alo
 fields : ℕ → ℕ → ℕ → ℕ → ℕ → ℕ → List ℕ
 fields magic version file next size blocks = concat (map word_bytes (magic ∷ version ∷ (file + 65536 * next) ∷ size ∷ 0 ∷ blocks ∷ []))
 
--- a damage of block file n
+-- a failed check of block file n
 damage : ℕ → ℕ → ℕ → Option Damage
 damage n at found = Some (record { file = Block n; at = at; found = found })
 
--- the first damage of file 7, of blocks of 256 bytes, that comes after the files 1 and 9
+-- the first failed check of file 7, of blocks of 256 bytes, that comes after the files 1 and 9
 first : List ℕ → ℕ → Option Damage
 first header length = first_of (file_checks 2 (0 ∷ 1 ∷ 9 ∷ 7 ∷ []) 57 7 (content header) length)
 
@@ -94,7 +94,7 @@ kinds n = if nat_lt n 4 then n + 1 else if (n == 4) || (n == 6) then 3 else 0
 by_six : ℕ → ℕ → ℕ
 by_six last n = if n == 2 then 6 else if n == 6 then last else 0
 
--- the first damage of these
+-- the first failed check of these
 chain_to : ℕ → Option Damage
 chain_to last = first_block_damage (folder kinds (by_six last))
 
@@ -144,18 +144,18 @@ link_of_the_sixtieth : first_block_damage (folder of_sixty (sixty 63)) ≡ damag
 unfolding damage checks_of_kind checks_along file_checks linked_up_to linked files_along next_file_in folder of_sixty sixty fields block_size zeros is_link is_block_count
 link_of_the_sixtieth = refl
 
--- a folder of data_0 alone, with room for 1024 nodes
+-- a folder of data_0 alone, with space for 1024 nodes
 nodes : Image
 nodes Index = None
 nodes (Block n) = if n == 0 then Some (fields 0xC104CAC3 0x20000 0 0 36 1024 ++ zeros 45032) else None
 nodes (External n) = None
 
--- nodes 0 and 1023 stand; there is no node 1024, no block of 256 bytes and no external file
+-- nodes 0 and 1023 are there; there is no node 1024, no block of 256 bytes and no external file
 standing_nodes : map (stands_in nodes) (0x90000000 ∷ 0x900003FF ∷ 0x90000400 ∷ 0xA0000000 ∷ 0x80000001 ∷ []) ≡ true ∷ true ∷ false ∷ false ∷ false ∷ []
 unfolding nodes stands stands_as_blocks kind_among linked files_along next_file_in max_entries_in fields block_size zeros address.is_address address.is_initialized address.names_external address.names_blocks address.kind_of address.reserved_bits address.block_count address.file_selector address.first_block address.external_number address.place address.byte_size address.block_place
 standing_nodes = refl
 
--- a byte less, and the last node doesn't stand
+-- a byte less, and the last node isn't there
 cut_nodes : Image
 cut_nodes Index = None
 cut_nodes (Block n) = if n == 0 then Some (fields 0xC104CAC3 0x20000 0 0 36 1024 ++ zeros 45031) else None

@@ -1,4 +1,4 @@
--- Worked claims and standing addresses.
+-- Worked examples of used blocks and valid addresses.
 use Rattle.std.proofs.Common.{◌≡◌, ℕ, Bool, [], ◌∷◌, true, false, refl, cond, Some, None}
 use Rattle.std.specs.Prelude.{◌==◌, ◌+◌, ◌*◌}
 use Rattle.spec_format.specs.Address.{is_address, is_initialized, names_external, names_blocks, kind_of, reserved_bits, block_count, file_selector, first_block, external_number, block_size, block_place, place, byte_size}
@@ -15,7 +15,7 @@ pub claims_of_external : claims_of 0x80000001 ≡ ExternalOf 1 ∷ []
 unfolding claims_of kind_of block_count file_selector first_block external_number
 claims_of_external = refl
 
--- the word 0 claims nothing
+-- the word 0 uses nothing
 pub claims_of_nothing : claims_of 0 ≡ []
 unfolding claims_of kind_of block_count file_selector first_block external_number
 claims_of_nothing = refl
@@ -25,16 +25,16 @@ pub overlaps : (overlap (claims_of 0xA1010004) (claims_of 0xA0010005) ≡ true) 
 unfolding claims_of kind_of block_count file_selector first_block external_number overlap has_claim
 overlaps = (refl, refl, refl)
 
--- a claim that stands twice
+-- a used block that occurs twice
 pub repeated : (repeats (BlockOf 1 4 ∷ ExternalOf 1 ∷ BlockOf 1 4 ∷ []) ≡ true) × (repeats (BlockOf 1 4 ∷ ExternalOf 4 ∷ BlockOf 1 5 ∷ []) ≡ false)
 unfolding repeats has_claim
 repeated = (refl, refl)
 
--- data_1 alone is linked, of kind 2, with eight blocks and room for six; f_000001 alone is there
+-- data_1 alone is linked, of kind 2, with eight blocks and space for six; f_000001 alone is there
 abbrev worked : ℕ → Bool
 worked = stands (λ n. cond (n == 1) (Some 2) None) (λ n. 8) (λ n. 8192 + 6 * 256) (λ n. n == 1)
 
--- what stands there: blocks inside the file, and that external file
+-- what is there: blocks inside the file, and that external file
 pub standing : (worked 0xA1010004 ≡ true) × (worked 0xA2010004 ≡ false) × (worked 0xA0010007 ≡ false) × (worked 0xA0020000 ≡ false) × (worked 0xB0010000 ≡ false) × (worked 0x80000001 ≡ true) × (worked 0x80000002 ≡ false) × (worked 0xA5010004 ≡ false)
 unfolding stands stands_as_blocks is_address is_initialized names_external names_blocks kind_of reserved_bits block_count file_selector first_block external_number block_size block_place place byte_size
 standing = (refl, refl, refl, refl, refl, refl, refl, refl)

@@ -84,7 +84,7 @@ module _ (from image : Image) (grown : HaveGrown from image) (w : ℕ) (stands :
   pub ends_inside : place w + byte_size w ≤ length_of from (Block n)
   ends_inside = let test = parts.1.1 in grind (arith, nat_tests)
 
--- where files grow, the blocks that stood stand, with their bytes
+-- where files grow, the blocks that were there still are, with their bytes
 pub grown_blocks : (from image : Image) → HaveGrown from image → KeepsBlocks from image
 grown_blocks from image grown = record {
   stand = λ w stands. stands_grown from image grown w stands;

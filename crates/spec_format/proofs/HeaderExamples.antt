@@ -12,7 +12,7 @@ use Rattle.spec_format.specs.Headers.{head_checks, list_checks, unfinished, firs
 header : ℕ → ℕ → ℕ → ℕ → ℕ → ℕ → ℕ
 header magic version stats table_len experiment = content (concat (map word_bytes (magic ∷ version ∷ 0 ∷ 0 ∷ 0 ∷ 0 ∷ stats ∷ table_len ∷ 0 ∷ experiment ∷ [])))
 
--- a damage of the index
+-- a failed check of the index
 damage : ℕ → ℕ → Option Damage
 damage at found = Some (record { file = Index; at = at; found = found })
 
@@ -77,7 +77,7 @@ table_len_before_experiment = refl
 one_at : ℕ → ℕ → ℕ
 one_at place i = if i == place then 7 else 0
 
--- the first damage of a content of zeros but for one byte
+-- the first failed check of a content of zeros but for one byte
 zeros_but : ℕ → Option Damage
 zeros_but place = first_of (list_checks (one_at place))
 

@@ -141,7 +141,7 @@ module _ (a b : Image) (Old : ℕ → Bool) (heads : (m : ℕ) → Old m ≡ tru
       by_test true e = link_zero (met2 ++ k ∷ []) left (next_file_in a k) e
       by_test false e = link_kept (met ++ k ∷ []) (met2 ++ k ∷ []) left (next_file_in a k) (same_more met met2 k same (next_file_in a k) (following e)) (link_of a kind (met ++ k ∷ []) left k none)
 
-  -- one file and those behind it, where its link is as it was
+  -- one file and those after it, where its link is as it was
   pub step_kept : (left k : ℕ) (met met2 : List ℕ) → Same met met2 → Inside (suc left) k → next_file_in b k ≡ next_file_in a k
       → (Inside left (next_file_in a k) → (next_file_in a k == 0) ≡ false → first_of (checks_along a kind (met ++ k ∷ []) left (next_file_in a k)) ≡ None → first_of (checks_along b kind (met2 ++ k ∷ []) left (next_file_in a k)) ≡ None)
       → first_of (checks_along a kind met (suc left) k) ≡ None → first_of (checks_along b kind met2 (suc left) k) ≡ None

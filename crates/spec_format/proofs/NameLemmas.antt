@@ -14,14 +14,14 @@ use Rattle.std.proofs.lemmas.Slice.Eq.{bytes_eq-Decides}
 use Rattle.std.proofs.Math.Nat.{pow-zero, pow-suc}
 use Rattle.spec_format.specs.Names.{hexadecimal, name_head, colon, child_name, Name, may_be_named, IsName, hex_digit, hex_number, split_last, where_printed, said_by, name_in_halves, read_name, ReadsNames}
 
--- the digits of a number, behind its last one
+-- the digits of a number, after its last one
 glyphs_step : (n : ℕ) (acc : List ℕ) → 0 < n → map (digit_glyph false) (digits_of 16 n) ++ acc ≡ map (digit_glyph false) (digits_of 16 (n / 16)) ++ digit_glyph false (n % 16) ∷ acc
 glyphs_step n acc some =
     ap (λ (ds : List ℕ). map (digit_glyph false) ds ++ acc) (digits_of_step 16 n (omega arith) some)
     ∙ ap (λ (ds : List ℕ). ds ++ acc) (map-append (digit_glyph false) (digits_of 16 (n / 16)) (n % 16 ∷ []))
     ∙ append_assoc (map (digit_glyph false) (digits_of 16 (n / 16))) (digit_glyph false (n % 16) ∷ []) acc
 
--- a number of few digits needs no more turns
+-- a number of few digits needs no more iterations
 few_digits : (turns n : ℕ) (acc : List ℕ) → n < 16 ^ turns → 0 < n → digits_onto turns 16 false n acc ≡ map (digit_glyph false) (digits_of 16 n) ++ acc
 few_digits zero n acc few some = absurd (omega (arith, pow-zero 16))
 few_digits (suc turns) n acc few some = ⊎_elim
@@ -38,7 +38,7 @@ few_digits (suc turns) n acc few some = ⊎_elim
     ∙ few_digits turns (n / 16) (digit_glyph false (n % 16) ∷ acc) fewer (omega (arith, more)) ∙ sym (glyphs_step n acc some))
     (cases_lt n 16)
 
--- the digits are those of 64 turns
+-- the digits are those of 64 iterations
 turns-64 : (turns n : ℕ) → turns ≡ 64 → digits 16 false n ≡ digits_onto turns 16 false n []
 unfolding digits
 turns-64 turns n is = ap (λ (t : ℕ). digits_onto t 16 false n []) (sym is)

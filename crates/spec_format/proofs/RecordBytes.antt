@@ -67,7 +67,7 @@ pub take-with_words : (n : ℕ) (ws : List (ℕ × ℕ)) (bytes : List ℕ) → 
 take-with_words n [] bytes = refl
 take-with_words n (w ∷ ws) bytes = take-with_words n ws (with_word w.0 w.1 bytes) ∙ ap (with_words ws) (take-with_word n w.0 w.1 bytes)
 
--- a word that is written behind it
+-- a word that is written after it
 pub take-before_word : (n v : ℕ) (bytes : List ℕ) → take n (with_word n v bytes) ≡ take n bytes
 unfolding with_word
 take-before_word n v bytes = take-spliced n n (word_bytes v) bytes ∙ spliced-past n (word_bytes v) (take n bytes) (omega (arith, length-take n bytes))
@@ -76,7 +76,7 @@ pub with_words-append : (ws more : List (ℕ × ℕ)) (bytes : List ℕ) → wit
 with_words-append [] more bytes = refl
 with_words-append (w ∷ ws) more bytes = with_words-append ws more (with_word w.0 w.1 bytes)
 
--- a word behind words that are written
+-- a word after words that are written
 pub word-behind : (s : ℕ) (ws : List (ℕ × ℕ)) (bytes : List ℕ) → All (λ w. w.0 + 4 ≤ s) ws → word_at (content (with_words ws bytes)) s ≡ word_at (content bytes) s
 word-behind s [] bytes before = refl
 word-behind s (w ∷ ws) bytes before =

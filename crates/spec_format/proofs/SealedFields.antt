@@ -62,7 +62,7 @@ different-take zero (c ∷ ws) different = tt
 different-take (suc n) [] different = tt
 different-take (suc n) (c ∷ ws) different = (All-take (λ other. other.0 ≢ c.0) n ws different.0, different-take n ws different.1)
 
--- a word behind the first of some different words is of another place
+-- a word after the first of some different words is of another place
 behind : (n i : ℕ) (d : ℕ × ℕ) (ws : List (ℕ × ℕ)) → n ≤ i → i < length ws → AreDifferent ws → All (λ c. c.0 ≢ (get_or ws i d).0) (take n ws)
 behind zero i d ws low within different = All-nil (λ c. c.0 ≢ (get_or ws i d).0)
 behind (suc n) i d [] low within different = absurd (omega arith)

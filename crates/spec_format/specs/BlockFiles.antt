@@ -1,4 +1,4 @@
--- The block files that are linked, the checks of their headers, and the first damage of a folder.
+-- The block files that are linked, the checks of their headers, and the first failed check of a folder.
 use Rattle.std.proofs.Common.{zero, suc}
 use Rattle.std.specs.Prelude.{ℕ, ◌-◌, ◌%◌, ◌≡◌, List, [], ◌∷◌, ◌++◌, Bool, not, ◌&&◌, ◌||◌, ◌==◌, nat_le, nat_lt, if◌then◌else◌, None, Some}
 use Rattle.std.specs.List.{list_any, flat_map}
@@ -72,7 +72,7 @@ linked_as image n = kind_among (linked image) n
 abbrev pub stands_in_blocks : Image → ℕ → Bool
 stands_in_blocks image w = stands_as_blocks (linked_as image) (max_entries_in image) (λ n. length_of image (Block n)) (λ n. has_file image (External n)) w
 
--- a word is an address that stands in a folder
+-- a word is a valid address in a folder
 abbrev pub stands_in : Image → ℕ → Bool
 stands_in image w = stands (linked_as image) (max_entries_in image) (λ n. length_of image (Block n)) (λ n. has_file image (External n)) w
 

@@ -1,20 +1,20 @@
--- Claims: what addresses name, each of which has one owner.
+-- Used blocks and external numbers: what addresses name, each of which has one owner.
 use Rattle.std.specs.Prelude.{ℕ, List, [], ◌∷◌, map, Bool, false, not, ◌&&◌, ◌||◌, ◌==◌, if◌then◌else◌}
 use Rattle.std.specs.List.{list_any, flat_map, range_with_len}
 use Rattle.spec_format.specs.Address.{kind_of, block_count, file_selector, first_block, external_number, external}
 
--- a claim: a block of a block file, by file and number, or an external file, by number
+-- what an address may use: a block of a block file, by file and number, or an external file, by number
 pub data Claim : Type 0 where
   BlockOf : ℕ → ℕ → Claim
   ExternalOf : ℕ → Claim
 
--- whether two claims are the same
+-- whether two used blocks are the same
 abbrev pub same_claim : Claim → Claim → Bool
 same_claim (BlockOf file b) (BlockOf other c) = (file == other) && (b == c)
 same_claim (ExternalOf m) (ExternalOf n) = m == n
 same_claim _ _ = false
 
--- what an address claims: each of its blocks, or its external number; the word 0 claims nothing
+-- what an address uses: each of its blocks, or its external number; the word 0 uses nothing
 unfoldable pub claims_of : ℕ → List Claim
 claims_of w =
     if w == 0 then [] else
@@ -25,19 +25,19 @@ claims_of w =
 unfoldable pub is_in_file : ℕ → ℕ → Bool
 is_in_file file w = not (kind_of w == external) && (file_selector w == file)
 
--- what a list of addresses claims
+-- what a list of addresses uses
 abbrev pub claims_of_all : List ℕ → List Claim
 claims_of_all words = flat_map claims_of words
 
--- whether a claim is in a list
+-- whether a used block is in a list
 unfoldable pub has_claim : List Claim → Claim → Bool
 has_claim claims c = list_any (same_claim c) claims
 
--- whether two lists share a claim
+-- whether two lists share a used block
 unfoldable pub overlap : List Claim → List Claim → Bool
 overlap claims others = list_any (has_claim claims) others
 
--- whether a claim stands twice in a list
+-- whether a used block occurs twice in a list
 unfoldable pub repeats : List Claim → Bool
 repeats [] = false
 repeats (c ∷ claims) = has_claim claims c || repeats claims

@@ -6,7 +6,7 @@ use Rattle.spec_format.specs.Headers.{is_shown_place}
 use Rattle.spec_format.specs.BlockFiles.{linked_as, max_entries_in, stands_in_blocks, IsWellFormed}
 use Rattle.spec_image.specs.Footprint.{Footprint, SameOutside}
 
--- block files have grown or been linked at most: a linked file stays linked as its kind, keeps the bytes behind its header, and gets no shorter and
+-- block files have grown or been linked at most: a linked file stays linked as its kind, keeps the bytes after its header, and gets no shorter and
 -- no fewer blocks
 pub record HaveGrown (old new : Image) : Type 0 where
   pub index : (i : ℕ) → is_shown_place i ≡ true → byte new Index i ≡ byte old Index i
@@ -16,7 +16,7 @@ pub record HaveGrown (old new : Image) : Type 0 where
   pub longer : (n kind : ℕ) → linked_as old n ≡ Some kind → length_of old (Block n) ≤ length_of new (Block n)
   pub more : (n kind : ℕ) → linked_as old n ≡ Some kind → max_entries_in old n ≤ max_entries_in new n
 
--- each block that stood still stands, with the bytes that it had
+-- each block that was there still is, with the bytes that it had
 pub record KeepsBlocks (from image : Image) : Type 0 where
   pub stand : (w : ℕ) → stands_in_blocks from w ≡ true → stands_in_blocks image w ≡ true
   pub bytes : (w i : ℕ) → stands_in_blocks from w ≡ true → place w ≤ i → i < place w + byte_size w

@@ -52,7 +52,7 @@ version_of f = word_at f version_place
 
 -- The header of the index.
 
--- the places of the counters: of the items, of their bytes, and of the nodes of the use list
+-- the places of the counters: of the items, of their bytes, and of the nodes of the LRU list
 abbrev pub num_entries_place : ℕ
 num_entries_place = 8
 
@@ -117,7 +117,7 @@ filled_of f = word_at f 264
 abbrev pub sizes_of : (ℕ → ℕ) → ℕ → ℕ
 sizes_of f i = word_at f (sizes_place + 4 * i)
 
--- the places of the four words that say where the use list begins and ends, and what is in flight
+-- the places of the four words that say where the LRU list begins and ends, and what is in flight
 abbrev pub heads_place : ℕ
 heads_place = 288
 
@@ -130,11 +130,11 @@ transaction_place = 328
 abbrev pub operation_place : ℕ
 operation_place = 332
 
--- word i of 5: the head of the use list, and then zeros
+-- word i of 5: the head of the LRU list, and then zeros
 abbrev pub heads_of : (ℕ → ℕ) → ℕ → ℕ
 heads_of f i = word_at f (heads_place + 4 * i)
 
--- word i of 5: the tail of the use list, and then zeros
+-- word i of 5: the tail of the LRU list, and then zeros
 abbrev pub tails_of : (ℕ → ℕ) → ℕ → ℕ
 tails_of f i = word_at f (tails_place + 4 * i)
 

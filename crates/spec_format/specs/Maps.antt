@@ -1,4 +1,4 @@
--- The map of a block file: which blocks are marked as used, and how much room the groups of four blocks have.
+-- The map of a block file: which blocks are marked as used, and how much space the groups of four blocks have.
 use Rattle.std.specs.Prelude.{◌≡◌, ℕ, ◌+◌, ◌-◌, ◌*◌, ◌/◌, ◌<◌, List, length, Bool, true, false, not, ◌==◌, if◌then◌else◌}
 use Rattle.std.specs.List.{All, list_any, list_all, count_by, range_with_len}
 use Rattle.spec_image.specs.Image.{Block, Image, byte}
@@ -56,7 +56,7 @@ groups_with marked groups run = count_by (λ g. longest_run marked g == run) (ra
 unfoldable pub EmptyAgrees : Image → ℕ → Type 0
 EmptyAgrees image n = (i : ℕ) → i < 4 → empty_of (byte image (Block n)) i ≡ groups_with (is_block_marked image n) (groups_of (max_entries_in image n)) (i + 1)
 
--- these address words are the allocations of a file: they stand in it and share no block, exactly their blocks are marked, and `num_entries` is their number
+-- these address words are the allocations of a file: they are valid in it and share no block, exactly their blocks are marked, and `num_entries` is their number
 pub record AreAllocations (image : Image) (n : ℕ) (words : List ℕ) : Type 0 where
   pub stand : All (λ w. stands_in image w ≡ true) words
   pub here : All (λ w. is_in_file n w ≡ true) words

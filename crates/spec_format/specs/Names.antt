@@ -30,7 +30,7 @@ pub record Name : Type 0 where
   pub signature : ℕ
   pub part : ℕ
 
--- the longest name: `Range_`, the longest key, and two numbers of 16 and of 4 digits, each behind a `:`
+-- the longest name: `Range_`, the longest key, and two numbers of 16 and of 4 digits, each after a `:`
 abbrev pub longest_name : ℕ
 longest_name = longest_key + 28
 
@@ -45,7 +45,7 @@ pub record IsName (bytes : List ℕ) (name : Name) : Type 0 where
 
 -- A name is read from its end.
 
--- the bytes before the last `:` and those behind it
+-- the bytes before the last `:` and those after it
 unfoldable pub split_last : List ℕ → Option (List ℕ × List ℕ)
 split_last [] = None
 split_last (byte ∷ bytes) = with_first byte bytes (split_last bytes) where

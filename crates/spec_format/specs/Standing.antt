@@ -1,4 +1,4 @@
--- Addresses that stand: what they name is there.
+-- Valid addresses: what they name is there.
 use Rattle.std.specs.Prelude.{ℕ, ◌+◌, Bool, false, ◌&&◌, nat_le, ◌==◌, if◌then◌else◌}
 use Rattle.std.specs.declared.option.Option.{Option}
 use Rattle.std.specs.declared.option.Option.TheVariants.{None, Some}
@@ -26,6 +26,6 @@ module _
         && nat_le (first_block w + block_count w) (max_entries (file_selector w))
         && nat_le (place w + byte_size w) (length_of_block (file_selector w))
 
-    -- an address stands where its external file is there, or its blocks stand
+    -- an address is valid where its external file is there, or its blocks are
     unfoldable pub stands : ℕ → Bool
     stands w = is_address w && (if kind_of w == external then has_external (external_number w) else stands_as_blocks w)

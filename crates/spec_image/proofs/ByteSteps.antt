@@ -1,4 +1,4 @@
--- Bytes stay below 256 at each step of a trail.
+-- Bytes stay below 256 at each step of a write trace.
 use Rattle.std.proofs.Common.{ℕ, zero, suc, ◌<◌, ◌≤◌, ◌^◌, Bool, true, false, if◌then◌else◌, List, [], ◌∷◌, length, Option, None, Some, unwrap_or, sym, subst, All, lit<, ⊎_elim}
 use Rattle.std.proofs.lemmas.Bool.{cases_lt}
 use Rattle.std.proofs.lemmas.List.Elements.{All-head, All-tail}
@@ -43,7 +43,7 @@ are_bytes-step image (SetLength f n) is small = are_bytes-with_file image f (Som
 are_bytes-step image (Delete f) is small = are_bytes-with_file image f None small (λ k. lit< tt)
 are_bytes-step image (Note n) is small = small
 
--- each step of a trail
+-- each step of a write trace
 pub are_bytes-along : (image : Image) (steps : List TrailStep) → IsTrail image steps → AreBytes image → Along AreBytes image steps
 are_bytes-along image [] trail small = small
 are_bytes-along image (step ∷ steps) trail small = (small, are_bytes-along (applied step image) steps trail.1 (are_bytes-step image step trail.0 small))

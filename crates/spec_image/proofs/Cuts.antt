@@ -17,7 +17,7 @@ written-none : (place : ℕ) (o : Option (List ℕ)) → written_over place [] o
 written-none place None = refl
 written-none place (Some old) = ap Some (spliced-none place old)
 
--- two writes, the second right behind the first
+-- two writes, the second right after the first
 word_join : (f : File) (place b : ℕ) (w : List ℕ) (image : Image) → applied (Word f (place + 1) w) (applied (Word f place (b ∷ [])) image) ≡ applied (Word f place (b ∷ w)) image
 word_join f place b w image =
     with_file-twice image f (written_over place (b ∷ []) (image f)) _
@@ -27,7 +27,7 @@ word_join f place b w image =
     both None = refl
     both (Some old) = ap Some (spliced-join place b w old)
 
--- the first of the steps, if it is a write, stands at this place of this file
+-- the first of the steps, if it is a write, is at this place of this file
 abbrev pub StartsAt : File → ℕ → List TrailStep → Type 0
 StartsAt f place (Word g at w ∷ steps) = (g ≡ f) × (at ≡ place)
 StartsAt f place _ = Unit {0}
@@ -128,7 +128,7 @@ before-none : (f : File) (place b : ℕ) (ys : List TrailStep) → (place + 1) %
 unfolding words before_words
 before-none f place b ys edge = before-edge f place b ys edge
 
--- what is before some bytes' words, and what is behind them
+-- what is before some bytes' words, and what is after them
 before-append : (f : File) (place b n : ℕ) (bs : List ℕ) (ys : List TrailStep) → n ≤ length bs → (place + suc n) % 4 ≡ 0
     → before_words f place b (words f (place + 1) (take n bs) ++ ys) ≡ before_words f place b (words f (place + 1) (take n bs)) ++ ys
 before-append f place b zero bs ys fits edge = before-none f place b ys edge
@@ -161,7 +161,7 @@ pub word_steps-more : (f : File) (ws : List (ℕ × ℕ)) (i : ℕ) (d : ℕ × 
 word_steps-more f ws i d within =
     ap (word_steps f) (take_more ws i d within) ∙ word_steps-append f (take i ws) (get_or ws i d ∷ []) ∙ ap (λ (s : List TrailStep). word_steps f (take i ws) ++ s) (append-nil (word_step f (get_or ws i d).0 (get_or ws i d).1))
 
--- the words up to one, that one, and those behind it
+-- the words up to one, that one, and those after it
 pub word_steps-split : (f : File) (ws : List (ℕ × ℕ)) (i : ℕ) (d : ℕ × ℕ) → i < length ws → word_steps f ws ≡ (word_steps f (take i ws) ++ word_step f (get_or ws i d).0 (get_or ws i d).1) ++ word_steps f (drop (i + 1) ws)
 word_steps-split f ws i d within =
     ap (word_steps f) (sym (take-append-drop (i + 1) ws)) ∙ word_steps-append f (take (i + 1) ws) (drop (i + 1) ws) ∙ ap (λ (s : List TrailStep). s ++ word_steps f (drop (i + 1) ws)) (word_steps-more f ws i d within)

@@ -136,7 +136,7 @@ two_footprints = (refl, refl)
 true_notes : AreTrue 0 (Note 1 ∷ Delete Index ∷ Note 2 ∷ []) × AreTrue 2 (Note 3 ∷ [])
 true_notes = ((refl, (refl, tt)), (refl, tt))
 
--- and so they are behind one another
+-- and so they are one after another
 true_notes_go_on : AreTrue 0 (Note 1 ∷ Delete Index ∷ Note 2 ∷ Note 3 ∷ [])
 true_notes_go_on = are_true-append 0 (Note 1 ∷ Delete Index ∷ Note 2 ∷ []) (Note 3 ∷ []) true_notes.0 true_notes.1
 
@@ -199,6 +199,6 @@ both_clauses : PassesTo told_before told_after (λ image. (has_file image (Exter
 unfolding told_before
 both_clauses = passes_both (record { start = small; steps = [] }) refl byte_written byte_written
 
--- a count rises, or stands at the last value
+-- a count rises, or is at the last value
 counts_rise : Rises 3 4 × Rises (2 ^ 64 - 1) (2 ^ 64 - 1)
 counts_rise = (λ below. omega arith, λ below. omega (arith, below))

@@ -73,7 +73,7 @@ steps-of P made image (x ∷ s) all = (
 pub each_step : (P : List TrailStep → Image → Type 0) (image : Image) (steps : List TrailStep) → AtEachFront P image steps → AlongFrom P [] image steps
 each_step P image steps all = steps-of P [] image steps all
 
--- Notes, one run of steps behind another.
+-- Notes, one run of steps after another.
 
 pub notes_in-append : (s t : List TrailStep) → notes_in (s ++ t) ≡ notes_in s + notes_in t
 notes_in-append [] t = omega arith

@@ -32,6 +32,6 @@ before_else a b not_before = by_kind (trichotomy (file_rank a) (file_rank b)) (t
     by_kind (inr (inr k)) (inr (inl n)) = inr (inr (k, n))
     by_kind (inr (inr k)) (inr (inr n)) = inl (same_name b a k n)
 
--- what is behind a name that isn't before another is behind the other
+-- what is after a name that isn't before another is after the other
 pub before_past : (a b c : File) → (IsBefore a b → ⊥) → IsBefore a c → IsBefore b c
 before_past a b c not_before behind = ⊎_elim (λ same. subst (λ (f : File). IsBefore f c) (sym same) behind) (λ first. before_trans b a c first behind) (before_else a b not_before)

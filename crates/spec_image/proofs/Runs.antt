@@ -46,7 +46,7 @@ part_only {a} {b} {s} t first = record {
 pub part_whole : {a b : Told} {s : List TrailStep} → Applies a b s → AppliesPrefix a b s
 part_whole {a} {b} {s} all = record { made = s; left = []; split = sym (append-nil s); applies = all }
 
--- each front of the steps leaves files that have P
+-- each prefix of the steps leaves files that have P
 pub along_front : (P : Image → Type 0) (s t : List TrailStep) (image : Image) → Along P image (s ++ t) → P (after s image)
 along_front P [] [] image all = all
 along_front P [] (x ∷ t) image all = all.0
@@ -62,12 +62,12 @@ told_after P s t None b is all image there = absurd (elim_none (sym there ∙ is
     elim_none e = cc
 told_after P s t (Some from) b is all image there = subst P (some_inj (sym is ∙ there)) (along_front P s t from (all from refl))
 
--- a part of the steps leaves files that have P, where each front of them does
+-- a part of the steps leaves files that have P, where each prefix of them does
 pub told_part : {a b : Told} {s : List TrailStep} (P : Image → Type 0) → AppliesPrefix a b s → ForSome a.files (λ image. Along P image s) → ForSome b.files P
 told_part {a} {b} {s} P part all =
     told_after P part.made part.left a.files b.files part.applies.files (λ image there. subst (Along P image) part.split (all image there))
 
--- a front of a write that ends where a word ends
+-- a prefix of a write that ends where a word ends
 pub part_of_write : (a b : Told) (f : File) (at n : ℕ) (bs : List ℕ) → n ≤ length bs → (n ≡ length bs) ⊎ (((at + n) % 4 ≡ 0) ⊎ (n ≡ 0)) → Applies a b (words f at (take n bs)) → AppliesPrefix a b (words f at bs)
 unfolding words
 part_of_write a b f at n bs fits (inl all) grows = part_whole (subst (λ (l : List ℕ). Applies a b (words f at l)) (take_all n bs (omega arith)) grows)
@@ -79,7 +79,7 @@ pub told_rel : {a b : Told} {s : List TrailStep} (P : Image → Image → Type 0
 told_rel {a} {b} {s} P part all old there new now =
     told_part (P old) part (λ image is. subst (λ (i : Image). Along (P old) i s) (some_inj (sym there ∙ is)) (all old)) new now
 
--- a front of quiet steps is quiet
+-- a prefix of quiet steps is quiet
 pub quiet_front : (s t : List TrailStep) → IsQuiet (s ++ t) → IsQuiet s
 quiet_front [] t quiet = tt
 quiet_front (Word f at bs ∷ s) t quiet = quiet_front s t quiet
@@ -198,11 +198,11 @@ passes_weaker {a} {b} {P} {P'} {Q} {Q'} first before last = record {
 pub passes_stayed : {a m b : Told} {P Q : Image → Type 0} → m ≡ a → PassesTo m b P Q → PassesTo a b P Q
 passes_stayed {a} {m} {b} {P} {Q} stays rest = subst (λ (t : Told). PassesTo t b P Q) stays rest
 
--- a folder that tells nothing owes nothing
+-- an opaque folder owes nothing
 pub part_untold : {a b : Told} (s : List TrailStep) → a.files ≡ None → a.trail ≡ None → b ≡ a → AppliesPrefix a b s
 part_untold {a} {b} s files trail same = record { made = []; left = s; split = refl; applies = grows_none same }
 
--- a part of a front of a write is a part of the write
+-- a part of a prefix of a write is a part of the write
 pub part_of_front : (a b : Told) (f : File) (at n : ℕ) (bs : List ℕ) → n ≤ length bs → (n ≡ length bs) ⊎ (((at + n) % 4 ≡ 0) ⊎ (n ≡ 0)) → AppliesPrefix a b (words f at (take n bs)) → AppliesPrefix a b (words f at bs)
 unfolding words
 part_of_front a b f at n bs fits (inl all) part = subst (λ (l : List ℕ). AppliesPrefix a b (words f at l)) (take_all n bs (omega arith)) part
@@ -227,7 +227,7 @@ same_rest (x ∷ xs) s t e = same_rest xs s t (tail e)
     tail : {a b : List TrailStep} → x ∷ a ≡ x ∷ b → a ≡ b
     tail e = cc
 
--- a trail tells the steps
+-- a write trace tells the steps
 pub same_steps : StepsOfOneCallAreOne
 same_steps a b trail s t told one other =
     let first : Some (longer s trail) ≡ Some (longer t trail) = ap (option_map (longer s)) (sym told) ∙ sym one.trail ∙ other.trail ∙ ap (option_map (longer t)) told in
@@ -244,11 +244,11 @@ passes_both {a} {b} {P} {P'} {Q} {Q'} trail told one other =
       along = λ image there. until_both P P' Q Q' one.steps image (one.along image there) (subst (λ (s : List TrailStep). Until P' Q' image s) same (other.along image there));
     }
 
--- the trail goes on
+-- the write trace goes on
 pub trail_on : {a b : Told} {P Q : Image → Type 0} (trail : Trail) → a.trail ≡ Some trail → (p : PassesTo a b P Q) → b.trail ≡ Some (longer p.steps trail)
 trail_on {a} {b} {P} {Q} trail told p = p.applies.trail ∙ ap (option_map (longer p.steps)) told
 
--- what follows some steps, from what they left, with the trail
+-- what follows some steps, from what they left, with the write trace
 pub passes_along : {a b c : Told} {P Q : Image → Type 0} (from : Image) (trail : Trail) → a.files ≡ Some from → a.trail ≡ Some trail → PassesTo a b P P
     → ((mid : Image) (more : Trail) → b.files ≡ Some mid → b.trail ≡ Some more → PassesTo b c P Q) → PassesTo a c P Q
 passes_along {a} {b} {c} {P} {Q} from trail there told first second =

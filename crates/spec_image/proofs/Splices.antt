@@ -20,7 +20,7 @@ content-spliced_before zero (y ∷ new) (x ∷ old) k h = absurd (omega arith)
 content-spliced_before (suc i) new (x ∷ old) zero h = refl
 content-spliced_before (suc i) new (x ∷ old) (suc k) h = content-spliced_before i new old k (omega arith)
 
--- behind the write
+-- after the write
 pub content-spliced_behind : (i : ℕ) (new old : List ℕ) (k : ℕ) → i + length new ≤ k → content (spliced i new old) k ≡ content old k
 unfolding spliced
 content-spliced_behind i new [] k h = refl
@@ -87,7 +87,7 @@ spliced-none i [] = refl
 spliced-none zero (x ∷ old) = refl
 spliced-none (suc i) (x ∷ old) = ap (λ (l : List ℕ). x ∷ l) (spliced-none i old)
 
--- two writes, the second right behind the first of one byte
+-- two writes, the second right after the first of one byte
 pub spliced-join : (i b : ℕ) (w old : List ℕ) → spliced (i + 1) w (spliced i (b ∷ []) old) ≡ spliced i (b ∷ w) old
 unfolding spliced
 spliced-join i b w old = ap (λ (k : ℕ). spliced k w (spliced i (b ∷ []) old)) (add-one i) ∙ join i old

@@ -1,4 +1,4 @@
--- Checks of what a file holds: each finds a damage or none.
+-- Checks of what a file holds: each finds corruption or none.
 use Rattle.std.specs.Prelude.{ℕ, ◌%◌, ◌^◌, List, [], ◌∷◌, Bool, if◌then◌else◌, Option, None, Some}
 use Rattle.spec_image.specs.Bytes.{word_at}
 use Rattle.spec_image.specs.Image.{File}
@@ -9,7 +9,7 @@ pub record Damage : Type 0 where
   pub at : ℕ
   pub found : ℕ
 
--- the first damage of these checks, each of which found one or none
+-- the first of these checks that failed, where one did
 abbrev pub first_of : List (Option Damage) → Option Damage
 first_of [] = None
 first_of (None ∷ checks) = first_of checks

@@ -26,11 +26,11 @@ WordsStayInside = (file : File) (place : ℕ) (bytes : List ℕ) (image : Image)
 abbrev pub StepsStayInside : Type 0
 StepsStayInside = (steps : List TrailStep) (image : Image) → Along (SameOutside (touched_by_all steps) image) image steps
 
--- where the trail is told, the steps of a call are known: so what two clauses of it say of each moment holds of the same steps
+-- where the write trace is told, the steps of a call are known: so what two clauses of it say of each moment holds of the same steps
 abbrev pub StepsOfOneCallAreOne : Type 0
 StepsOfOneCallAreOne = (old new : Told) (trail : Trail) (steps others : List TrailStep) → old.trail ≡ Some trail → Applies old new steps
     → Applies old new others → steps ≡ others
 
--- notes that are true, and true notes behind them
+-- notes that are true, and true notes after them
 abbrev pub NotesGoOn : Type 0
 NotesGoOn = (n : ℕ) (steps more : List TrailStep) → AreTrue n steps → AreTrue (n + notes_in steps) more → AreTrue n (steps ++ more)

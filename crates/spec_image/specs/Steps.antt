@@ -30,7 +30,7 @@ abbrev pub after : List TrailStep → Image → Image
 after [] image = image
 after (step ∷ steps) image = after steps (applied step image)
 
--- the image after the first p steps of a trail
+-- the image after the first p steps of a write trace
 abbrev pub image_at : Image → List TrailStep → ℕ → Image
 image_at start trail p = after (take p trail) start
 

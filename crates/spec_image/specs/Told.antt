@@ -23,11 +23,11 @@ AgreesWithTrail told = ForSome told.files (λ image. ForSome told.trail (λ trai
 abbrev pub TellsBytes : Told → Type 0
 TellsBytes told = ForSome told.files AreBytes
 
--- the trail with more steps
+-- the write trace with more steps
 abbrev pub longer : List TrailStep → Trail → Trail
 longer steps trail = record { start = trail.start; steps = trail.steps ++ steps }
 
--- these steps were made: the files, where told, are those after them, and the trail, where told, has them at its end
+-- these steps were made: the files, where told, are those after them, and the write trace, where told, has them at its end
 pub record Applies (old new : Told) (steps : List TrailStep) : Type 0 where
   pub files : new.files ≡ option_map (after steps) old.files
   pub trail : new.trail ≡ option_map (longer steps) old.trail
@@ -43,7 +43,7 @@ pub record AppliesPrefix (old new : Told) (steps : List TrailStep) : Type 0 wher
   pub split : steps ≡ made ++ left
   pub applies : Applies old new made
 
--- of files that are told, some of the steps that they ask for were made, from the first on; files that aren't told stay untold
+-- of files that are told, some of the steps that they ask for were made, from the first on; files that are opaque stay so
 pub record MakesPartOf (old new : Told) (steps_on : Image → List TrailStep) : Type 0 where
   pub made : ForSome old.files (λ from. AppliesPrefix old new (steps_on from))
   pub silent : old.files ≡ None → new.files ≡ None
@@ -80,11 +80,11 @@ pub record PassesTo (old new : Told) (P Q : Image → Type 0) : Type 0 where
 abbrev pub Passes : Told → Told → (Image → Type 0) → Type 0
 Passes old new P = PassesTo old new P P
 
--- the count rose, unless it stands at the last value of a u64
+-- the count rose, unless it is at the last value of a u64
 abbrev pub Rises : ℕ → ℕ → Type 0
 Rises before now = now < 2 ^ 64 - 1 → before < now
 
--- the bytes of the file from a place on, as many as fit, are at the front of the new buffer; behind them it is the old
+-- the bytes of the file from a place on, as many as fit, are at the front of the new buffer; after them it is the old
 pub record GivesBytes (image : Image) (file : File) (place : ℕ) (old new : List ℕ) (count : ℕ) : Type 0 where
   pub many : count ≡ min (length old) (length_of image file - place)
   pub front : take count new ≡ range_at (byte image file) place count

@@ -1,4 +1,4 @@
-//! What the files of a cache folder hold, and how they change: images, steps, trails and footprints.
+//! What the files of a cache folder hold, and how they change: images, steps, write traces and footprints.
 //!
 //! The crate has definitions that the contracts of the other crates cite, and their laws.
 #![tactic(auto)]
@@ -25,12 +25,13 @@ pub fn steps_stay_inside()
     ensures { StepsStayInside }
 {}
 
-/// Where the trail is told, a call made the steps that the trail has more, so two clauses of it speak of the same steps.
+/// Where the write trace is told, a call made the steps that the write trace has more, so two clauses of it speak of the
+/// same steps.
 pub fn steps_of_one_call_are_one()
     ensures { StepsOfOneCallAreOne }
 {}
 
-/// True notes go on behind true notes.
+/// True notes go on after true notes.
 pub fn notes_go_on()
     ensures { NotesGoOn }
 {}

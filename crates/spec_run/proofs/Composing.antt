@@ -1,4 +1,4 @@
--- A run goes on with a command, or stops in one, between two, or at its end.
+-- A run goes on with a command, or crashes in one, between two, or at its end.
 use Rattle.std.proofs.Common.{ℕ, ◌+◌, ◌≡◌, inl, inr, true, List, [], ◌∷◌, ◌++◌, length, Option, Some, refl, sym, ◌∙◌, ap, subst, arith, append_assoc}
 use Rattle.std.specs.Option.{option_map}
 use Rattle.std.proofs.lemmas.List.{append-nil, length-append}
@@ -31,7 +31,7 @@ use Rattle.spec_run.proofs.CommandStates.{state_after-one, state_here, next_here
 
 -- What is found.
 
--- what a stop in the next command leaves
+-- what a crash in the next command leaves
 pub left_in : (opened : State) (commands done more : List Stamped) (c : Stamped) (rows : List Row) → commands ≡ done ++ c ∷ more
     → StopOutcome (state_after opened done) c.moment c.request (state_then (state_after opened done) c) rows
     → IsLeftAt opened commands (length done) (command_after commands (length done)) rows
@@ -42,7 +42,7 @@ left_in opened commands done more c rows e outcome =
     let second = subst (λ (s : State). StopOutcome (state_at opened commands (length done)) c.moment c.request s rows) (sym next) first in
     subst (λ (o : Option Stamped). IsLeftAt opened commands (length done) o rows) (sym (next_here commands done (c ∷ more) e)) second
 
--- what a stop between two commands leaves
+-- what a crash between two commands leaves
 pub left_between : (opened : State) (commands done more : List Stamped) (rows : List Row) → commands ≡ done ++ more
     → IsValidState (state_after opened done) → rows ≡ rest (state_after opened done) → IsLeftAt opened commands (length done) (command_after commands (length done)) rows
 left_between opened commands done [] rows e valid same =
@@ -81,7 +81,7 @@ stopped_at_rest from opened commands done more steps image e marked count stands
     here : state_at opened commands (notes_in steps) ≡ state_after opened done
     here = ap (λ (n : ℕ). state_at opened commands n) count ∙ state_here opened commands done more e
 
--- behind a step that completes nothing
+-- after a step that completes nothing
 pub stopped_within : (from : Image) (opened : State) (commands : List Stamped) (n : ℕ) (made : List TrailStep) (x : TrailStep) (image : Image)
     → has_opened made ≡ true → notes_in made ≡ n → IsQuiet (x ∷ []) → IsWellFormed image → IsLeftAt opened commands n (command_after commands n) (found image)
     → IsStopped from opened commands (made ++ x ∷ []) image
@@ -122,7 +122,7 @@ quiet_along from opened commands n R gives made image (x ∷ steps) marked count
 pub some_after : {a b : Told} {s : List TrailStep} (from : Image) → a.files ≡ Some from → Applies a b s → b.files ≡ Some (after s from)
 some_after {s = s} from there applies = applies.files ∙ ap (option_map (after s)) there
 
--- a stop in a command, as one of the run
+-- a crash in a command, as one of the run
 stopped_in_left : (opened : State) (commands done more : List Stamped) (c : Stamped) → commands ≡ done ++ c ∷ more → (image : Image) → MayStop (state_after opened done) c.moment c.request image
     → IsWellFormed image × IsLeftAt opened commands (length done) (command_after commands (length done)) (found image)
 stopped_in_left opened commands done more c e image stopped = (stopped.well_formed, left_in opened commands done more c (found image) e stopped.left)
@@ -193,7 +193,7 @@ stops_with {from} {opened} {commands} {done} {old} {mid} {new} more R there befo
       few = omega (arith, count, all);
     }
 
--- a run that stands where it is
+-- a run that stays where it is
 pub stays : RunsMayStopBetween
 stays from opened done more old new before =
     let count = before.noted in

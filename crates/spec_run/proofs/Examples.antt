@@ -74,7 +74,7 @@ count_none : text_of (run count_script).turns ≡ codes "items 0 bytes 0\n"
 unfolding computing turns
 count_none = refl
 
--- a session: a line that is no word, a Create, and a byte of sparse data; the handle is closed in the end, and then the entry and its part are at rest
+-- a session: a line that is no command, a Create, and a byte of sparse data; the handle is closed in the end, and then the entry and its part are durable
 abbrev session : Run
 session = run_of (session_script 1 (lines (codes "fly 1\ncreate 0 a\nswrite 0 0 61\n"))) [] (record { max_bytes = 10000; max_items = 10 }) clock
 
@@ -98,7 +98,7 @@ two_closed : commands two_left ≡ stamped 50 (to_create 1 (codes "b")) ∷ stam
 unfolding computing percent_decode line_fields number_field data_field key_field reading command_words read_text key_text data_text reply_text session_script turns with_bytes state_after closings commands
 two_closed = refl
 
--- a run that ended after its first turn closes what that left open
+-- a run that ended after its first iteration closes what that left open
 one_closed : commands (cut_after 1 two_left) ≡ stamped 50 (to_create 1 (codes "b")) ∷ stamped 100 (to_close 1) ∷ []
 unfolding computing percent_decode line_fields number_field data_field key_field reading command_words read_text key_text data_text reply_text session_script turns with_bytes state_after closings commands
 one_closed = refl

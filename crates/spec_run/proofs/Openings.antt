@@ -1,4 +1,4 @@
--- A run begins with an opening, or stops in it.
+-- A run begins with an opening, or crashes in it.
 use Rattle.std.proofs.Common.{ℕ, ◌+◌, ◌≡◌, inl, inr, true, false, ◌||◌, List, [], ◌∷◌, ◌++◌, Some, refl, sym, ◌∙◌, ap, subst, arith, append_assoc}
 use Rattle.spec_image.specs.Image.{Image}
 use Rattle.spec_image.specs.Steps.{TrailStep, applied, after}

@@ -1,4 +1,4 @@
--- Entries that a command leaves as they are, wherever it is stopped.
+-- Entries that a command leaves as they are, wherever it crashes.
 use Rattle.std.proofs.Common.{ℕ, zero, suc, ◌+◌, ◌<◌, ◌≡◌, Bool, true, List, [], ◌∷◌, length, take, drop, get_or, Option, None, Some, refl, sym, ◌∙◌, ap, subst, arith}
 use Rattle.std.specs.List.{Contains, cons_option, filter_map}
 use Rattle.spec_image.specs.Notes.{notes_in}
@@ -12,7 +12,7 @@ use Rattle.spec_run.specs.Moments.{IsLeftAt}
 use Rattle.spec_run.specs.Run.{Stamped, first_in, state_after, state_at, state_then}
 use Rattle.spec_run.specs.Laws.{IsLeftAlone, RestsAreFound, SettledEntriesAreFound}
 
--- what is among some elements is so behind one more
+-- what is among some elements is so after one more
 behind_option : {Y : Type 0} (o : Option Y) (ys : List Y) (y : Y) → Contains ys y → Contains (cons_option o ys) y
 behind_option None ys y there = there
 behind_option (Some z) ys y there = (suc there.0, omega (arith, there.1), there.2)
@@ -38,7 +38,7 @@ safe_picked : (before after : State) (with : Bool) (item : Item) (number : ℕ) 
 unfolding picked picked_by
 safe_picked before after with item number row owned safe row_is = rw (owned, safe, row_is) refl
 
--- what a stop in a command leaves has each entry that it leaves as it is
+-- what a crash in a command leaves has each entry that it leaves as it is
 left_alone : (state : State) (command : Stamped) (held : List Row) (item : Item) (row : Row) → StopOutcome state command.moment command.request (state_then state command) held → IsLeftAlone state command item row → Contains held row
 unfolding pick
 left_alone state command held item row outcome alone =

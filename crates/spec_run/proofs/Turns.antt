@@ -1,4 +1,4 @@
--- Turns behind turns.
+-- Iterations after iterations.
 use Rattle.std.proofs.Common.{ℕ, ◌+◌, ◌≡◌, List, [], ◌∷◌, ◌++◌, length, take, Result, Ok, Err, refl, sym, ◌∙◌, ap, arith, append_assoc}
 use Rattle.std.proofs.Math.Seq.{take-append_seam}
 use Rattle.std.proofs.lemmas.List.{append-nil, drop-drop, length-append}
@@ -85,7 +85,7 @@ unfolding turns state_after
 played_line number (Err why) following state clock = record { all = refl; state_is = refl; clock_is = refl }
 played_line number (Ok request) following state clock = record { all = refl; state_is = refl; clock_is = refl }
 
--- a line's own turns, and those of what follows it
+-- a line's own iterations, and those of what follows it
 line_first : (number : ℕ) (read : Result Request LineFault) (following : Script) (state : State) (clock : Readings)
     → turns (line_script number read following) state clock
     ≡ turns (line_script number read ended) state clock
@@ -147,7 +147,7 @@ run_whole script found limits readings made now readings_now played =
     let same : turns script opened (later_of readings) ≡ made = played.all ∙ append-nil made in
     (same, cut_same opened (later_of readings) (turns script opened (later_of readings)) made now readings_now same played.state_is played.clock_is)
 
--- a run has the commands of the turns that were made first
+-- a run has the commands of the iterations that were made first
 pub commands_first : PlayedCommandsComeFirst
 unfolding commands
 commands_first script found limits readings made left now readings_now played =

@@ -1,4 +1,4 @@
--- The laws by which a run composes: an opening, commands one after another, the closing, and the turns of a script.
+-- The laws by which a run composes: an opening, commands one after another, the closing, and the iterations of a script.
 use Rattle.std.specs.Prelude.{◌≡◌, ◌<◌, ◌≤◌, ◌+◌, ◌*◌, ◌^◌, ℕ, Bool, true, false, List, [], ◌∷◌, ◌++◌, length, Some, None, is_some, slice_set}
 use Rattle.std.specs.List.{Contains}
 use Rattle.std.specs.Option.{ForSome}
@@ -33,7 +33,7 @@ use Rattle.spec_run.specs.Playing.{IsPlayed}
 abbrev pub RunsBegin : Type 0
 RunsBegin = (from : Image) (opened : State) (old new : Told) → old.files ≡ Some from → IsUsable from → Opens from opened old new → Progress from opened [] old new
 
--- and in an opening that failed it may stop, whatever commands would follow
+-- and in an opening that failed it may crash, whatever commands would follow
 abbrev pub RunsMayStopInTheOpening : Type 0
 RunsMayStopInTheOpening = (from : Image) (opened : State) (commands : List Stamped) (old new : Told) → old.files ≡ Some from → IsUsable from → FailsToOpen from opened old new → Stops from opened commands old new
 
@@ -49,12 +49,12 @@ abbrev pub RunsGoOnInTurn : Type 0
 RunsGoOnInTurn = (from : Image) (opened : State) (done more : List Stamped) (old mid new : Told) → old.files ≡ Some from → Progress from opened done old mid
     → AreNoted mid new (state_after opened done) (length done + 1) more → Progress from opened (done ++ more) old new
 
--- in a command that is made in part, or done and noted, a run may stop
+-- in a command that is made in part, or done and noted, a run may crash
 abbrev pub RunsMayStopInACommand : Type 0
 RunsMayStopInACommand = (from : Image) (opened : State) (done more : List Stamped) (old mid new : Told) (command : Stamped) → old.files ≡ Some from → Progress from opened done old mid
     → IsStepped mid new command.moment command.request (length done + 1) (state_after opened done) → Stops from opened (done ++ command ∷ more) old new
 
--- and it may stop where it is, whatever commands would follow
+-- and it may crash where it is, whatever commands would follow
 abbrev pub RunsMayStopBetween : Type 0
 RunsMayStopBetween = (from : Image) (opened : State) (done more : List Stamped) (old new : Told) → Progress from opened done old new → Stops from opened (done ++ more) old new
 
@@ -74,9 +74,9 @@ abbrev pub RunsEnd : Type 0
 RunsEnd = (from : Image) (opened : State) (commands : List Stamped) (old mid new : Told) → old.files ≡ Some from → Progress from opened commands old mid
     → ForSome mid.files (λ image. Passes mid new (HoldsStill image)) → IsWholeRun from opened commands old new
 
--- Turns.
+-- Iterations.
 
--- the turns of some lines and of those behind them: these begin where the others left the state and the clock
+-- the iterations of some lines and of those after them: these begin where the others left the state and the clock
 abbrev pub LinesArePlayedInTurn : Type 0
 LinesArePlayedInTurn = (number : ℕ) (texts more : List (List ℕ)) (state : State) (clock : Readings)
     → IsPlayed (session_script number (texts ++ more)) state clock (turns (session_script number texts) state clock) (session_script (number + length texts) more)
@@ -86,7 +86,7 @@ LinesArePlayedInTurn = (number : ℕ) (texts more : List (List ℕ)) (state : St
 abbrev pub NothingIsPlayed : Type 0
 NothingIsPlayed = (script : Script) (state : State) (clock : Readings) → IsPlayed script state clock [] script state clock
 
--- a command is played: its turn is made, and what follows its outcome is left
+-- a command is played: its iteration is made, and what follows its outcome is left
 abbrev pub CommandsArePlayed : Type 0
 CommandsArePlayed = (script : Script) (state : State) (clock : Readings) (made : List Turn) (request : Request) (shown : Outcome → Bool) (next : Outcome → Script) (now : State) (readings : Readings)
     → IsPlayed script state clock made (asks request shown next) now readings
@@ -108,7 +108,7 @@ abbrev pub PlayingGoesOn : Type 0
 PlayingGoesOn = (script : Script) (state : State) (clock : Readings) (made : List Turn) (left : Script) (now : State) (readings : Readings) (more : List Turn) (last : Script) (state_last : State) (clock_last : Readings)
     → IsPlayed script state clock made left now readings → IsPlayed left now readings more last state_last clock_last → IsPlayed script state clock (made ++ more) last state_last clock_last
 
--- of a script that was played up to some turns, the run that is cut there has these turns; then its names are closed
+-- of a script that was played up to some iterations, the run that is cut there has these iterations; then its names are closed
 abbrev pub PlayedRunsAreCut : Type 0
 PlayedRunsAreCut = (script : Script) (found : List Row) (limits : Bounds) (readings : Readings) (made : List Turn) (left : Script) (now : State) (readings_now : Readings)
     → IsPlayed script (open_state found limits) (later_of readings) made left now readings_now
@@ -138,7 +138,7 @@ CommandsAreFew = (number : ℕ) (bytes : List ℕ) (state : State) (clock : Read
 
 -- Lines.
 
--- bytes that come later are cut behind those that came before: whole lines stay, and what had no end goes on
+-- bytes that come later are cut after those that came before: whole lines stay, and what had no end goes on
 abbrev pub LinesGoOn : Type 0
 LinesGoOn = (cut : Cut) (bytes more : List ℕ) → (with_bytes cut (bytes ++ more) ≡ with_bytes (with_bytes cut bytes) more)
     × ((with_bytes cut more).whole ≡ cut.whole ++ (with_bytes (record { whole = []; rest = cut.rest }) more).whole)
@@ -175,7 +175,7 @@ BoundNamesAreFew = (state : State) → IsValidState state → length (bound_name
 
 -- What the next opening finds.
 
--- an entry that a command leaves as it is: it is safe, and its item is listed at each step of the command on the use list
+-- an entry that a command leaves as it is: it is safe, and its item is listed at each step of the command on the LRU list
 pub record IsLeftAlone (state : State) (command : Stamped) (item : Item) (row : Row) : Type 0 where
   pub number : ℕ
   pub owned : owner state item ≡ Some number
@@ -183,12 +183,12 @@ pub record IsLeftAlone (state : State) (command : Stamped) (item : Item) (row : 
   pub row_is : row_of state item ≡ Some row
   pub listed : (count : ℕ) → count ≤ length (list_steps state command.moment command.request) → Contains (list_after state command.moment command.request count) item
 
--- wherever a run is stopped once its folder is opened, each settled entry that the next command leaves as it is is found with its exact bytes
+-- wherever a run crashes once its folder is opened, each clean entry that the next command leaves as it is is found with its exact bytes
 abbrev pub SettledEntriesAreFound : Type 0
 SettledEntriesAreFound = (from : Image) (opened : State) (commands : List Stamped) (steps : List TrailStep) (image : Image) (command : Stamped) (item : Item) (row : Row) → IsStopped from opened commands steps image → has_opened steps ≡ true
     → command_after commands (notes_in steps) ≡ Some command → IsLeftAlone (state_at opened commands (notes_in steps)) command item row → Contains (found image) row
 
--- and where no command is left just what is at rest is found
+-- and where no command is left just the durable contents are recovered
 abbrev pub RestsAreFound : Type 0
 RestsAreFound = (from : Image) (opened : State) (commands : List Stamped) (steps : List TrailStep) (image : Image) → IsStopped from opened commands steps image → has_opened steps ≡ true
     → command_after commands (notes_in steps) ≡ None → found image ≡ rest (state_at opened commands (notes_in steps))

@@ -1,12 +1,12 @@
 -- Bytes cut into lines.
 use Rattle.std.specs.Prelude.{ℕ, ◌==◌, List, [], ◌∷◌, ◌++◌, cond}
 
--- bytes cut at the ends of lines: the lines that have an end, and what stands behind the last end
+-- bytes cut at the ends of lines: the lines that have an end, and what comes after the last end
 pub record Cut : Type 0 where
   pub whole : List (List ℕ)
   pub rest : List ℕ
 
--- a byte more, behind what is cut: it ends a line or belongs to the rest
+-- a byte more, after what is cut: it ends a line or belongs to the rest
 abbrev pub with_byte : Cut → ℕ → Cut
 with_byte cut byte = cond (byte == 10) (record { whole = cut.whole ++ cut.rest ∷ []; rest = [] }) (record { whole = cut.whole; rest = cut.rest ++ byte ∷ [] })
 

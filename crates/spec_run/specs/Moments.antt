@@ -1,4 +1,4 @@
--- What a stop leaves after some steps of a call that opens a folder and then makes commands in turn.
+-- What a crash leaves after some steps of a call that opens a folder and then makes commands in turn.
 use Rattle.std.specs.Prelude.{ℕ, ◌≡◌, ◌+◌, true, false, List, [], ◌∷◌, ◌++◌}
 use Rattle.std.specs.declared.option.Option.{Option}
 use Rattle.std.specs.declared.option.Option.TheVariants.{None, Some}
@@ -15,25 +15,26 @@ use Rattle.spec_folder.specs.StandsFor.{StandsFor}
 use Rattle.spec_run.specs.Run.{Stamped, state_at, command_after}
 use Rattle.spec_run.specs.Opening.{IsUsable, has_opened, marks_open}
 
--- a step is a note, or ends the opening, behind the steps before it
+-- a step is a note, or ends the opening, after the steps before it
 abbrev pub Completes : List TrailStep → TrailStep → Type 0
 Completes before (Note number) = Unit {0}
 Completes before (Word file place bytes) = (has_opened before ≡ false) × (marks_open (Word file place bytes) ≡ true)
 Completes before (SetLength file length) = ⊥
 Completes before (Delete file) = ⊥
 
--- what is found where commands are made in turn, and n of them are done: a stop outcome of the next, or what is at rest where there is none
+-- what is found where commands are made in turn, and n of them are done: a crash outcome of the next, or the durable contents where there
+-- is none
 abbrev pub IsLeftAt : State → List Stamped → ℕ → Option Stamped → List Row → Type 0
 IsLeftAt opened commands n None rows = rows ≡ rest (state_at opened commands n)
 IsLeftAt opened commands n (Some next) rows = StopOutcome (state_at opened commands n) next.moment next.request (state_at opened commands (n + 1)) rows
 
--- what a stop after these steps may leave, where commands are made in turn from the state that was opened on what was found
+-- what a crash after these steps may leave, where commands are made in turn from the state that was opened on what was found
 pub record IsLeft (found : List Row) (opened : State) (commands : List Stamped) (steps : List TrailStep) (rows : List Row) : Type 0 where
   -- before the opening has ended it is what was found
   pub opening : has_opened steps ≡ false → rows ≡ found
-  -- later it is a stop outcome of the next command, and what is at rest where there is none
+  -- later it is a crash outcome of the next command, and the durable contents where there is none
   pub later : has_opened steps ≡ true → IsLeftAt opened commands (notes_in steps) (command_after commands (notes_in steps)) rows
-  -- directly after a note, and at the end of the opening, it is exactly what is at rest
+  -- directly after a note, and at the end of the opening, it is exactly the durable contents
   pub completed : (before : List TrailStep) (step : TrailStep) → steps ≡ before ++ step ∷ [] → Completes before step → rows ≡ rest (state_at opened commands (notes_in steps))
 
 -- the folder after these steps of a call that began with an image
@@ -41,7 +42,7 @@ pub record IsStopped (from : Image) (opened : State) (commands : List Stamped) (
   -- it is unfinished or well formed, and unfinished only while it is being made
   pub usable : IsUsable image
   pub making : IsUnfinished image → IsUnfinished from × (has_opened steps ≡ false)
-  -- it holds what a stop may leave
+  -- it holds what a crash may leave
   pub left : IsLeft (found from) opened commands steps (found image)
   -- before the opening has ended no command is noted
   pub unnoted : has_opened steps ≡ false → notes_in steps ≡ 0

@@ -13,7 +13,7 @@ use Rattle.blk_model.specs.State.{State}
 use Rattle.spec_folder.specs.Found.{found}
 use Rattle.spec_folder.specs.StandsFor.{StandsFor}
 
--- a folder that a session may be opened on, and that each stop leaves
+-- a folder that a session may be opened on, and that each crash leaves
 abbrev pub IsUsable : Image → Type 0
 IsUsable image = IsUnfinished image ⊎ IsWellFormed image
 

@@ -14,7 +14,7 @@ use Rattle.spec_run.specs.Run.{Stamped, state_after, state_then}
 use Rattle.spec_run.specs.Moments.{IsStopped}
 use Rattle.spec_run.specs.Opening.{has_opened}
 
--- the steps of a call that began with an image, where commands are made in turn: after each front of them the folder is as a stop may leave it, and the notes are true and no more than the commands
+-- the steps of a call that began with an image, where commands are made in turn: after each prefix of them the folder is as a crash may leave it, and the notes are true and no more than the commands
 pub record Stops (from : Image) (opened : State) (commands : List Stamped) (old new : Told) : Type 0 where
   pub steps : List TrailStep
   pub applies : Applies old new steps
@@ -22,14 +22,14 @@ pub record Stops (from : Image) (opened : State) (commands : List Stamped) (old 
   pub notes : AreTrue 0 steps
   pub few : notes_in steps ≤ length commands
 
--- a whole run: the folder was opened, each command has its note, and in the end what is at rest after them is found
+-- a whole run: the folder was opened, each command has its note, and in the end the durable contents after them are recovered
 pub record IsWholeRun (from : Image) (opened : State) (commands : List Stamped) (old new : Told) : Type 0 where
   pub stops : Stops from opened commands old new
   pub opens : has_opened stops.steps ≡ true
   pub noted : notes_in stops.steps ≡ length commands
   pub holds : ForSome new.files (λ image. found image ≡ rest (state_after opened commands))
 
--- the folder was opened and these commands are done, since a call began with an image: whatever commands follow, after each front of the steps the folder is as a stop may leave it, and now it stands for the state after the commands
+-- the folder was opened and these commands are done, since a call began with an image: whatever commands follow, after each prefix of the steps the folder is as a crash may leave it, and now it stands for the state after the commands
 pub record Progress (from : Image) (opened : State) (done : List Stamped) (old new : Told) : Type 0 where
   pub steps : List TrailStep
   pub applies : Applies old new steps

@@ -25,21 +25,21 @@ outcome_in state command = step state command.moment command.request
 abbrev pub state_then : State → Stamped → State
 state_then state command = (outcome_in state command).state
 
--- a turn of a run: the command, where it is one; what is printed; and whether that is a refusal or a fault
+-- an iteration of a run: the command, where it is one; what is printed; and whether that is a refusal or a fault
 pub record Turn : Type 0 where
   pub command : Option Stamped
   pub text : List ℕ
   pub refuses : Bool
 
--- the turn of a line that is no command
+-- the iteration of a line that is no command
 abbrev pub error_turn : List ℕ → Turn
 error_turn text = record { command = None; text = text; refuses = true }
 
--- the turn of a text of the state
+-- the iteration of a text of the state
 abbrev pub text_turn : List ℕ → Turn
 text_turn text = record { command = None; text = text; refuses = false }
 
--- the turn of a command, whose reply is shown or not: a refusal that isn't shown doesn't count
+-- the iteration of a command, whose reply is shown or not: a refusal that isn't shown doesn't count
 abbrev pub command_turn : Stamped → Bool → Outcome → Turn
 command_turn command shown outcome = record {
   command = Some command;
@@ -51,7 +51,7 @@ command_turn command shown outcome = record {
 abbrev pub stamped_by : Readings → Request → Stamped
 stamped_by clock request = record { moment = reading_of clock; request = request }
 
--- the turns of a script from a state on, with the readings to come: each command at the next reading
+-- the iterations of a script from a state on, with the readings to come: each command at the next reading
 unfoldable pub turns : Script → State → Readings → List Turn
 turns ended state clock = []
 turns (errs number why script) state clock = error_turn (line_fault_text number why) ∷ turns script state clock
@@ -61,11 +61,11 @@ turns (asks request shown script) state clock =
     let outcome = outcome_in state command in
     command_turn command (shown outcome) outcome ∷ turns (script outcome) outcome.state (later_of clock)
 
--- the commands of turns
+-- the commands of iterations
 abbrev pub commands_of : List Turn → List Stamped
 commands_of turns = filter_map (λ turn. turn.command) turns
 
--- what turns print
+-- what iterations print
 abbrev pub text_of : List Turn → List ℕ
 text_of turns = flat_map (λ turn. turn.text) turns
 
@@ -101,7 +101,7 @@ closings (name ∷ names) clock = stamped_by clock (to_close name) ∷ closings 
 
 -- Runs.
 
--- a run: the state that was opened, the readings to come, and the turns up to the closings
+-- a run: the state that was opened, the readings to come, and the iterations up to the closings
 pub record Run : Type 0 where
   pub opened : State
   pub clock : Readings
@@ -113,7 +113,7 @@ run_of script found limits readings =
     let opened = open_state found limits in
     record { opened = opened; clock = later_of readings; turns = turns script opened (later_of readings) }
 
--- the same run, ended after so many turns
+-- the same run, ended after so many iterations
 abbrev pub cut_after : ℕ → Run → Run
 cut_after count run = record { opened = run.opened; clock = run.clock; turns = take count run.turns }
 

@@ -64,7 +64,7 @@ unfoldable pub session_script : ℕ → List (List ℕ) → Script
 session_script number [] = ended
 session_script number (text ∷ texts) = line_script number (read_text text) (session_script (number + 1) texts)
 
--- The scripts of the other words.
+-- The scripts of the other subcommands.
 
 -- commands up to the first that is refused, each with its reply
 unfoldable pub until_refused : List Request → Script
@@ -87,7 +87,7 @@ doom_script key = until_refused (to_doom_key key ∷ [])
 abbrev pub trim_script : ℕ → Script
 trim_script bytes = until_refused (to_trim bytes ∷ [])
 
--- behind the Open of `put`: an entry that is missing is created, and any other refusal ends the script
+-- after the Open of `put`: an entry that is missing is created, and any other refusal ends the script
 abbrev pub put_after : Outcome → List ℕ → List Request → Script
 put_after opened key requests = if is_missing opened then until_refused (to_create 0 key ∷ requests) else if is_refused opened then ended else until_refused requests
 

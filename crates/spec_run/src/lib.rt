@@ -1,18 +1,19 @@
-//! The run of a script over the map model, and what a stop after any of its steps leaves of the folder.
+//! The run of a script over the map model, and what a crash after any of its steps leaves of the folder.
 //!
-//! The crate has the definitions that the contracts of a session and of the other words cite, and the laws by which a
-//! run composes, each the contract of a function with an empty body.
+//! The crate has the definitions that the contracts of a session and of the other subcommands cite, and the laws by
+//! which a run composes, each the contract of a function with an empty body.
 #![tactic(auto)]
 
 ghost use Rattle.spec_run.specs.Laws.{AskedCommandsAreNext, BoundNamesAreFew, ClosesFreeTheirName, CommandsAreFew, CommandsArePlayed, ErrorsArePlayed, LeastNamesAreClosedFirst, LinesArePlayedInTurn, LinesGoOn, NoneIsClosedWhereNoneIsBound, NoteNumbersAreExact, NotedCommandsFollow, NothingIsPlayed, PlayedCommandsComeFirst, PlayedRunsAreCut, PlayedRunsAreWhole, PlayingGoesOn, RestsAreFound, RunsBegin, RunsEnd, RunsGoOn, RunsGoOnInTurn, RunsMayStopBetween, RunsMayStopInACommand, RunsMayStopInTheOpening, SettledEntriesAreFound, TextsArePlayed, WholeLinesComeFirst};
 
-/// A run begins with an opening. Where the opening failed a stop in any run may leave what it left.
+/// A run begins with an opening. Where the opening failed a crash in any run may leave what it left.
 pub fn runs_begin()
     ensures begins { RunsBegin }
     ensures failed { RunsMayStopInTheOpening }
 {}
 
-/// A run goes on with each command that is done and noted. It may stop in a command that is made in part, and between two.
+/// A run goes on with each command that is done and noted. It may crash in a command that is made in part, and between
+/// two.
 pub fn runs_go_on()
     ensures command { RunsGoOn }
     ensures in_turn { RunsGoOnInTurn }
@@ -27,8 +28,8 @@ pub fn runs_end()
     ensures { RunsEnd }
 {}
 
-/// A script is played turn after turn, and lines behind lines. What was played of it is a run that is cut there, or whole;
-/// then its names are closed.
+/// A script is played one iteration after another, and lines after lines. What was played of it is a run that is cut
+/// there, or whole; then its names are closed.
 pub fn scripts_are_played()
     ensures nothing { NothingIsPlayed }
     ensures command { CommandsArePlayed }
@@ -42,7 +43,7 @@ pub fn scripts_are_played()
     ensures next { AskedCommandsAreNext }
 {}
 
-/// Bytes that come later are cut behind those that came before. A session has no more commands than half its bytes and one.
+/// Bytes that come later are cut after those that came before. A session has no more commands than half its bytes and one.
 pub fn lines_go_on()
     ensures cut { LinesGoOn }
     ensures whole { WholeLinesComeFirst }
@@ -57,8 +58,8 @@ pub fn least_names_are_closed_first()
     ensures few { BoundNamesAreFew }
 {}
 
-/// Wherever a run is stopped once its folder is opened, each settled entry that the command in progress leaves as it is is
-/// found with its exact bytes; with no command in progress just what is at rest is found.
+/// Wherever a run crashes once its folder is opened, each clean entry that the command in progress leaves as it is is
+/// found with its exact bytes; with no command in progress just the durable contents are recovered.
 pub fn settled_entries_are_found()
     ensures settled { SettledEntriesAreFound }
     ensures rests { RestsAreFound }

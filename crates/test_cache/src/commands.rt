@@ -8,7 +8,7 @@ use std::test::Fail;
 use test_folders::stopping::{Mem, empty};
 use test_sessions::sessions::{LIMITS, Session};
 
-// Limits with room for three items.
+// Limits with space for three items.
 const THREE_ITEMS: Limits = Limits {
     max_bytes: 83_886_080,
     max_items: 3,
@@ -79,7 +79,7 @@ fn objects_are_found_by_their_chains(rt: HostRuntime) -> Result<(), Fail> {
     Ok(())
 }
 
-// A session with room for three items, in which the three keys were made and closed, one after another.
+// A session with space for three items, in which the three keys were made and closed, one after another.
 fn three_objects(alloc: Global) -> Result<Session, Fail> {
     let mut session = Session::over(alloc, empty(alloc), THREE_ITEMS)?;
     for key in KEYS {
@@ -105,7 +105,7 @@ fn the_middle_of_three_keys_of_a_bucket_is_evicted(rt: HostRuntime) -> Result<()
     let printed = b"ok\nok\nok\nok\nok\nok\nok\nevicted jio\nok\nrefused 3 Missing\nok\nok\nok\n";
     assert_eq!(rt; session.out.written(), printed.as_slice());
 
-    // All three are open: there is no room for one more.
+    // All three are open: there is no space for one more.
     let (answer, _) = create(&mut session, 6, middle)?;
     assert_eq!(rt; answer, Answer::Refused(Refusal::Full));
     let (totals, _) = session.step(&Command::Total)?;

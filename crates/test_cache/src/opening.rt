@@ -1,4 +1,4 @@
-// The opening and the end of a cache: on an empty folder, on one of many entries, and on damaged ones where it is stopped.
+// The opening and the end of a cache: on an empty folder, on one of many entries, and on corrupt ones where it crashes.
 use blk_audit::ScanFault;
 use blk_cache::{Cache, OpenFault};
 use blk_io::{FileId, Folder, MemFolder, SilentFolder, read_word};
@@ -24,7 +24,7 @@ const MOMENT: u64 = 7;
 // More steps than the opening of any of these folders takes.
 const MOST_STEPS: u64 = 50;
 
-// An opening that follows on a stopped one is stopped after so many steps.
+// An opening that follows on a crashed one crashes after so many steps.
 const NEXT_STEPS: [u64; 8] = [0, 1, 2, 3, 10, 20, 30, 40];
 
 // What a session shows: its items and bytes, its number, and the crash word once it is opened and once it is ended.
@@ -86,7 +86,7 @@ fn opened(alloc: Global, f: &mut Mem) -> Result<((u64, u64), bool), OpenFault> {
     Ok((cache.totals(), number == before.wrapping_add(1)))
 }
 
-// Whether an opening shows these items and bytes, in the session with the next number; or none where it is stopped.
+// Whether an opening shows these items and bytes, in the session with the next number; or none where it crashes.
 fn shows(alloc: Global, f: &mut Mem, totals: (u64, u64)) -> Option<bool> {
     match opened(alloc, f) {
         Ok((shown, is_next)) => Some(shown == totals && is_next),
@@ -95,7 +95,7 @@ fn shows(alloc: Global, f: &mut Mem, totals: (u64, u64)) -> Option<bool> {
     }
 }
 
-// Whether an opening of what a stopped one left shows what was found before, or is stopped after so many steps, and a third one
+// Whether an opening of what a crashed one left shows what was found before, or crashes after so many steps, and a third one
 // shows it, after which the same is found.
 fn shows_in_the_end(alloc: Global, f: Mem, steps: u64, before: Found) -> Result<bool, ScanFault> {
     let mut f = again(f, steps);
@@ -106,7 +106,7 @@ fn shows_in_the_end(alloc: Global, f: Mem, steps: u64, before: Found) -> Result<
     Ok(second != Some(false) && third == Some(true) && after == before)
 }
 
-// Whether all ends well where the first opening is stopped after so many steps, wherever the second one is; and whether the first
+// Whether all ends well where the first opening crashes after so many steps, wherever the second one is; and whether the first
 // one came to its end.
 fn is_opened_again(
     alloc: Global,
@@ -126,8 +126,8 @@ fn is_opened_again(
     Ok((true, ended))
 }
 
-// How many steps an opening takes, where all ends well at each stop before; or none, where it doesn't, or where the opening takes
-// more than so many.
+// How many steps an opening takes, where all ends well at each crash before; or none, where it doesn't, or where the opening
+// takes more than so many.
 fn steps_of(alloc: Global, changes: &[Change]) -> Result<Option<u64>, Fail> {
     let mut f = changed(alloc, true, changes, u64::MAX)?;
     let before = found_now(alloc, &mut f)?;

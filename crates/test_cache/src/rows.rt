@@ -59,7 +59,7 @@ fn a_long_stream_has_a_file_until_it_is_short(rt: HostRuntime) -> Result<(), Fai
     assert_eq!(rt; session.out.written(), b"ok\nok 1\nok 10\n".as_slice());
     assert_eq!(rt; session.f.length(FileId::External(1)), Ok(None));
 
-    // One block of 256 bytes, behind that of the record.
+    // One block of 256 bytes, after that of the record.
     assert_eq!(rt; storage_of(&mut session.f, 0), Ok([10, 0xA001_0001]));
     Ok(())
 }
@@ -120,8 +120,8 @@ fn commands_are_refused_in_their_order(rt: HostRuntime) -> Result<(), Fail> {
     Ok(())
 }
 
-// A session with room for a thousand bytes and four closed objects, charged 40, 300, 300 and 300. Of the first a handle more is
-// open where that is asked for.
+// A session with space for a thousand bytes and four closed objects, charged 40, 300, 300 and 300. Of the first a handle more
+// is open where that is asked for.
 fn four_objects(alloc: Global, first_is_open: bool) -> Result<Session, Fail> {
     let mut session = Session::over(alloc, empty(alloc), THOUSAND)?;
     let names: [&[u8]; 4] = [b"create 0 a", b"create 0 b", b"create 0 c", b"create 0 d"];

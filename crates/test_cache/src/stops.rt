@@ -1,4 +1,4 @@
-// Commands that are stopped at each of their words.
+// Commands that crash at each of their words.
 use crate::parts::sparse_folder;
 use blk_model::Limits;
 use std::alloc::Global;
@@ -6,7 +6,7 @@ use std::test::Fail;
 use test_folders::stopping::empty;
 use test_sessions::sessions::{Held, LIMITS, Session, held};
 
-// Limits with room for three items.
+// Limits with space for three items.
 const THREE_ITEMS: Limits = Limits {
     max_bytes: 83_886_080,
     max_items: 3,
@@ -15,8 +15,8 @@ const THREE_ITEMS: Limits = Limits {
 // More steps than any of these commands takes.
 const MOST_STEPS: u64 = 300;
 
-// A command that is stopped: the folder, the lines before, its line, and how many items are held with how many bytes where it is
-// stopped at once and where it is done.
+// A command that crashes: the folder, the lines before, its line, and how many items are held with how many bytes where it
+// crashes at once and where it is done.
 #[derive(Clone, Copy)]
 struct Case<'a> {
     sparse: bool,
@@ -27,7 +27,7 @@ struct Case<'a> {
     last: (u64, u64),
 }
 
-// What is held where the command is stopped after so many steps, and whether it came to its end.
+// What is held where the command crashes after so many steps, and whether it came to its end.
 fn held_at(alloc: Global, case: &Case<'_>, steps: u64) -> Result<(Held, bool), Fail> {
     let f = if case.sparse {
         sparse_folder(alloc)?

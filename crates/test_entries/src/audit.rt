@@ -1,4 +1,4 @@
-// The walk and the chains of a small folder in memory that tells nothing.
+// The walk and the chains of a small opaque folder in memory.
 use crate::folders::put_all;
 use blk_addr::Claims;
 use blk_audit::{ScanFault, Walked, chains, read_lists, walk};
@@ -9,7 +9,8 @@ use std::test::Fail;
 
 type Silent = SilentFolder<StopFolder>;
 
-// A folder with an index of zeros and four block files, of which the first has room for 1024 nodes, and the second for 144 records.
+// A folder with an index of zeros and four block files, of which the first has space for 1024 nodes, and the second for 144
+// records.
 fn folder(alloc: Global) -> Result<Silent, Failed> {
     let inner = StopFolder::new(MemFolder::without_trail(alloc), u64::MAX);
     let mut f = SilentFolder::new(inner);
@@ -23,7 +24,7 @@ fn link(f: &mut Silent, n: u32, next: u32, prev: u32) -> Result<(), Failed> {
     write_word(f, FileId::Block(0), 8192 + 36 * u64::from(n) + 20, prev)
 }
 
-// The words of the first three walked nodes, and zeros behind them.
+// The words of the first three walked nodes, and zeros after them.
 fn words_of(walked: &Walked) -> [u32; 3] {
     let mut words = [0; 3];
     for i in 0..3 {
@@ -39,7 +40,7 @@ const NODES: [u32; 3] = [0x9000_0000, 0x9000_0001, 0x9000_03FF];
 
 const RECORDS: [u32; 3] = [0xA001_0000, 0xA001_0001, 0xA001_0002];
 
-// A folder whose list begins with the second node, behind which are the third and the first.
+// A folder whose list begins with the second node, after which are the third and the first.
 fn listed(alloc: Global) -> Result<Silent, Failed> {
     let [a, b, c] = NODES;
     let mut f = folder(alloc)?;

@@ -1,4 +1,4 @@
-// Chains in a folder in memory that tells nothing.
+// Chains in an opaque folder in memory.
 ghost use Rattle.std.specs.Prelude.{◌≡◌, ◌<◌, ◌^◌, IfSome, IsTrue};
 ghost use Rattle.spec_format.specs.Address.{blocks_256, kind_of};
 ghost use Rattle.blk_disk.specs.Tables.{stands_among};
@@ -13,7 +13,7 @@ use blk_record::{EntryMut, RecordMut, super_fast_hash};
 use std::alloc::Global;
 use std::test::Fail;
 
-// A folder in memory that tells nothing.
+// An opaque folder in memory.
 pub(crate) type Silent = SilentFolder<MemFolder>;
 
 // Three keys of one bucket, with their hashes, and two keys of one hash. The hashes are from a program of the
@@ -75,7 +75,7 @@ pub(crate) fn put_record(
     f.write_at(FileId::Block(1), place_of(word) + 96, key)
 }
 
-// The record of a word, where it is one that stands.
+// The record of a word, where it is valid.
 pub(crate) fn record_of(files: &BlockFiles, word: u32) -> Option<Addr>
     ensures kind { IfSome result (λ addr. kind_of addr ≡ blocks_256) }
     ensures stands { IfSome result (λ addr. IsTrue (stands_among files.now addr)) }
@@ -285,7 +285,7 @@ fn counted(f: &mut Silent, key: &[u8]) -> Result<(Option<(u32, u32)>, u64), Faul
     Ok((found, f.calls().wrapping_sub(before)))
 }
 
-// A search for the first key behind a record with its hash and a length of 4 bytes.
+// A search for the first key after a record with its hash and a length of 4 bytes.
 fn behind_another_length(alloc: Global) -> Result<(Option<(u32, u32)>, u64), Fault> {
     let mut f = one(alloc, 0)?;
     let longer = record_with(super_fast_hash(KEYS[0]), 4, PLAIN, WORDS[0]);
@@ -334,7 +334,7 @@ fn search(alloc: Global, next: u32) -> Result<(Result<Option<(u32, u32)>, Fault>
     Ok((found, f.calls().wrapping_sub(before)))
 }
 
-// A damage of a word of the first record.
+// A failed check of a word of the first record.
 fn damage(at: u32, found: u32) -> Fault {
     Fault::Damaged(Damage {
         file: FileId::Block(1),

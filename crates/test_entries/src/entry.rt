@@ -1,4 +1,4 @@
-// Entries in a folder in memory that tells nothing.
+// Entries in an opaque folder in memory.
 ghost use Rattle.std.specs.Prelude.{◌≡◌, ◌≤◌, IfSome, IsTrue, None, length};
 ghost use Rattle.spec_format.specs.Address.{blocks_256, kind_of, rankings};
 ghost use Rattle.blk_disk.specs.Tables.{stands_among};
@@ -16,7 +16,7 @@ use blk_record::{EntryMut, NodeMut, RecordMut, super_fast_hash};
 use std::alloc::Global;
 use std::test::Fail;
 
-// A folder in memory that tells nothing.
+// An opaque folder in memory.
 type Mem = SilentFolder<MemFolder>;
 
 // The first node, and where it begins.
@@ -100,7 +100,7 @@ fn put_key(f: &mut Mem, long_key: u32, key: &[u8]) -> Result<(), Failed> {
     }
 }
 
-// The record of a word, where it is one that stands.
+// The record of a word, where it is valid.
 fn entry_of(files: &BlockFiles, word: u32) -> Option<Addr>
     ensures kind { IfSome result (λ addr. kind_of addr ≡ blocks_256) }
     ensures stands { IfSome result (λ addr. IsTrue (stands_among files.now addr)) }
@@ -117,7 +117,7 @@ fn entry_of(files: &BlockFiles, word: u32) -> Option<Addr>
     }
 }
 
-// The node of a word, where it is one that stands.
+// The node of a word, where it is valid.
 fn node_of(files: &BlockFiles, word: u32) -> Option<Addr>
     ensures kind { IfSome result (λ addr. kind_of addr ≡ rankings) }
     ensures stands { IfSome result (λ addr. IsTrue (stands_among files.now addr)) }
@@ -228,16 +228,16 @@ fn a_node_is_marked_and_clean_again(rt: HostRuntime) -> Result<(), Fail> {
     let contents = 0xA001_0000u32.to_le_bytes();
     f.write_at(FileId::Block(0), NODE_AT + 24, &contents)?;
 
-    // Eight calls load the files, one reads the node, one writes the seal 0, and one the mark and the seal behind it.
+    // Eight calls load the files, one reads the node, one writes the seal 0, and one the mark and the seal after it.
     assert!(rt; marked(&mut f, 7) == Ok((8 + 1 + 2, [7, DIRTY_SEAL])));
     assert!(rt; marked(&mut f, 0) == Ok((8 + 1 + 2, [0, CLEAN_SEAL])));
     Ok(())
 }
 
-// A damage: its file, its place and its word.
+// A failed check: its file, its place and its word.
 type Place = (FileId, u64, u32);
 
-// The file, the place and the word of a damage.
+// The file, the place and the word of a failed check.
 fn found<T: Drop>(answer: Result<T, Fault>) -> Option<Place> {
     match answer {
         Err(Fault::Damaged(damage)) => Some((damage.file, damage.at, damage.found)),
@@ -245,7 +245,7 @@ fn found<T: Drop>(answer: Result<T, Fault>) -> Option<Place> {
     }
 }
 
-// The damages where the record in the first block names this place of its key.
+// The failed checks where the record in the first block names this place of its key.
 fn with_long_key(f: &mut Mem, long_key: u32, key: &[u8]) -> Result<[Option<Place>; 2], Failed> {
     put_record(f, long_key, key)?;
     let mut out = [0; 8];
@@ -255,7 +255,7 @@ fn with_long_key(f: &mut Mem, long_key: u32, key: &[u8]) -> Result<[Option<Place
     ])
 }
 
-// The damages of a length that two blocks don't have, and of a seal that isn't the hash.
+// The failed checks of a length that two blocks don't have, and of a seal that isn't the hash.
 fn with_wrong_words(f: &mut Mem) -> Result<[Option<Place>; 2], Failed> {
     let mut out = [0; 8];
     let length = found(piece(f, 0xA101_0000, 0, &mut out));
@@ -280,8 +280,8 @@ fn a_wrong_record_is_a_damage(rt: HostRuntime) -> Result<(), Fail> {
     Ok(())
 }
 
-// The damages of an external file that ends in the second piece of its key, and of a record whose last two bytes are past
-// the end of its file.
+// The failed checks of an external file that ends in the second piece of its key, and of a record whose last two bytes
+// are past the end of its file.
 fn with_cut_files(f: &mut Mem, key: &[u8]) -> Result<[Option<Place>; 3], Failed> {
     let mut out = [0; 8];
     f.set_len(FileId::External(1), 19000)?;
@@ -303,7 +303,7 @@ fn too_few_bytes_are_a_damage(rt: HostRuntime) -> Result<(), Fail> {
     Ok(())
 }
 
-// The damages of marking the first node and making it clean, and the number of folder calls.
+// The failed checks of marking the first node and making it clean, and the number of folder calls.
 fn unmarked(f: &mut Mem) -> ([Option<Place>; 2], u64) {
     let before = f.calls();
     let damages = [found(mark(f, 7)), found(mark(f, 0))];
@@ -422,7 +422,7 @@ fn place_of_key(long_key: u32) -> (FileId, u64) {
     }
 }
 
-// Whether a key lies at its place, with one zero byte behind it, and with zeros in the record where it lies elsewhere.
+// Whether a key lies at its place, with one zero byte after it, and with zeros in the record where it lies elsewhere.
 fn has_key(f: &mut Mem, long_key: u32, key: &[u8], out: &mut [u8]) -> Result<bool, Failed> {
     let (file, at) = place_of_key(long_key);
     f.read_at(file, at, out)?;
@@ -474,7 +474,7 @@ fn has_records(f: &mut Mem, words: (u32, u32), child: bool, key: &[u8]) -> Resul
     Ok(record == wanted_record(words.1, child, key) && node == wanted_node(words.0))
 }
 
-// The ranges of a file that are written where an entry gets a key of so many bytes with one behind it.
+// The ranges of a file that are written where an entry gets a key of so many bytes with one after it.
 fn written_in(file: FileId, long_key: u32, size: usize) -> [(usize, usize); 2] {
     let (place, at) = place_of_key(long_key);
     let key = if file == place {

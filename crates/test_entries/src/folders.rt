@@ -1,4 +1,4 @@
-// The index and the block files of a folder that tells nothing.
+// The index and the block files of an opaque folder.
 use blk_io::{Failed, FileId, Folder, SilentFolder, write_word};
 
 // The length of a whole index, and that of each block file, which has 36864 bytes of blocks.

@@ -1,4 +1,4 @@
-// The use list of three nodes in a folder in memory, that tells nothing or all.
+// The LRU list of three nodes in a folder in memory, opaque or observable.
 ghost use Rattle.std.specs.Prelude.{IfSome, IsTrue};
 ghost use Rattle.blk_disk.specs.Tables.{is_node_among};
 
@@ -26,7 +26,7 @@ const MOMENT: u64 = 0x0123_4567_89AB_CDEF;
 
 const TIMES: [u32; 4] = [0x89AB_CDEF, 0x0123_4567, 0x89AB_CDEF, 0x0123_4567];
 
-// A folder in memory that stops, and tells nothing.
+// An opaque folder in memory that crashes.
 pub(crate) type Silent = SilentFolder<StopFolder>;
 
 // Lets so many steps pass.
@@ -39,7 +39,7 @@ fn again(f: Silent, steps: u64) -> Silent {
     stopping(f.into_inner().into_inner(), steps)
 }
 
-// Such a folder, which tells nothing.
+// Such a folder, which is opaque.
 fn folder(alloc: Global) -> Result<Silent, Failed> {
     let mut f = stopping(MemFolder::without_trail(alloc), u64::MAX);
     put_all(&mut f, [1024, 0, 0, 0])?;
@@ -118,7 +118,7 @@ enum Change {
     Touch,
 }
 
-// Makes a change by the node of a word, where that one stands.
+// Makes a change by the node of a word, where that one is there.
 fn change_list(f: &mut Silent, files: &BlockFiles, change: Change, word: u32) -> Result<(), Fault> {
     let Some(node) = files.node(word) else {
         return Ok(());
@@ -161,7 +161,7 @@ fn stopped(
     Ok((f, files))
 }
 
-// The nodes of three words, where all stand.
+// The nodes of three words, where all are there.
 pub(crate) fn three(files: &BlockFiles) -> Option<(Addr, Addr, Addr)>
     ensures first { IfSome result (λ nodes. IsTrue (is_node_among files.now nodes.0)) }
     ensures second { IfSome result (λ nodes. IsTrue (is_node_among files.now nodes.1)) }
@@ -205,7 +205,7 @@ enum Reading {
     After,
 }
 
-// What is read by a look from the node of a word, where that one stands.
+// What is read by a look from the node of a word, where that one is there.
 fn look(
     f: &mut Silent,
     files: &BlockFiles,
@@ -290,7 +290,7 @@ fn walked<F: Folder>(f: &mut F) -> Result<[u32; 3], Fault> {
     Ok(order)
 }
 
-// The walk once the operation in flight is completed, where completing is stopped after so many steps first, again and again.
+// The walk once the operation in flight is completed, where completing crashes after so many steps first, again and again.
 fn completed(f: Silent, files: &BlockFiles, stops: &[u64]) -> Result<[u32; 3], Fault> {
     let mut f = f;
     for steps in stops {
@@ -321,8 +321,8 @@ fn touch_stopped_after_each_word_leaves_the_old_order_or_the_new(
     Ok(())
 }
 
-// Whether a change that is stopped once its node is named gives this order, where completing it is
-// stopped twice before so many steps.
+// Whether a change that crashes once its node is named gives this order, where completing it crashes twice before so
+// many steps.
 fn gives_twice(
     alloc: Global,
     listed: &[u32],
@@ -399,7 +399,7 @@ enum Call {
     Complete,
 }
 
-// What a call answers, where its node stands.
+// What a call answers, where its node is there.
 fn outcome(f: &mut Silent, files: &BlockFiles, call: Call, word: u32) -> Result<(), Fault> {
     let Some(node) = files.node(word) else {
         return Ok(());

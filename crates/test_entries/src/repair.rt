@@ -1,4 +1,4 @@
-// The use list that is made that of the kept nodes, in a folder in memory that tells nothing.
+// The LRU list that is made that of the kept nodes, in an opaque folder in memory.
 use crate::lru::{self, NODES, Shown};
 use blk_disk::BlockFiles;
 use blk_io::{Fault, FileId, write_word};

@@ -1,4 +1,4 @@
-// The verdict on a node, in a small folder in memory that tells nothing.
+// The verdict on a node, in a small opaque folder in memory.
 ghost use Rattle.std.specs.Prelude.{◌<◌, length};
 
 use crate::folders::put_files;
@@ -77,7 +77,7 @@ fn has(f: &mut Mem, part: u32) -> Result<bool, Fault>
     }
 }
 
-// Writes a word behind a place.
+// Writes a word after a place.
 fn put(f: &mut Mem, file: FileId, place: u64, at: u64, word: u32) -> Result<(), Failed> {
     f.write_at(file, place.wrapping_add(at), &word.to_le_bytes())
 }

@@ -1,4 +1,4 @@
-// Streams in a folder in memory that tells nothing.
+// Streams in an opaque folder in memory.
 ghost use Rattle.std.specs.Prelude.{◌≡◌, IfSome, IsTrue};
 ghost use Rattle.spec_format.specs.Address.{blocks_256, kind_of};
 ghost use Rattle.blk_disk.specs.Tables.{stands_among};
@@ -30,7 +30,7 @@ fn headers(alloc: Global, map: u32, words: [(u64, u32); 4]) -> Result<Mem, Faile
     Ok(f)
 }
 
-// A folder with a record, a stream of 1000 bytes in blocks 4 to 7 behind it, one of 20000 in a file, and one without bytes.
+// A folder with a record, a stream of 1000 bytes in blocks 4 to 7 after it, one of 20000 in a file, and one without bytes.
 fn folder(alloc: Global) -> Result<Mem, Failed> {
     // Two allocations, 1024 blocks, one group with three free ones and 254 with four.
     let mut f = headers(alloc, 0xF1, [(16, 2), (20, 1024), (32, 1), (36, 254)])?;
@@ -72,7 +72,7 @@ fn put_record(f: &mut Mem, sizes: [u32; 3], addrs: [u32; 3]) -> Result<(), Faile
     f.write_at(FileId::Block(1), 8192, &bytes)
 }
 
-// The record, where it stands.
+// The record, where it is there.
 fn entry_of(files: &BlockFiles) -> Option<Addr>
     ensures kind { IfSome result (λ addr. kind_of addr ≡ blocks_256) }
     ensures stands { IfSome result (λ addr. IsTrue (stands_among files.now addr)) }
@@ -228,7 +228,7 @@ fn a_stream_lies_in_the_storage_of_its_length(rt: HostRuntime) -> Result<(), Fai
     Ok(())
 }
 
-// Writes three bytes far behind the end of the second stream, and reads from two places before them on: what is read, and
+// Writes three bytes far past the end of the second stream, and reads from two places before them on: what is read, and
 // the stream's size and address, and what is used then.
 fn write_far_behind(
     f: &mut Mem,
@@ -258,7 +258,7 @@ fn a_cut_to_few_bytes_leaves_the_file(rt: HostRuntime) -> Result<(), Fail> {
     let whole = ([20000, 0x8000_0001], Some(20000), owned(20000));
     assert!(rt; stored(&mut f, false, &bytes) == Ok(whole));
 
-    // One block of 256 bytes, behind that of the record.
+    // One block of 256 bytes, after that of the record.
     let cut = ([10, 0xA001_0001], None, [(2, 2), (0, 0), (0, 0)]);
     assert!(rt; stored(&mut f, true, &[b'z'; 10]) == Ok(cut));
     Ok(())
@@ -420,7 +420,7 @@ fn at_step(
     Ok((done, named(&mut f, 1)?, marks_of(&mut f)?, found))
 }
 
-// The first number of steps after which a stopped write leaves something wrong. After so many the record has the new size,
+// The first number of steps after which a crashed write leaves something wrong. After so many the record has the new size,
 // and not yet the new address, which comes with the next step.
 fn first_wrong(alloc: Global, write: &Write, sized: u64, all: u64) -> Result<Option<u64>, Fail> {
     let (before, after) = moments(alloc, write, all)?;
@@ -557,7 +557,7 @@ fn wrong_words_are_damages(rt: HostRuntime) -> Result<(), Fail> {
     });
     assert_eq!(rt; get(&mut f, 1, 19997, &mut out), Err(cut));
 
-    // A size that no stream has, a storage of another size, blocks that don't stand, and an address of no bytes.
+    // A size that no stream has, a storage of another size, blocks that aren't there, and an address of no bytes.
     let cases = [
         (2147483648, 0x8000_0001, 40, 2147483648),
         (1024, 0xA301_0004, 56, 0xA301_0004),

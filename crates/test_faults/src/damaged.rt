@@ -1,4 +1,4 @@
-// Folders that are damaged or hostile: what a verification prints of each, and how a count ends on it.
+// Folders that are corrupt or hostile: what a verification prints of each, and how a count ends on it.
 use crate::running::answers;
 use blk_index::make;
 use blk_inspect::{InspectFault, verify};
@@ -30,7 +30,7 @@ const BLOCK: u32 = 0xA001_0008;
 // Changes to a folder of these entries, what a verification prints, and how a count ends with what it prints.
 type Case = (&'static [Change], &'static str, Status, &'static str);
 
-// As it is; a record whose next is itself; a node with a wrong prev; two records that claim one block; block files of which the first
+// As it is; a record whose next is itself; a node with a wrong prev; two records that use one block; block files of which the first
 // record alone is there; an operation whose node is beyond the file; another magic word; and a block file that isn't there.
 const CASES: [Case; 8] = [
     (
@@ -88,7 +88,7 @@ const CASES: [Case; 8] = [
     ),
 ];
 
-// A folder of some entries with short keys and no streams, with some changes. It keeps its trail.
+// A folder of some entries with short keys and no streams, with some changes. It keeps its write trace.
 fn folder(alloc: Global, entries: &[(u32, &[u8])], changes: &[Change]) -> Result<Mem, Fail> {
     let mut f = SilentFolder::new(MemFolder::new(alloc));
     make(&mut f, 7)?;
@@ -116,7 +116,7 @@ fn steps_of(f: Mem) -> (Option<u64>, Mem) {
     (inner.steps(), SilentFolder::new(inner))
 }
 
-// Whether a verification prints this, or nothing where it finds the folder damaged, and makes no step.
+// Whether a verification prints this, or nothing where it finds the folder corrupt, and makes no step.
 fn is_verified(alloc: Global, f: Mem, text: &str) -> Result<(bool, Mem), Fail> {
     let (before, mut f) = steps_of(f);
     let mut out = MemSink::new(alloc);
@@ -129,7 +129,7 @@ fn is_verified(alloc: Global, f: Mem, text: &str) -> Result<(bool, Mem), Fail> {
     Ok((is_so && before == after, f))
 }
 
-// Whether a count ends and prints so, and makes no step where the folder is damaged.
+// Whether a count ends and prints so, and makes no step where the folder is corrupt.
 fn is_counted(alloc: Global, f: Mem, status: Status, line: &str) -> Result<(bool, Mem), Fail> {
     let (before, mut f) = steps_of(f);
     let is_so = answers(alloc, &mut f, &["count"], b"", (status, line.as_bytes()))?;

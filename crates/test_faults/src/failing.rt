@@ -22,8 +22,8 @@ fn calls_of_a_session(alloc: Global, start: &MemFolder, input: &[u8]) -> Result<
     Ok(if is_whole { f.calls() } else { 0 })
 }
 
-// Whether a session in which a folder call fails, of whose steps so many last, ends with the status 3 and prints a front of the replies,
-// and a stop outcome of the command in progress is found by the next one.
+// Whether a session in which a folder call fails, of whose steps so many last, ends with the status 3 and prints a prefix of the
+// replies, and a crash outcome of the command in progress is found by the next one.
 fn fails_well(
     alloc: Global,
     start: &MemFolder,
@@ -92,7 +92,7 @@ fn lines_before(input: &[u8], take: u64) -> usize {
 }
 
 // Whether a session in which a take fails ends with the status 4, prints the replies to the whole lines before, and leaves what is held
-// behind these and the closings.
+// after these and the closings.
 fn ends_without_input(
     alloc: Global,
     start: &MemFolder,
@@ -127,7 +127,7 @@ fn a_take_that_fails_ends_the_session_with_its_closings(rt: HostRuntime) -> Resu
     Ok(())
 }
 
-// How a session ends in which a put fails, and whether it prints a front of the replies, and leaves what is held behind the command whose
+// How a session ends in which a put fails, and whether it prints a prefix of the replies, and leaves what is held after the command whose
 // text it was and the closings.
 fn ends_without_output(
     alloc: Global,

@@ -56,7 +56,7 @@ const MAKING: [Command<'static>; 8] = [
     Command::Total,
 ];
 
-// Each of the commands. There is no room for an item more.
+// Each of the commands. There is no space for an item more.
 const COMMANDS: [Command<'static>; 16] = [
     Command::Open {
         handle: 4,
@@ -108,12 +108,12 @@ const COMMANDS: [Command<'static>; 16] = [
     Command::Close { handle: 3 },
 ];
 
-// A folder whose words are computed once it turns, over a copy of another.
+// A folder whose words are computed once it turns hostile, over a copy of another.
 fn computed(f: &MemFolder, seed: u64) -> Result<Computed, Fail> {
     Ok(Computed::over(SilentFolder::new(after(f, 0)?), seed))
 }
 
-// How many of the commands are answered on a folder that is hostile behind its opening, how many end with Device, and how many with
+// How many of the commands are answered on a folder that is hostile after its opening, how many end with Device, and how many with
 // Damaged; or none, where one ends otherwise.
 fn ends_of_commands(alloc: Global, start: &MemFolder, seed: u64) -> Result<Option<[u32; 3]>, Fail> {
     let mut f = computed(start, seed)?;

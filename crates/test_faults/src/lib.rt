@@ -1,5 +1,5 @@
-//! The tests of whole runs that meet faults: calls of the folder, the input and the output that fail, stops at each word, folders that
-//! are damaged, and one whose words are computed.
+//! The tests of whole runs that meet faults: calls of the folder, the input and the output that fail, crashes at each word, folders
+//! that are corrupt, and one whose words are computed.
 #![tactic(auto)]
 
 #[cfg(test)]

@@ -1,4 +1,4 @@
-// A use list that comes to go round while a cache is open: each walk over it ends at the word that would be followed.
+// An LRU list that comes to go round while a cache is open: each walk over it ends at the word that would be followed.
 use blk_cache::{Cache, StepFault};
 use blk_io::{Damage, FileId, MemFolder, MemSink, SilentFolder};
 use blk_model::{Command, Limits};
@@ -13,7 +13,7 @@ const LIMITS: Limits = Limits {
 
 const MOMENT: u64 = 100;
 
-// Two items, the last of which is made last and stands in front.
+// Two items, the last of which is made last and is in front.
 const MAKING: [Command<'static>; 2] = [
     Command::Create {
         handle: 0,
@@ -25,7 +25,7 @@ const MAKING: [Command<'static>; 2] = [
     },
 ];
 
-// The nodes of the item behind and of the one in front, and the places of their nexts and prevs.
+// The nodes of the item after and of the one in front, and the places of their nexts and prevs.
 const BEHIND: u32 = 0x9000_0000;
 
 const FRONT: u32 = 0x9000_0001;
@@ -38,7 +38,7 @@ const NEXT_OF_FRONT: u64 = 8244;
 
 const PREV_OF_FRONT: u64 = 8248;
 
-// The damage of a command on these items, once a word of the nodes has changed.
+// The failed check of a command on these items, once a word of the nodes has changed.
 fn damage_of(
     alloc: Global,
     place: u64,

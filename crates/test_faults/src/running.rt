@@ -46,7 +46,7 @@ pub(crate) fn answers<F: Folder>(
     Ok(status == wanted_status && out.written() == printed)
 }
 
-// The number of steps of a folder with a trail.
+// The number of steps of a folder with a write trace.
 pub(crate) fn steps_of(f: &MemFolder) -> u64 {
     f.steps().unwrap_or(0)
 }
@@ -59,7 +59,7 @@ pub(crate) fn after(f: &MemFolder, steps: u64) -> Result<MemFolder, NoMemory> {
     }
 }
 
-// A folder as a session leaves it, with a trail that begins then.
+// A folder as a session leaves it, with a write trace that begins then.
 pub(crate) fn left_by(alloc: Global, lines: &[u8]) -> Result<MemFolder, Fail> {
     let mut f = MemFolder::new(alloc);
     let (_, _) = run_over(alloc, &mut f, &["session"], lines)?;

@@ -1,4 +1,4 @@
-// Runs that are stopped after each of their steps, and what the next session prints of what they left.
+// Runs that crash after each of their steps, and what the next session prints of what they left.
 use crate::running::{after, left_by, run_over, steps_of};
 use blk_io::{FileId, Folder, MemFolder, MemSink, read_word};
 use std::alloc::Global;
@@ -6,7 +6,7 @@ use std::test::Fail;
 use test_folders::folders::{DIRTY, HEAD, NODE_NEXT, TRANSACTION, place_of};
 use test_folders::inputs::{Pieces, text_of};
 
-// The folder that a session leaves, on which another run was made: its trail is that of this run.
+// The folder that a session leaves, on which another run was made: its write trace is that of this run.
 fn played(
     alloc: Global,
     lines: Pieces<'_>,
@@ -42,7 +42,7 @@ const AS_MADE: &[u8] = b"main c 0 0 3\nmain b 0 5000 0\nmain a 2 0 0\nend 3\n\
 const AS_USED: &[u8] = b"main b 0 5000 0\nmain c 0 0 3\nmain a 2 0 0\nend 3\n\
     ok\ndata 2 6161\nok\ndata 2 0062\nok\ndata 3 636363\n";
 
-// The node behind the first of the list.
+// The node after the first of the list.
 fn second_node<F: Folder>(f: &mut F) -> Result<u32, Fail> {
     let head = read_word(f, FileId::Index, HEAD)?;
     let (file, place) = place_of(head);
@@ -118,7 +118,7 @@ fn a_change_turns_at_the_dirty_word_and_a_close_at_the_clean_word(
     Ok(())
 }
 
-// A sparse object that is closed, with two parts that were used behind it.
+// A sparse object that is closed, with two parts that were used after it.
 const SPARSE: Pieces<'static> = &[
     (b"create 0 v\nwrite 0 0 0 6162\nswrite 0 1047552 ", 1024),
     (

@@ -1,4 +1,4 @@
-// Twelve commands, of which each changes one entry at the most, with what they print and what is held behind each.
+// Twelve commands, of which each changes one entry at the most, with what they print and what is held after each.
 use test_folders::inputs::Pieces;
 use test_folders::replies::{is_row, replies_in};
 
@@ -52,8 +52,8 @@ const LONGER_A_B: &[u8] = b"main a 6500 0 0\npart b 0 5024\nsparse b 0\nend 3\n"
 
 const LONGER_A: &[u8] = b"main a 6500 0 0\nend 1\n";
 
-// What is at rest where none of the commands is done, where the first is, the first two, and so on. What a stop inside a command may
-// leave is what is at rest before it or after it.
+// The durable contents where none of the commands is done, where the first is, the first two, and so on. What a crash inside a
+// command may leave is the durable contents before it or after it.
 const AT_REST: [&[u8]; 13] = [
     NONE, NONE, NONE, A, A, A, B_A, A_B, A_B, B, LONGER_A_B, LONGER_A, NONE,
 ];
@@ -63,17 +63,17 @@ const CLOSED: [&[u8]; 13] = [
     NONE, EMPTY_A, A, A, EMPTY_B_A, B_A, B_A, A_B, A_B, LONGER_A_B, LONGER_A_B, LONGER_A, NONE,
 ];
 
-// How many of the replies were printed, where nothing else was but a front of the next.
+// How many of the replies were printed, where nothing else was but a prefix of the next.
 pub(crate) fn replies_to_twelve(printed: &[u8]) -> Option<usize> {
     replies_in(&REPLIES, printed)
 }
 
-// Whether this is the list of what a stop may leave behind so many commands.
+// Whether this is the list of what a crash may leave after so many commands.
 pub(crate) fn is_stop_outcome(done: usize, listed: &[u8]) -> bool {
     is_row(&AT_REST, done, listed) || is_row(&AT_REST, done.wrapping_add(1), listed)
 }
 
-// Whether this is the list of what is held behind so many commands, and then the closings.
+// Whether this is the list of what is held after so many commands, and then the closings.
 pub(crate) fn is_closed(done: usize, listed: &[u8]) -> bool {
     is_row(&CLOSED, done, listed)
 }

@@ -113,7 +113,7 @@ fn give<F: Folder>(f: &mut F, blocks: u32) -> Result<u32, Fault>
     Ok(addr.word())
 }
 
-// Loads the block files, and frees the blocks of a word, where it is an address that stands.
+// Loads the block files, and frees the blocks of a word, where it is a valid address.
 fn free_word<F: Folder>(f: &mut F, word: u32) -> Result<bool, Fault> {
     let files = BlockFiles::load(f)?;
     let Some(addr) = Addr::from_word(word) else {
@@ -126,7 +126,7 @@ fn free_word<F: Folder>(f: &mut F, word: u32) -> Result<bool, Fault> {
     Ok(true)
 }
 
-// Loads the block files, and makes their maps those of claims.
+// Loads the block files, and makes their maps those of the used blocks.
 fn rebuild_all<F: Folder>(f: &mut F, claims: &Claims) -> Result<(), Fault> {
     let mut files = BlockFiles::load(f)?;
     rebuild(f, &mut files, claims)
@@ -188,8 +188,8 @@ fn counters_and_hints_lead_to_the_blocks(rt: HostRuntime) -> Result<(), Fail> {
     let second = file_with(rt.alloc(), HEADER_LEN, 0, &fields(1, 256))?;
     let mut f = folder_of(rt.alloc(), &second)?;
 
-    // The one lies in the group that has a longest free run of 1, and not in the first with room. Eight calls load the files, and of
-    // ten more one reads a word of the map.
+    // The one lies in the group that has a longest free run of 1, and not in the first with space. Eight calls load the files, and
+    // of ten more one reads a word of the map.
     let words = [0xA101_0000, 0xA201_0004, 0xA001_0007];
     assert_eq!(rt; give_two_three_one(&mut f), Ok((words, 2 * (8 + 10))));
     let hints = [(40, 1), (44, 0), (48, 0), (52, 1)];
@@ -287,7 +287,7 @@ fn a_counter_at_its_end_is_a_damage(rt: HostRuntime) -> Result<(), Fail> {
     Ok(())
 }
 
-// Whether each of some words is an address that joins the claims.
+// Whether each of some words is an address that joins the used blocks.
 fn add_words(claims: &mut Claims, words: &[u32]) -> bool {
     for word in words {
         let Some(addr) = Addr::from_word(*word) else {
@@ -326,7 +326,8 @@ fn begins_with(f: &mut MemFolder, length: u64, bytes: &[u8]) -> Result<bool, Fai
     Ok(f.length(FileId::Block(1))? == Some(length) && front.as_slice() == bytes)
 }
 
-// Adds the addresses of words to claims, and makes the maps those of the claims: the number of folder calls.
+// Adds the addresses of words to the used blocks, and makes the maps those of the used blocks: the number of folder
+// calls.
 fn rebuild_with(f: &mut MemFolder, claims: &mut Claims, words: &[u32]) -> Result<u64, Fault> {
     if !add_words(claims, words) {
         return Err(Fault::Device);
@@ -356,7 +357,7 @@ fn a_wrong_map_is_made_that_of_the_claims(rt: HostRuntime) -> Result<(), Fail> {
     Ok(())
 }
 
-// Loads the block files of a folder that tells nothing, cuts `data_1`, and allocates a block.
+// Loads the block files of an opaque folder, cuts `data_1`, and allocates a block.
 fn give_cut(f: &mut SilentFolder<MemFolder>, length: u64) -> Result<u32, Fault> {
     let mut files = BlockFiles::load(f)?;
     f.set_len(FileId::Block(1), length)?;

@@ -88,7 +88,7 @@ pub(crate) fn folder_of(alloc: Global, headers: &[Header], size: usize) -> Resul
     with_word(alloc, headers, size, (0, 0, MAGIC))
 }
 
-// The place and the word of the damage of a file, with which its folder is refused.
+// The place and the word of the failed check of a file, with which its folder is refused.
 fn damage_of(f: &mut MemFolder, file: u8) -> Option<(u64, u32)> {
     match BlockFiles::load(f) {
         Err(Fault::Damaged(damage)) if damage.file == FileId::Block(file) => Some((
@@ -330,7 +330,7 @@ fn the_first_new_file_is_data_4(rt: HostRuntime) -> Result<(), Fail> {
     Ok(())
 }
 
-// Reads the first node in a folder that tells nothing, once its file has this length.
+// Reads the first node in an opaque folder, once its file has this length.
 fn read_cut(f: &mut SilentFolder<MemFolder>, length: u64) -> Result<bool, Fault> {
     let files = BlockFiles::load(f)?;
     let Some(addr) = files.node(0x9000_0000) else {
@@ -354,7 +354,7 @@ fn too_few_bytes_are_a_damage(rt: HostRuntime) -> Result<(), Fail> {
         Err(Fault::Damaged(Damage { file, at, found }))
     );
 
-    // Of a file that ends inside the fields of its header the length is the damage.
+    // Of a file that ends inside the fields of its header the length is the failed check.
     assert_eq!(rt; f.set_len(file, 79), Ok(()));
     assert_eq!(rt;
         BlockFiles::load(&mut f).err(),

@@ -40,7 +40,7 @@ fn zeros(alloc: Global) -> Result<MemFolder, Fail> {
     folder_of(alloc, &headers, SIZE)
 }
 
-// Updates three words of a node, where it stands.
+// Updates three words of a node, where it is there.
 fn update_node<F: Folder>(f: &mut F, word: u32, values: [u32; 3]) -> Result<bool, Fault> {
     let files = BlockFiles::load(f)?;
     let Some(addr) = files.node(word) else {
@@ -51,7 +51,7 @@ fn update_node<F: Folder>(f: &mut F, word: u32, values: [u32; 3]) -> Result<bool
     Ok(true)
 }
 
-// Updates three words of an entry record, where it stands.
+// Updates three words of an entry record, where it is there.
 fn update_entry<F: Folder>(f: &mut F, word: u32, values: [u32; 3]) -> Result<bool, Fault> {
     let files = BlockFiles::load(f)?;
     let Some(addr) = files.entry(word) else {
@@ -69,7 +69,7 @@ fn an_updated_node_has_its_hash_as_seal(rt: HostRuntime) -> Result<(), Fail> {
     assert_eq!(rt; update_node(&mut f, LAST_NODE, NEW), Ok(true));
     assert_eq!(rt; word_of(&mut f, 0, NODE_AT + 32), Some(NEW_NODE_SEAL));
 
-    // Each update takes the eight calls that load the files, one read and four writes: the word at 28 and the seal behind it
+    // Each update takes the eight calls that load the files, one read and four writes: the word at 28 and the seal after it
     // go by one.
     assert_eq!(rt; f.calls(), 2 * (8 + 1 + 4) + 1);
     Ok(())
@@ -83,7 +83,7 @@ fn an_updated_entry_record_has_its_hash_as_seal(rt: HostRuntime) -> Result<(), F
     Ok(())
 }
 
-// Updates the last node in a folder that tells nothing, once it has this seal and its file this length.
+// Updates the last node in an opaque folder, once it has this seal and its file this length.
 fn update_broken(f: &mut SilentFolder<MemFolder>, seal: u32, length: u64) -> Result<bool, Fault> {
     let files = BlockFiles::load(f)?;
     let Some(addr) = files.node(LAST_NODE) else {
@@ -96,7 +96,7 @@ fn update_broken(f: &mut SilentFolder<MemFolder>, seal: u32, length: u64) -> Res
     Ok(true)
 }
 
-// The damage of the last node's file.
+// The failed check of the last node's file.
 fn node_damage(at: u64, found: u32) -> Result<bool, Fault> {
     let file = FileId::Block(0);
     Err(Fault::Damaged(Damage { file, at, found }))

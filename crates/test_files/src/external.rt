@@ -116,7 +116,7 @@ fn two_calls_find_a_next_number_that_is_free(rt: HostRuntime) -> Result<(), Fail
     Ok(())
 }
 
-// Makes a file of ten bytes, of which the last seven are letters, and reads three at its end and none behind it.
+// Makes a file of ten bytes, of which the last seven are letters, and reads three at its end and none after it.
 fn written<F: Folder>(f: &mut F) -> Result<(Addr, [u8; 3]), Fault>
     ensures { IfOk result (λ made. kind_of made.0 ≡ external) }
 {

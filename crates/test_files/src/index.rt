@@ -45,7 +45,7 @@ fn each_word_is_one_step_and_the_others_stay(rt: HostRuntime) -> Result<(), Fail
     Ok(())
 }
 
-// The damage of the index.
+// The failed check of the index.
 fn damage(at: u64, found: u32) -> Fault {
     let file = FileId::Index;
     Fault::Damaged(Damage { file, at, found })

@@ -72,7 +72,7 @@ fn a_listed_write_lasts_in_part(rt: HostRuntime) -> Result<(), Fail> {
     Ok(())
 }
 
-// Writes two words behind the first of the index, where they fit.
+// Writes two words after the first of the index, where they fit.
 fn write_two<F: Folder>(f: &mut F) -> Result<(), Failed> {
     match f.length(FileId::Index)? {
         Some(n) if n >= 12 => write_run(f, FileId::Index, 4, &[0x0403_0201, 5]),

@@ -1,4 +1,4 @@
-// Folders in memory that tell nothing, written by the format alone.
+// Opaque folders in memory, written by the format alone.
 use blk_audit::ScanFault;
 use blk_disk::BlockFiles;
 use blk_io::{Failed, Fault, FileId, Folder, MemFolder, SilentFolder, read_word};
@@ -28,7 +28,7 @@ pub const DIRTY: u64 = 28;
 
 pub const NODE_SEAL: u64 = 32;
 
-/// The fields of a record: those of its four streams stand side by side, and its next is behind its hash.
+/// The fields of a record: those of its four streams lie side by side, and its next is after its hash.
 pub const NEXT: u64 = 4;
 
 pub const BACK: u64 = 8;
@@ -144,7 +144,7 @@ fn put_record<F: Folder>(
     Ok(())
 }
 
-// Writes the key of an entry, into its record or behind it.
+// Writes the key of an entry, into its record or after it.
 fn put_key<F: Folder>(f: &mut SilentFolder<F>, entry: &Entry<'_>) -> Result<(), Failed> {
     let (file, place) = match entry.long_key {
         0 => place_of(entry.record),
@@ -188,7 +188,7 @@ pub enum Change {
     Index(u64, u32),
     // The word of a bucket.
     Bucket(u32, u32),
-    // A word behind the first block of an address.
+    // A word after the first block of an address.
     Word(u32, u64, u32),
     // Another length of a file.
     Length(FileId, u64),

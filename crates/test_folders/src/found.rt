@@ -30,7 +30,7 @@ fn hash_of_piece<F: Folder>(
     Ok(super_fast_hash(bytes))
 }
 
-// A hash with so many bytes of an address, from a place behind its first block on.
+// A hash with so many bytes of an address, from a place after its first block on.
 fn with_bytes<F: Folder>(
     f: &mut SilentFolder<F>,
     addr: u32,

@@ -2,7 +2,7 @@
 use blk_io::NoMemory;
 use std::alloc::Global;
 
-/// An input by pieces: lines, behind each of which so many data bytes 0x7A stand.
+/// An input by pieces: lines, after each of which so many data bytes 0x7A come.
 pub type Pieces<'a> = &'a [(&'a [u8], usize)];
 
 // Adds so many data bytes to a line.

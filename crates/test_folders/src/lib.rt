@@ -1,5 +1,5 @@
-//! Folders in memory for tests: written by the format alone, what is found in them, and those that stop after so many steps; and the
-//! inputs and replies of sessions over them.
+//! Folders in memory for tests: written by the format alone, what is found in them, and those that crash after so many steps; and
+//! the inputs and replies of sessions over them.
 #![tactic(auto)]
 
 pub mod folders;

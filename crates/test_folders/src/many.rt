@@ -19,7 +19,7 @@ pub enum Sort {
     External,
     // They have a long key.
     Long,
-    // They are parents, and the same number behind them are their parts.
+    // They are parents, and the same number after them are their parts.
     Parents,
 }
 

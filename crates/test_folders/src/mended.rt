@@ -1,4 +1,4 @@
-// The folder of all kinds of entries, mended once or changed.
+// The folder of all kinds of entries, repaired once or changed.
 use crate::folders::{Change, change_all};
 use crate::stopping::{Mem, again, empty};
 use crate::worked::make_all;

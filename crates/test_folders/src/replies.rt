@@ -1,6 +1,6 @@
 // What sessions print, beside tables of what they are to print.
 
-/// How many of some replies were printed, where nothing else was but a front of the next.
+/// How many of some replies were printed, where nothing else was but a prefix of the next.
 pub fn replies_in(replies: &[&[u8]], printed: &[u8]) -> Option<usize> {
     let mut rest = printed;
     let mut count: usize = 0;

@@ -1,4 +1,4 @@
-// Changes to the folder of all kinds of entries after which its repair and its opening are stopped.
+// Changes to the folder of all kinds of entries after which its repair and its opening crash.
 use crate::folders::Change::{Bucket, Gone, Index, Length, Word};
 use crate::folders::{
     ADDRS, CONTENTS, Change, DIRTY, FLAGS, HEAD, KEY_LEN, LONG_KEY, NEXT, NODE_NEXT, NODE_SEAL,
@@ -35,11 +35,11 @@ pub const MOST_REASONS: [Change; 21] = [
     Word(N[11], NODE_SEAL, 0),
 ];
 
-/// Changes after which repair is stopped at each of its words: a removal in flight and a list whose last node points back; a
-/// move in flight, a record that doesn't check and a dirty parent; a record in two chains, and a node that isn't sealed; blocks
-/// that are claimed twice, in and out of a chain; an insertion in flight into a list without a head; an operation that
-/// doesn't count, a loop in a chain and one in the list; a file of records that is too short; files that nothing names;
-/// external files that are gone or too short, and another tail; and almost all reasons.
+/// Changes after which repair crashes at each of its words: a removal in flight and a list whose last node points back; a move
+/// in flight, a record that doesn't check and a dirty parent; a record in two chains, and a node that isn't sealed; blocks that
+/// are used twice, in and out of a chain; an insertion in flight into a list without a head; an operation that doesn't count, a
+/// loop in a chain and one in the list; a file of records that is too short; files that nothing names; external files that are
+/// gone or too short, and another tail; and almost all reasons.
 pub const STOPPED: [&[Change]; 10] = [
     &[
         Index(TRANSACTION, N[1]),

@@ -1,8 +1,8 @@
-// Folders in memory that tell nothing, and in which so many steps pass.
+// Opaque folders in memory, and in which so many steps pass.
 use blk_io::{MemFolder, SilentFolder, StopFolder};
 use std::alloc::Global;
 
-/// A folder that tells nothing and stops.
+/// An opaque folder that crashes.
 pub type Mem = SilentFolder<StopFolder>;
 
 /// A folder in which no step is made yet and all may be made.

@@ -5,7 +5,7 @@ use std::io::ErrorKind;
 use std::os::unix::fs::{PermissionsExt, symlink};
 use std::{fs, io};
 
-// The first files of a folder in their order, and none behind the last.
+// The first files of a folder in their order, and none after the last.
 fn listed(folder: &mut Machine) -> Result<[Option<FileId>; 5], Failed> {
     let mut files = [None; 5];
     let mut last = None;

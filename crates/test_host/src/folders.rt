@@ -49,7 +49,7 @@ pub fn write_four(folder: &mut Machine) -> Result<(), Failed> {
     folder.set_len(FileId::Index, 4)
 }
 
-/// How many bytes a read gives, and a buffer of nines behind it.
+/// How many bytes a read gives, and a buffer of nines after it.
 pub fn read(folder: &mut Machine, file: FileId, at: u64) -> Result<(usize, [u8; 8]), Failed> {
     let mut out = [9; 8];
     let n = folder.read_at(file, at, &mut out)?;

@@ -1,4 +1,4 @@
-// The word `count` on an empty folder, and where a call fails.
+// The subcommand `count` on an empty folder, and where a call fails.
 use blk_io::{
     Failed, FileId, Folder, ListClock, MemFolder, MemSink, MemSource, SilentFolder, read_word,
 };

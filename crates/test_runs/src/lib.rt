@@ -1,4 +1,5 @@
-//! The tests of whole runs: the word `count`, sessions, and sparse data, with what is printed, writes at the borders of parts and blocks, stops at words, and folder calls.
+//! The tests of whole runs: the subcommand `count`, sessions, and sparse data, with what is printed, writes at the borders of parts and blocks, crashes at words, and
+//! folder calls.
 #![tactic(auto)]
 
 #[cfg(test)]

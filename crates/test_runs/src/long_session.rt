@@ -41,7 +41,7 @@ fn size_of(number: u32) -> usize {
     20_000 + 450 * (number % ENTRIES) as usize
 }
 
-// Bytes of which each stream has a front.
+// Bytes of which each stream has a prefix.
 fn all_bytes(alloc: Global) -> Result<Vec<u8>, Fail> {
     let mut bytes = Vec::new(alloc);
     bytes.resize(MOST_BYTES, 0)?;
@@ -53,7 +53,7 @@ fn all_bytes(alloc: Global) -> Result<Vec<u8>, Fail> {
     Ok(bytes)
 }
 
-// The front of some bytes.
+// A prefix of some bytes.
 fn front(bytes: &[u8], count: usize) -> &[u8] {
     &bytes[..count.min(bytes.len())]
 }
@@ -130,7 +130,7 @@ fn digit_of(number: u8) -> u8 {
     number.wrapping_add(if number < 10 { b'0' } else { b'a' - 10 })
 }
 
-// What an Open prints, and behind it a Read of these bytes.
+// What an Open prints, and after it a Read of these bytes.
 fn text_of_stream(alloc: Global, bytes: &[u8]) -> Result<Vec<u8>, Fail> {
     let mut text = Vec::new(alloc);
     let mut digits = Buffer::new();

@@ -1,4 +1,4 @@
-// Whole sessions over a folder in memory: how they end, what they print, and what is held then, also where they are stopped.
+// Whole sessions over a folder in memory: how they end, what they print, and what is held then, also where they crash.
 use crate::counting::run_on;
 use blk_io::{ListClock, MemSink, MemSource};
 use blk_run::{Status, session};
@@ -35,9 +35,9 @@ const QUIET: Row<'static> = Row {
     held: (0, 0),
 };
 
-// The lines that are no command, and one that is refused; a last line without an end, and none; more bytes than the budget;
-// a source that fails at its second take, behind a part of a line; and a sink that fails at its first put, and at its third: the command
-// is done all the same, and the next is not begun. A reply is put in two pieces, so the third put is the first of the second reply.
+// The lines that are no command, and one that is refused; a last line without an end, and none; more bytes than the budget; a source
+// that fails at its second take, after a part of a line; and a sink that fails at its first put, and at its third: the command is done
+// all the same, and the next is not begun. A reply is put in two pieces, so the third put is the first of the second reply.
 const ROWS: [Row<'static>; 8] = [
     Row {
         input: b"\nfly 1\ncreate 0\ncreate x a\nwrite 0 0 0 6\ncreate 0 a%2\nswrite 0 0 61\n",
@@ -134,7 +134,7 @@ const REPLIES: [&[u8]; 12] = [
     b"evicted a\nok 1\n",
 ];
 
-// The rows of a list of the settled entries, the last used first.
+// The rows of a list of the clean entries, the last used first.
 const NONE: &[u8] = b"end 0\n";
 
 const A: &[u8] = b"main a 2 0 0\nend 1\n";
@@ -149,8 +149,8 @@ const LONGER_A_B: &[u8] = b"main a 4 0 0\nmain b 0 4 0\nend 2\n";
 
 const LONGER_A: &[u8] = b"main a 4 0 0\nend 1\n";
 
-// What is at rest where none of the commands is done, where the first is, the first two, and so on. What a stop inside a command may
-// leave is what is at rest before it or after it, as each of these changes one entry alone.
+// The durable contents where none of the commands is done, where the first is, the first two, and so on. What a crash inside a
+// command may leave is the durable contents before it or after it, as each of these changes one entry alone.
 const AT_REST: [&[u8]; 13] = [
     NONE, NONE, NONE, A, A, A, B_A, A_B, A_B, B, LONGER_A_B, LONGER_A, NONE,
 ];
@@ -158,8 +158,8 @@ const AT_REST: [&[u8]; 13] = [
 // More steps than the session makes.
 const MOST_STEPS: u64 = 500;
 
-// The session of these commands where it is stopped after so many steps: how many replies were printed, what the word `list` prints of
-// what the folder has then, and whether the session came to its end.
+// The session of these commands where it crashes after so many steps: how many replies were printed, what the subcommand `list` prints
+// of what the folder has then, and whether the session came to its end.
 fn stopped_after(alloc: Global, steps: u64) -> Result<(Option<usize>, MemSink, bool), Fail> {
     let row = Row {
         input: TWELVE,

@@ -56,7 +56,7 @@ fn with_object(alloc: Global) -> Result<Session, Fail> {
     Ok(session)
 }
 
-// How often a byte stands in a text.
+// How often a byte occurs in a text.
 fn count_of(text: &[u8], value: u8) -> u64 {
     let mut count: u64 = 0;
     for byte in text {
@@ -88,12 +88,12 @@ fn written(session: &mut Session, offset: u64, bytes: &[u8]) -> Result<Answer, S
     Ok(answer)
 }
 
-// The front of some bytes.
+// A prefix of some bytes.
 fn front(bytes: &[u8], count: u64) -> &[u8] {
     &bytes[..(count as usize).min(bytes.len())]
 }
 
-// The first run of present bytes behind an offset, and what there is in all.
+// The first run of present bytes after an offset, and what there is in all.
 fn found_behind(session: &mut Session, offset: u64) -> Result<(Answer, Answer), StepFault> {
     let (run, _) = session.step(&Command::SparseRange {
         handle: 0,

@@ -75,7 +75,8 @@ const PARTS_ALONE: Row<'static> = Row {
         sparse v 0\nend 2\nok\nevicted v\nevicted v part 1\nok 2\n",
 };
 
-// With room for three items parts give way, but not those that the write covers; a closed object goes with its parts.
+// With space for three items parts are evicted, but not those that the write covers; a closed object goes with its
+// parts.
 const THREE_ITEMS: Row<'static> = Row {
     input: &[(
         b"create 0 v\nswrite 0 1048575 6162\ncreate 1 b\nswrite 0 1048576 62\nswrite 0 1048575 6162\nswrite 0 0 63\n\

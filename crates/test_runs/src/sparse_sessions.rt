@@ -1,4 +1,4 @@
-// Commands over folders in memory that tell nothing.
+// Commands over opaque folders in memory.
 use blk_audit::ScanFault;
 use blk_cache::{Cache, StepFault};
 use blk_io::{Folder, MemSink, SilentFolder};

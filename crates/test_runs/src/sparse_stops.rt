@@ -1,4 +1,4 @@
-// Sessions on sparse data that are stopped, and openings of what they left that are stopped too.
+// Sessions on sparse data that crash, and openings of what they left that crash too.
 use crate::sparse_sessions::{Held, LIMITS, MOMENT, held};
 use blk_cache::Cache;
 use blk_io::{MemFolder, MemSink, NoMemory, SilentFolder};
@@ -6,7 +6,7 @@ use blk_model::{Command, Limits};
 use std::alloc::Global;
 use std::test::Fail;
 
-// Limits with room for three items.
+// Limits with space for three items.
 const THREE_ITEMS: Limits = Limits {
     max_bytes: 83_886_080,
     max_items: 3,
@@ -16,7 +16,7 @@ const THREE_ITEMS: Limits = Limits {
 const DATA: [u8; 1500] = [b'z'; 1500];
 
 // A write over two parts that begins inside a block, and one that ends that block; before each of them, and before a user's key that is
-// the name of a part, the object is closed, so that it is at rest with all that was written.
+// the name of a part, the object is closed, so that it is durable with all that was written.
 const COMMANDS: [Command<'static>; 16] = [
     Command::Create {
         handle: 0,
@@ -65,8 +65,8 @@ const COMMANDS: [Command<'static>; 16] = [
     Command::List,
 ];
 
-// An object with two parts that is closed, and one that is made where there is room for three items: the first goes with its parts, which
-// the read of both has put in front of it.
+// An object with two parts that is closed, and one that is made where there is space for three items: the first goes with its parts,
+// which the read of both has put in front of it.
 const EVICTING: [Command<'static>; 6] = [
     Command::Create {
         handle: 0,
@@ -94,7 +94,7 @@ const EVICTING: [Command<'static>; 6] = [
     },
 ];
 
-// A folder in which some commands were done, with its trail.
+// A folder in which some commands were done, with its write trace.
 fn done(alloc: Global, limits: Limits, commands: &[Command<'_>]) -> Result<MemFolder, Fail> {
     let mut f = SilentFolder::new(MemFolder::new(alloc));
     let mut cache = Cache::start(alloc, &mut f, limits, MOMENT)?;
@@ -105,7 +105,7 @@ fn done(alloc: Global, limits: Limits, commands: &[Command<'_>]) -> Result<MemFo
     Ok(f.into_inner())
 }
 
-// The number of steps of a folder with a trail.
+// The number of steps of a folder with a write trace.
 fn steps_of(f: &MemFolder) -> u64 {
     f.steps().unwrap_or(0)
 }
@@ -124,7 +124,8 @@ fn held_at(alloc: Global, f: &MemFolder, steps: u64) -> Result<Held, Fail> {
     Ok(held(alloc, &mut image)?)
 }
 
-// What is held after so many steps, and where the folder is opened there; and the opened folder, with the trail of the opening.
+// What is held after so many steps, and where the folder is opened there; and the opened folder, with the write trace of the
+// opening.
 fn opened_at(alloc: Global, f: &MemFolder, steps: u64) -> Result<(Held, Held, MemFolder), Fail> {
     let mut image = SilentFolder::new(stopped(f, steps)?);
     let before = held(alloc, &mut image)?;
@@ -160,7 +161,7 @@ fn steps_after(
     Ok(steps_of(&done(alloc, limits, first)?))
 }
 
-// Whether after each hundredth step of a command, the first behind so many, the folder holds what it held before it or what it holds then,
+// Whether after each hundredth step of a command, the first after so many, the folder holds what it held before it or what it holds then,
 // and opens well.
 fn stops_well(
     alloc: Global,

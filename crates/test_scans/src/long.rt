@@ -101,7 +101,7 @@ fn folder(alloc: Global, nodes: u32, records: u32) -> Result<Mem, Failed> {
     Ok(f)
 }
 
-// How many nodes are walked, and the last one that is dropped of so many, with the one behind it.
+// How many nodes are walked, and the last one that is dropped of so many, with the one after it.
 fn last_dropped(
     alloc: Global,
     f: &mut Mem,

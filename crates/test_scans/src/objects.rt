@@ -1,4 +1,4 @@
-// Objects that are made and removed, in a folder in memory that tells nothing.
+// Objects that are made and removed, in an opaque folder in memory.
 use blk_chain::find;
 use blk_disk::BlockFiles;
 use blk_entry::node_of;
@@ -88,7 +88,7 @@ fn words(f: &mut Mem, file: FileId, at: [u64; 4]) -> Result<[u32; 4], Fault> {
     Ok(words)
 }
 
-// What the index counts, the entries and the bytes and the nodes, and the front of the use list.
+// What the index counts, the entries and the bytes and the nodes, and the front of the LRU list.
 fn counted(f: &mut Mem) -> Result<[u32; 4], Fault> {
     words(f, FileId::Index, [8, 12, 268, HEAD])
 }

@@ -1,4 +1,4 @@
-// The repair of the same folders, and a stop at each of its words.
+// The repair of the same folders, and a crash at each of its words.
 use crate::cases::{Case, TABLES};
 use blk_audit::ScanFault;
 use blk_disk::BlockFiles;
@@ -18,13 +18,13 @@ use test_folders::stopped::STOPPED;
 use test_folders::stopping::{Mem, again, empty};
 use test_folders::worked::{IEV, NAB};
 
-// The words of the index that are written where nothing is to be mended: this_id and crash.
+// The words of the index that are written where nothing is to be repaired: this_id and crash.
 const INDEX_WORDS: u64 = 2;
 
 // More steps than any of these repairs takes.
 const MOST_STEPS: u64 = 1000;
 
-// A repair that follows on a stopped one is stopped within so many steps.
+// A repair that follows on a crashed one crashes within so many steps.
 const NEXT_STEPS: u64 = 23;
 
 // What is held: the number of the entries that are kept, the bytes that are charged for them, and the hash of all that is
@@ -42,12 +42,13 @@ fn held_now(alloc: Global, f: &mut Mem) -> Result<Held, ScanFault> {
     held(f, &scan)
 }
 
-// Whether nothing is left to mend but the words of the index.
+// Whether nothing is left to repair but the words of the index.
 fn is_tidy(scan: &Scan) -> bool {
     dropped_at(scan, 0) == (0, 0) && scan.bare().is_empty() && scan.chains().is_none()
 }
 
-// Whether repair keeps what is kept and leaves nothing to mend, and a second one makes no other steps than those of the index.
+// Whether repair keeps what is kept and leaves nothing to repair, and a second one makes no other steps than those of the
+// index.
 fn is_mended(alloc: Global, case: Case) -> Result<bool, Fail> {
     let mut f = changed(alloc, false, case.0, u64::MAX)?;
     let before = held_now(alloc, &mut f)?;
@@ -58,7 +59,8 @@ fn is_mended(alloc: Global, case: Case) -> Result<bool, Fail> {
     Ok(before == held(&mut f, &then)? && is_tidy(&then))
 }
 
-// Whether the same is held in a stopped folder as before, and a repair that isn't stopped keeps it and leaves nothing to mend.
+// Whether the same is held in a crashed folder as before, and a repair that doesn't crash keeps it and leaves nothing to
+// repair.
 fn is_ended_well(alloc: Global, f: Mem, before: Held) -> Result<bool, Fail> {
     let mut f = again(f, u64::MAX);
     let stopped = held_now(alloc, &mut f)?;
@@ -67,7 +69,7 @@ fn is_ended_well(alloc: Global, f: Mem, before: Held) -> Result<bool, Fail> {
     Ok(before == stopped && before == held(&mut f, &then)? && is_tidy(&then))
 }
 
-// Whether the same is held where repair is stopped after so many steps, and where the next one is after some more, and all ends
+// Whether the same is held where repair crashes after so many steps, and where the next one is after some more, and all ends
 // well; and whether the first one came to its end.
 fn is_stopped_well(
     alloc: Global,
@@ -86,8 +88,8 @@ fn is_stopped_well(
     Ok((same, ended))
 }
 
-// How many steps a repair takes, where what is kept stays at each stop before and all ends well; or none, where it doesn't, or
-// where the repair takes more than so many.
+// How many steps a repair takes, where what is kept stays at each crash before and all ends well; or none, where it doesn't,
+// or where the repair takes more than so many.
 fn steps_of(
     alloc: Global,
     sealed: bool,
@@ -108,7 +110,7 @@ fn steps_of(
     Ok(None)
 }
 
-// The first of these cases that isn't mended, with its table.
+// The first of these cases that isn't repaired, with its table.
 fn first_left(alloc: Global, tables: &[&[Case]]) -> Result<Option<(usize, usize)>, Fail> {
     for (table, cases) in tables.iter().enumerate() {
         for (i, case) in cases.iter().enumerate() {

@@ -1,4 +1,4 @@
-// Sessions over a folder in memory that tells nothing, by the lines of a script.
+// Sessions over an opaque folder in memory, by the lines of a script.
 use blk_audit::ScanFault;
 use blk_cache::{Cache, StepFault};
 use blk_io::{Folder, MemSink, Sink};

@@ -1,4 +1,4 @@
-// Words, sizes and claims from the description of the forms.
+// Words, sizes and used blocks from the description of the forms.
 use blk_addr::laws::from_word_of_word;
 use blk_addr::{Addr, Claims, FileId, Kind, blocks_for, entry_blocks, kind_for};
 
@@ -120,7 +120,7 @@ fn add(claims: &mut Claims, word: u32) -> Option<bool> {
     claims.add(addr).ok()
 }
 
-// Whether the address of a word is claimed in part.
+// Whether the address of a word is used in part.
 fn has(claims: &Claims, word: u32) -> Option<bool> {
     Some(claims.has(Addr::from_word(word)?))
 }
@@ -134,7 +134,7 @@ fn added(claims: &mut Claims, word: u32) -> Option<(bool, u32, u32)> {
 #[test]
 fn overlapping_claims_change_nothing(rt: HostRuntime) {
     let mut claims = Claims::new(rt.alloc());
-    // blocks 4 and 5 of data_1; then 5 to 7, of which 5 is claimed; then 6 and 7
+    // blocks 4 and 5 of data_1; then 5 to 7, of which 5 is used; then 6 and 7
     for (word, answer) in [
         (0xA101_0004, (true, 1, 0)),
         (0xA201_0005, (false, 1, 0)),
@@ -144,7 +144,7 @@ fn overlapping_claims_change_nothing(rt: HostRuntime) {
     }
 }
 
-// Whether the address of a word is claimed, is new, is claimed then, and is new once more.
+// Whether the address of a word is used, is new, is used then, and is new once more.
 fn twice(claims: &mut Claims, word: u32) -> Option<[bool; 4]> {
     let before = has(claims, word)?;
     let first = add(claims, word)?;
@@ -201,7 +201,7 @@ fn add_three(claims: &mut Claims, words: [u32; 3]) -> Option<bool> {
 #[test]
 fn addresses_are_added_all_or_none(rt: HostRuntime) {
     let mut claims = Claims::new(rt.alloc());
-    // Of data_1 blocks 4 and 5, of data_2 block 4, and f_000001; then the same with one thing claimed, with two of one
+    // Of data_1 blocks 4 and 5, of data_2 block 4, and f_000001; then the same with one thing used, with two of one
     // block and of one number, and with nothing shared.
     for (words, answer, allocations) in [
         ([0xA101_0004, 0xB002_0004, 0x8000_0001], true, 1),

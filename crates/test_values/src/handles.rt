@@ -81,7 +81,7 @@ fn release_more(handles: &mut Handles) -> Option<bool> {
     Some(true)
 }
 
-// Releases the first name: whether object 7 is pinned before and behind it, and what it leaves.
+// Releases the first name: whether object 7 is pinned before and after it, and what it leaves.
 fn release_last(handles: &mut Handles) -> Option<(bool, Released, bool, usize)> {
     let before = handles.is_pinned(entry(7));
     let released = release(handles, 0)?;

@@ -110,7 +110,7 @@ fn block_front_of(head: &BlockHead<'_>) -> ([u32; 5], u16, u16) {
     (words, head.this_file(), head.next_file())
 }
 
-// The words behind them.
+// The words after them.
 fn block_rest_of(head: &BlockHead<'_>) -> [u32; 7] {
     [
         head.empty(0),

@@ -63,7 +63,7 @@ fn high_tail_bytes_count_as_negative(rt: HostRuntime) {
     }
 }
 
-// What a view wrote stands in its window.
+// What a view wrote is in its window.
 fn link(window: &mut [u8], next: u32)
     requires { entry_size ≤ length window.old }
     ensures { window.new ≡ with_word 4 next window.old }

@@ -157,7 +157,7 @@ fn lines_that_say_data(rt: HostRuntime) {
     }
 }
 
-// The number of bytes of the key or the data that a line says, where there is room for the line.
+// The number of bytes of the key or the data that a line says, where there is space for the line.
 fn length_of(line: &[u8], room: &mut [u8]) -> Option<Result<usize, LineFault>> {
     if line.len() > room.len() {
         return None;

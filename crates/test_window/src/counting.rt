@@ -22,7 +22,7 @@ const OBJECTS: u32 = 40;
 
 const ROUNDS: u32 = 360;
 
-// The lines for each object, and for each round; the key stands behind the first of them.
+// The lines for each object, and for each round; the key comes after the first of them.
 const MAKES: &[u8] = b"\nwrite 0 0 0 68747470\nwrite 0 1 2999 7a\nwrite 0 2 4999 7a\nclose 0\n";
 
 const READS: &[u8] = b"\nread 0 0 0 9\nread 0 1 2000 100\nread 0 2 4990 10\nclose 0\n";

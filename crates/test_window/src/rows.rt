@@ -68,7 +68,8 @@ const DOOMED: Row<'static> = Row {
     printed: b"ok\nok 2\nok\nok\ndata 2 6162\nrefused 10 Doomed\nok\nmain k 0 0 0\nend 1\ntotal 2 4\n",
 };
 
-// Evictions that make room for a write: objects charged 40, 300, 300 and 300 are closed one after another, and then one is written.
+// Evictions that make space for a write: objects charged 40, 300, 300 and 300 are closed one after another, and then one is
+// written.
 const EVICTING: Row<'static> = Row {
     limits: THOUSAND,
     input: &[
@@ -112,7 +113,7 @@ const EVICTING_BESIDE: Row<'static> = Row {
         total 4 940\nok\nevicted b\nok 60\ntotal 4 701\n",
 };
 
-// Open objects that leave no room for so many bytes, and room for one less.
+// Open objects that leave no space for so many bytes, and space for one less.
 const NO_ROOM: Row<'static> = Row {
     limits: THOUSAND,
     input: &[
@@ -133,7 +134,7 @@ const NO_ROOM: Row<'static> = Row {
         refused 11 Full\ntotal 3 978\nok 22\ntotal 3 1000\n",
 };
 
-// Room for two items, which are open, and then one of them isn't.
+// Space for two items, which are open, and then one of them isn't.
 const NO_ITEM_MORE: Row<'static> = Row {
     limits: TWO_ITEMS,
     input: &[(
@@ -144,7 +145,7 @@ const NO_ITEM_MORE: Row<'static> = Row {
     printed: b"ok\nok\nrefused 11 Full\nok\nevicted a\nok\n",
 };
 
-// Sparse data that begins inside a block and ends in the next part, and more behind it; then a key equal to the name of a part, which
+// Sparse data that begins inside a block and ends in the next part, and more after it; then a key equal to the name of a part, which
 // stays where the object with this part is doomed.
 const NAMED_AS_A_PART: Row<'static> = Row {
     limits: LIMITS,

@@ -1,4 +1,4 @@
--- An image has fewer records that stand than there are first blocks.
+-- An image has fewer records that are there than there are first blocks.
 use Rattle.std.proofs.Common.{◌≡◌, ◌≢◌, ⊎_elim, ℕ, ◌^◌, ◌<◌, ◌≤◌, true, false, List, [], ◌∷◌, length, map, Option, Some, None, refl, sym, ◌∙◌, ap, subst, arith}
 use Rattle.std.specs.Prelude.{◌==◌, ◌&&◌}
 use Rattle.std.specs.Option.{option_map_or}
@@ -44,7 +44,7 @@ records-few image words stands once =
       below : (x : ℕ) → is_among (0 ∷ map file_and_block words) x ≡ true → x < 2 ^ 24
       below x h = ⊎_elim (λ (e : (0 == x) ≡ true). let is : 0 ≡ x = eqb-true 0 x e in omega (arith, is)) (λ (e : is_among (map file_and_block words) x ≡ true). below-all words x e) (or_cases (0 == x) (is_among (map file_and_block words) x) h)
 
--- each record of a chain stands
+-- each record of a chain is there
 pub all-stand : (image : Image) (b w : ℕ) (words : List ℕ) → Linked (store_of image) b w words → (x : ℕ) → is_among words x ≡ true → stands_as image blocks_256 x ≡ true
 all-stand image b w [] linked x among = cc
 all-stand image b w (y ∷ words) linked x among = ⊎_elim

@@ -37,7 +37,7 @@ first-leaves old new b c words same table is = record {
   once = is.once.1;
 }
 
--- no first block stands twice in less of a list
+-- no first block occurs twice in less of a list
 less-among : (block : ℕ) (prefix : List ℕ) (p c : ℕ) (rest : List ℕ) → is_among (map file_and_block (prefix ++ p ∷ c ∷ rest)) block ≡ false → is_among (map file_and_block (prefix ++ p ∷ rest)) block ≡ false
 less-among block [] p c rest h =
     let one = or_parts (file_and_block p == block) (is_among (map file_and_block (c ∷ rest)) block) h in

@@ -66,9 +66,9 @@ pub kept-loads : (v : StoreView) (rule : Rule) (ws : List ℕ) → AllByRecursio
 unfolding kept_among
 kept-loads v rule ws = each-some (IsLoadedBy v) _ (λ w l e. verdict-loads v rule [] _ w l (kept-some _ l e)) ws
 
--- ---- the words of what was loaded stand
+-- ---- the words of what was loaded are valid
 
--- a word stands where it isn't 0
+-- a word is valid where it isn't 0
 abbrev StandsIf : Image → ℕ → Type 0
 StandsIf image x = (x == 0) ≡ false → stands_in image x ≡ true
 
@@ -163,7 +163,7 @@ words-stand image l by = load-then (store_of image) by.0 by.1 l by.2 (λ n e f.
     let addresses : AllByRecursion (StandsIf image) e.data_addr = subst (λ (x : RecordFields). AllByRecursion (StandsIf image) x.data_addr) fields.1 (addresses-stand image n.contents (subst (StreamsStand image) (sym fields.1) streams)) in
     nonzero image (l.node ∷ l.contents ∷ l.others) ((λ _. node), ((λ _. contents), subst (AllByRecursion (StandsIf image)) (sym f.facts.others_are) (long, addresses))))
 
--- ---- the claims of these words
+-- ---- the used blocks of these words
 
 pub flat_map-append : {X : Type 0} (f : ℕ → List X) (xs ys : List ℕ) → flat_map f (xs ++ ys) ≡ flat_map f xs ++ flat_map f ys
 flat_map-append f [] ys = refl
@@ -195,7 +195,7 @@ repeats-head (x ∷ xs) ys e =
     let p = or_parts (has_claim (xs ++ ys) x) (repeats (xs ++ ys)) e in
     or_from (has_claim xs x) (repeats xs) (or_parts (has_claim xs x) (has_claim ys x) (sym (claim-append xs ys x) ∙ p.0)).0 (repeats-head xs ys p.1)
 
--- fewer words claim less
+-- fewer words use less
 pub fewer-claims : (p : ℕ → Bool) (xs : List ℕ) (c : Claim) → has_claim (claims_of_all (filter p xs)) c ≡ true → has_claim (claims_of_all xs) c ≡ true
 fewer-claims p [] c h = h
 fewer-claims p (x ∷ xs) c h = ⊎_elim
@@ -217,7 +217,7 @@ fewer-repeats p (x ∷ xs) e = ⊎_elim
     (λ (is : p x ≡ false). rw is (fewer-repeats p xs (repeats-tail (claims_of x) (claims_of_all xs) e)))
     (cases_Bool (p x))
 
--- a word of another file claims no block of this one
+-- a word of another file uses no block of this one
 range-none : (f n b first count : ℕ) → (f == n) ≡ false → has_claim (map (λ x. BlockOf f x) (range_with_len first count)) (BlockOf n b) ≡ false
 range-none f n b first zero apart = no-claim (BlockOf n b)
 range-none f n b first (suc count) apart = claim-head (BlockOf f first) (map (λ x. BlockOf f x) (range_with_len (first + 1) count)) (BlockOf n b) ∙ or_from (same_claim (BlockOf n b) (BlockOf f first)) _ (other (b == first)) (range-none f n b (first + 1) count apart) where

@@ -39,7 +39,7 @@ claim-range f from (suc n) b low high =
 pub not_equal : (m n : ℕ) → m ≢ n → (m == n) ≡ false
 not_equal m n apart = false_from_ne_true (m == n) (λ e. apart (eqb-true m n e))
 
--- each block of an address is claimed by it
+-- each block of an address is used by it
 pub block-claim : (w b : ℕ) → w ≢ 0 → kind_of w ≢ external → first_block w ≤ b → b < first_block w + block_count w → has_claim (claims_of w) (BlockOf (file_selector w) b) ≡ true
 unfolding claims_of
 block-claim w b some apart low high =
@@ -64,7 +64,7 @@ and_under : (b x z : Bool) → (b ≡ true → x ≡ z) → (b && x) ≡ (b && z
 and_under true x z f = f refl
 and_under false x z f = refl
 
--- the block of a size in which a place behind the header lies
+-- the block of a size in which a place after the header lies
 block-at : (size k : ℕ) → (size ≡ 36) ⊎ (size ≡ 256) ⊎ (size ≡ 1024) ⊎ (size ≡ 4096) → 8192 ≤ k → (8192 + (k - 8192) / size * size ≤ k) × (k < 8192 + ((k - 8192) / size + 1) * size)
 block-at size k (inl e) suffix = rw e (omega arith, omega arith)
 block-at size k (inr (inl e)) suffix = rw e (omega arith, omega arith)
@@ -102,7 +102,7 @@ key_blocks : (w : ℕ) (e : RecordFields) → is_key_length w e ≡ true → (bl
 unfolding is_key_length
 key_blocks w e h = (and_parts (nat_le 1 e.key_len && nat_le e.key_len (longest_key_with e)) (block_count w == entry_blocks e.key_len) h).1
 
--- what names a record stands
+-- what names a record is valid
 record_stands : (image : Image) (w : ℕ) (e : RecordFields) → fields_at image w ≡ Some e → stands_as image blocks_256 w ≡ true
 unfolding fields_at
 record_stands image w e is = ⊎_elim
@@ -110,7 +110,7 @@ record_stands image w e is = ⊎_elim
     (λ (s : stands_as image blocks_256 w ≡ false). let none : ◌≡◌ {A = Option RecordFields} None (Some e) = rw s at is in absurd (cc))
     (cases_Bool (stands_as image blocks_256 w))
 
--- a file is linked as the type of a standing address of blocks
+-- a file is linked as the type of a valid address of blocks
 pub linked-some : (o : Option ℕ) (kind : ℕ) → is_linked_as o kind ≡ true → o ≡ Some kind
 linked-some None kind e = absurd (let z : false ≡ true = e in cc)
 linked-some (Some k) kind e = ap Some (eqb-true k kind e)
@@ -134,7 +134,7 @@ module _ (image : Image) (w : ℕ) (st : stands_in image w ≡ true) where
   unfolding stands_as_blocks
   stands-linked apart = linked-some (linked_as image (file_selector w)) (kind_of w) (and_parts (is_linked_as (linked_as image (file_selector w)) (kind_of w)) _ (and_parts (is_linked_as (linked_as image (file_selector w)) (kind_of w) && nat_le (first_block w + block_count w) (max_entries_in image (file_selector w))) _ (stands-blocks apart)).0).0
 
--- where the bytes of a standing address end
+-- where the bytes of a valid address end
 ends-at : (w : ℕ) → place w + byte_size w ≡ block_place (kind_of w) (first_block w + block_count w)
 unfolding place block_place
 ends-at w = ap (λ (r : ℕ). 8192 + first_block w * block_size (kind_of w) + r) (room_is w (kind_of w) refl) ∙ spread (block_size (kind_of w)) (first_block w) (block_count w) (size-is (kind_of w)) where
@@ -149,7 +149,7 @@ pub places-rise : (kind less more : ℕ) → less ≤ more → block_place kind 
 unfolding block_place
 places-rise kind less more rises = let p : block_size kind * less ≤ block_size kind * more = mul-le-mul_left (block_size kind) rises in omega arith
 
--- blocks stand where their last one is there
+-- blocks are valid where their last one is there
 pub last-there : BlocksStandByTheirLast
 unfolding stands_as_blocks is_there
 last-there image w =
@@ -174,7 +174,7 @@ module _ (touched : Claim → Bool) (old new : Image) (same : AgreeBut touched o
   external-of w address is clear =
       same.externals (external_number w) (clear (ExternalOf (external_number w)) (external-claim w (λ e. let a : is_address 0 ≡ true = ap is_address (sym e) ∙ address in let c : false ≡ true = sym zero-no_address ∙ a in cc) is))
 
-  -- an address that is clear stands in both or in neither
+  -- an address that is clear is valid in both or in neither
   pub stands-same : (w : ℕ) → IsClear touched w → stands_in new w ≡ stands_in old w
   unfolding stands
   stands-same w clear = and_under (is_address w) _ _ (λ address. ⊎_elim
@@ -332,7 +332,7 @@ module _ (F : files.Footprint) (old new : Image) (touched : Claim → Bool) (sam
   external_file-same w address is clear =
       external-same (external_number w) (clear (ExternalOf (external_number w)) (external-claim w (λ e. let a : is_address 0 ≡ true = ap is_address (sym e) ∙ address in let c : false ≡ true = sym zero-no_address ∙ a in cc) is))
 
-  -- an address of blocks, and an external one that is clear, stands in both or in neither
+  -- an address of blocks, and an external one that is clear, is valid in both or in neither
   pub stands-if_clear : (w : ℕ) → (kind_of w ≡ external → IsClear touched w) → stands_in new w ≡ stands_in old w
   unfolding stands stands_as_blocks
   stands-if_clear w clear = and_under (is_address w) _ _ (λ address. ⊎_elim

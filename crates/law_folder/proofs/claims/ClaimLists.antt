@@ -1,4 +1,4 @@
--- Lists of claims: what is in them, and what stands twice.
+-- Lists of used blocks: what is in them, and what occurs twice.
 use Rattle.std.proofs.Common.{◌≡◌, ℕ, zero, suc, ◌+◌, ◌<◌, arith, List, [], ◌∷◌, ◌++◌, map, refl, ◌∙◌, true, false, ⊎_elim}
 use Rattle.std.specs.Prelude.{◌||◌, ◌==◌}
 use Rattle.std.specs.List.{flat_map, range_with_len}
@@ -30,7 +30,7 @@ repeats-append (x ∷ xs) ys a b apart =
     or_from (has_claim (xs ++ ys) x) (repeats (xs ++ ys)) (claim-append xs ys x ∙ or_from (has_claim xs x) (has_claim ys x) p.0 lacks)
     (repeats-append xs ys p.1 b (λ c h g. apart c (claim-head x xs c ∙ or_right (same_claim c x) (has_claim xs c) h) g))
 
--- the claims of its record are a loaded record's
+-- the used blocks of its record are a loaded record's
 pub contents-claims : (l : Loaded) (c : Claim) → has_claim (claims_of l.contents) c ≡ true → has_claim (all_claims l) c ≡ true
 unfolding all_claims record_claims
 contents-claims l c h = claim-append (claims_of l.node) (record_claims l) c ∙ or_right (has_claim (claims_of l.node) c) (has_claim (record_claims l) c) (claim-append (claims_of l.contents) (flat_map claims_of l.others) c ∙ or_left (has_claim (claims_of l.contents) c) (has_claim (flat_map claims_of l.others) c) h)
@@ -39,7 +39,7 @@ pub some-blocks : (w : ℕ) → 0 < block_count w
 unfolding block_count
 some-blocks w = omega arith
 
--- a word that is not 0 claims something
+-- a word that is not 0 uses something
 pub some-claim : (w : ℕ) → (w ≡ 0 → ⊥) → (c : Claim) × (has_claim (claims_of w) c ≡ true)
 unfolding claims_of
 some-claim w apart = ⊎_elim

@@ -74,7 +74,7 @@ module _ (old new : Image) (grown : HaveGrown old new) where
 pub growth-absent : GrowthIsOfAbsentBlocks
 growth-absent old new grown = grown-agree old new grown
 
--- ---- the blocks of a word that stands are there
+-- ---- the blocks of a valid word are there
 
 there-below : (image : Image) (n kind b last : ℕ) → b ≤ last → is_there image n kind last ≡ true → is_there image n kind b ≡ true
 unfolding is_there

@@ -1,4 +1,4 @@
--- A longer block file has grown; claimed blocks.
+-- A longer block file has grown; used blocks.
 use Rattle.std.proofs.Common.{◌≡◌, ℕ, zero, suc, ◌+◌, ◌*◌, ◌<◌, ◌≤◌, map, refl, sym, ◌∙◌, subst, arith, ⊎_elim, Bool, true, false}
 use Rattle.std.specs.Prelude.{◌&&◌, ◌||◌, ◌==◌}
 use Rattle.std.specs.List.{range_with_len}
@@ -14,7 +14,7 @@ use Rattle.spec_format.specs.Growth.{HaveGrown}
 use Rattle.law_folder.proofs.claims.ClaimLists.{claim-head, no-claim}
 use Rattle.law_folder.proofs.claims.ByteChanges.{same-links}
 
--- a claimed block is one of the word's
+-- a used block is one of the word's
 pub claimed-block : (f first count n b : ℕ) → has_claim (map (λ x. BlockOf f x) (range_with_len first count)) (BlockOf n b) ≡ true → (f ≡ n) × (b < first + count)
 claimed-block f first zero n b e = let z : false ≡ true = sym (no-claim (BlockOf n b)) ∙ e in absurd (cc)
 claimed-block f first (suc count) n b e = go (n == f) (b == first) refl refl (claimed-block f (first + 1) count n b) (sym (claim-head (BlockOf f first) (map (λ x. BlockOf f x) (range_with_len (first + 1) count)) (BlockOf n b)) ∙ e) where

@@ -23,12 +23,12 @@ use Rattle.spec_folder.specs.ShownChanges.{ChangesInside}
 use Rattle.law_folder.specs.BlockWrites.{WritesStayInside, UpdatesStayInside}
 use Rattle.law_folder.proofs.updates.WellFormed.{before_range, well_formed_still}
 
--- a claim of a block of a file
+-- a used block of a file
 unfoldable pub in_file : ℕ → Claim → Bool
 in_file file (BlockOf other b) = file == other
 in_file file (ExternalOf n) = false
 
--- words of another type than blocks, and of another file, claim no block of it
+-- words of another type than blocks, and of another file, use no block of it
 blocks-elsewhere : (file other start n b : ℕ) → other ≢ file → has_claim (map (λ x. BlockOf other x) (range_with_len start n)) (BlockOf file b) ≡ false
 blocks-elsewhere file other start zero b apart = no-claim (BlockOf file b)
 blocks-elsewhere file other start (suc n) b apart =
@@ -93,7 +93,7 @@ module _ (from image : Image) (w at n : ℕ) (st : stands_in from w ≡ true) (b
   unfolding F
   same-elsewhere = views-same F from image (in_file (file_selector w)) same covers-file
 
-  -- each word stands as before
+  -- each word is valid as before
   pub stands-all : (u : ℕ) → stands_in image u ≡ stands_in from u
   unfolding F
   stands-all u = stands-if_clear F from image (in_file (file_selector w)) same covers-file u (λ is. elsewhere-clear (file_selector w) u (inl is))

@@ -1,4 +1,4 @@
--- The word of a node that stands and what it claims: two nodes share no block.
+-- The word of a node that is there and what it uses: two nodes share no block.
 use Rattle.std.proofs.Common.{◌≡◌, ◌≢◌, ⊎_elim, ℕ, ◌+◌, ◌/◌, ◌%◌, ◌^◌, ◌<◌, List, [], ◌∷◌, refl, ap, ap₂, sym, ◌∙◌, arith, Bool, true, false}
 use Rattle.std.specs.Prelude.{◌&&◌, ◌||◌, ◌==◌, nat_le, not}
 use Rattle.std.proofs.lemmas.Bool.{eqb-true, eq-eqb, cases_Bool, and_parts}
@@ -16,7 +16,7 @@ use Rattle.law_folder.proofs.states.Laid.{same_claim-eq}
 pub node_apart : rankings ≢ external
 node_apart e = let x : ◌≡◌ {A = ℕ} 1 0 = e in cc
 
--- what a standing node's word is
+-- what a valid node's word is
 pub record IsNode (image : Image) (w : ℕ) : Type 0 where
   pub stands : stands_in image w ≡ true
   pub kind : kind_of w ≡ rankings

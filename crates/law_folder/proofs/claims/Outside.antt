@@ -20,7 +20,7 @@ use Rattle.law_folder.proofs.walks.Loading.{load-from}
 use Rattle.law_folder.proofs.states.Laid.{IsNodeOf, node-of}
 use Rattle.law_folder.proofs.walks.Shown.{node-is}
 
--- ---- claims of a record's words
+-- ---- used blocks of a record's words
 
 claim-left : (xs ys : List Claim) (c : Claim) → has_claim xs c ≡ true → has_claim (xs ++ ys) c ≡ true
 unfolding has_claim
@@ -34,13 +34,13 @@ pub clear-zero : (touched : Claim → Bool) → IsClear touched 0
 unfolding claims_of has_claim
 clear-zero touched c h = absurd (let x : false ≡ true = h in cc)
 
--- the claims of one of several words are claims of them
+-- the used blocks of one of several words are used blocks of them
 pub index-claims : (xs : List ℕ) (i : ℕ) (c : Claim) → has_claim (claims_of (slice_index xs i)) c ≡ true → has_claim (flat_map claims_of xs) c ≡ true
 index-claims [] i c h = absurd (let x : true ≡ false = clear-zero (λ d. true) c h in cc)
 index-claims (x ∷ xs) zero c h = claim-left (claims_of x) (flat_map claims_of xs) c h
 index-claims (x ∷ xs) (suc i) c h = claim-right (claims_of x) (flat_map claims_of xs) c (index-claims xs i c h)
 
--- all words of a loaded record are clear where its claims are
+-- all words of a loaded record are clear where its used blocks are
 pub record AreClear (touched : Claim → Bool) (l : Loaded) : Type 0 where
   pub node : IsClear touched l.node
   pub contents : IsClear touched l.contents

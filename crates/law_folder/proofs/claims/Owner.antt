@@ -45,7 +45,7 @@ pub its-key : (o : Object) (i : Item) → has_item o i ≡ true → key_of i ≡
 its-key o (main key) h = same_bytes key o.key (and_parts o.live (bytes_eq key o.key) h).1
 its-key o (part key n) h = same_bytes key o.key (and_parts o.live (bytes_eq key o.key) (and_parts (o.live && bytes_eq key o.key) (is_some (part_at o n)) h).0).1
 
--- what is at rest is what is picked of the live settled objects
+-- the durable contents are what is picked of the live clean objects
 pub settled-picked : (m : State) (i : Item) → settled_row m i ≡ picked_with m (λ number. is_live_and_settled (object_at m number)) i
 unfolding settled_row row_of
 settled-picked m i = go (owner m i) refl where

@@ -1,4 +1,4 @@
--- A create from the contracts of its calls: at each word a stop outcome, and in the end the new state.
+-- A create from the contracts of its calls: at each word a crash outcome, and in the end the new state.
 use Rattle.std.proofs.Common.{◌≡◌, ℕ, ◌<◌, List, [], ◌∷◌, length, map, take, refl, ap, sym, ◌∙◌, subst, Bool, true, false, arith, Option, Some, None}
 use Rattle.std.specs.Prelude.{not, ◌&&◌, ◌||◌, if◌then◌else◌, nat_lt}
 use Rattle.std.specs.List.{filter_map}
@@ -60,11 +60,11 @@ module _ (v u : View) (m : State) (y : Layout) (r : Represents v m y) (valid : I
         idle = e.1;
       }
 
-  -- what is at rest, before and after, is a stop outcome
+  -- the durable contents, before and after, are a crash outcome
   pub create-rest : model.rest (created handle key m) ≡ model.rest m
   create-rest = created-rest m y written.holds.lies u.store handle key l new none
 
--- what is at rest before a create is what is picked by it
+-- the durable contents before a create are what it picks
 module _ (m : State) (handle : ℕ) (key : List ℕ) where
   test-created : (number : ℕ) → is_live_and_settled (object_at m number) ≡ (is_safe m (created handle key m) number || (false && is_turned m (created handle key m) number))
   unfolding is_safe created

@@ -147,7 +147,7 @@ module _ (m : State) (y : Layout) (r : IsLayoutOf m y) (v : StoreView) (handle :
     row : row_of_loaded l ≡ main_row key (new_object key).shape ([], [], [])
     row = rw (new.role, new.streams, new.key_is) refl
 
-  -- the use list afterwards: the new item, and the others
+  -- the LRU list afterwards: the new item, and the others
   pub uses-after : (created handle key m).uses ≡ main key ∷ m.uses
   unfolding created
   uses-after = ap (λ (xs : List Item). main key ∷ xs) (absent m.uses unlisted) where
@@ -168,7 +168,7 @@ module _ (m : State) (y : Layout) (r : IsLayoutOf m y) (v : StoreView) (handle :
       (lies-reordered (with_first m (m.objects ++ Some (new_object key) ∷ []) (main key)) (with_new y key l) (main key ∷ m.uses) (created handle key m).names (λ i. refl)
       (item-lies m (m.objects ++ Some (new_object key) ∷ []) y (main key) l r changed as-item))
 
-  -- what is at rest is the same before and after
+  -- the durable contents are the same before and after
   rest-item : (i : Item) → is_listed m i ≡ true → model.settled_row (created handle key m) i ≡ model.settled_row m i
   unfolding model.settled_row created
   rest-item i there =
@@ -313,7 +313,7 @@ module _ (v : StoreView) (m : State) (y : Layout) (r : Holds v m y) (valid : IsV
       let z : (k.dirty == 0) ≡ false = ap (λ (q : Loaded). q.dirty == 0) (sym s) ∙ new.dirty in
       let c : true ≡ false = sym a ∙ z in cc
 
-  -- what is found while the new node is listed and dirty is what was at rest
+  -- what is found while the new node is listed and dirty is the old durable contents
   pub inserted-rest : map row_of_loaded (kept_among v held_rule (l.node ∷ order m y)) ≡ model.rest m
   inserted-rest =
       let goes = settled-goes m y r.lies.laid m.uses (λ i h. h) in

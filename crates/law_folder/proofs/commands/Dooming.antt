@@ -50,7 +50,7 @@ module _ (m : State) (number : ℕ) (o : Object) (here : object_at m number ≡ 
       (λ (h : has_item o i ≡ false). h)
       (cases_Bool (has_item o i))
 
-  -- what is at rest after the doom
+  -- the durable contents after the doom
   settled-aside : (i : Item) → is_of_another o.key i ≡ true → model.settled_row (doomed number m (Some o)) i ≡ model.settled_row m i
   unfolding model.settled_row doomed
   settled-aside i other = ap (option_and_then (λ object. cond object.settled (model.row_in object i) None)) (object-aside m number (doomed_slot (is_named m number) o) i (not-its i other) (no-item i))

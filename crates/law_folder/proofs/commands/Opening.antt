@@ -166,7 +166,7 @@ module _ (v : View) (m : State) (y : Layout) (r : Represents v m y) (i : Item) (
   pub touched-once : Distinct (nodes_of y (used i m.uses))
   touched-once = touched-list.0.distinct
 
--- what is kept of a walk of the same items is what is picked in their order, where an object stays settled or not
+-- what is kept of a walk of the same items is what is picked in their order, where an object stays clean or not
 module _ (v : StoreView) (m : State) (y : Layout) (r : Holds v m y) (valid : IsValidState m) (uses : List Item) (same : SameItems uses m.uses) where
   pub same-settled : IsTest m y uses (λ number. is_live_and_settled (object_at m number))
   same-settled = settled-on m y r.lies.laid valid uses (λ i there. sym (same i) ∙ there)
@@ -175,7 +175,7 @@ module _ (v : StoreView) (m : State) (y : Layout) (r : Holds v m y) (valid : IsV
 pub test-same : (m : State) (y : Layout) (items : List Item) (t s : ℕ → Bool) → ((number : ℕ) → t number ≡ s number) → IsTest m y items t → IsTest m y items s
 test-same m y items t s same is = record { owners = is.owners; main_test = λ key l number there here own. is.main_test key l number there here own ∙ same number }
 
--- where a command changes no object, those that are settled are safe
+-- where a command changes no object, those that are clean are safe
 pub safe-same : (b x : Bool) → b ≡ ((b && (b || x)) || false)
 safe-same true x = refl
 safe-same false x = refl

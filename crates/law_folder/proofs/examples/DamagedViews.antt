@@ -19,7 +19,7 @@ use Rattle.spec_folder.specs.Reasons as reason
 use Rattle.spec_folder.specs.Loads.{held_rule, load, load_key, load_record, record_claims, all_claims}
 use Rattle.spec_folder.specs.Audit.{shares_key, is_orphan, admit, verdicts, kept_among, dropped_among, kept_by, is_unlisted, unlisted_in}
 
--- what stands at a word
+-- what is at a word
 abbrev pub at_word : {A : Type 0} → List (ℕ × A) → ℕ → Option A
 at_word [] w = None
 at_word (given ∷ others) w = if given.0 == w then Some given.1 else at_word others w
@@ -57,7 +57,7 @@ plain_core w = record {
 abbrev pub entry : ℕ → ℕ → Linked
 entry chain_next w = record { chain_next = chain_next; fields = plain_core w }
 
--- the field of what stands at a word, or 0
+-- the field of what is at a word, or 0
 abbrev field : {A : Type 0} → (A → ℕ) → List (ℕ × A) → ℕ → ℕ
 field part given w = option_map_or part (at_word given w) 0
 
@@ -225,7 +225,7 @@ twins_dropped : dropped_nodes twins ≡ (0x90000001, reason.Name) ∷ []
 unfolding twins dropped_among verdicts load load_record load_key admit is_key_length stored_key stored_stream stored_streams role_of shares_key is_orphan record_claims all_claims claims_of has_claim overlap repeats kind_of block_count file_selector first_block external_number entry_blocks walk walk_from chain_from hash mixed of_bytes of_one
 twins_dropped = refl
 
--- that claim one block, by a stream: the one nearer the front is kept, and the other has the reason claimed, which comes before name
+-- that use one block, by a stream: the one nearer the front is kept, and the other has the reason claimed, which comes before name
 with_stream : ℕ → ℕ → Linked
 with_stream chain_next w = record { chain_next = chain_next; fields = record (plain_core w) { data_size = 5 ∷ 0 ∷ 0 ∷ 0 ∷ []; data_addr = 0xA0010008 ∷ 0 ∷ 0 ∷ 0 ∷ [] } }
 

@@ -45,7 +45,7 @@ first-goes_out =
 abbrev without_second : StoreView
 without_second = record four_records { chain_next = put four_records.chain_next 0xA0010000 0xA0010002 }
 
--- the records before and behind it are linked
+-- the records before and after it are linked
 pub second-goes_out : Linked without_second bucket 0xA0010000 (0xA0010000 ∷ 0xA0010002 ∷ [])
 unfolding put
 second-goes_out =

@@ -51,7 +51,7 @@ named-blocks = (refl, refl, refl, refl)
 pub only-node : (dirty w : ℕ) (c : Claim) → (layout dirty).owner c ≡ Some w → node ≡ w
 only-node dirty w c owned = (choice (has_claim (all_claims (loaded 0)) c) node w owned).1
 
--- Stream 0 of the unsettled object becomes `yyy`, at block 2 of data_1.
+-- Stream 0 of the dirty object becomes `yyy`, at block 2 of data_1.
 
 abbrev written_object : Object
 written_object = record (object false) { streams = (codes "yyy", [], []) }
@@ -98,7 +98,7 @@ now-loads : load (with_data (Some (codes "yyy"))).store (unchained_rule 0) node 
 unfolding load load_record load_key is_key_length entries.stored_key stored_stream stored_streams role_of block_count entry_blocks hash mixed of_bytes of_one
 now-loads = refl
 
--- it claims no block twice
+-- it uses no block twice
 pub now-once : repeats (all_claims now) ≡ false
 unfolding repeats has_claim all_claims record_claims claims_of kind_of block_count file_selector first_block external_number
 now-once = refl
@@ -150,7 +150,7 @@ pub written-is_represented : Represents (with_data (Some (codes "yyy"))) written
 written-is_represented =
     replaced touched (view 5) (with_data (Some (codes "yyy"))) (state false) (layout 5) (represented 5) (Some written_object ∷ []) (main (codes "a")) (loaded 5) now owners_now (same-but (Some (codes "yyy"))) one-changed refl refl is-change is-replaced
 
--- at a moment when the record names the new place and the data isn't there yet, what is at rest is kept
+-- at a moment when the record names the new place and the data isn't there yet, the durable contents are kept
 pub torn-is_at_rest : map volume.row_of_loaded (kept_by held_rule (volume.completed (with_data None))) ≡ rest (state false)
 torn-is_at_rest =
     moment-rest touched (view 5) (with_data None) (state false) (layout 5) (represented 5) (state_is_valid false) 0 (object false) (main (codes "a")) refl refl refl (loaded 5) refl (same-but None)
@@ -181,7 +181,7 @@ torn-midst : IsInProgress (λ w. w == node) (with_data None).store (state false)
 unfolding load load_record load_key
 torn-midst = record { of_key = midst.of_key; unsettled = midst.unsettled; dirty = λ l ok. cc; parts = λ n was now h is at ok. absurd (let z : false ≡ true = h in cc); names = midst.names }
 
--- what is at rest is kept
+-- the durable contents are kept
 pub midst-is_at_rest : map volume.row_of_loaded (kept_among (with_data None).store held_rule (node ∷ [])) ≡ rest (state false)
 midst-is_at_rest = midst-rest (λ w. w == node) (with_data None).store (state false) (layout 5) torn-holds (state_is_valid false) (codes "a") torn-midst (refl, tt)
 
@@ -238,14 +238,14 @@ same-but_dirt = record {
   table = λ b. refl;
 }
 
--- that unsettles the object
+-- that makes the object dirty
 pub dirtied-is_represented : Represents (view 5) (marked (state true) 0 (object true) false) (dirtied (layout 0) node (loaded 0) 5)
 dirtied-is_represented =
     written-settles (view 0) (view 5) (state true) (layout 0) (represented 0) (state_is_valid true) 0 (object true) (loaded 0) (lies 0) 5 same-but_dirt
     (λ node_fields is. let s : ◌≡◌ {A = NodeFields} (record { contents = contents; dirty = 0 }) node_fields = cc in ap (λ (n : NodeFields). Some (record n { dirty = 5 })) s)
     (record { checks = refl; next = refl; prev = refl })
 
--- what is at rest before and after this is picked by it
+-- the durable contents before and after this are picked by it
 pub turned-is_picked : (rest (state true) ≡ pick (state true) (turned (state true) 0 (object true) false (state true).names) true (state true).uses)
     × (rest (turned (state true) 0 (object true) false (state true).names) ≡ pick (state true) (turned (state true) 0 (object true) false (state true).names) false (state true).uses)
 turned-is_picked = (before-turning (state true) (state_is_valid true) 0 (object true) false (state true).names refl refl, after-turning (state true) (state_is_valid true) 0 (object true) false (state true).names refl refl)

@@ -33,7 +33,7 @@ its-place = (refl, refl, refl, refl)
 not-external : kind_of its_stream ≡ external → ⊥
 not-external e = let two : 2 ≡ external = sym its-place.0 ∙ e in cc
 
--- the blocks of the stream are covered by its claims
+-- the blocks of the stream are covered by its used blocks
 pub stream-is_covered : Covers whole_folder (range (Block (file_selector its_stream)) (place its_stream) (byte_size its_stream)) (has_claim (claims_of its_stream))
 stream-is_covered = blocks-covered whole_folder its_stream stream-stands not-external
 
@@ -46,7 +46,7 @@ part-is_covered = covers-less whole_folder (range (Block 1) 8448 2) (range (Bloc
 pub counter-needs_no_cover : Covers whole_folder (range (Block 1) 16 4) (λ claim. false)
 counter-needs_no_cover = headers-covered whole_folder 1 16 4 (lit≤ tt) (inr (inl (lit≤ tt, lit≤ tt)))
 
--- so it is covered by the claims of the stream too
+-- so it is covered by the used blocks of the stream too
 counter-is_covered : Covers whole_folder (range (Block 1) 16 4) (has_claim (claims_of its_stream))
 counter-is_covered = covers-more whole_folder (range (Block 1) 16 4) (λ claim. false) (has_claim (claims_of its_stream)) (λ claim none. absurd (let z : false ≡ true = none in cc)) counter-needs_no_cover
 

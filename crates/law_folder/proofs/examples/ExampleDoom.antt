@@ -1,4 +1,4 @@
--- The laws on a doom, word by word: the entry `a`, which a handle names, is behind `kmyb` in the list and in their chain; it is taken out of both, and its record gets state 2.
+-- The laws on a doom, word by word: the entry `a`, which a handle names, is after `kmyb` in the list and in their chain; it is taken out of both, and its record gets state 2.
 use Rattle.std.proofs.Common.{◌≡◌, ⊎_elim, inr, ℕ, List, [], ◌∷◌, map, refl, ap, sym, ◌∙◌, subst, arith, Bool, true, false, Option, Some, Ok}
 use Rattle.std.specs.Prelude.{if◌then◌else◌, nat_lt, take, ◌==◌, ◌||◌, codes}
 use Rattle.std.proofs.lemmas.Bool.{cases_Bool, eqb-true, eq-eqb, false_from_ne_true}
@@ -155,7 +155,7 @@ key-is_good = record { some = omega arith; short = omega arith; bytes = bytes-sm
 made-is_valid : IsValidState (created 1 key (state true))
 made-is_valid = state_created (state true) (state_is_valid true) 1 key key-is_good (omega arith) refl refl
 
--- both are settled, and handle 0 names `a`
+-- both are clean, and handle 0 names `a`
 abbrev two : State
 two = closed 1 (created 1 key (state true))
 
@@ -177,7 +177,7 @@ two-is_represented =
     (dirty-settles made_view (created 1 key (state true)) made_layout made-is_represented made-is_valid 1 (new_object key) (second 5) (record { here = refl; live = refl; at = refl }) (record { contents = second_contents; dirty = 5 }) 0 refl)
     names
 
--- ---- both are at rest while the list has both
+-- ---- both are durable while the list has both
 
 whole-holds : HoldsExcept (λ w. false) two_view.store two two_layout
 whole-holds = represented-but (λ w. false) two_view two two_layout two-is_represented
@@ -188,7 +188,7 @@ both-are_at_rest = listed-rest (λ w. false) two_view.store two two_layout whole
 
 -- ---- the node of `a` is taken out of the list
 
--- at each write of that what is kept is what is at rest before the doom, or after it
+-- at each write of that what is kept is the durable contents before the doom, or after it
 pub doom-moments : (count : ℕ) → map volume.row_of_loaded (kept_by held_rule (volume.completed (record two_view { list = after_writes (take count (writes_of remove node two_view.list)) two_view.list })))
     ≡ (if nat_lt count 2 then rest two else rest (doomed 0 two (Some (object true))))
 unfolding created closed

@@ -30,7 +30,7 @@ use Rattle.law_folder.specs.CommandLaws.{IsPlacedAsDoomed, marked, dirtied}
 use Rattle.law_folder.proofs.commands.DoomedChanges.{changed-doomed-lies, changed-doomed, doomed-rest, gone-doomed, doomed-settles, written-doomed-settles}
 use Rattle.law_folder.proofs.examples.ExampleChanges.{not-clear, named-blocks, only-node, new_block, block-is_free, touched, touched-claims, now, now-once, owners_now}
 
--- the object `a`, settled or not
+-- the object `a`, clean or not
 abbrev pub doomed_object : Bool → Object
 doomed_object settled = record (one.object settled) { live = false }
 
@@ -165,7 +165,7 @@ dirt-is_inside = record {
   table = λ b. refl;
 }
 
--- that unsettles it
+-- that makes it dirty
 pub doomed-is_dirtied : Represents (doomed_view 5 None) (marked (doomed_state true) 0 (doomed_object true) false) (dirtied (doomed_layout 0) one.node (one.loaded 0) 5)
 doomed-is_dirtied = written-doomed-settles (doomed_view 0 None) (doomed_view 5 None) (doomed_state true) (doomed_layout 0) (doomed-is_represented 0) 0 (doomed_object true) (one.loaded 0) (here-doomed 0) 5 dirt-is_inside
     (λ node_fields is. let s : ◌≡◌ {A = NodeFields} (record { contents = one.contents; dirty = 0 }) node_fields = cc in ap (λ (n : NodeFields). Some (record n { dirty = 5 })) s)

@@ -123,14 +123,14 @@ part-row : row_of family_state (part (codes "a") 0) ≡ Some (part_row (codes "a
 unfolding row_of
 part-row = refl
 
--- ---- claims
+-- ---- used blocks
 
--- what the parent claims
+-- what the parent uses
 pub parent-claims : all_claims the_parent ≡ BlockOf 0 0 ∷ BlockOf 1 0 ∷ BlockOf 3 0 ∷ BlockOf 3 1 ∷ BlockOf 3 2 ∷ []
 unfolding all_claims record_claims claims_of kind_of block_count file_selector first_block external_number
 parent-claims = refl
 
--- what the part claims
+-- what the part uses
 part-claims : all_claims the_part ≡ BlockOf 0 1 ∷ BlockOf 1 1 ∷ BlockOf 1 8 ∷ []
 unfolding all_claims record_claims claims_of kind_of block_count file_selector first_block external_number
 part-claims = refl

@@ -1,4 +1,4 @@
--- The laws of growth at the whole folder: data_1 has 2048 blocks in place of 1024, and data_4 is linked behind it.
+-- The laws of growth at the whole folder: data_1 has 2048 blocks in place of 1024, and data_4 is linked after it.
 use Rattle.std.proofs.Common.{◌≡◌, inr, ℕ, zero, suc, ◌+◌, ◌<◌, ◌≤◌, List, [], ◌∷◌, refl, ap, sym, ◌∙◌, subst, arith, lit≤, true, false, Some, None}
 use Rattle.std.specs.Prelude.{◌==◌, is_some}
 use Rattle.spec_image.specs.Bytes.{content, spliced, resized, zeros}
@@ -48,7 +48,7 @@ grown-fields : (next_file_in grown_folder 1 ≡ 4) × (max_entries_in grown_fold
 unfolding next_file_in max_entries_in
 grown-fields = let c = changed-fields (content (resized 532480 whole_records)) in (ap next_file_of grown-content ∙ c.0, ap max_entries_of grown-content ∙ c.1)
 
--- a file with one behind it
+-- a file with one after it
 two-along : (next : ℕ → ℕ) (left n m : ℕ) → next n ≡ m → (m == 0) ≡ false → next m ≡ 0 → files_along next (suc (suc left)) n ≡ n ∷ m ∷ []
 unfolding files_along
 two-along next left n m first some last = rw (first, some, last) refl

@@ -123,7 +123,7 @@ second-loads : load with_second.store (unchained_rule 0) second_node ≡ Ok seco
 unfolding load load_record load_key is_key_length entries.stored_key stored_stream stored_streams role_of block_count entry_blocks hash mixed of_bytes of_one
 second-loads = refl
 
--- its claims
+-- its used blocks
 second-claims : all_claims second ≡ BlockOf 0 1 ∷ BlockOf 1 2 ∷ []
 unfolding all_claims record_claims claims_of kind_of block_count file_selector first_block external_number
 second-claims = refl
@@ -212,16 +212,16 @@ both_view = record { list = after_writes (writes_of insert second_node with_seco
 pub both-are_represented : Represents both_view both both_layout
 both-are_represented = creates-end (view 0) with_second (state true) (layout 0) (codes "b") second second-is_written 1
 
--- and what is at rest is the same
+-- and the durable contents are the same
 pub both-leave_the_rest : rest both ≡ rest (state true)
 both-leave_the_rest = creates-rest (view 0) with_second (state true) (layout 0) (codes "b") second second-is_written 1
 
--- a Create of `b` is not refused and evicts nothing, so what was at rest may be left by a stop in it
+-- a Create of `b` is not refused and evicts nothing, so the old durable contents may be left by a crash in it
 pub create-is_not_refused : (refused 7 (to_create 1 (codes "b")) (state true) ≡ None) × (evicted 7 (to_create 1 (codes "b")) (state true) ≡ [])
 unfolding refusals evicted room_for effect created room charge pinned_of
 create-is_not_refused = (refl, refl)
 
--- and what was at rest is an outcome of a stop
+-- and the old durable contents are an outcome of a crash
 pub create-may_be_stopped : StopOutcome (state true) 7 (to_create 1 (codes "b")) (step (state true) 7 (to_create 1 (codes "b"))).state (rest (state true))
 create-may_be_stopped = create-stops (state true) 1 (codes "b") 7 create-is_not_refused.0 create-is_not_refused.1
 
@@ -233,13 +233,13 @@ key-is_good = record { some = omega arith; short = omega arith; bytes = bytes-sm
 pub both-are_valid : IsValidState both
 both-are_valid = state_created (state true) (state_is_valid true) 1 (codes "b") key-is_good (omega arith) refl refl
 
--- An Open of `a`, which is behind `b`.
+-- An Open of `a`, which is after `b`.
 
 pub open-is_not_refused : refused 7 (to_open 2 (codes "a")) both ≡ None
 unfolding refusals created
 open-is_not_refused = refl
 
--- at each write of its touch what is kept may be left by a stop in it
+-- at each write of its touch what is kept may be left by a crash in it
 pub open-may_be_stopped : (count : ℕ) → StopOutcome both 7 (to_open 2 (codes "a")) (step both 7 (to_open 2 (codes "a"))).state (map volume.row_of_loaded (kept_by held_rule (volume.completed (touched_view both_view node count))))
 open-may_be_stopped = open-moments both_view both both_layout both-are_represented both-are_valid 7 2 (codes "a") open-is_not_refused
 
@@ -363,7 +363,7 @@ both-are_not_dropped = none-dropped both_view both both_layout both-are_represen
 pub both-chains_end : ChainsEnd both_view.store
 both-chains_end = chain-end both_view.store both both_layout both-are_represented.holds both-are_valid
 
--- and what is kept is `a` alone, which is settled
+-- and what is kept is `a` alone, which is clean
 pub both-keep_the_first : map volume.row_of_loaded (kept_by held_rule (volume.completed both_view)) ≡ main_row (codes "a") plain (codes "zz", [], []) ∷ []
 unfolding created rest settled_row
 both-keep_the_first = found-rest both_view both both_layout both-are_represented both-are_valid

@@ -1,4 +1,4 @@
--- The laws of the use list, at a list of three nodes.
+-- The laws of the LRU list, at a list of three nodes.
 use Rattle.std.proofs.Common.{◌≡◌, [], ◌∷◌}
 use Rattle.spec_folder.specs.ListView.{ListView, after_writes, IsAtRest}
 use Rattle.spec_folder.specs.Walk.{walk}

@@ -1,4 +1,4 @@
--- The law on any moment at a part: a sparse object is unsettled, and the record of its part names data at a new place, which is there or isn't.
+-- The law on any moment at a part: a sparse object is dirty, and the record of its part names data at a new place, which is there or isn't.
 use Rattle.std.proofs.Common.{◌≡◌, ℕ, zero, suc, List, [], ◌∷◌, map, refl, ap, sym, ◌∙◌, subst, arith, Bool, true, false, Option, Some, None, Ok}
 use Rattle.std.specs.Prelude.{if◌then◌else◌, ◌==◌, ◌&&◌, codes, replicate, IfSome, IsSome}
 use Rattle.std.proofs.lemmas.Bool.{eq-eqb}
@@ -34,13 +34,13 @@ use Rattle.law_folder.proofs.examples.ExampleChanges.{not-clear}
 use Rattle.law_folder.proofs.examples.ExampleFamily.{family, family_state, family_layout, family_stock, family-holds, parent_node, part_node, the_parent, the_part, part_bytes, parent-claims}
 use Rattle.law_folder.proofs.examples.ExampleParts.{good-family, one-owner}
 
--- ---- the family, unsettled
+-- ---- the family, dirty
 
 -- handle 0 names the object
 abbrev pub named_state : State
 named_state = record family_state { names = Some 0 ∷ replicate 4095 None }
 
--- it is one that a cache may have, settled or not
+-- it is one that a cache may have, clean or not
 pub named-is_valid : (settled : Bool) → IsValidState (marked named_state 0 family settled)
 named-is_valid settled = record {
   objects = objects;

@@ -79,7 +79,7 @@ itself store = record {
   table = λ b. refl;
 }
 
--- the second item is `a`; its touch is stopped after one write, and made
+-- the second item is `a`; its touch crashes after one write, and is made
 touch-stopped : map volume.row_of_loaded (kept_by held_rule (volume.completed (record { list = after_writes (take 1 (touch_writes one.node both_view.list)) both_view.list; store = both_view.store }))) ≡ rest both
 unfolding created
 touch-stopped = touched-items both_view both both_layout both-are_represented both-are_valid (main (codes "a")) refl both_view.store (itself both_view.store) 1
@@ -94,7 +94,7 @@ open-stopped = opens-each both_view both both_layout both-are_represented both-a
 open-made : Represents (record { list = after_writes (touch_writes one.node both_view.list) both_view.list; store = both_view.store }) (step both 7 (to_open 2 (codes "a"))).state both_layout
 open-made = opens-end both_view both both_layout both-are_represented both-are_valid 7 2 (codes "a") open-is_not_refused both_view.store (itself both_view.store)
 
--- A Create of `b`: while it is written, while it is inserted, and behind its link.
+-- A Create of `b`: while it is written, while it is inserted, and after its link.
 
 create-still-written : IsWrittenApart (one.view 0) with_second (one.state true) (one.layout 0) (codes "b") second
 create-still-written = written-stay (one.view 0) with_second (one.state true) (one.layout 0) (codes "b") second second-is_written with_second.store (itself with_second.store)

@@ -1,4 +1,4 @@
--- The laws of the use list in bytes, at a folder of two nodes.
+-- The laws of the LRU list in bytes, at a folder of two nodes.
 use Rattle.std.proofs.Common.{◌≡◌, ℕ, zero, suc, ◌+◌, ◌≤◌, List, [], ◌∷◌, ◌++◌, All, refl, ◌∙◌, arith, lit<, true, Some, None}
 use Rattle.std.proofs.lemmas.List.Elements.{All-nil, All-cons}
 use Rattle.spec_image.specs.Bytes.{spliced, zeros}
@@ -74,7 +74,7 @@ pair-long more = length-with_words (index_words more) (zeros header_length) ∙ 
 pub pair-writable : (more : List (ℕ × ℕ)) → IsWritable (pair_folder more)
 pair-writable more = record { bytes = λ file i. pair-small more file i; has_header = let long = pair-long more in omega (arith, long) }
 
--- its list is at rest, and the third node can be put into it
+-- its list is idle, and the third node can be put into it
 pub pair-at_rest : IsAtRest (list_of (pair_folder [])) (first ∷ last ∷ [])
 unfolding list_of checks_at next_at prev_at pair_folder zeros with_word spliced next_file_in max_entries_in linked files_along kind_among stands stands_as_blocks is_address is_initialized names_external names_blocks kind_of reserved_bits block_count file_selector first_block external_number block_size block_place place byte_size node_in node_checks
 pair-at_rest = record {
@@ -203,6 +203,6 @@ completion-keeps = completions-keep in_flight (pair-writable ((328, 0x90000000) 
 pub completion-done : IsCompleted in_flight (after (completion_steps in_flight) in_flight)
 completion-done = completions-done in_flight (pair-writable ((328, 0x90000000) ∷ (332, 2) ∷ []))
 
--- it is stopped inside its first update, after two words, begun again and stopped inside its second, and begun again
+-- it crashes inside its first update, after two words, is begun again and crashes inside its second, and is begun again
 pub completion-stopped : StopsAlike in_flight (stopped_folder (2 ∷ 5 ∷ 8 ∷ []) in_flight)
 completion-stopped = completions-stop in_flight (2 ∷ 5 ∷ 8 ∷ []) (pair-writable ((328, 0x90000000) ∷ (332, 2) ∷ []))

@@ -24,7 +24,7 @@ use Rattle.spec_folder.specs.Emptiness.{no_view, no_layout}
 use Rattle.law_folder.specs.CommandLaws.{IsPlacedAsLive, IsWrittenApart}
 use Rattle.law_folder.proofs.states.Empty.{empty, empty-valid}
 
--- the object, settled or not
+-- the object, clean or not
 abbrev pub object : Bool → Object
 object settled = record { key = codes "a"; shape = plain; streams = (codes "zz", [], []); parts = []; live = true; settled = settled }
 
@@ -90,7 +90,7 @@ pub loads : (first dirty : ℕ) → load (store first dirty) (unchained_rule 0) 
 unfolding load load_record load_key is_key_length entries.stored_key stored_stream stored_streams role_of block_count entry_blocks hash mixed of_bytes of_one
 loads first dirty = refl
 
--- its claims
+-- its used blocks
 pub claims : all_claims (loaded 0) ≡ BlockOf 0 0 ∷ BlockOf 1 0 ∷ BlockOf 1 1 ∷ []
 unfolding all_claims record_claims claims_of kind_of block_count file_selector first_block external_number
 claims = refl

@@ -41,7 +41,7 @@ small_index = with_words (new_index_words 50 ++ (288, 0x90000000) ∷ (308, 0x90
 abbrev pub small_nodes : List ℕ
 small_nodes = with_words (new_file_words 0 ++ (20, 1024) ∷ (8208, 0x90000000) ∷ (8212, 0x90000000) ∷ (8216, 0xA0010000) ∷ []) (zeros 8228)
 
--- the record: its hash, its node, a key of one byte, two bytes of stream 0 at block 1 of data_1, and the key; and behind it the stream
+-- the record: its hash, its node, a key of one byte, two bytes of stream 0 at block 1 of data_1, and the key; and after it the stream
 abbrev pub small_records : List ℕ
 small_records = with_words (new_file_words 1 ++ (20, 1024) ∷ (8192, 0x115EA782) ∷ (8200, 0x90000000) ∷ (8224, 1) ∷ (8232, 2) ∷ (8248, 0xA0010001) ∷ (8288, 97) ∷ (8448, 0x7A7A) ∷ []) (zeros 8704)
 

@@ -146,7 +146,7 @@ whole-is_finished : unfinished whole_folder ≡ false
 unfolding unfinished whole_folder zeros with_word spliced
 whole-is_finished = refl
 
--- so it holds what is at rest in it
+-- so it holds the durable contents in it
 pub whole-is_found : found whole_folder ≡ rest (one.state true)
 whole-is_found = found-at_rest whole_folder (one.state true) (one.layout 0) whole-is_represented (state_is_valid true) whole-is_finished
 

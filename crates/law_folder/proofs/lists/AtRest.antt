@@ -1,4 +1,4 @@
--- Operations on lists at rest.
+-- Operations on idle lists.
 use Rattle.std.proofs.Common.{◌≡◌}
 use Rattle.spec_folder.specs.ListPlans.{completion_writes, completed_but_operation}
 use Rattle.law_folder.specs.ListLaws.{InsertsCommitAtTwo, InsertsEnd, RemovalsCommitAtTwo, RemovalsEnd, TouchesCommitAtTwo, TouchesEnd, CompletionsEnd}

@@ -24,7 +24,7 @@ module _ (c : ℕ → Bool) where
       let l = or_parts (eqb x w) (is_among xs w) lacks in
       (record { good = s.0.good; next_is = s.0.next_is; prev_is = put-else pv w v x (eqb-sym x w l.0) ∙ s.0.prev_is }, frame_prev nx pv w v x xs e l.1 s.1)
 
-  -- another node behind the last
+  -- another node after the last
   pub reend : (nx pv : ℕ → ℕ) (b x : ℕ) (xs : List ℕ) (e e' : ℕ) → Distinct (x ∷ xs) → Segment c nx pv b (x ∷ xs) e → Segment c (put nx (last_or x xs) e') pv b (x ∷ xs) e'
   reend nx pv b x [] e e' d s = (record { good = s.0.good; next_is = put-here nx x e'; prev_is = s.0.prev_is }, tt)
   reend nx pv b x (y ∷ ys) e e' d s =

@@ -1,4 +1,4 @@
--- Completions at each of their words: stopped anywhere and begun again they give the same.
+-- Completions at each of their words: crashed anywhere and begun again they give the same.
 use Rattle.std.proofs.Common.{◌≡◌, ℕ, zero, suc, List, [], ◌∷◌, take, refl, sym, ap, ◌∙◌}
 use Rattle.spec_image.specs.Image.{Image}
 use Rattle.spec_image.specs.Steps.{TrailStep, applied, after}
@@ -22,7 +22,7 @@ use Rattle.law_folder.proofs.lists.WriteWords.{completion_can}
 pub completions-can : CompletionsCanBeMade
 completions-can image = completion_can image
 
--- a front of the writes of a completion keeps what it gives
+-- a prefix of the writes of a completion keeps what it gives
 pub partly-alike : (from image : Image) → IsPartly from (completion_writes (list_of from)) image → CompletesAlike from image
 partly-alike from image part =
     let list : ListView = list_of from in
@@ -59,7 +59,7 @@ made-completed from image shown =
 pub completions-done : CompletionsAreDone
 completions-done image ready = made-completed image _ (writes_show (completion_writes (list_of image)) image ready (completion_can image)).ends
 
--- what holds along some steps holds after a front of them
+-- what holds along some steps holds after a prefix of them
 front_holds : (P : Image → Type 0) (count : ℕ) (steps : List TrailStep) (image : Image) → Along P image steps → P (after (take count steps) image)
 front_holds P zero [] image all = all
 front_holds P zero (x ∷ steps) image all = all.0
@@ -70,7 +70,7 @@ front_holds P (suc count) (x ∷ steps) image all = front_holds P count steps (a
 alike-walk : (from image : Image) → CompletesAlike from image → completed_walk image ≡ completed_walk from
 alike-walk from image alike = walk_outcome (list_of image) ∙ ap walk alike ∙ sym (walk_outcome (list_of from))
 
--- one stop, and then the others
+-- one crash, and then the others
 stop_once : (image : Image) (count : ℕ) → IsWritable image → IsWritable (after (take count (completion_steps image)) image) × StopsAlike image (after (take count (completion_steps image)) image)
 stop_once image count ready =
     let ws : List ListWrite = completion_writes (list_of image) in

@@ -1,4 +1,4 @@
--- Operations on the list at each of their words: they turn at the second.
+-- Operations on the list at each of their words: they commit at the second.
 use Rattle.std.proofs.Common.{inl, ◌≡◌, ◌≢◌, ℕ, zero, suc, ◌+◌, ◌*◌, ◌%◌, ◌/◌, ◌^◌, ◌<◌, ◌≤◌, Bool, true, false, List, [], ◌∷◌, ◌++◌, length, All, take, if◌then◌else◌, refl, sym, ap, ap₂, ◌∙◌, subst, arith, get_or}
 use Rattle.std.specs.Prelude.{◌==◌}
 use Rattle.std.proofs.lemmas.List.{append-nil, take_all}
@@ -34,7 +34,7 @@ use Rattle.law_folder.proofs.updates.Nodes.{times-hidden}
 use Rattle.law_folder.proofs.lists.WriteSteps.{IsGood, good-node, one_write, first_can, rest_can, still_check, quiet-sealed, quiet-writes, writable-after, writable-sealed, writable-writes, writes_show, writes-go_on}
 use Rattle.law_folder.proofs.lists.WriteWords.{operation_can}
 
--- an operation turns with its second write
+-- an operation commits with its second write
 pub turns_whole : (from : Image) → IsWritable from → (code node : ℕ) (rest : List ListWrite) (before later : List ℕ) → CanBeMade from (Operation code ∷ Transaction node ∷ rest) → CommitsAtTwo (list_of from) (Operation code ∷ Transaction node ∷ rest) before later
     → CommitsAt 2 (CompletesTo before) (CompletesTo later) from (steps_of_writes (Operation code ∷ Transaction node ∷ rest) from)
 unfolding write_steps word_step
@@ -55,7 +55,7 @@ turns_whole from ready code node rest before later can turn =
     ap done (part.shown.list ∙ ap (after_writes (take part.made rest)) l2) ∙ turn (suc (suc part.made)) ∙ ap (λ (t : Bool). if t then before else later) (le-ltb (suc (suc part.made)) 2 (omega arith)) in
     (turn 0, (ap done l1 ∙ turn 1, until_weaker2 (IsPartly i2 rest) Q (IsPartly i2 rest) Q (steps_of_writes rest i2) i2 each each shows.along))
 
--- and ends with its list at rest
+-- and ends with its list idle
 rests_after : (from : Image) → IsWritable from → (writes : List ListWrite) (nodes : List ℕ) → CanBeMade from writes → IsAtRest (after_writes writes (list_of from)) nodes → HasListAtRest nodes (after (steps_of_writes writes from) from)
 rests_after from ready writes nodes can rest = subst (λ (l : ListView). IsAtRest l nodes) (sym (writes_show writes from ready can).ends.list) rest
 
@@ -102,7 +102,7 @@ times_are node moment kind =
       );
     }
 
--- turning goes on
+-- the commit goes on
 turns_then : (count : ℕ) (P Q : Image → Type 0) (s t : List TrailStep) (image : Image) → count ≤ length s → CommitsAt count P Q image s → Along Q (after s image) t → CommitsAt count P Q image (s ++ t)
 turns_then zero P Q s t image low all more = until-append Q Q s t image all more
 turns_then (suc count) P Q [] t image low all more = absurd (omega arith)
@@ -230,7 +230,7 @@ times_set from image node moment kind small done =
       modified = ap₂ (λ (a b : ℕ). a + 4294967296 * b) w8 (ap (word_at f) (sym twelve) ∙ w12) ∙ both;
     }
 
--- a touch turns with its second write, and where it has no writes the lists are one
+-- a touch commits with its second write, and where it has no writes the lists are one
 module _ (from : Image) (ready : IsWritable from) (node moment : ℕ) (good : (list_of from).checks node ≡ true) (before later : List ℕ) where
   turns_none : CanBeMade from [] → CommitsAtTwo (list_of from) [] before later → CommitsAt 2 (CompletesTo before) (CompletesTo later) from (touch_steps node moment [] from)
   turns_none can turn =

@@ -85,7 +85,7 @@ nothing_made writes image = record { made = 0; within = omega arith; shown = sub
     take_none [] = refl
     take_none (w ∷ ws) = refl
 
--- a node that stands and checks
+-- a node that is there and checks
 pub record IsGood (image : Image) (w : ℕ) : Type 0 where
   pub small : w < 2 ^ 32
   pub kind : kind_of w ≡ rankings
@@ -181,7 +181,7 @@ one_write (Tail x) from ready can = let r = index_word 308 x Tail from ready can
 one_write (Transaction x) from ready can = let r = index_word 328 x Transaction from ready can.words.0 (omega arith) refl refl transactions-written refl in record { along = r.0; ends = r.1 }
 one_write (Operation x) from ready can = let r = index_word 332 x Operation from ready can.words.0 (omega arith) refl refl operations-written refl in record { along = r.0; ends = r.1 }
 
--- the front of a first write is a front of all
+-- the front of a first write is a prefix of all
 front_of : (made : ℕ) (write : ListWrite) (writes : List ListWrite) → made ≤ 1 → take made (write ∷ []) ≡ take made (write ∷ writes)
 front_of zero write writes low = refl
 front_of (suc zero) write writes low = ap (λ (ws : List ListWrite). write ∷ ws) (sym (take_none writes))

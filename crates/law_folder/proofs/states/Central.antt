@@ -28,7 +28,7 @@ use Rattle.law_folder.proofs.claims.Owner.{IsOwned, owned, same_owner, live, res
 use Rattle.blk_model.specs.Holding as model
 
 module _ (m : State) (y : Layout) (lay : (i : Item) → is_listed m i ≡ true → IsPlacedAt m y i) (valid : IsValidState m) where
-  -- the dirty words are the test on settled objects, on items where no part is without its main item
+  -- the dirty words are the test on clean objects, on items where no part is without its main item
   pub settled-on : (items : List Item) → ((i : Item) → is_in items i ≡ true → is_listed m i ≡ true)
       → IsTest m y items (λ number. is_live_and_settled (object_at m number))
   unfolding model.row_of

@@ -1,4 +1,4 @@
--- What is at rest before and after an object is settled or unsettled is picked by it.
+-- The durable contents before and after an object is made clean or dirty are picked by it.
 use Rattle.std.proofs.Common.{◌≡◌, ◌≢◌, ℕ, ◌<◌, List, length, refl, ap, ◌∙◌, Bool, true, false, cond, set, get_or-set_same, get_or-set_other, Option, Some, None, ⊎_elim}
 use Rattle.std.specs.Prelude.{not, ◌&&◌, ◌||◌}
 use Rattle.std.specs.Option.{option_and_then}

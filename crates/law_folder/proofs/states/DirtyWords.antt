@@ -1,4 +1,4 @@
--- The dirty word of a main item settles and unsettles its object.
+-- The dirty word of a main item makes its object clean or dirty.
 use Rattle.std.proofs.Common.{refl}
 use Rattle.std.specs.Prelude.{◌==◌}
 use Rattle.blk_model.specs.Items.{main}

@@ -31,7 +31,7 @@ use Rattle.law_folder.proofs.chains.Chains.{chain-is}
 use Rattle.law_folder.proofs.walks.Shown.{role-name, kept-given}
 use Rattle.blk_model.specs.Holding as model
 
--- ---- claims
+-- ---- used blocks
 
 pub same_claim-eq : (c d : Claim) → same_claim c d ≡ true → c ≡ d
 same_claim-eq (BlockOf f b) (BlockOf g c) e = let p = and_parts (f == g) (b == c) e in ap₂ BlockOf (eqb-true f g p.0) (eqb-true b c p.1)
@@ -43,7 +43,7 @@ pub same_claim-self : (c : Claim) → same_claim c c ≡ true
 same_claim-self (BlockOf f b) = rw (eq-eqb f f refl, eq-eqb b b refl) refl
 same_claim-self (ExternalOf n) = eq-eqb n n refl
 
--- claims with different owners do not clash
+-- used blocks with different owners do not clash
 clash-none : (xs ys : List Claim) → ((c : Claim) → has_claim xs c ≡ true → has_claim ys c ≡ true → ⊥) → overlap xs ys ≡ false
 unfolding overlap has_claim
 clash-none xs [] apart = refl
@@ -414,7 +414,7 @@ module _ (m : State) (y : Layout) (lay : (i : Item) → is_listed m i ≡ true �
         under true false l = refl
         under false b l = refl
 
-  -- what a walk of these items keeps, where some of the unsettled are in the midst of a change
+  -- what a walk of these items keeps, where some of the dirty are in the midst of a change
   pub found-but : (except : ℕ → Bool) (v : StoreView) (r : HoldsExcept except v m y) → Distinct (nodes_of y items)
       → ((i : Item) (l : Loaded) → is_in items i ≡ true → y.at (y.place i) ≡ Some l → is_settled y items l ≡ true → except (y.place i) ≡ false)
       → ((i : Item) (k : Loaded) → is_in items i ≡ true → except (y.place i) ≡ true → load v held_rule (y.place i) ≡ Ok k → IsOrphanIn (nodes_of y items) (given_by (is_settled y items) y) k)

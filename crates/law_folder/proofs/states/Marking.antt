@@ -23,7 +23,7 @@ use Rattle.law_folder.proofs.states.Settling.{settle-one, main-listed, settle-ch
 use Rattle.law_folder.proofs.states.Replacing.{replaced}
 use Rattle.law_folder.proofs.states.Laid.{same_claim-eq}
 
--- claims that do not repeat are in one of two parts alone
+-- used blocks that do not repeat are in one of two parts alone
 pub repeats-apart : (xs ys : List Claim) (c : Claim) → repeats (xs ++ ys) ≡ false → has_claim xs c ≡ true → has_claim ys c ≡ false
 unfolding repeats
 repeats-apart [] ys c e h = absurd (let z : false ≡ true = sym (no-claim c) ∙ h in cc)
@@ -78,7 +78,7 @@ module _ (v u : View) (m : State) (y : Layout) (r : Represents v m y) (w0 : ℕ)
   node : l.node ≡ w0
   node = node-is v.store (rule_of y w0) w0 l loads
 
-  -- the claims of the node are its own
+  -- the used blocks of the node are its own
   node-own : (c : Claim) → has_claim (claims_of w0) c ≡ true → y.owner c ≡ Some w0
   unfolding all_claims
   node-own c h = r.holds.lies.own w0 l c at (claim-append (claims_of l.node) (record_claims l) c ∙ or_left (has_claim (claims_of l.node) c) (has_claim (record_claims l) c) (ap (λ (x : ℕ). has_claim (claims_of x) c) node ∙ h))

@@ -1,4 +1,4 @@
--- While the records of one unsettled object are in the midst of a change, what is found is what is at rest.
+-- While the records of one dirty object are in the midst of a change, the recovered contents are the durable ones.
 use Rattle.std.proofs.Common.{◌≡◌, ℕ, List, map, refl, ap, sym, ◌∙◌, subst, Bool, true, false, Some, Ok, ⊎_elim}
 use Rattle.std.specs.Prelude.{◌&&◌, ◌==◌}
 use Rattle.std.proofs.lemmas.Bool.{cases_Bool, and_parts}
@@ -30,7 +30,7 @@ part-role k e = go k.role refl where
   go (IsPart name index) is = (name, index, is)
 
 module _ (except : ℕ → Bool) (v : StoreView) (m : State) (y : Layout) (r : HoldsExcept except v m y) (valid : IsValidState m) (key : List ℕ) (midst : IsInProgress except v m y key) (once : Distinct (order m y)) where
-  -- the main item of the object is not settled
+  -- the main item of the object is not clean
   bad-main : (l : Loaded) → is_listed m (main key) ≡ true → y.at (y.place (main key)) ≡ Some l → is_settled y m.uses l ≡ false
   bad-main l there is = settled-main m y r.laid m.uses (λ i h. h) key l there is ∙ midst.unsettled l is
 

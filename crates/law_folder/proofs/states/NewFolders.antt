@@ -85,12 +85,12 @@ file-is moment n small = rw (lt-ltb n 4 small) refl
 bytes-are : (moment n : ℕ) → n < 4 → bytes_of (new_folder moment) (Block n) ≡ with_words (new_file_words n) (zeros header_size)
 bytes-are moment n small = ap (λ (o : Option (List ℕ)). unwrap_or o []) (file-is moment n small)
 
--- a place is behind each of these words
+-- a place is after each of these words
 abbrev pub Behind : ℕ → List (ℕ × ℕ) → Type 0
 Behind k [] = Unit {0}
 Behind k (w ∷ ws) = (w.0 + 4 ≤ k) × Behind k ws
 
--- a byte behind the words is 0
+-- a byte after the words is 0
 pub byte-later : (ws : List (ℕ × ℕ)) (bytes : List ℕ) (k : ℕ) → Behind k ws → content (with_words ws bytes) k ≡ content bytes k
 byte-later [] bytes k suffix = refl
 byte-later (w ∷ ws) bytes k suffix = byte-later ws (with_word w.0 w.1 bytes) k suffix.1 ∙ unfold with_word in content-spliced_outside w.0 _ bytes k (inr suffix.0)

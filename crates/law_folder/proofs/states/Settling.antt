@@ -1,4 +1,4 @@
--- The dirty word of a main item's node settles and unsettles its object.
+-- The dirty word of a main item's node makes its object clean or dirty.
 use Rattle.std.proofs.Common.{◌≡◌, ℕ, ◌<◌, List, [], ◌∷◌, refl, ap, sym, ◌∙◌, subst, Bool, true, false, arith, set, get_or, get_or-set_same, get_or-set_other, ◌≢◌, Option, Some, None, Ok, ⊎_elim}
 use Rattle.std.specs.Prelude.{not, ◌==◌, length}
 use Rattle.std.specs.Option.{option_and_then, option_map}

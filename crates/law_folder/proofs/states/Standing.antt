@@ -31,11 +31,11 @@ use Rattle.law_folder.proofs.walks.Shown.{kept-given, node-is}
 use Rattle.law_folder.proofs.chains.Chains.{chain-is}
 use Rattle.law_folder.proofs.states.Central.{all-shown, walk-order, none-dropped, rows-kept, chain-end, found-rest}
 
--- the claims of nodes of a layout
+-- the used blocks of nodes of a layout
 abbrev pub claims_at : Layout → List ℕ → List Claim
 claims_at y ws = flat_map all_claims (filter_map y.at ws)
 
--- ---- the claims of distinct nodes
+-- ---- the used blocks of distinct nodes
 
 module _ (y : Layout) (own : (w : ℕ) (l : Loaded) (c : Claim) → y.at w ≡ Some l → has_claim (all_claims l) c ≡ true → y.owner c ≡ Some w) (single : (w : ℕ) (l : Loaded) → y.at w ≡ Some l → repeats (all_claims l) ≡ false) where
   claimed : (ws : List ℕ) (c : Claim) → has_claim (claims_at y ws) c ≡ true → (x : ℕ) × (is_among ws x ≡ true) × (y.owner c ≡ Some x)
@@ -77,7 +77,7 @@ module _ (y : Layout) (own : (w : ℕ) (l : Loaded) (c : Claim) → y.at w ≡ S
         go None g = g
         go (Some k) g = claim-append (all_claims k) (claims_at y ws) c ∙ or_right (has_claim (all_claims k) c) (has_claim (claims_at y ws) c) g
 
-  -- what is claimed by the nodes of a state is what has an owner
+  -- what is used by the nodes of a state is what has an owner
   pub claimed-exactly : (m : State) (nodes : List ℕ) → ((c : Claim) (w : ℕ) → y.owner c ≡ Some w → IsOwner m y nodes c w) → (c : Claim) → has_claim (claims_at y (order m y ++ nodes)) c ≡ is_some (y.owner c)
   claimed-exactly m nodes exact c = ⊎_elim
       (λ (e : has_claim (claims_at y (order m y ++ nodes)) c ≡ true). let p = claimed (order m y ++ nodes) c e in e ∙ rw p.2 refl)
@@ -133,7 +133,7 @@ module _ (image : Image) (m : State) (y : Layout) (r : Represents (view_of image
   all-kept-at : kept_by listed_rule (view_of image) ++ filter_map y.at (map y.place_of_doomed numbers) ≡ filter_map y.at (order m y ++ (map y.place_of_doomed numbers))
   all-kept-at = ap (λ (ls : List Loaded). ls ++ filter_map y.at (map y.place_of_doomed numbers)) (kept-at image m y r valid) ∙ sym (filter_map-append y.at (order m y) (map y.place_of_doomed numbers))
 
-  -- what is claimed is what has an owner
+  -- what is used is what has an owner
   exactly : (c : Claim) → has_claim (claims_at y (order m y ++ (map y.place_of_doomed numbers))) c ≡ is_some (y.owner c)
   exactly = claimed-exactly y lies.own lies.single m (map y.place_of_doomed numbers) a.exact
 
@@ -233,7 +233,7 @@ module _ (image : Image) (m : State) (y : Layout) (r : Represents (view_of image
   pub stands-for : IsWellFormed image → IsInOrder image (kept_by listed_rule (view_of image)) (map (λ (d : ℕ × Loaded). d.1) (doomed_of y numbers)) → StandsFor image m
   stands-for well in_order = record { well_formed = well; shows = shows-state; doomed = doomed_of y numbers; are_doomed = are-doomed; owned = are-owned; in_order = in_order }
 
--- a finished folder that represents a state holds what is at rest
+-- a finished folder that represents a state holds the durable contents
 pub found-at_rest : FoundIsAtRest
 unfolding found kept
 found-at_rest image m y r valid finished = rw finished (found-rest (view_of image) m y r valid)

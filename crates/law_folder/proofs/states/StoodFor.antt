@@ -1,4 +1,4 @@
--- What stands for a state finds what is at rest in it.
+-- The durable contents of a state are recovered from what stands for it.
 use Rattle.std.proofs.Common.{◌≡◌, ℕ, List, [], ◌∷◌, ◌++◌, map, refl, ap, sym, ◌∙◌, subst, Bool, true, false, cond, Option, Some, None, Ok, Err, Result, ⊎_elim}
 use Rattle.std.specs.Prelude.{not, ◌||◌, ◌==◌, if◌then◌else◌, is_some, IfSome}
 use Rattle.std.specs.Option.{option_map_or, option_and_then}
@@ -122,7 +122,7 @@ front-none (x ∷ xs) ys e = cc
 -- The state's side.
 
 module _ (state : State) (valid : IsValidState state) where
-  -- whether the object that has an item is settled
+  -- whether the object that has an item is clean
   is_settled_item : Item → Bool
   is_settled_item item = option_map_or (λ (object : Object). object.settled) (model.owner_object state item) false
 
@@ -158,7 +158,7 @@ module _ (state : State) (valid : IsValidState state) where
             some true = ap (λ (l : List Row). r ∷ l) more
             some false = more
 
-  -- a settled item's node is clean
+  -- a clean item's node is clean
   clean-item : (i : Item) (l : Loaded) → HasDirtyMark state i l → is_settled_item i ≡ true → (l.dirty == 0) ≡ true
   unfolding is_settled_item
   clean-item (main key) l mark settled = go (model.owner_object state (main key)) mark settled where
@@ -167,7 +167,7 @@ module _ (state : State) (valid : IsValidState state) where
     go (Some object) m s = m ∙ s
   clean-item (part key n) l mark settled = eq-eqb l.dirty 0 mark
 
-  -- an unsettled main item's node is dirty
+  -- a dirty main item's node is dirty
   dirty-item : (key : List ℕ) (l : Loaded) (r : Row) → model.row_of state (main key) ≡ Some r → HasDirtyMark state (main key) l → is_settled_item (main key) ≡ false → (l.dirty == 0) ≡ false
   unfolding is_settled_item model.row_of
   dirty-item key l r row mark unsettled = go (model.owner_object state (main key)) row mark unsettled where
@@ -175,7 +175,7 @@ module _ (state : State) (valid : IsValidState state) where
     go None e m s = cc
     go (Some object) e m s = m ∙ s
 
-  -- a part is settled with its main item
+  -- a part is clean with its main item
   part-with-main : (key : List ℕ) (n : ℕ) (r : Row) → model.row_of state (part key n) ≡ Some r → is_settled_item (part key n) ≡ is_settled_item (main key)
   unfolding is_settled_item model.row_of
   part-with-main key n r row = go (model.owner state (part key n)) refl row where
@@ -232,7 +232,7 @@ module _ (view : View) (state : State) (shows : ShowsState view state) where
   part-item : (l : Loaded) (name : Name) (index : PartIndex) → l.role ≡ IsPart name index → item_of (row_of_loaded l) ≡ part name.key name.part
   part-item l name index is = ap (λ (r : Role). item_of (row_with l.key r l.streams)) is
 
-  -- a kept part is settled exactly where its kept parent is
+  -- a kept part is clean exactly where its kept parent is
   good-part : (w : ℕ) (l p : Loaded) (name : Name) (index : PartIndex) → is_among (walk view.list) w ≡ true → K w ≡ Some l → l.role ≡ IsPart name index → is_parent_of name p ≡ true → good l ≡ good p
   good-part w l p name index among is role of =
       let i : item_of (row_of_loaded l) ≡ part name.key name.part = part-item l name index role in

@@ -123,7 +123,7 @@ module _ (from image : Image) (writes : List ListWrite) (node : ℕ) (same : Sam
           entry = ap (λ (f : ℕ → ℕ). entry_is_sealed (entry_in f (place loaded.contents))) (record-bytes loaded.contents stands) ∙ was.entry;
         })
 
--- The whole: one node moved to the front of the use list, no object changed.
+-- The whole: one node moved to the front of the LRU list, no object changed.
 
 module _ (from image : Image) (state after : State) (layout : Layout) (numbers : List ℕ) (objects : after.objects ≡ state.objects) (prefix : List ℕ) (x : ℕ) (suffix : List ℕ)
     (old-order : order state layout ≡ prefix ++ x ∷ suffix) (new-order : order after layout ≡ x ∷ prefix ++ suffix) (F : Footprint) (spares : SparesHeaders F) (sizes : (file : File) → F.sizes file ≡ false) (same : SameOutside F from image) where

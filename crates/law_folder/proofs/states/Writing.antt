@@ -1,4 +1,4 @@
--- At any word of a change inside the footprint of a node of an unsettled object, what is found is what is at rest.
+-- At any word of a change inside the footprint of a node of a dirty object, the recovered contents are the durable ones.
 use Rattle.std.proofs.Common.{◌≡◌, ℕ, ◌<◌, List, map, refl, ap, sym, ◌∙◌, subst, Bool, true, false, arith, Option, Some, Ok, ⊎_elim}
 use Rattle.std.specs.Prelude.{◌&&◌, ◌==◌}
 use Rattle.std.specs.Option.{option_map_or}

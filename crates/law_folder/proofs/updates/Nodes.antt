@@ -35,7 +35,7 @@ pub good-stands : (image : Image) (w : ℕ) → (list_of image).checks w ≡ tru
 unfolding list_of checks_at
 good-stands image w good = (and_parts (stands_as image rankings w) (node_checks (node_at image w)) good).0
 
--- what a standing node shows
+-- what a node that is there shows
 shown-node : (image : Image) (w : ℕ) → stands_as image rankings w ≡ true
     → (checks_at image w ≡ node_checks (node_at image w)) × (next_at image w ≡ (node_at image w).next) × (prev_at image w ≡ (node_at image w).prev) × (node_fields_at image w ≡ Some (names_of (node_at image w)))
 unfolding checks_at next_at prev_at node_fields_at

@@ -86,7 +86,7 @@ core-by m n b x good rest = λ i. record {
   flags = (rest i).flags;
 }
 
--- what a standing record shows
+-- what a record that is there shows
 shown-record : (image : Image) (u : ℕ) → stands_as image blocks_256 u ≡ true → (fields_at image u ≡ Some (fields_of (entry_at image u))) × (follow_at image u ≡ (entry_at image u).next)
 unfolding fields_at follow_at
 shown-record image u st = (rw st refl, rw st refl)
@@ -124,7 +124,7 @@ module _ (from image : Image) (w : ℕ) (own_fields : RecordFields) (is : IsReco
   good-was : entry_checks (entry_at from w) ≡ true
   good-was = ap (λ (c : RecordFields). c.checks) core-was ∙ is.good
 
-  -- the key behind the record
+  -- the key after the record
   key-kept : (n : ℕ) → key_place_at from w n ≡ key_place_at image w n
   unfolding key_place_at
   key-kept n = same-range n (place w + entry_size) (block_bytes from w) (block_bytes image w) (λ k low high.
@@ -241,7 +241,7 @@ module _ (from image : Image) (w x : ℕ) (own_fields : RecordFields) (is : IsRe
 pub follows-written : ChainNextsAreWritten
 follows-written from image w x own_fields is small moment = follows-is from image w x own_fields is small moment
 
--- the fields behind it
+-- the fields after it
 pub fields-written : FieldsAreWritten
 unfolding store_of entry_in size_by_kind
 fields-written from image w changes own_fields is are later moment =

@@ -1,4 +1,4 @@
--- The record of an update at one of its moments: it checks, and its bytes before the seal have a front of the changes.
+-- The record of an update at one of its moments: it checks, and its bytes before the seal have a prefix of the changes.
 use Rattle.std.proofs.Common.{◌≡◌, ℕ, ◌+◌, ◌≤◌, true, List, length, take, refl, sym, ◌∙◌, ap, subst, arith}
 use Rattle.spec_image.specs.Bytes.{content, word_at}
 use Rattle.spec_image.specs.Image.{Block, Image, AreBytes, byte}

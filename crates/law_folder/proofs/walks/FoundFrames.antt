@@ -31,7 +31,7 @@ load_record-same : (v u : StoreView) (rule : Rule) (w contents dirty : ℕ) (e :
 unfolding load_record
 load_record-same v u rule w contents dirty e same = rw (load_key-same v u rule w contents dirty e same, same.streams) refl
 
--- what comes behind a record
+-- what comes after a record
 checked_load : StoreView → Rule → ℕ → ℕ → ℕ → Option RecordFields → Result Loaded Reason
 checked_load v rule w c d o = ok_or o reason.Contents >>= λ e. demand e.checks reason.Seal >>= λ _. load_record v rule w c d e
 

@@ -90,7 +90,7 @@ sound-is v c e key checks long is = under e.checks (is_key_length c e) checks lo
   under : (a b : Bool) → a ≡ true → b ≡ true → (if a && b then stored_key v c e else None) ≡ Some key
   under a b p q = rw (p, q) is
 
--- a kept parent stands as one
+-- a kept parent is valid as one
 parent-at : (v : StoreView) (words : List ℕ) (name : Name) (k : Loaded) → IsLoadOf v held_rule words k → is_parent_of name k ≡ true → is_parent_at v name k.node ≡ true
 unfolding is_parent_at
 parent-at v words name k of is =
@@ -124,7 +124,7 @@ name-at : (v : StoreView) (w : ℕ) (m : Loaded) (n : NodeFields) (e : RecordFie
 unfolding name_at
 name-at v w m n e name facts is = rw (facts.node, facts.entry, sound-is v n.contents e m.key facts.checks facts.facts.keyed.key_length facts.facts.keyed.key) is
 
--- the parent of a part that is no orphan stands among the walked
+-- the parent of a part that is no orphan is among the walked
 parent-among : (v : StoreView) (words : List ℕ) (kept : List Loaded) (role : Role) (name : Name) (index : PartIndex) → AllByRecursion (IsLoadOf v held_rule words) kept → role ≡ IsPart name index → is_orphan_role kept role ≡ false → list_any (is_parent_at v name) words ≡ true
 parent-among v words kept role name index loads is no_orphan =
     let none : is_orphan_role kept (IsPart name index) ≡ false = rw is at no_orphan in

@@ -26,7 +26,7 @@ use Rattle.law_folder.proofs.walks.FoundFrames.{All-to}
 use Rattle.law_folder.specs.KeptLaws.{KeptAreShown, KeptAloneAreKept}
 use Rattle.spec_folder.specs.Reasons as reason
 
--- ---- claims and names, both ways
+-- ---- used blocks and names, both ways
 
 eqb-both : (a b : ℕ) → (a == b) ≡ (b == a)
 eqb-both a b =
@@ -41,7 +41,7 @@ same_claim-both (BlockOf f b) (ExternalOf n) = refl
 same_claim-both (ExternalOf m) (BlockOf f b) = refl
 same_claim-both (ExternalOf m) (ExternalOf n) = eqb-both m n
 
--- claims that meet none of some are met by none of them
+-- used blocks that meet none of some are met by none of them
 overlap-cons : (c : Claim) (xs ys : List Claim) → overlap (c ∷ xs) ys ≡ false → (has_claim ys c ≡ false) × (overlap xs ys ≡ false)
 unfolding overlap has_claim
 overlap-cons c xs [] e = (refl, refl)

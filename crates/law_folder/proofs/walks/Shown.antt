@@ -99,7 +99,7 @@ child-part v rule w l ok = load-then v rule w l ok (λ n e facts. rw (facts.node
 pub node-is : (v : StoreView) (rule : Rule) (w : ℕ) (l : Loaded) → load v rule w ≡ Ok l → l.node ≡ w
 node-is v rule w l ok = load-then v rule w l ok (λ n e facts. facts.facts.node_is)
 
--- ---- claims
+-- ---- used blocks
 
 pub has_claim-append : (xs ys : List Claim) (c : Claim) → has_claim (xs ++ ys) c ≡ (has_claim xs c || has_claim ys c)
 unfolding has_claim

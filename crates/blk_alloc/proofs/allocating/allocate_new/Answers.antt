@@ -31,7 +31,7 @@ use Rattle.blk_alloc.proofs.Rooms.{given_made, never_full, room_marked, told_lat
 use Rattle.blk_io.proofs.Carried.{carried, if_damaged_weaker, told_at_end, untold_where}
 use Rattle.blk_alloc.proofs.allocating.allocate_new.Goals as goal
 
--- a damage needs a folder that told nothing at the start
+-- a failed check needs a folder that was opaque at the start
 silent_start : {old mid : Told} (P : Image → Image → Type 0) (T : Image → Type 0) → ForSome old.files (λ from. PassesTo old mid (P from) (P from)) → ForSome old.files (λ from. ForSome mid.files T) → (ForSome mid.files T → mid.files ≡ None) → old.files ≡ None
 silent_start {old} {mid} P T stops made none = by_files old.files refl
   where
@@ -44,11 +44,11 @@ three : {A E : Type 0} (r : Result A E) (P Q : A → Type 0) (X : Type 0) (R : A
 three {A} {E} (Ok a) P Q X R all p q x = all a p q x
 three {A} {E} (Err e) P Q X R all p q x = tt
 
--- the groups of room that was made
+-- the groups of space that was made
 few_groups : (start below result : ℕ) → start % 4 ≡ 0 → below % 4 ≡ 0 → start < below → result ≡ (below - start) / 4 → 0 < result
 few_groups start below result one other less is = omega (arith, one, other, less, is)
 
--- the fact that room is of the file that gives it
+-- the fact that space is of the file that gives it
 fits_there : (files : BlockFiles) (kind n count : ℕ) (place : Blocks) → n ≡ count → IsPlace files kind n place → IsPlace files kind count place
 fits_there files kind n count place e is = subst (λ (m : ℕ). IsPlace files kind m place) e is
 

@@ -16,7 +16,7 @@ none_written f place bytes from = record { same = outside-refl (range f place 0)
 word_is : (bytes : List ℕ) (k : ℕ) → k < length bytes / 4 → (i : ℕ) → i < 4 → content (take (4 * k + 4 - 4 * k) (drop (4 * k) bytes)) i ≡ content bytes (4 * k + i)
 word_is bytes k below i small = content_part bytes (4 * k) (4 * k + 4 - 4 * k) i (omega (arith, below)) (omega (arith, small))
 
--- the next word of what stood there stands there still
+-- the next word of what was there is there still
 next_stands : (file : File) (at : ℕ) (old new : List ℕ) (k : ℕ) → length old ≡ length new → k < length new / 4 → (from image : Image) → StandAt file at old (length old) from → AreBytesWritten file at new (4 * k) from image → StandAt file (at + 4 * k) (take (4 * k + 4 - 4 * k) (drop (4 * k) old)) 4 image
 next_stands file at old new k alike below from image stands written i small =
     word_is old k (subst (λ (n : ℕ). k < n / 4) (sym alike) below) i small

@@ -10,11 +10,11 @@ use Rattle.blk_alloc.proofs.Needed.{content_part, long_then, needed_then, needed
 use Rattle.blk_alloc.proofs.Recounted.{counters_are, counting_first, counting_runs, four_words}
 use Rattle.blk_alloc.proofs.mending.mend_counters.Goals as goal
 
--- the bytes of four words, one behind the other
+-- the bytes of four words, one after the other
 joined : (e bytes r0 r1 r2 r3 : List ℕ) → r0 ≡ word_bytes (slice_index e 0) → r1 ≡ word_bytes (slice_index e 1) → r2 ≡ word_bytes (slice_index e 2) → r3 ≡ word_bytes (slice_index e 3) → bytes ≡ r0 ++ (r1 ++ (r2 ++ (r3 ++ []))) → bytes ≡ four_words e
 joined e bytes r0 r1 r2 r3 e0 e1 e2 e3 is = rw (is, e0, e1, e2, e3) refl
 
--- the number of allocations stands as it was read
+-- the number of allocations is as it was read
 number_stands : (n : ℕ) (fields : List ℕ) → length fields ≡ 80 → (image : Image) → HasReadCounters n fields image → StandAt (Block n) 16 (take 4 (drop 16 fields)) 4 image
 number_stands n fields long image read i small = content_part fields 16 4 i (omega (arith, long)) small ∙ read (16 + i) (omega arith) (omega (arith, small))
 

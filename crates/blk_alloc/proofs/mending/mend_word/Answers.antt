@@ -12,7 +12,7 @@ use Rattle.blk_alloc.specs.Mending.{AreBytesWritten, KeepsLength}
 use Rattle.blk_alloc.proofs.Needed.{needed_none, one_step, word_needed, written_same, written_step}
 use Rattle.blk_alloc.proofs.mending.mend_word.Goals as goal
 
--- equal bytes stand there already
+-- equal bytes are there already
 pub returns-then-eq-clause-done : goal.returns-then-eq-clause-done
 returns-then-eq-clause-done g c from there stands image now =
     let same = (bytes_eq-Decides c.args.old.now c.args.new.now).0 (sym c.eq.ensures ∙ c.if-eq.true) in

@@ -24,7 +24,7 @@ runs_are claims n groups bytes empty few marks counts i small =
     let same = groups_same (has_bit bytes) (is_block_claimed claims n) groups (i + 1) (λ b below. marks b (omega (arith, below, few))) in
     omega (arith, count, none, same)
 
--- the map stands as it was read
+-- the map is as it was read
 map_there : (n : ℕ) (map : List ℕ) → length map ≡ 8112 → (image : Image) → StandAt (Block n) 80 map 8112 image → StandAt (Block n) 80 map (length map) image
 map_there n map long image stands = subst (λ (k : ℕ). StandAt (Block n) 80 map k image) (sym long) stands
 

@@ -45,7 +45,7 @@ open_loaded-requires g c = record {
 formed : (g : given.Over) (c : After-open_loaded g) (from : Image) → (g.F.Folder.told c.args.f.now).files ≡ Some from → IsFinished from → IsWellFormed from
 formed g c from there fin = formed-of from fin.undamaged (c.in_ok-files.ensures.loaded from there).1
 
--- and so is a folder that tells these files
+-- and so is an observable folder with these files
 formed-here : (g : given.Over) (c : After-open_loaded g) (from : Image) → (g.F.Folder.told c.args.f.now).files ≡ Some from → IsFinished from → ForSome (g.F.Folder.told c.load.new.f).files IsWellFormed
 formed-here g c from there fin i here = subst IsWellFormed (some_inj (sym (ap (λ (t : Told). t.files) c.in_ok-files.ensures.stays ∙ there) ∙ here)) (formed g c from there fin)
 
@@ -67,7 +67,7 @@ returns-clause-last g c =
     (λ ends from there fin.
     ends-stayed c.in_ok-files.ensures.stays (ends-weaker (ends from (ap (λ (t : Told). t.files) c.in_ok-files.ensures.stays ∙ there) (formed g c from there fin)) (mid-still from) (λ i stands. stands))) c.open_loaded.ensures.last
 
--- a damage of a finished folder comes only where it tells nothing
+-- a failed check of a finished folder comes only where it is opaque
 never : (g : given.Over) (c : After-open_loaded g) (P : Damage → Image → Type 0) → IfOpenDamaged c.open_loaded.result (λ damage. ForSome (g.F.Folder.told c.args.f.now).files (λ from. IsFinished from → P damage from))
 never g c P =
     open-damaged-weaker c.open_loaded.result _ _

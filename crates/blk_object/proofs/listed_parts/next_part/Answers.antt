@@ -101,7 +101,7 @@ pub returns-then-is_some-clause-contents : goal.returns-then-is_some-clause-cont
 returns-then-is_some-clause-contents g c =
     subst (λ (t : Told). IfSome c.in_ok-found.found (λ part. ForSome t.files (λ image. part.entry ≡ (node_at image part.node).contents))) c.loop.invariant.stays c.in_ok-found.ensures.contents
 
--- behind the loop
+-- after the loop
 
 pub end_walk-requires : goal.end_walk-requires
 end_walk-requires g c = record { kind = nodes-kinds c.args.files.now c.loop.last c.loop.invariant.stands_last }

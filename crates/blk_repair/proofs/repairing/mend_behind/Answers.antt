@@ -16,7 +16,7 @@ use Rattle.blk_repair.proofs.repairing.mend_behind.Given as given
 use Rattle.blk_repair.proofs.repairing.mend_behind.Goals as goal
 
 module _ (g : given.Over) (c : goal.After-mend_rest g) (from : Image) (there : (g.F.Folder.told c.args.f.now).files ≡ Some from) (entry : Image) (links : AreLinksMended c.args.scan.now entry from) where
-  -- the files were mended
+  -- the files were repaired
   first : BreaksOff (g.F.Folder.told c.args.f.now) (g.F.Folder.told c.mend_store.new.f) (IsMidRepair entry)
   first = c.mend_store.ensures.stops from there entry (files-next c.args.scan.now c.claims.result.now c.claims.ensures entry from links)
 

@@ -39,7 +39,7 @@ returns-in_err-read-clause-damaged g c =
     carried c.read_piece.result c.from_residual.result c.in_err-read.field-0.0 _ c.in_err-read.was c.from_residual.ensures.1
     (if_damaged_weaker c.read_piece.result _ _ (λ damage short. inl short) c.read_piece.ensures.damaged)
 
--- ---- a bucket is mended
+-- ---- a bucket is repaired
 
 pub returns-in_err-mend_bucket-clause-prefix : goal.returns-in_err-mend_bucket-clause-prefix
 returns-in_err-mend_bucket-clause-prefix g c =
@@ -70,7 +70,7 @@ loop-i-preserved g c = record {
   later = omega (arith, c.loop-i.invariant.later, c.read_piece.ensures.later, c.mend_bucket.ensures.later);
 }
 
--- ---- all buckets are mended
+-- ---- all buckets are repaired
 
 pub returns-clause-steps : goal.returns-clause-steps
 returns-clause-steps g c =

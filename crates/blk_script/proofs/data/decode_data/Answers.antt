@@ -3,7 +3,7 @@ use Rattle.blk_script.proofs.Printed.{tested_empty, tested_some}
 use Rattle.blk_script.proofs.Decoding.{data_field-none, data_field-long, data_field-empty, data_field-digits, decoded_ok, decoded_err, dash_is}
 use Rattle.blk_script.proofs.data.decode_data.Goals as goal
 
--- half as many bytes as there are digits fit into the room
+-- half as many bytes as there are digits fit into the buffer
 half_fits : (field room : List ℕ) → length field ≤ length room → length field / 2 ≡ length (take (length field / 2) room)
 half_fits field room fits = simp length-take (omega arith)
 

@@ -13,7 +13,7 @@ use Rattle.blk_stream.specs.Streams.{stream_bytes}
 use Rattle.blk_object.specs.FailedChecks.{IsFailedCheck, WrongIndex}
 use Rattle.blk_sparse.proofs.parents.read_index.Goals as goal
 
--- there is room for a whole index
+-- there is space for a whole index
 room : 8256 ≤ length {A = ℕ} (replicate 8256 0)
 room = let long = length-replicate {A = ℕ} 8256 0 in omega (arith, long)
 

@@ -49,7 +49,7 @@ returns-clause-named g c =
     record { size_is = words.0; word_is = words.1 })
     c.update_record.ensures.updated
 
--- a front of the steps was made
+-- a prefix of the steps was made
 part : (g : given.Over) (c : goal.After-slice_known-2-1 g) (from : Image) → (g.F.Folder.told c.args.f.now).files ≡ Some from → c.args.bytes.now ≡ record_at from c.args.entry
     → AppliesPrefix (g.F.Folder.told c.args.f.now) (g.F.Folder.told c.update_record.new.f) (sealed_steps from c.args.entry (place_changes c.args.stream c.args.size c.args.word))
 part g c from there read =

@@ -49,7 +49,7 @@ returns-in-Some-clause-front g c = front-before c.args.moment c.args.handle c.ar
 pub returns-in-Some-clause-is_open : goal.returns-in-Some-clause-is_open
 returns-in-Some-clause-is_open g c image now = c.requires.is_open image (ap (λ (t : Told). t.files) (sym c.in_ok-why.ensures.stays) ∙ now)
 
--- It is refused for nothing but want of room.
+-- It is refused for nothing but lack of space.
 
 pub create_where_room-requires-clause-is_open : goal.create_where_room-requires-clause-is_open
 create_where_room-requires-clause-is_open g c image now = c.requires.is_open image (ap (λ (t : Told). t.files) (sym c.in_ok-why.ensures.stays) ∙ now)

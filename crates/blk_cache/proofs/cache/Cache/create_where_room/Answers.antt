@@ -1,7 +1,7 @@
 use Rattle.std.proofs.Common.{rules, ◌≡◌, true, false}
 use Rattle.blk_cache.proofs.cache.Cache.create_where_room.Goals as goal
 
--- There is no room.
+-- There is no space.
 
 pub returns-then-has_no_room-clause-does : goal.returns-then-has_no_room-clause-does
 returns-then-has_no_room-clause-does g c alone = c.has_no_room.ensures.does (let e : c.has_no_room.result ≡ true = search rules in e) (g.F.Folder.told c.args.f.now) c.args.moment c.args.handle alone

@@ -14,7 +14,7 @@ use Rattle.blk_items.specs.RoomPrinting.{Prints}
 use Rattle.blk_cache.proofs.CreateWhole.{if_ok_weaker, made-front, made-says, on-ok, only-done, room-groups, room-stops, whole-does, whole-stops, whole-untold}
 use Rattle.blk_cache.proofs.cache.Cache.create_with_room.Goals as goal
 
--- What has to go can't be evicted.
+-- What has to be evicted can't be.
 
 pub returns-in_err-evict_for-clause-stops : goal.returns-in_err-evict_for-clause-stops
 returns-in_err-evict_for-clause-stops g c passes =

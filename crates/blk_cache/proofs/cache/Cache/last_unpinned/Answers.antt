@@ -97,7 +97,7 @@ loop-preserved g c =
           c.loop.counter p.many c.in_ok-entry.entry (c.in_ok-entry.ensures.entry image (told_now image (c.in_ok-node.ensures.stays ∙ c.loop.invariant.told) there)) open_ (Some c.in-Some.node) refl;
     }
 
--- behind the loop
+-- after the loop
 
 pub returns-in_err-next-clause-untold : goal.returns-in_err-next-clause-untold
 returns-in_err-next-clause-untold g c holds =

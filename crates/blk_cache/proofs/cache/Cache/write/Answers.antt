@@ -58,7 +58,7 @@ returns-in-Refused-clause-front g c = front-before c.args.moment (to_write c.arg
 pub returns-in-Refused-clause-is_open : goal.returns-in-Refused-clause-is_open
 returns-in-Refused-clause-is_open g c image now = c.requires.is_open image (ap (λ (t : Told). t.files) (sym c.in_ok-asked.ensures.stays) ∙ now)
 
--- Room is made.
+-- Space is made.
 
 pub make_room-requires : goal.make_room-requires
 make_room-requires g c = record { is_open = λ image now. c.requires.is_open image (ap (λ (t : Told). t.files) (sym c.in_ok-asked.ensures.stays) ∙ now) }

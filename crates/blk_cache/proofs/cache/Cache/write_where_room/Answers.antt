@@ -8,7 +8,7 @@ use Rattle.blk_cache.proofs.SparseWhole.{free-passes, full-refused}
 use Rattle.blk_cache.proofs.WriteWhole.{front-before, refused-says}
 use Rattle.blk_cache.proofs.cache.Cache.write_where_room.Goals as goal
 
--- There is no room.
+-- There is no space.
 
 pub returns-then-is_full-clause-does : goal.returns-then-is_full-clause-does
 returns-then-is_full-clause-does g c asks = refusals-done (KeepsState c.args.self.now) (g.F.Folder.told c.args.f.now) (g.F.Folder.told c.args.f.now) c.args.moment (to_sparse_write c.args.handle c.args.offset c.args.bytes.now) refusal.Full refl (full-refused c.args.self.now (g.F.Folder.told c.args.f.now) c.args.moment c.args.handle c.args.offset c.args.bytes.now c.args.target.now c.args.rise.now asks c.is_full.result c.is_full.ensures.full (let e : c.is_full.result ≡ true = search rules in e))

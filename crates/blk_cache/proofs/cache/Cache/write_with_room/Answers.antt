@@ -18,7 +18,7 @@ use Rattle.blk_cache.proofs.SparseWhole.{goes-on, keeps-covered, sparse-groups, 
 use Rattle.blk_cache.proofs.WriteWhole.{only-wrote}
 use Rattle.blk_cache.proofs.cache.Cache.write_with_room.Goals as goal
 
--- What has to go can't be evicted.
+-- What has to be evicted can't be.
 
 pub returns-in_err-evict_for-clause-stops : goal.returns-in_err-evict_for-clause-stops
 returns-in_err-evict_for-clause-stops g c has = evicting-stops c.args.moment (to_sparse_write c.args.handle c.args.offset c.args.bytes.now) c.args.self.now (g.F.Folder.told c.args.f.now) (goes-on c.args.self.now (g.F.Folder.told c.args.f.now) c.args.moment c.args.handle c.args.offset c.args.bytes.now c.args.target.now c.args.rise.now has) (g.F.Folder.told c.evict_for.new.f) (sparse-groups c.args.self.now (g.F.Folder.told c.args.f.now) c.args.moment c.args.handle c.args.offset c.args.bytes.now c.args.target.now c.args.rise.now has (λ (state : State) (groups : List Group). Passes (g.F.Folder.told c.args.f.now) (g.F.Folder.told c.evict_for.new.f) (IsEvicting groups state)) c.in_err-evict_for.ensures.stops)
