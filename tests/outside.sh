@@ -121,7 +121,7 @@ for what in 'a hard link' 'a link' 'a link to nothing' 'a FIFO'; do
 done
 
 # The index and the block files are open from the beginning: the session goes on in its own, and what is put in their place is not touched.
-# The next word refuses it.
+# At its end it asks for the names again, and ends with 3. The next word refuses it too.
 for name in index data_0 data_1 data_2 data_3; do
     for what in 'a hard link' 'a link' 'a link to nothing' 'a FIFO'; do
         rm -rf "$room/try"
@@ -136,11 +136,32 @@ for name in index data_0 data_1 data_2 data_3; do
             replies+="$reply, "
         done
         ends
-        is "$what as $name during a session, which goes on" '0 ok 2, ok 1, ok, ok 3, ok 2000, ok 10000, ok, ok, ok, ' "$status $replies"
+        is "$what as $name during a session, which goes on" '3 ok 2, ok 1, ok, ok 3, ok 2000, ok 10000, ok, ok, ok, ' "$status $replies"
         is "$what as $name during a session: what is outside" "$before" "$(both "$elsewhere")"
         run "$room/try" count
         is "$what as $name during a session, and the next word" '3 ' "$status $said$complained"
         is "$what as $name, and the next word: what is outside" "$before" "$(both "$elsewhere")"
+    done
+done
+
+# A file that is gone, and one that has a second name, at the end of a session: what was answered may not be in the folder.
+for what in 'gone' 'moved away' 'made anew' 'given a second name'; do
+    for name in index data_1 f_000002; do
+        rm -rf "$room/try" "$room/away"
+        cp -a "$room/two" "$room/try"
+        talk
+        asked 'open 0 b'
+        asked 'write 0 0 0 6162'
+        case $what in
+            gone) rm "$room/try/$name" ;;
+            'moved away') mv "$room/try/$name" "$room/away" ;;
+            'made anew') cp "$room/try/$name" "$room/away" && mv "$room/away" "$room/try/$name" ;;
+            'given a second name') ln "$room/try/$name" "$room/away" ;;
+        esac
+        asked 'close 0'
+        is "$name $what during a session, which goes on" ok "$reply"
+        ends
+        is "$name $what during a session, at its end" 3 "$status"
     done
 done
 

@@ -194,9 +194,34 @@ impl<R: Files<File = File> + Drop> Disk<R> {
         *self.open.place(file) = None;
         Ok(())
     }
+
+    /// Asks once more, of each file that is open, whether it is the folder's own under its name.
+    ///
+    /// It fails where one isn't: what was written to it may not be in the folder.
+    pub fn check(&self) -> io::Result<()> {
+        if let Some(open) = &self.open.index {
+            self.check_file(FileId::Index, open)?;
+        }
+        for number in 0..=u8::MAX {
+            if let Some(open) = &self.open.blocks[usize::from(number)] {
+                self.check_file(FileId::Block(number), open)?;
+            }
+        }
+        if let Some(open) = &self.open.external {
+            self.check_file(FileId::External(self.open.number), open)?;
+        }
+        Ok(())
+    }
+
+    // Asks whether an open file is the folder's own under its name.
+    fn check_file(&self, file: FileId, open: &OpenFile) -> io::Result<()> {
+        let name = name_of(self.alloc, file)?;
+        own_metadata(&self.rt, &self.held, name.as_str(), open.file())?;
+        Ok(())
+    }
 }
 
-// What the machine says of a file that was just opened under a name. It fails unless it is a regular file with one name, on the
+// What the machine says of a file that was opened under a name. It fails unless it is a regular file with one name, on the
 // folder's device, and the name still has it.
 fn own_metadata<R: Files>(rt: &R, held: &Held, name: &str, file: &File) -> io::Result<Metadata> {
     let metadata = metadata_of(file)?;

@@ -129,6 +129,11 @@ impl<R: Files<File = File> + Drop> DiskFiles<R> {
         Ok(())
     }
 
+    /// Asks whether each file that is open still is the folder's own under its name, and fails where one isn't.
+    pub fn check(&self) -> io::Result<()> {
+        self.disk.check()
+    }
+
     /// The least of the files after this one, or the least of all.
     pub fn next(&self, after: Option<FileId>) -> Option<FileId>
         ensures after { ForSome result (ComesAfter after) }

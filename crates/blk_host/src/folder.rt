@@ -36,6 +36,17 @@ impl<R: Files<File = File> + AllocGlobal + Clone + Drop> RealFolder<R> {
             faults: 0,
         })
     }
+
+    /// Closes the files and lets the folder go.
+    ///
+    /// The index and the block files are open from their first use on, so their names are asked here once more.
+    ///
+    /// # Errors
+    /// The machine's, and `InvalidData` where a file that is open is no longer the folder's own under its name: it was removed, moved,
+    /// replaced or given a second name meanwhile, so what was written may not be in the folder.
+    pub fn close(self) -> io::Result<()> {
+        self.files.check()
+    }
 }
 
 impl<R: Files<File = File> + Drop> Folder for RealFolder<R> {
