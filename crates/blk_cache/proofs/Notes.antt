@@ -29,7 +29,7 @@ note-nothing number (Some image) = refl
 pub same-files : (mid now : Told) (number : ℕ) → Applies mid now (Note number ∷ []) → now.files ≡ mid.files
 same-files mid now number note = note.files ∙ note-nothing number mid.files
 
--- what a cache keeps doesn't hang on its notes
+-- what a cache keeps doesn't depend on its notes
 pub kept-on : (old new : Cache) (state : State) (image : Image) → OnlyNotesChange old new → KeepsState old state image → KeepsState new state image
 kept-on old new state image same k = record {
   layout = k.layout;

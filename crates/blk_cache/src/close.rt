@@ -31,7 +31,7 @@ impl Cache {
     ///
     /// It is refused with `BadHandle` where the name is free, or 4096 or more. For a last name one folder call reads the
     /// record; three more make the dirty word 0; for a doomed object one more reads its places, and each of at most six
-    /// places takes seven at most. After a fault nothing is promised of the cache but that it may be let go.
+    /// places takes seven at most. After a fault nothing is promised of the cache but that it can be dropped.
     pub(crate) fn close<F: Folder>(&mut self, f: &mut F, handle: u16) -> Result<Answer, Fault>
         requires is_open { ForSome (F.told f.old).files (IsOpen self.old.files) }
         ensures does { (moment : ℕ) → IfOk result (λ answer. Does (KeepsState self.old) (KeepsState self.new) (F.told f.old) (F.told f.new) moment (to_close handle) answer) }

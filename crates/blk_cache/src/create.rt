@@ -39,8 +39,8 @@ impl Cache {
     ///
     /// It is refused with `BadKey` where the key has no bytes or more than 32768, `BadHandle` where the name is 4096 or
     /// more, `HandleBusy` where it is bound, `Exists` where a live object has the key, and `Full` where the open objects
-    /// and what is added exceed a limit, the first of these. After a fault nothing is promised of the cache but that it may
-    /// be let go.
+    /// and what is added exceed a limit, the first of these. After a fault nothing is promised of the cache but that it can
+    /// be dropped.
     pub(crate) fn create<F: Folder, K: Sink>(
         &mut self,
         f: &mut F,
@@ -225,7 +225,7 @@ impl Cache {
     // front of the LRU list, and a free handle name is bound to it.
     //
     // The object is made in the folder before the name is bound and the item is counted. After a fault nothing is
-    // promised of the cache but that it may be let go.
+    // promised of the cache but that it can be dropped.
     pub(crate) fn make_object<F: Folder>(
         &mut self,
         f: &mut F,

@@ -26,9 +26,9 @@ impl Cache {
     /// Dooms the object that a handle names: its items leave the list and their chains, its parts are freed, and its record
     /// and its places stay until its last handle is closed.
     ///
-    /// It is refused with `BadHandle` where the name is free, or 4096 or more, and `Doomed` where its object is doomed.
-    /// An object without parts takes at most 38 folder calls where the search passes one record of its chain or none, and one
-    /// more for each further one. After a fault nothing is promised of the cache but that it may be let go.
+    /// It is refused with `BadHandle` where the name is free, or 4096 or more, and `Doomed` where its object is doomed. An
+    /// object without parts takes at most 38 folder calls where the search passes one record of its chain or none, and one
+    /// more for each further one. After a fault nothing is promised of the cache but that it can be dropped.
     pub(crate) fn doom<F: Folder>(&mut self, f: &mut F, handle: u16) -> Result<Answer, Fault>
         requires is_open { ForSome (F.told f.old).files (IsOpen self.old.files) }
         ensures does { (moment : ℕ) → IfOk result (λ answer. Does (KeepsState self.old) (KeepsState self.new) (F.told f.old) (F.told f.new) moment (to_doom handle) answer) }

@@ -28,7 +28,7 @@ impl Cache {
     /// Dooms the live object with a key: an open one as `doom` does, and of another all goes, with its parts.
     ///
     /// It is refused with `BadKey` where the key has no bytes or more than 32768, and `Missing` where no live object has
-    /// the key. After a fault nothing is promised of the cache but that it may be let go.
+    /// the key. After a fault nothing is promised of the cache but that it can be dropped.
     pub(crate) fn doom_key<F: Folder>(&mut self, f: &mut F, key: &[u8]) -> Result<Answer, Fault>
         requires is_open { ForSome (F.told f.old).files (IsOpen self.old.files) }
         ensures does { (moment : ℕ) → IfOk result (λ answer. Does (KeepsState self.old) (KeepsState self.new) (F.told f.old) (F.told f.new) moment (to_doom_key key.now) answer) }

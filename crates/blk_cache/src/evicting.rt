@@ -25,7 +25,7 @@ impl Cache {
     /// Evicts groups, each that of the last item that isn't pinned, until enough is evicted or each item is pinned, and
     /// prints each item of them. It tells how many items were evicted. The covered parts are pinned.
     ///
-    /// After a fault nothing is promised of the cache but that it may be let go. Where the sink fails nothing more is
+    /// After a fault nothing is promised of the cache but that it can be dropped. Where the sink fails nothing more is
     /// printed, and the eviction goes on.
     pub(crate) fn evict_until<F: Folder, K: Sink>(
         &mut self,

@@ -37,7 +37,7 @@ impl Cache {
     /// Makes space for so many more bytes and items, where there can be space, and prints what is evicted for it. No
     /// part is covered.
     ///
-    /// After a fault nothing is promised of the cache but that it may be let go.
+    /// After a fault nothing is promised of the cache but that it can be dropped.
     pub(crate) fn make_room<F: Folder, K: Sink>(
         &mut self,
         f: &mut F,
@@ -85,7 +85,7 @@ impl Cache {
     /// covered parts stay.
     ///
     /// Nothing is evicted where they fit, or nothing is asked for; and whether there can be space is told by what is
-    /// kept in memory. After a fault nothing is promised of the cache but that it may be let go.
+    /// kept in memory. After a fault nothing is promised of the cache but that it can be dropped.
     pub(crate) fn make_room_beside<F: Folder, K: Sink>(
         &mut self,
         f: &mut F,
@@ -138,7 +138,7 @@ impl Cache {
     /// covered parts stay.
     ///
     /// Nothing is evicted where they fit, or nothing is asked for. After a fault nothing is promised of the cache but that
-    /// it may be let go.
+    /// it can be dropped.
     pub(crate) fn evict_for<F: Folder, K: Sink>(
         &mut self,
         f: &mut F,

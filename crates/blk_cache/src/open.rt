@@ -28,7 +28,7 @@ impl Cache {
     ///
     /// It is refused with `BadKey` where the key has no bytes or more than 32768, `BadHandle` where the name is 4096 or
     /// more, `HandleBusy` where it is bound, and `Missing` where no live object has the key, the first of these. After a
-    /// fault nothing is promised of the cache but that it may be let go.
+    /// fault nothing is promised of the cache but that it can be dropped.
     pub(crate) fn open<F: Folder>(
         &mut self,
         f: &mut F,

@@ -35,7 +35,7 @@ impl Cache {
     ///
     /// It is refused with `BadHandle` where the name is free, or 4096 or more, `TooLarge` where there are more than 1048576
     /// bytes, `RangeEnd` where they end after 68719476736, `Doomed` where the object is doomed, and `NotSparse` where it is
-    /// plain, the first of these. After a fault nothing is promised of the cache but that it may be let go.
+    /// plain, the first of these. After a fault nothing is promised of the cache but that it can be dropped.
     pub(crate) fn use_sparse<F: Folder>(
         &mut self,
         f: &mut F,

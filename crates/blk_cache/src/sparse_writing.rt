@@ -38,7 +38,7 @@ impl Cache {
     /// It is refused with `BadHandle` where the name is free, or 4096 or more, `TooLarge` where there are more than 1048576
     /// bytes, `RangeEnd` where they end after 68719476736, `Doomed` where the object is doomed, `NotSparse` where it is
     /// plain and has bytes in its second or third stream, and `Full` where the open objects, the covered parts and what is
-    /// added exceed a limit, the first of these. After a fault nothing is promised of the cache but that it may be let go.
+    /// added exceed a limit, the first of these. After a fault nothing is promised of the cache but that it can be dropped.
     pub(crate) fn sparse_write<F: Folder, K: Sink>(
         &mut self,
         f: &mut F,

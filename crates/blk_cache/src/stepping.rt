@@ -32,8 +32,8 @@ impl Cache {
     /// # Errors
     ///
     /// `Sink` where the sink failed in this call: the command is done all the same, and noted. `Device` where the folder
-    /// failed, and `Damaged` where it is opaque and a check failed: then nothing is promised of the cache but that it may
-    /// be let go, and the folder may be opened again.
+    /// failed, and `Damaged` where it is opaque and a check failed: then nothing is promised of the cache but that it can
+    /// be dropped, and the folder may be opened again.
     pub fn step<F: Folder, K: Sink>(
         &mut self,
         f: &mut F,

@@ -22,7 +22,7 @@ impl Cache {
     /// Evicts groups from the back of the LRU list, until no more than so many bytes are left or each item is pinned, and
     /// prints what is evicted. It answers how many items were evicted, and is never refused.
     ///
-    /// After a fault nothing is promised of the cache but that it may be let go.
+    /// After a fault nothing is promised of the cache but that it can be dropped.
     pub(crate) fn trim<F: Folder, K: Sink>(
         &mut self,
         f: &mut F,

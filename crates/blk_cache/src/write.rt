@@ -47,7 +47,7 @@ impl Cache {
     /// It is refused with `BadHandle` where the name is free, or 4096 or more, `BadStream` where the number of the stream
     /// is 3 or more, `TooLarge` where the bytes end past an eighth of the limit, `SparseStream` where the object is
     /// sparse and the number isn't 0, and `Full` where the open objects and what is added exceed a limit, the first of
-    /// these. After a fault nothing is promised of the cache but that it may be let go.
+    /// these. After a fault nothing is promised of the cache but that it can be dropped.
     pub(crate) fn write<F: Folder, K: Sink>(
         &mut self,
         f: &mut F,

@@ -1,4 +1,4 @@
--- The files of a kind are taken up, one after another.
+-- The files of a kind are loaded, one after another.
 use Rattle.std.proofs.Common.{◌≡◌, ◌≢◌, ℕ, zero, suc, ◌+◌, ◌-◌, ◌<◌, ◌≤◌, Bool, true, false, ◌||◌, if◌then◌else◌, List, [], ◌∷◌, ◌++◌, length, None, Some, refl, sym, ◌∙◌, ap, ap₂, subst, arith, append_assoc, ⊎_elim}
 use Rattle.std.specs.Prelude.{◌==◌, Err}
 use Rattle.std.specs.declared.option.Option.{Option}
@@ -92,7 +92,7 @@ module _ (new : BlockFiles) (image : Image) (kind : ℕ) (left next : ℕ) (is_l
   checks_next true = refl
   checks_next false = ap (λ (l : ℕ). checks_along image kind (all_files new) l next ++ checks_after image kind) (sym is_left)
 
--- the next file of a kind is taken up, where its checks hold
+-- the next file of a kind is loaded, where its checks hold
 module _ (k : Kind) (files new : BlockFiles) (image : Image) (n : ℕ) (head : Head) (block_kind : kind_number k ≢ 0) (joins : Joins files new (kind_number k) n head.blocks head.size) (follows : Follows files image (kind_number k) (Some n))
     (none : first_of (next_checks files image (kind_number k) n) ≡ None) (is : IsFileHead (byte image (Block n)) (length_of image (Block n)) head) where
   abbrev left : ℕ
@@ -167,7 +167,7 @@ blocks_kind B256 block_kind = refl
 blocks_kind B1K block_kind = refl
 blocks_kind B4K block_kind = refl
 
--- a call that failed to take up the next file, whatever the folder tells
+-- a call that failed to load the next file, whatever the folder tells
 pub caused_if : (A B : Type 0) (e : Fault) (a b : Told) (files : BlockFiles) (k : Kind) (n : ℕ) → kind_number k ≢ 0 → IsFileNumber (kind_number k) n → b ≡ a → IfDamaged {A = A} (Err e) (IsHeaderDamage b files (kind_number k) n) → IfDamaged {A = B} (Err e) (IsLoadDamage a)
 caused_if A B Device a b files k n block_kind number stays cause = tt
 caused_if A B (Damaged d) a b files k n block_kind number stays cause = record {
@@ -179,7 +179,7 @@ caused_if A B (Damaged d) a b files k n block_kind number stays cause = record {
   cause = subst (λ (t : Told). IsHeaderDamage t files (kind_number k) n d) stays cause;
 }
 
--- nothing is taken up yet
+-- nothing is loaded yet
 pub follows_none : (files : BlockFiles) (image : Image) → HoldsNone files → Follows files image 0 None
 unfolding linked_up_to
 follows_none files image none = record {

@@ -394,7 +394,7 @@ module _ (files : BlockFiles) (image : Image) (p : ℕ) (small : p < 4) (agrees 
   pub done_formed : IsWellFormed image → IsWellFormed done
   done_formed formed = let same = done_outside in well_formed_still image done (λ i. same.bytes Index i refl) (same.lengths Index refl) (λ none. done_undamaged) formed
 
-  -- what is kept once the new file is taken up
+  -- what is kept once the new file is loaded
   module _ (new : BlockFiles) (joins : Joins files new (suc p) n 0 8192) where
     joined_kind : (j m : ℕ) → m ≢ n → is_among (files_of new (suc j)) m ≡ is_among (files_of files (suc j)) m
     joined_kind j m differs =

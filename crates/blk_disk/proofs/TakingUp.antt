@@ -1,4 +1,4 @@
--- A file that is taken up is none of those before.
+-- A file that is loaded is none of those before.
 use Rattle.std.proofs.Common.{◌≡◌, ◌≢◌, ◌⊎◌, inl, inr, ⊎_elim, ℕ, ◌-◌, ◌<◌, ◌≤◌, Bool, true, false, ◌||◌, if◌then◌else◌, List, [], ◌∷◌, ◌++◌, Option, None, Some, refl, sym, ◌∙◌, ap, arith}
 use Rattle.std.specs.Prelude.{◌==◌}
 use Rattle.std.proofs.lemmas.Bool.{or_cases}
@@ -63,7 +63,7 @@ members B4K old new n blocks size m block_kind joins =
 pub joined_more : (k : Kind) (old new : BlockFiles) (n blocks size : ℕ) → kind_number k ≢ 0 → Joins old new (kind_number k) n blocks size → TakesUp old new n
 joined_more k old new n blocks size block_kind joins m = among_kinds new m ∙ members k old new n blocks size m block_kind joins ∙ ap (λ (t : Bool). t || (n == m)) (sym (among_kinds old m))
 
--- the next file isn't taken up yet
+-- the next file isn't loaded yet
 pub fresh_still : (old new : BlockFiles) (n : ℕ) (next : Option ℕ) → TakesUp old new n → IsFresh (all_files old ++ n ∷ []) next → IsFresh (all_files new) next
 fresh_still old new n None takes fresh = tt
 fresh_still old new n (Some m) takes fresh = takes m ∙ sym (is_among_more (all_files old) n m) ∙ fresh
@@ -93,7 +93,7 @@ small_kind B256 = omega arith
 small_kind B1K = omega arith
 small_kind B4K = omega arith
 
--- the first file of a kind isn't taken up with the kinds before
+-- the first file of a kind isn't loaded with the kinds before
 pub first_fresh : (files : List ℕ) (k : Kind) → AreNumbered files (kind_number k - 1) → is_among files (kind_number k - 1) ≡ false
 first_fresh files k numbers =
     let small = small_kind k in

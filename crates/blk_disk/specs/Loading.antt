@@ -1,4 +1,4 @@
--- How block files are checked and taken up, one along the links after another.
+-- How block files are checked and loaded, one along the links after another.
 use Rattle.std.specs.Prelude.{◌≡◌, ◌≢◌, ◌⊎◌, ℕ, ◌-◌, ◌<◌, ◌≤◌, List, [], ◌∷◌, ◌++◌, length, drop, ◌==◌, ◌||◌, if◌then◌else◌, false, true, Option, None, Some, Result, Ok, Err}
 use Rattle.std.specs.List.{flat_map}
 use Rattle.spec_image.specs.Bytes.{content}
@@ -58,7 +58,7 @@ pub record FailsFileCheck (files : BlockFiles) (kind n : ℕ) (damage : Damage) 
   pub read : length header ≡ block_fields_length
   pub first : first_of (header_checks files kind n (content header) size) ≡ Some (damage_of damage)
 
--- why the next file of a kind can't be taken up, whether or not the folder is observable: too few bytes of its header came, or a check of what was read fails
+-- why the next file of a kind can't be loaded, whether or not the folder is observable: too few bytes of its header came, or a check of what was read fails
 abbrev pub IsHeaderDamage : Told → BlockFiles → ℕ → ℕ → Damage → Type 0
 IsHeaderDamage told files kind n damage = IsShort told (names.Block n) 0 block_fields_length damage ⊎ FailsFileCheck files kind n damage
 
@@ -76,7 +76,7 @@ abbrev pub IsFresh : List ℕ → Option ℕ → Type 0
 IsFresh files None = Unit {0}
 IsFresh files (Some n) = is_among files n ≡ false
 
--- a file is taken up beside those before
+-- a file is loaded beside those before
 abbrev pub TakesUp : BlockFiles → BlockFiles → ℕ → Type 0
 TakesUp old new n = (m : ℕ) → is_among (all_files new) m ≡ (is_among (all_files old) m || (n == m))
 
@@ -84,7 +84,7 @@ TakesUp old new n = (m : ℕ) → is_among (all_files new) m ≡ (is_among (all_
 abbrev pub AreNumbered : List ℕ → ℕ → Type 0
 AreNumbered files kind = (n : ℕ) → is_among files n ≡ true → (n < kind) ⊎ (4 ≤ n)
 
--- so it is for a file of some block kind, with some files that were taken up before
+-- so it is for a file of some block kind, with some files that were loaded before
 pub record IsLoadDamage (told : Told) (damage : Damage) : Type 0 where
   pub files : BlockFiles
   pub kind : ℕ
@@ -93,7 +93,7 @@ pub record IsLoadDamage (told : Told) (damage : Damage) : Type 0 where
   pub number : IsFileNumber kind n
   pub cause : IsHeaderDamage told files kind n damage
 
--- the checks of the next file of a kind, with those that are taken up already
+-- the checks of the next file of a kind, with those that are loaded already
 abbrev pub next_checks : BlockFiles → Image → ℕ → ℕ → List (Option checks.Damage)
 next_checks files image kind n = header_checks files kind n (byte image (Block n)) (length_of image (Block n))
 
@@ -126,7 +126,7 @@ HasRoom count (Some n) = count < most_files
 abbrev pub KeepsOthers : BlockFiles → BlockFiles → ℕ → Type 0
 KeepsOthers old new kind = (other : ℕ) → other ≢ kind → files_of new other ≡ files_of old other
 
--- the files of the kinds before one, and those of this kind before the next, are taken up, and no check of them fails
+-- the files of the kinds before one, and those of this kind before the next, are loaded, and no check of them fails
 pub record Follows (files : BlockFiles) (image : Image) (kind : ℕ) (next : Option ℕ) : Type 0 where
   pub met : linked_up_to image (kind - 1) ++ files_of files kind ≡ all_files files
   pub before : (other : ℕ) → 0 < other → other < kind → files_of files other ≡ linked image other

@@ -1,4 +1,4 @@
-// The block files of a folder are taken up, one along the links after another.
+// The block files of a folder are loaded, one along the links after another.
 ghost use Rattle.std.specs.Prelude.{◌≡◌, ◌≢◌, ◌+◌, ◌-◌, ◌<◌, ◌≤◌, [], length, OnOk, IfOk, Some, None, false};
 ghost use Rattle.std.specs.Option.{ForSome};
 ghost use Rattle.spec_image.specs.Told.{Stays, Rises};
@@ -36,7 +36,7 @@ impl BlockFiles {
         Ok(files)
     }
 
-    // Takes up the files of a kind. Those of the kinds before it are taken up already.
+    // Loads the files of a kind. Those of the kinds before it are loaded already.
     fn follow<F: Folder>(&mut self, f: &mut F, kind: Kind) -> Result<(), Fault>
         requires block_kind { kind_number kind ≢ external }
         requires empty { files_of self.old (kind_number kind) ≡ [] }
@@ -58,7 +58,7 @@ impl BlockFiles {
         Ok(())
     }
 
-    // Takes up the next file of a kind, which isn't linked yet, and gives the one after it.
+    // Loads the next file of a kind, which isn't linked yet, and gives the one after it.
     fn link<F: Folder>(&mut self, f: &mut F, kind: Kind, n: u8) -> Result<Option<u8>, Fault>
         requires block_kind { kind_number kind ≢ external }
         requires room { length (files_of self.old (kind_number kind)) < most_files }

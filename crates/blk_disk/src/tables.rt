@@ -13,7 +13,7 @@ use blk_addr::{BLOCK_FILES, Kind};
 /// The most files of one kind.
 pub const MOST_FILES: usize = 60;
 
-// The kinds of the linked files, in the order in which they are taken up.
+// The kinds of the linked files, in the order in which they are loaded.
 pub(crate) const KINDS: [Kind; 4] = [Kind::Rankings, Kind::B256, Kind::B1K, Kind::B4K];
 
 /// The linked block files: their numbers, by kind and in the order of the links, and what is
@@ -114,7 +114,7 @@ impl BlockFiles {
         self.lengths[usize::from(file)] = size;
     }
 
-    // Takes up a file, which isn't linked yet, as the last one of its kind.
+    // Loads a file, which isn't linked yet, as the last one of its kind.
     pub(crate) fn join(&mut self, kind: Kind, file: u8, blocks: u32, size: u64)
         requires block_kind { kind_number kind ≢ external }
         requires room { length (files_of self.old (kind_number kind)) < most_files }

@@ -71,7 +71,7 @@ impl Held {
     /// Goes into the folder at a path and locks it. The lock is advisory: it holds off programs that ask for it.
     ///
     /// Where another program has the folder it is tried again every 50 ms until so much time is gone. A folder on a file
-    /// system without locks is had without one.
+    /// system without locks is acquired without one.
     ///
     /// # Errors
     /// `Elsewhere` where another program has the folder to the end of that time; `Machine` where the machine fails.

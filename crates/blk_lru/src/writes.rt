@@ -131,7 +131,7 @@ fn set_index<F: Folder>(f: &mut F, at: u64, word: u32) -> Result<(), Fault>
 }
 
 impl Default for Write {
-    // Fills the buffer of plans.
+    // The write in the unused places of a plan.
     fn default() -> Write {
         Write::Operation(0)
     }

@@ -85,7 +85,7 @@ first-small : (i : Image) (b : ℕ) (xs : List ℕ) → Path (store_of i) b (fir
 first-small i b [] path = omega arith
 first-small i b (x ∷ xs) path = let s = shown-of (store_of i) b x path.1 in shown-small i x s.fields s.here
 
--- a path doesn't go by the table
+-- a path doesn't depend on the table
 path-table : (v : StoreView) (t : ℕ → ℕ) (b w : ℕ) (xs : List ℕ) → Path v b w xs → Path (record v { table = t }) b w xs
 path-table v t b w [] path = tt
 path-table v t b w (x ∷ xs) path = (path.0, path.1, path-table v t b (v.chain_next x) xs path.2)

@@ -53,7 +53,7 @@ read_left = only-uses-left reading 100 (to_read 5 0 0 1) (main a ∷ []) [] read
 created_left : MayLeave pair 100 (to_create 6 c) (rest (created 7 c (with_room pair 100 (to_create 6 c))))
 created_left = creates-left pair 100 6 7 c pair_is_valid (omega arith, c_bytes) (unfold computing in refl)
 
--- a Write unsettles `a`, and so does a SparseWrite
+-- a Write makes `a` dirty, and so does a SparseWrite
 write_names : IsNamedBy reading 100 (to_write 5 0 0 false c) 5 0 opened_object
 unfolding computing
 write_names = record { affected = record { passes = refl; here = refl; live = refl }; names = refl }

@@ -1,4 +1,4 @@
-// An LRU list that comes to go round while a cache is open: each walk over it ends at the word that would be followed.
+// An LRU list that becomes a loop while a cache is open: each walk over it ends at the word that would be followed.
 use blk_cache::{Cache, StepFault};
 use blk_io::{Damage, FileId, MemFolder, MemSink, SilentFolder};
 use blk_model::{Command, Limits};

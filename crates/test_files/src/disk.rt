@@ -148,7 +148,7 @@ const TWICE: [Header; 6] = [
 
 #[test]
 fn each_file_is_whole_and_taken_up_once(rt: HostRuntime) -> Result<(), Fail> {
-    // A file that ends inside its header, one that is missing, and one that was taken up before.
+    // A file that ends inside its header, one that is missing, and one that was loaded before.
     for (headers, size, file, damage) in [
         (FILES.as_slice(), HEADER_LEN - 1, 0, (8192, 8191)),
         (&WITHOUT_2, HEADER_LEN, 2, (8192, 0)),
@@ -173,7 +173,7 @@ fn sixty_files(alloc: Global, next: u16) -> Result<Vec<Header>, Fail> {
 
 #[test]
 fn the_sixtieth_file_of_a_kind_has_no_next_one(rt: HostRuntime) -> Result<(), Fail> {
-    // Without that link all sixty are taken up, and the next file is missing.
+    // Without that link all sixty are loaded, and the next file is missing.
     for (next, file, damage) in [(63, 62, (8, 0x003F_003E)), (0, 1, (8192, 0))] {
         let headers = sixty_files(rt.alloc(), next)?;
         let mut f = folder_of(rt.alloc(), &headers, HEADER_LEN)?;

@@ -170,7 +170,7 @@ fn a_made_file_is_its_owners(rt: HostRuntime) -> io::Result<()> {
     fs::remove_dir_all(&rt, path)
 }
 
-// Whether a folder is had where a file has a second name, where it has one name again, and where a link names it.
+// Whether a folder is acquired where a file has a second name, where it has one name again, and where a link names it.
 fn is_had(rt: HostRuntime, path: &str) -> io::Result<[bool; 3]> {
     fs::write(&rt, "elsewhere", "kept")?;
     fs::hard_link(&rt, "elsewhere", "data_1")?;

@@ -1,4 +1,4 @@
-// A folder that is had alone, or beside readers.
+// A folder that is acquired alone, or beside readers.
 use crate::folders::{look, new_folder, read, take, write_four};
 use blk_host::{Access, Held, NotHeld, RealFolder};
 use blk_io::{FileId, Folder};

@@ -34,7 +34,7 @@ completions-keep image ready =
     let Q : Image → Type 0 = CompletesAlike image in
     until_weaker2 P Q P Q (steps_of_writes (completion_writes (list_of image)) image) image (partly-alike image) (partly-alike image) (writes_show (completion_writes (list_of image)) image ready (completion_can image)).along
 
--- the walk doesn't go by the transaction and the operation
+-- the walk doesn't depend on the transaction and the operation
 pub walk_rested : (list : ListView) → walk (rested list) ≡ walk list
 unfolding walk
 walk_rested list = refl
