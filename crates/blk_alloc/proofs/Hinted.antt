@@ -10,7 +10,7 @@ use Rattle.spec_image.specs.Image.{Block, Image, byte}
 use Rattle.spec_format.specs.BlockFiles.{is_among}
 use Rattle.spec_format.specs.Headers.{hints_of}
 use Rattle.spec_format.specs.Maps.{is_block_marked, longest_run}
-use Rattle.blk_alloc.specs.Fitting.{HasNoRoom, IsByHint, IsFirstMet, IsLeastOfGroup, IsSought}
+use Rattle.blk_alloc.specs.Fitting.{HasNoRoom, IsByHint, IsFirstMet, IsLeastOfGroup, IsGroupSought}
 use Rattle.blk_alloc.proofs.Growing.{free_group}
 use Rattle.blk_alloc.proofs.Grown.{free_all}
 use Rattle.blk_alloc.proofs.Searches.{is_a_place}
@@ -29,11 +29,11 @@ all_member P (x ∷ xs) n among all =
     or_cases false b e = inr e
 
 -- a file has space or it has none
-pub no_room : (image : Image) (n count i : ℕ) → IsSought image n count i → HasNoRoom image count n → ⊥
+pub no_room : (image : Image) (n count i : ℕ) → IsGroupSought image n count i → HasNoRoom image count n → ⊥
 no_room image n count i sought none = let some = sought.counted in let zero_is = none i sought.small sought.enough in omega (arith, some, zero_is)
 
 -- one length is sought
-pub one_sought : (image : Image) (n count i j : ℕ) → IsSought image n count i → IsSought image n count j → i ≡ j
+pub one_sought : (image : Image) (n count i j : ℕ) → IsGroupSought image n count i → IsGroupSought image n count j → i ≡ j
 one_sought image n count i j a b =
     ⊎_elim (λ (less : i < j). let none = b.least i less a.enough in let some = a.counted in absurd (omega (arith, none, some)))
     (λ (upto : j ≤ i).

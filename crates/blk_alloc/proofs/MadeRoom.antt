@@ -15,7 +15,7 @@ use Rattle.blk_disk.specs.Tables.{Agrees, all_files, blocks_of, files_of}
 use Rattle.blk_alloc.specs.declared.blocks.Blocks.{Blocks}
 use Rattle.blk_alloc.specs.Allocating.{Extends, HaveNoRoom, IsAddedPlace, IsFoundBy, IsGrownPlace, IsGrownRoom, LiesAtHint, SetsHint}
 use Rattle.blk_alloc.specs.Extending.{HasNoHints, IsFirstGrowing, KeepsHintsOf, KeepsMarks}
-use Rattle.blk_alloc.specs.Fitting.{HasNoRoom, IsByHint, IsPlace, IsSought}
+use Rattle.blk_alloc.specs.Fitting.{HasNoRoom, IsByHint, IsPlace, IsGroupSought}
 use Rattle.blk_alloc.specs.Marking.{CanBeMarked, HasHintAmong}
 use Rattle.blk_alloc.proofs.Hinted.{all_member, fresh_start, hint_same, no_room}
 use Rattle.blk_alloc.proofs.Members.{member_all, member_split}
@@ -73,7 +73,7 @@ module _ (old new : BlockFiles) (k : Kind) (block_kind : kind_number k ≢ exter
       was_there : is_among (all_files old) room.file ≡ true → place.start / 4 ≡ hints_of (byte mid (Block room.file)) 3 % groups_of (blocks_of new room.file)
       was_there e = ⊎_elim (λ (no_file : is_among (all_files old) (file_selector w) ≡ false). absurd (clash (sym e ∙ ap (is_among (all_files old)) (sym of) ∙ no_file)))
           (λ (found : (i : ℕ) × IsFoundBy old (kind_number k) count from w i × (first_block w / 4 ≡ hints_of (byte from (Block (file_selector w))) i % groups_of (blocks_of newest (file_selector w)))).
-          let three : found.0 ≡ 3 = ⊎_elim (λ (had : (is_among (files_of old (kind_number k)) (file_selector w) ≡ true) × IsSought from (file_selector w) count found.0). absurd (no_room from (file_selector w) count found.0 had.1 (all_member (HasNoRoom from count) (files_of old (kind_number k)) (file_selector w) had.0 none)))
+          let three : found.0 ≡ 3 = ⊎_elim (λ (had : (is_among (files_of old (kind_number k)) (file_selector w) ≡ true) × IsGroupSought from (file_selector w) count found.0). absurd (no_room from (file_selector w) count found.0 had.1 (all_member (HasNoRoom from count) (files_of old (kind_number k)) (file_selector w) had.0 none)))
           (λ (last : HaveNoRoom old (kind_number k) count from × (found.0 ≡ 3)). last.1) found.1 in
           ap (λ (s : ℕ). s / 4) (sym start) ∙ found.2
           ∙ (λ j. hints_of (byte from (Block (of j))) (three j) % groups_of (blocks_of newest (of j)))

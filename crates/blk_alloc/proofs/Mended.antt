@@ -17,7 +17,7 @@ use Rattle.blk_addr.specs.Bits.{has_bit}
 use Rattle.blk_addr.specs.Claims.{allocations_in}
 use Rattle.blk_addr.specs.declared.claim_set.Claims.{Claims}
 use Rattle.blk_alloc.specs.Changes.{map_of}
-use Rattle.blk_alloc.specs.Mending.{IsFrontWritten, AreBytesWritten}
+use Rattle.blk_alloc.specs.Mending.{IsPrefixWritten, AreBytesWritten}
 use Rattle.blk_alloc.specs.Rebuilding.{counters_of, counts_of, is_block_claimed, is_updating_place, AreHeaderBytes, AreMarked, HasMarksOf, HasTheseCounters, IsCounting, IsMending, IsMendingToEnd, IsOldOrClaimed, IsRebuilt, KeepsBytes, RemakesInProgress}
 use Rattle.blk_alloc.proofs.Changing.{at_updating, within-trans}
 use Rattle.blk_alloc.proofs.Counted.{at_map, counts_within, updating_kept}
@@ -91,7 +91,7 @@ module _ (claims : Claims) (n : ℕ) (from : Image) (bytes : List ℕ) (long : l
   unfolding has_bit
   map_mark k image written b small below = ap (λ (x : ℕ). bit_at x (b % 8) == 1) (written.there (b / 8) below) ∙ bits b small
 
-  pub mending_map : (image : Image) → IsFrontWritten (Block n) 80 bytes from image → IsMending claims n from image
+  pub mending_map : (image : Image) → IsPrefixWritten (Block n) 80 bytes from image → IsMending claims n from image
   mending_map image part = record {
     same = outside_wider (range (Block n) 80 (4 * part.words)) (counts_of n) from image
         (within-trans (range (Block n) 80 (4 * part.words)) (range (Block n) 80 8112) (counts_of n) (range_within (Block n) 80 (4 * part.words) 80 8112 (omega arith) (let most = part.most in omega (arith, most, long))) (at_map n)) part.written.same;

@@ -13,12 +13,12 @@ use Rattle.spec_image.proofs.Images.{bytes_of-written}
 use Rattle.spec_image.proofs.Splices.{content-spliced_inside}
 use Rattle.spec_image.proofs.Footprints.{outside-refl, outside-trans, outside_wider, outside_write, range_within}
 use Rattle.spec_image.proofs.Words.{content-range, range-is}
-use Rattle.spec_image.proofs.Runs.{grows_none, grows_then, passes_end, quiet_front, quiet-append, some_inj, until_front, until-append, until_weaker2}
-use Rattle.blk_alloc.specs.Mending.{AreNeeded, IsFrontWritten, AreBytesWritten, KeepsLength, PassesNeeded}
+use Rattle.spec_image.proofs.Runs.{grows_none, grows_then, passes_end, quiet_prefix, quiet-append, some_inj, until_prefix, until-append, until_weaker2}
+use Rattle.blk_alloc.specs.Mending.{AreNeeded, IsPrefixWritten, AreBytesWritten, KeepsLength, PassesNeeded}
 
-needed_front : (s t : List TrailStep) (image : Image) → AreNeeded image (s ++ t) → AreNeeded image s
-needed_front [] t image all = tt
-needed_front (x ∷ s) t image all = (all.0, needed_front s t (applied x image) all.1)
+needed_prefix : (s t : List TrailStep) (image : Image) → AreNeeded image (s ++ t) → AreNeeded image s
+needed_prefix [] t image all = tt
+needed_prefix (x ∷ s) t image all = (all.0, needed_prefix s t (applied x image) all.1)
 
 needed-append : (s t : List TrailStep) (image : Image) → AreNeeded image s → AreNeeded (after s image) t → AreNeeded image (s ++ t)
 needed-append [] t image first second = second
@@ -45,9 +45,9 @@ pub needed_part : {a b : Told} {s : List TrailStep} (P : Image → Type 0) (from
 needed_part {a} {b} {s} P from there part quiet along needed = record {
   steps = part.made;
   applies = part.applies;
-  quiet = quiet_front part.made part.left (subst IsQuiet part.split quiet);
-  along = λ image is. subst (λ (i : Image). Along P i part.made) (some_inj (sym there ∙ is)) (until_front P P part.made part.left from (λ i holds. holds) (subst (Along P from) part.split along));
-  needed = λ image is. subst (λ (i : Image). AreNeeded i part.made) (some_inj (sym there ∙ is)) (needed_front part.made part.left from (subst (AreNeeded from) part.split needed));
+  quiet = quiet_prefix part.made part.left (subst IsQuiet part.split quiet);
+  along = λ image is. subst (λ (i : Image). Along P i part.made) (some_inj (sym there ∙ is)) (until_prefix P P part.made part.left from (λ i holds. holds) (subst (Along P from) part.split along));
+  needed = λ image is. subst (λ (i : Image). AreNeeded i part.made) (some_inj (sym there ∙ is)) (needed_prefix part.made part.left from (subst (AreNeeded from) part.split needed));
 }
 
 -- one call after another
@@ -121,7 +121,7 @@ module _ (f : File) (place : ℕ) (old new : List ℕ) (four : length new ≡ 4)
 -- Word after word.
 
 -- bytes that are written as far as a number of words are part written
-pub part_written : (f : File) (place : ℕ) (bytes : List ℕ) (k : ℕ) (from image : Image) → 4 * k ≤ length bytes → AreBytesWritten f place bytes (4 * k) from image → IsFrontWritten f place bytes from image
+pub part_written : (f : File) (place : ℕ) (bytes : List ℕ) (k : ℕ) (from image : Image) → 4 * k ≤ length bytes → AreBytesWritten f place bytes (4 * k) from image → IsPrefixWritten f place bytes from image
 part_written f place bytes k from image most written = record { words = k; most = most; written = written }
 
 -- one word more
@@ -151,7 +151,7 @@ module _ (f : File) (place : ℕ) (bytes new : List ℕ) (k : ℕ) (from mid : I
           let is : 4 * k + (i - 4 * k) ≡ i = omega (arith, high) in
           ap (byte image f) at ∙ more.there (i - 4 * k) (omega (arith, high, small)) ∙ same (i - 4 * k) (omega (arith, high, small)) ∙ ap (content bytes) is
 
-  pub part_more : 4 * (k + 1) ≤ length bytes → (image : Image) → (image ≡ mid) ⊎ AreBytesWritten f (place + 4 * k) new 4 mid image → IsFrontWritten f place bytes from image
+  pub part_more : 4 * (k + 1) ≤ length bytes → (image : Image) → (image ≡ mid) ⊎ AreBytesWritten f (place + 4 * k) new 4 mid image → IsPrefixWritten f place bytes from image
   part_more most image (inl is) = part_written f place bytes k from image (omega (arith, most)) (subst (AreBytesWritten f place bytes (4 * k) from) (sym is) before)
   part_more most image (inr more) = part_written f place bytes (k + 1) from image most (written_more image more)
 

@@ -9,7 +9,7 @@ use Rattle.spec_image.specs.Footprint.{SameOutside, IsWithin, range}
 use Rattle.spec_image.proofs.Words.{word-written}
 use Rattle.spec_image.proofs.Footprints.{outside-refl, outside-trans, outside_wider, range_within, same_word_outside, within_left, within_right}
 use Rattle.spec_format.specs.Headers.{allocations_of, empty_of}
-use Rattle.blk_alloc.specs.Mending.{IsFrontWritten, AreBytesWritten}
+use Rattle.blk_alloc.specs.Mending.{IsPrefixWritten, AreBytesWritten}
 use Rattle.blk_alloc.specs.Rebuilding.{counters_of, HasTheseCounters, IsCounting}
 use Rattle.blk_alloc.proofs.Changing.{within-trans}
 
@@ -102,7 +102,7 @@ module _ (n a : ℕ) (number : List ℕ) (bytes_of_number : number ≡ word_byte
       number_stays : (w : ℕ) → AreBytesWritten (Block n) 24 bytes (4 * w) mid image → allocations_of (byte image (Block n)) ≡ a
       number_stays w written = word_beside_range (Block n) 24 (4 * w) 16 mid image (inl (omega arith)) written.same ∙ number_is
 
-      pub counting_runs : IsFrontWritten (Block n) 24 bytes mid image → IsCounting n a e from image
+      pub counting_runs : IsPrefixWritten (Block n) 24 bytes mid image → IsCounting n a e from image
       counting_runs part = record {
         same = outside-trans (counters_of n) from mid image counting_number.same (outside_wider (range (Block n) 24 (4 * part.words)) (counters_of n) mid image (at_runs (4 * part.words) (let most = part.most in omega (arith, most, long))) part.written.same);
         allocations = inr (number_stays part.words part.written);

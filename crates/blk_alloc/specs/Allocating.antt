@@ -18,7 +18,7 @@ use Rattle.blk_disk.specs.Growth.{IsLeastFileNumber, addition_of, free_number, g
 use Rattle.blk_alloc.specs.declared.blocks.Blocks.{Blocks}
 use Rattle.blk_alloc.specs.Counting.{IsCounted}
 use Rattle.blk_alloc.specs.Owning.{is_of, IsCause}
-use Rattle.blk_alloc.specs.Fitting.{HasNoRoom, IsByHint, IsFit, IsPlace, IsSearchDamage, IsSought}
+use Rattle.blk_alloc.specs.Fitting.{HasNoRoom, IsByHint, IsFit, IsPlace, IsFittingDamage, IsGroupSought}
 use Rattle.blk_alloc.specs.Marking.{hints_and_updating, taking_of, CanBeMarked, MarksUsed, MarksUsedInProgress}
 use Rattle.blk_alloc.specs.Extending.{HasMostBlocks, HasNoHints, IsFirstGrowing, KeepsFiles, KeepsMarks}
 
@@ -67,7 +67,7 @@ pub record IsChosen (files : BlockFiles) (image : Image) (kind count w : ℕ) : 
 -- the blocks of an address are found by hint i: its file has space, and i + 1 is the length that is sought; or no file of the kind has space, and one that grows or is added has groups of which all four are free
 abbrev pub IsFoundBy : BlockFiles → (kind count : ℕ) → Image → (w i : ℕ) → Type 0
 IsFoundBy files kind count from w i =
-    ((is_among (files_of files kind) (file_selector w) ≡ true) × IsSought from (file_selector w) count i)
+    ((is_among (files_of files kind) (file_selector w) ≡ true) × IsGroupSought from (file_selector w) count i)
     ⊎ (HaveNoRoom files kind count from × (i ≡ 3))
 
 -- the hint by which the blocks of an address were found is now the number of their group, and each other hint of a file that was there is as before
@@ -205,5 +205,5 @@ pub record IsCauseOf (files : BlockFiles) (kind count : ℕ) (told : Told) (dama
 abbrev pub IsRefusal : BlockFiles → BlockFiles → ℕ → ℕ → Told → Told → Damage → Type 0
 IsRefusal old new kind count before after damage =
     IsCauseOf new kind count after damage
-    ⊎ IsSearchDamage new kind after damage
-    ⊎ (Stays before after × (IsSearchDamage old kind before damage ⊎ IsKindFull old kind before damage))
+    ⊎ IsFittingDamage new kind after damage
+    ⊎ (Stays before after × (IsFittingDamage old kind before damage ⊎ IsKindFull old kind before damage))

@@ -23,7 +23,7 @@ abbrev pub HasNoRoom : Image → ℕ → ℕ → Type 0
 HasNoRoom image count n = (i : ℕ) → i < 4 → count ≤ i + 1 → empty_of (byte image (Block n)) i ≡ 0
 
 -- a file has space for so many blocks, and i + 1 is the length of the free run that is sought for them: the least, from so many on, of which `empty` counts a group
-pub record IsSought (image : Image) (n count i : ℕ) : Type 0 where
+pub record IsGroupSought (image : Image) (n count i : ℕ) : Type 0 where
   pub small : i < 4
   pub enough : count ≤ i + 1
   pub counted : 0 < empty_of (byte image (Block n)) i
@@ -61,7 +61,7 @@ pub record IsFit (image : Image) (files : List ℕ) (count : ℕ) (place : Block
   pub split : files ≡ before ++ place.file ∷ behind
   pub full : All (HasNoRoom image count) before
   pub i : ℕ
-  pub sought : IsSought image place.file count i
+  pub sought : IsGroupSought image place.file count i
   pub blocks : IsByHint image place.file (groups_of (max_entries_in image place.file)) count i place.start
   pub counted : place.count ≡ count
 
@@ -109,7 +109,7 @@ pub record IsMiscount (files : BlockFiles) (n : ℕ) (told : Told) (damage : Dam
   pub none : ForSome told.files (λ image. (g : ℕ) → g < groups_of (blocks_of files n) → longest_run (is_block_marked image n) g ≢ i + 1)
 
 -- why no blocks are found in one of the files of a kind, whether or not it has space
-pub record IsSearchDamage (files : BlockFiles) (kind : ℕ) (told : Told) (damage : Damage) : Type 0 where
+pub record IsFittingDamage (files : BlockFiles) (kind : ℕ) (told : Told) (damage : Damage) : Type 0 where
   pub file : ℕ
   pub linked : is_among (files_of files kind) file ≡ true
   pub why : IsShortSearch files file told damage ⊎ IsMiscount files file told damage

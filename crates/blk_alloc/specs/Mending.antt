@@ -41,7 +41,7 @@ pub record AreBytesWritten (file : File) (place : ℕ) (bytes : List ℕ) (count
   pub there : (i : ℕ) → i < count → byte image file (place + i) ≡ content bytes i
 
 -- the first words of some bytes are at a place, and nothing else differs
-pub record IsFrontWritten (file : File) (place : ℕ) (bytes : List ℕ) (from image : Image) : Type 0 where
+pub record IsPrefixWritten (file : File) (place : ℕ) (bytes : List ℕ) (from image : Image) : Type 0 where
   pub words : ℕ
   pub most : 4 * words ≤ length bytes
   pub written : AreBytesWritten file place bytes (4 * words) from image

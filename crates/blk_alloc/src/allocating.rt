@@ -39,21 +39,21 @@ const WHOLE_GROUP: u32 = 3;
 const LAST_PLACE: u64 = BlockHead::HEADER_LEN - 4;
 
 // The failed check where a kind has 60 files and none may grow.
-fn full_damage<F: Folder>(f: &mut F, files: &BlockFiles, kind: Kind) -> Result<Damage, Fault>
+fn full_damage<F: Folder>(folder: &mut F, files: &BlockFiles, kind: Kind) -> Result<Damage, Fault>
     requires block_kind { kind_number kind ≢ external }
     requires number { most_files ≤ length (files_of files.now (kind_number kind)) }
     requires full { All (HasMostBlocks files.now) (files_of files.now (kind_number kind)) }
-    ensures full { IfOk result (IsKindFull files.now (kind_number kind) (F.told f.old)) }
-    ensures cause { ForSome (F.told f.old).files (Agrees files.now) → IfDamaged result (IsKindFull files.now (kind_number kind) (F.told f.old)) }
-    ensures stays { Stays (F.told f.old) (F.told f.new) }
-    ensures later { F.faults f.old ≤ F.faults f.new }
-    ensures device { IfDevice result (Rises (F.faults f.old) (F.faults f.new)) }
+    ensures full { IfOk result (IsKindFull files.now (kind_number kind) (F.told folder.old)) }
+    ensures cause { ForSome (F.told folder.old).files (Agrees files.now) → IfDamaged result (IsKindFull files.now (kind_number kind) (F.told folder.old)) }
+    ensures stays { Stays (F.told folder.old) (F.told folder.new) }
+    ensures later { F.faults folder.old ≤ F.faults folder.new }
+    ensures device { IfDevice result (Rises (F.faults folder.old) (F.faults folder.new)) }
 {
     let Some(last) = files.file_at(kind, MOST_FILES - 1) else {
         unreachable!();
     };
     let file = FileId::Block(last);
-    let found = read_word(f, file, LAST_PLACE)?;
+    let found = read_word(folder, file, LAST_PLACE)?;
     Ok(Damage {
         file,
         at: LAST_PLACE,
@@ -64,53 +64,53 @@ fn full_damage<F: Folder>(f: &mut F, files: &BlockFiles, kind: Kind) -> Result<D
 // Makes space for blocks, where no file of a kind has any: the first file that may grow grows, and where there is none
 // a file is added.
 fn new_room<F: Folder>(
-    f: &mut F,
+    folder: &mut F,
     files: &mut BlockFiles,
     kind: Kind,
     count: u32,
 ) -> Result<Blocks, Fault>
     requires few { count ≤ group_size }
     requires block_kind { kind_number kind ≢ external }
-    requires agrees { ForSome (F.told f.old).files (Agrees files.old) }
-    requires full { ForSome (F.told f.old).files (HaveNoRoom files.old (kind_number kind) count) }
+    requires agrees { ForSome (F.told folder.old).files (Agrees files.old) }
+    requires full { ForSome (F.told folder.old).files (HaveNoRoom files.old (kind_number kind) count) }
     ensures fits { IfOk result (IsPlace files.new (kind_number kind) count) }
-    ensures place { IfOk result (λ place. ForSome (F.told f.old).files (λ _. IsGrownRoom files.old (kind_number kind) place ⊎ IsAddedPlace files.old (kind_number kind) place)) }
-    ensures made { IfOk result (λ place. ForSome (F.told f.old).files (λ from. AreCounted files.old (kind_number kind) from → ForSome (F.told f.new).files (Extends files.old from place))) }
-    ensures within { IfOk result (λ place. ForSome (F.told f.old).files (λ from. ForSome (F.told f.new).files (ExtendsAnd updating_word files.old (kind_number kind) from place.file))) }
-    ensures counts { IfOk result (λ place. ForSome (F.told f.old).files (λ from. ForSome (F.told f.new).files (λ image. is_among (all_files files.old) place.file ≡ true → allocations_of (byte image (block place.file)) ≡ allocations_of (byte from (block place.file))))) }
-    ensures raised { IfOk result (λ place. ForSome (F.told f.old).files (λ from. ForSome (F.told f.new).files (λ image. empty_of (byte image (block place.file)) 3 ≡ (blocks_of files.new place.file - place.start) / 4))) }
+    ensures place { IfOk result (λ place. ForSome (F.told folder.old).files (λ _. IsGrownRoom files.old (kind_number kind) place ⊎ IsAddedPlace files.old (kind_number kind) place)) }
+    ensures made { IfOk result (λ place. ForSome (F.told folder.old).files (λ from. AreCounted files.old (kind_number kind) from → ForSome (F.told folder.new).files (Extends files.old from place))) }
+    ensures within { IfOk result (λ place. ForSome (F.told folder.old).files (λ from. ForSome (F.told folder.new).files (ExtendsAnd updating_word files.old (kind_number kind) from place.file))) }
+    ensures counts { IfOk result (λ place. ForSome (F.told folder.old).files (λ from. ForSome (F.told folder.new).files (λ image. is_among (all_files files.old) place.file ≡ true → allocations_of (byte image (block place.file)) ≡ allocations_of (byte from (block place.file))))) }
+    ensures raised { IfOk result (λ place. ForSome (F.told folder.old).files (λ from. ForSome (F.told folder.new).files (λ image. empty_of (byte image (block place.file)) 3 ≡ (blocks_of files.new place.file - place.start) / 4))) }
     ensures whole { IfOk result (λ place. place.start % 4 ≡ 0) }
     ensures grown { IfOk result (λ place. is_among (all_files files.old) place.file ≡ true → blocks_of files.new place.file ≡ grown (blocks_of files.old place.file)) }
-    ensures fresh { IfOk result (λ place. ForSome (F.told f.old).files (λ from. ForSome (F.told f.new).files (λ image. is_among (all_files files.old) place.file ≡ false → AreAllocations image place.file [] × (EmptyAgrees image place.file × HasNoHints image place.file)))) }
-    ensures marks { OnOk result (ForSome (F.told f.old).files (λ from. ForSome (F.told f.new).files (KeepsMarks files.old from))) }
-    ensures hints { OnOk result (ForSome (F.told f.old).files (λ from. ForSome (F.told f.new).files (KeepsHintsOf files.old from))) }
+    ensures fresh { IfOk result (λ place. ForSome (F.told folder.old).files (λ from. ForSome (F.told folder.new).files (λ image. is_among (all_files files.old) place.file ≡ false → AreAllocations image place.file [] × (EmptyAgrees image place.file × HasNoHints image place.file)))) }
+    ensures marks { OnOk result (ForSome (F.told folder.old).files (λ from. ForSome (F.told folder.new).files (KeepsMarks files.old from))) }
+    ensures hints { OnOk result (ForSome (F.told folder.old).files (λ from. ForSome (F.told folder.new).files (KeepsHintsOf files.old from))) }
     ensures all { OnOk result (KeepsAll files.old files.new) }
     ensures links { IfOk result (λ place. KeepsLinks files.old files.new place.file) }
     ensures standing { KeepsStanding files.old files.new }
-    ensures agrees { OnOk result (ForSome (F.told f.new).files (Agrees files.new)) }
-    ensures stops { ForSome (F.told f.old).files (λ from. Passes (F.told f.old) (F.told f.new) (MakesRoomInProgress files.old (kind_number kind) from)) }
-    ensures silent { (F.told f.old).files ≡ None → (F.told f.new).files ≡ None }
-    ensures cause { IfDamaged result (IsKindFull files.old (kind_number kind) (F.told f.old)) }
+    ensures agrees { OnOk result (ForSome (F.told folder.new).files (Agrees files.new)) }
+    ensures stops { ForSome (F.told folder.old).files (λ from. Passes (F.told folder.old) (F.told folder.new) (MakesRoomInProgress files.old (kind_number kind) from)) }
+    ensures silent { (F.told folder.old).files ≡ None → (F.told folder.new).files ≡ None }
+    ensures cause { IfDamaged result (IsKindFull files.old (kind_number kind) (F.told folder.old)) }
     ensures sixty { IfDamaged result (λ _. All (HasMostBlocks files.old) (files_of files.old (kind_number kind)) × (most_files ≤ length (files_of files.old (kind_number kind)))) }
-    ensures unwritten { IfDamaged result (λ _. Stays (F.told f.old) (F.told f.new)) }
-    ensures later { F.faults f.old ≤ F.faults f.new }
-    ensures device { IfDevice result (Rises (F.faults f.old) (F.faults f.new)) }
+    ensures unwritten { IfDamaged result (λ _. Stays (F.told folder.old) (F.told folder.new)) }
+    ensures later { F.faults folder.old ≤ F.faults folder.new }
+    ensures device { IfDevice result (Rises (F.faults folder.old) (F.faults folder.new)) }
 {
     if let Some(file) = growing_file(files, kind) {
-        let place = grow_room(f, files, kind, file, count)?;
+        let place = grow_room(folder, files, kind, file, count)?;
         return Ok(place);
     }
     if files.count(kind) >= MOST_FILES {
-        let damage = full_damage(f, files, kind)?;
+        let damage = full_damage(folder, files, kind)?;
         return Err(Fault::Damaged(damage));
     }
-    let place = add_room(f, files, kind, count)?;
+    let place = add_room(folder, files, kind, count)?;
     Ok(place)
 }
 
 // Gives blocks where no file of a kind has space for them.
 fn allocate_new<F: Folder, L: Ledger>(
-    f: &mut F,
+    folder: &mut F,
     files: &mut BlockFiles,
     kind: Kind,
     count: u32,
@@ -120,32 +120,32 @@ fn allocate_new<F: Folder, L: Ledger>(
     requires few { count ≤ group_size }
     requires block_kind { kind_number kind ≢ external }
     requires node { kind_number kind ≡ rankings → count ≡ 1 }
-    requires agrees { ForSome (F.told f.old).files (Agrees files.old) }
-    requires full { ForSome (F.told f.old).files (HaveNoRoom files.old (kind_number kind) count) }
-    ensures chosen { IfOk result (λ addr. ForSome (F.told f.old).files (λ from. IsChosen files.old from (kind_number kind) count addr)) }
-    ensures hints { IfOk result (λ addr. ForSome (F.told f.old).files (λ from. ForSome (F.told f.new).files (SetsHint files.old (kind_number kind) count from addr))) }
+    requires agrees { ForSome (F.told folder.old).files (Agrees files.old) }
+    requires full { ForSome (F.told folder.old).files (HaveNoRoom files.old (kind_number kind) count) }
+    ensures chosen { IfOk result (λ addr. ForSome (F.told folder.old).files (λ from. IsChosen files.old from (kind_number kind) count addr)) }
+    ensures hints { IfOk result (λ addr. ForSome (F.told folder.old).files (λ from. ForSome (F.told folder.new).files (SetsHint files.old (kind_number kind) count from addr))) }
     ensures most { IfOk result (λ addr. steps.new ≤ steps.old + most_words files.new (file_selector addr)) }
-    ensures once { IfOk result (λ addr. ForSome (F.told f.old).files (λ from. LiesAtHint files.old files.new (kind_number kind) count from addr → steps.new ≡ steps.old + 1)) }
+    ensures once { IfOk result (λ addr. ForSome (F.told folder.old).files (λ from. LiesAtHint files.old files.new (kind_number kind) count from addr → steps.new ≡ steps.old + 1)) }
     ensures kind { IfOk result (λ addr. (kind_of addr ≡ kind_number kind) × (block_count addr ≡ count)) }
     ensures address { IfOk result (λ addr. IsTrue (is_address addr)) }
     ensures stands { IfOk result (λ addr. IsTrue (stands_among files.new addr)) }
     ensures keeps { KeepsStanding files.old files.new }
     ensures links { IfOk result (λ addr. KeepsLinks files.old files.new (file_selector addr)) }
     ensures long { IfOk result (λ addr. HasItsBlocks files.new (file_selector addr)) }
-    ensures counted { IfOk result (λ addr. ForSome (F.told f.old).files (λ from. ForSome (F.told f.new).files (IsCountedOnce files.old from addr))) }
-    ensures allocates { IfOk result (λ addr. ForSome (F.told f.old).files (λ from. AreCounted files.old (kind_number kind) from → ForSome (F.told f.new).files (λ image. Allocates files.old from addr image × ExtendsAnd taking_of files.old (kind_number kind) from (file_selector addr) image))) }
-    ensures agrees { OnOk result (ForSome (F.told f.new).files (Agrees files.new)) }
-    ensures stops { ForSome (F.told f.old).files (λ from. AreCounted files.old (kind_number kind) from → PassesTo (F.told f.old) (F.told f.new) (λ image. ExtendsInProgress files.old (kind_number kind) from image × StaysWhole from image) (λ image. (ExtendsInProgress files.old (kind_number kind) from image ⊎ ExtendsAndAllocates files.old (kind_number kind) count from image) × StaysWhole from image)) }
-    ensures silent { (F.told f.old).files ≡ None → (F.told f.new).files ≡ None }
-    ensures cause { IfDamaged result (IsRefusal files.old files.new (kind_number kind) count (F.told f.old) (F.told f.new)) }
-    ensures untold { ForSome (F.told f.old).files (AreCounted files.old (kind_number kind)) → IfDamaged result (λ _. (F.told f.old).files ≡ None) }
-    ensures later { F.faults f.old ≤ F.faults f.new }
-    ensures device { IfDevice result (Rises (F.faults f.old) (F.faults f.new)) }
+    ensures counted { IfOk result (λ addr. ForSome (F.told folder.old).files (λ from. ForSome (F.told folder.new).files (IsCountedOnce files.old from addr))) }
+    ensures allocates { IfOk result (λ addr. ForSome (F.told folder.old).files (λ from. AreCounted files.old (kind_number kind) from → ForSome (F.told folder.new).files (λ image. Allocates files.old from addr image × ExtendsAnd taking_of files.old (kind_number kind) from (file_selector addr) image))) }
+    ensures agrees { OnOk result (ForSome (F.told folder.new).files (Agrees files.new)) }
+    ensures stops { ForSome (F.told folder.old).files (λ from. AreCounted files.old (kind_number kind) from → PassesTo (F.told folder.old) (F.told folder.new) (λ image. ExtendsInProgress files.old (kind_number kind) from image × StaysWhole from image) (λ image. (ExtendsInProgress files.old (kind_number kind) from image ⊎ ExtendsAndAllocates files.old (kind_number kind) count from image) × StaysWhole from image)) }
+    ensures silent { (F.told folder.old).files ≡ None → (F.told folder.new).files ≡ None }
+    ensures cause { IfDamaged result (IsRefusal files.old files.new (kind_number kind) count (F.told folder.old) (F.told folder.new)) }
+    ensures untold { ForSome (F.told folder.old).files (AreCounted files.old (kind_number kind)) → IfDamaged result (λ _. (F.told folder.old).files ≡ None) }
+    ensures later { F.faults folder.old ≤ F.faults folder.new }
+    ensures device { IfDevice result (Rises (F.faults folder.old) (F.faults folder.new)) }
 {
-    let room = new_room(f, files, kind, count)?;
+    let room = new_room(folder, files, kind, count)?;
     let groups = (blocks_in(files, room.file) - room.start) / GROUP;
-    let found = find_by_hint(f, files, kind, room, WHOLE_GROUP, groups, steps)?;
-    take(f, files, kind, found)
+    let found = find_by_hint(folder, files, kind, room, WHOLE_GROUP, groups, steps)?;
+    take(folder, files, kind, found)
 }
 
 /// Gives 1 to 4 blocks of a block kind, and 1 of `Rankings`, which nobody owned, marks them, and counts the words of maps that are read.
@@ -215,7 +215,7 @@ pub fn allocate_counted<F: Folder, L: Ledger>(
 
 // The same with a count of its own.
 fn allocate_from<F: Folder, L: Ledger>(
-    f: &mut F,
+    folder: &mut F,
     files: &mut BlockFiles,
     kind: Kind,
     blocks: u32,
@@ -228,7 +228,7 @@ fn allocate_from<F: Folder, L: Ledger>(
     requires few { blocks ≤ group_size }
     requires block_kind { kind_number kind ≢ external }
     requires node { kind_number kind ≡ rankings → blocks ≡ 1 }
-    requires agrees { ForSome (F.told f.old).files (Agrees files.old) }
+    requires agrees { ForSome (F.told folder.old).files (Agrees files.old) }
 
     // The blocks are of the kind, as many as asked for, and valid; their file has all its blocks.
     ensures kind { IfOk result (λ addr. (kind_of addr ≡ kind_number kind) × (block_count addr ≡ blocks)) }
@@ -242,25 +242,25 @@ fn allocate_from<F: Folder, L: Ledger>(
 
     // The blocks to which counters and hints lead, in the first file with space, or where no file of the kind has space, in one that grows, or in a new one only where none may
     // grow.
-    ensures chosen { IfOk result (λ addr. ForSome (F.told f.old).files (λ from. IsChosen files.old from (kind_number kind) blocks addr)) }
-    ensures hints { IfOk result (λ addr. ForSome (F.told f.old).files (λ from. ForSome (F.told f.new).files (SetsHint files.old (kind_number kind) blocks from addr))) }
-    ensures counted { IfOk result (λ addr. ForSome (F.told f.old).files (λ from. ForSome (F.told f.new).files (IsCountedOnce files.old from addr))) }
-    ensures allocates { IfOk result (λ addr. ForSome (F.told f.old).files (λ from. AreCounted files.old (kind_number kind) from → ForSome (F.told f.new).files (Allocates files.old from addr))) }
-    ensures within { IfOk result (λ addr. ForSome (F.told f.old).files (λ from. AreCounted files.old (kind_number kind) from → ForSome (F.told f.new).files (AllocatesIn files.old (kind_number kind) from (file_selector addr)))) }
-    ensures agrees { OnOk result (ForSome (F.told f.new).files (Agrees files.new)) }
+    ensures chosen { IfOk result (λ addr. ForSome (F.told folder.old).files (λ from. IsChosen files.old from (kind_number kind) blocks addr)) }
+    ensures hints { IfOk result (λ addr. ForSome (F.told folder.old).files (λ from. ForSome (F.told folder.new).files (SetsHint files.old (kind_number kind) blocks from addr))) }
+    ensures counted { IfOk result (λ addr. ForSome (F.told folder.old).files (λ from. ForSome (F.told folder.new).files (IsCountedOnce files.old from addr))) }
+    ensures allocates { IfOk result (λ addr. ForSome (F.told folder.old).files (λ from. AreCounted files.old (kind_number kind) from → ForSome (F.told folder.new).files (Allocates files.old from addr))) }
+    ensures within { IfOk result (λ addr. ForSome (F.told folder.old).files (λ from. AreCounted files.old (kind_number kind) from → ForSome (F.told folder.new).files (AllocatesIn files.old (kind_number kind) from (file_selector addr)))) }
+    ensures agrees { OnOk result (ForSome (F.told folder.new).files (Agrees files.new)) }
 
     // At each word only one file of the kind differs, in its length, map, counters and hints, and where it grows or is added in what these touch; updating is 1 until the last word, with which the allocation is done; files have grown at most, and a well-formed folder is well formed.
-    ensures stops { ForSome (F.told f.old).files (λ from. AreCounted files.old (kind_number kind) from → PassesTo (F.told f.old) (F.told f.new) (AllocatesInProgress files.old (kind_number kind) blocks from) (AllocatesOrStops files.old (kind_number kind) blocks from)) }
+    ensures stops { ForSome (F.told folder.old).files (λ from. AreCounted files.old (kind_number kind) from → PassesTo (F.told folder.old) (F.told folder.new) (AllocatesInProgress files.old (kind_number kind) blocks from) (AllocatesOrStops files.old (kind_number kind) blocks from)) }
 
     // Of a failed check of a file that was there, by its counters and hints, and of full files nothing is written.
-    ensures cause { IfDamaged result (IsRefusal files.old files.new (kind_number kind) blocks (F.told f.old) (F.told f.new)) }
-    ensures untold { ForSome (F.told f.old).files (AreCounted files.old (kind_number kind)) → IfDamaged result (λ _. (F.told f.old).files ≡ None) }
-    ensures silent { (F.told f.old).files ≡ None → (F.told f.new).files ≡ None }
-    ensures later { F.faults f.old ≤ F.faults f.new }
-    ensures device { IfDevice result (Rises (F.faults f.old) (F.faults f.new)) }
+    ensures cause { IfDamaged result (IsRefusal files.old files.new (kind_number kind) blocks (F.told folder.old) (F.told folder.new)) }
+    ensures untold { ForSome (F.told folder.old).files (AreCounted files.old (kind_number kind)) → IfDamaged result (λ _. (F.told folder.old).files ≡ None) }
+    ensures silent { (F.told folder.old).files ≡ None → (F.told folder.new).files ≡ None }
+    ensures later { F.faults folder.old ≤ F.faults folder.new }
+    ensures device { IfDevice result (Rises (F.faults folder.old) (F.faults folder.new)) }
 {
     let mut steps = Steps::<L>::start(blank);
-    allocate_counted(f, files, kind, blocks, &mut steps)
+    allocate_counted(folder, files, kind, blocks, &mut steps)
 }
 
 /// Gives blocks as `allocate_counted` does, of which it does the work.

@@ -18,7 +18,7 @@ use blk_record::BlockHead;
 
 // Marks so many blocks from one on, which lie in one group, or frees them, in a word of the map that was read.
 pub(crate) fn change<F: Folder>(
-    f: &mut F,
+    folder: &mut F,
     file: u8,
     start: u32,
     count: u32,
@@ -28,26 +28,26 @@ pub(crate) fn change<F: Folder>(
     requires some { 0 < count }
     requires group { start % 4 + count ≤ group_size }
     requires small { start + count < 2 ^ 32 }
-    requires header { ForSome (F.told f.old).files (λ image. 8192 ≤ length_of image (block file)) }
-    requires inside { ForSome (F.told f.old).files (λ image. start + count ≤ most_blocks) }
-    requires word { ForSome (F.told f.old).files (λ image. IsMapWord image file (start / 32) word) }
-    ensures changed { OnOk result (ForSome (F.told f.old).files (λ from. ForSome (F.told f.new).files (IsChanged from file start count used))) }
-    ensures stops { ForSome (F.told f.old).files (λ from. PassesTo (F.told f.old) (F.told f.new) (IsMapInProgress file from) (λ image. IsMapInProgress file from image ⊎ IsChanged from file start count used image)) }
-    ensures silent { (F.told f.old).files ≡ None → (F.told f.new).files ≡ None }
-    ensures cause { IfDamaged result (IsCause (F.told f.old) file start count used) }
-    ensures unwritten { IfDamaged result (λ _. Stays (F.told f.old) (F.told f.new)) }
-    ensures untold { IfDamaged result (λ _. ForSome (F.told f.old).files (λ image. CanChangeMarks image file start count used) → (F.told f.old).files ≡ None) }
-    ensures later { F.faults f.old ≤ F.faults f.new }
-    ensures device { IfDevice result (Rises (F.faults f.old) (F.faults f.new)) }
+    requires header { ForSome (F.told folder.old).files (λ image. 8192 ≤ length_of image (block file)) }
+    requires inside { ForSome (F.told folder.old).files (λ image. start + count ≤ most_blocks) }
+    requires word { ForSome (F.told folder.old).files (λ image. IsMapWord image file (start / 32) word) }
+    ensures changed { OnOk result (ForSome (F.told folder.old).files (λ from. ForSome (F.told folder.new).files (IsChanged from file start count used))) }
+    ensures stops { ForSome (F.told folder.old).files (λ from. PassesTo (F.told folder.old) (F.told folder.new) (IsMapInProgress file from) (λ image. IsMapInProgress file from image ⊎ IsChanged from file start count used image)) }
+    ensures silent { (F.told folder.old).files ≡ None → (F.told folder.new).files ≡ None }
+    ensures cause { IfDamaged result (IsCause (F.told folder.old) file start count used) }
+    ensures unwritten { IfDamaged result (λ _. Stays (F.told folder.old) (F.told folder.new)) }
+    ensures untold { IfDamaged result (λ _. ForSome (F.told folder.old).files (λ image. CanChangeMarks image file start count used) → (F.told folder.old).files ≡ None) }
+    ensures later { F.faults folder.old ≤ F.faults folder.new }
+    ensures device { IfDevice result (Rises (F.faults folder.old) (F.faults folder.new)) }
 {
-    let plan = Plan::read(f, file, start, count, used, word)?;
-    plan.write(f, file)?;
+    let plan = Plan::read(folder, file, start, count, used, word)?;
+    plan.write(folder, file)?;
     Ok(())
 }
 
 // The same, where the word of the map that has the blocks isn't read yet.
 pub(crate) fn read_and_change<F: Folder>(
-    f: &mut F,
+    folder: &mut F,
     file: u8,
     start: u32,
     count: u32,
@@ -56,20 +56,20 @@ pub(crate) fn read_and_change<F: Folder>(
     requires some { 0 < count }
     requires group { start % 4 + count ≤ group_size }
     requires small { start + count < 2 ^ 32 }
-    requires header { ForSome (F.told f.old).files (λ image. 8192 ≤ length_of image (block file)) }
-    requires inside { ForSome (F.told f.old).files (λ image. start + count ≤ most_blocks) }
-    ensures changed { OnOk result (ForSome (F.told f.old).files (λ from. ForSome (F.told f.new).files (IsChanged from file start count used))) }
-    ensures stops { ForSome (F.told f.old).files (λ from. PassesTo (F.told f.old) (F.told f.new) (IsMapInProgress file from) (λ image. IsMapInProgress file from image ⊎ IsChanged from file start count used image)) }
-    ensures silent { (F.told f.old).files ≡ None → (F.told f.new).files ≡ None }
-    ensures cause { IfDamaged result (IsCause (F.told f.old) file start count used) }
-    ensures unwritten { IfDamaged result (λ _. Stays (F.told f.old) (F.told f.new)) }
-    ensures untold { IfDamaged result (λ _. ForSome (F.told f.old).files (λ image. CanChangeMarks image file start count used) → (F.told f.old).files ≡ None) }
-    ensures later { F.faults f.old ≤ F.faults f.new }
-    ensures device { IfDevice result (Rises (F.faults f.old) (F.faults f.new)) }
+    requires header { ForSome (F.told folder.old).files (λ image. 8192 ≤ length_of image (block file)) }
+    requires inside { ForSome (F.told folder.old).files (λ image. start + count ≤ most_blocks) }
+    ensures changed { OnOk result (ForSome (F.told folder.old).files (λ from. ForSome (F.told folder.new).files (IsChanged from file start count used))) }
+    ensures stops { ForSome (F.told folder.old).files (λ from. PassesTo (F.told folder.old) (F.told folder.new) (IsMapInProgress file from) (λ image. IsMapInProgress file from image ⊎ IsChanged from file start count used image)) }
+    ensures silent { (F.told folder.old).files ≡ None → (F.told folder.new).files ≡ None }
+    ensures cause { IfDamaged result (IsCause (F.told folder.old) file start count used) }
+    ensures unwritten { IfDamaged result (λ _. Stays (F.told folder.old) (F.told folder.new)) }
+    ensures untold { IfDamaged result (λ _. ForSome (F.told folder.old).files (λ image. CanChangeMarks image file start count used) → (F.told folder.old).files ≡ None) }
+    ensures later { F.faults folder.old ≤ F.faults folder.new }
+    ensures device { IfDevice result (Rises (F.faults folder.old) (F.faults folder.new)) }
 {
     let at = BlockHead::MAP + 4 * u64::from(start / BITS_OF_WORD);
     let mut bytes = [0u8; 4];
-    read_exact(f, FileId::Block(file), at, &mut bytes)?;
+    read_exact(folder, FileId::Block(file), at, &mut bytes)?;
     let word = word_of(&bytes);
-    change(f, file, start, count, used, word)
+    change(folder, file, start, count, used, word)
 }

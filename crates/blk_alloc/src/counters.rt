@@ -22,15 +22,15 @@ impl Counters {
     ghost use Rattle.blk_alloc.specs.Counting.{AreCounters, counted, largest, IsCounted, MovesRun, MayMoveRun, IsAtEnd, IsEmptyAt};
 
     // The counters that the header of a file has.
-    pub(crate) fn read<F: Folder>(f: &mut F, file: u8) -> Result<Counters, Fault>
-        ensures counters { IfOk result (λ counters. ForSome (F.told f.old).files (λ image. AreCounters (byte image (block file)) counters)) }
-        ensures short { IfDamaged result (IsShort (F.told f.old) (FileId.Block file) 0 80) }
-        ensures stays { Stays (F.told f.old) (F.told f.new) }
-        ensures later { F.faults f.old ≤ F.faults f.new }
-        ensures device { IfDevice result (Rises (F.faults f.old) (F.faults f.new)) }
+    pub(crate) fn read<F: Folder>(folder: &mut F, file: u8) -> Result<Counters, Fault>
+        ensures counters { IfOk result (λ counters. ForSome (F.told folder.old).files (λ image. AreCounters (byte image (block file)) counters)) }
+        ensures short { IfDamaged result (IsShort (F.told folder.old) (FileId.Block file) 0 80) }
+        ensures stays { Stays (F.told folder.old) (F.told folder.new) }
+        ensures later { F.faults folder.old ≤ F.faults folder.new }
+        ensures device { IfDevice result (Rises (F.faults folder.old) (F.faults folder.new)) }
     {
         let mut bytes = [0u8; BlockHead::LEN];
-        read_exact(f, FileId::Block(file), 0, &mut bytes)?;
+        read_exact(folder, FileId::Block(file), 0, &mut bytes)?;
         let Some(head) = BlockHead::over(&bytes) else {
             unreachable!();
         };

@@ -25,7 +25,7 @@ use blk_record::BlockHead;
 
 // Gives a file more blocks, of which the first ones are the place.
 pub(crate) fn grow_room<F: Folder>(
-    f: &mut F,
+    folder: &mut F,
     files: &mut BlockFiles,
     kind: Kind,
     file: u8,
@@ -35,34 +35,34 @@ pub(crate) fn grow_room<F: Folder>(
     requires block_kind { kind_number kind ≢ external }
     requires linked { IsTrue (is_among (files_of files.old (kind_number kind)) file) }
     requires below { blocks_of files.old file < most_blocks }
-    requires agrees { ForSome (F.told f.old).files (Agrees files.old) }
+    requires agrees { ForSome (F.told folder.old).files (Agrees files.old) }
     ensures place { IfOk result (λ place. (place.file ≡ file) × (place.start ≡ blocks_of files.old file / 4 * 4) × (place.count ≡ count)) }
     ensures fits { IfOk result (IsPlace files.new (kind_number kind) count) }
     ensures all { OnOk result (KeepsAll files.old files.new) }
     ensures links { OnOk result (KeepsLists files.old files.new) }
     ensures standing { KeepsStanding files.old files.new }
-    ensures marks { OnOk result (ForSome (F.told f.old).files (λ from. ForSome (F.told f.new).files (KeepsMarks files.old from))) }
-    ensures markable { IfOk result (λ place. ForSome (F.told f.old).files (λ from. HasCounters from file → ForSome (F.told f.new).files (λ image. CanBeMarked image place))) }
-    ensures raised { OnOk result (ForSome (F.told f.old).files (λ from. ForSome (F.told f.new).files (λ image. empty_of (byte image (block file)) 3 ≡ raised from file (new_groups (blocks_of files.old file))))) }
+    ensures marks { OnOk result (ForSome (F.told folder.old).files (λ from. ForSome (F.told folder.new).files (KeepsMarks files.old from))) }
+    ensures markable { IfOk result (λ place. ForSome (F.told folder.old).files (λ from. HasCounters from file → ForSome (F.told folder.new).files (λ image. CanBeMarked image place))) }
+    ensures raised { OnOk result (ForSome (F.told folder.old).files (λ from. ForSome (F.told folder.new).files (λ image. empty_of (byte image (block file)) 3 ≡ raised from file (new_groups (blocks_of files.old file))))) }
     ensures blocks { OnOk result (blocks_of files.new file ≡ grown (blocks_of files.old file)) }
-    ensures hints { OnOk result (ForSome (F.told f.old).files (λ from. ForSome (F.told f.new).files (KeepsHints from))) }
-    ensures keeps { OnOk result (ForSome (F.told f.old).files (λ from. HasCounters from file → ForSome (F.told f.new).files (KeepsFiles files.old from))) }
-    ensures agrees { OnOk result (ForSome (F.told f.new).files (Agrees files.new)) }
+    ensures hints { OnOk result (ForSome (F.told folder.old).files (λ from. ForSome (F.told folder.new).files (KeepsHints from))) }
+    ensures keeps { OnOk result (ForSome (F.told folder.old).files (λ from. HasCounters from file → ForSome (F.told folder.new).files (KeepsFiles files.old from))) }
+    ensures agrees { OnOk result (ForSome (F.told folder.new).files (Agrees files.new)) }
     ensures same { OnErr result (files.new ≡ files.old) }
-    ensures stops { ForSome (F.told f.old).files (λ from. Passes (F.told f.old) (F.told f.new) (StaysWholeOutside (growth_of file) from)) }
-    ensures silent { (F.told f.old).files ≡ None → (F.told f.new).files ≡ None }
-    ensures later { F.faults f.old ≤ F.faults f.new }
-    ensures failed { OnErr result (Rises (F.faults f.old) (F.faults f.new)) }
+    ensures stops { ForSome (F.told folder.old).files (λ from. Passes (F.told folder.old) (F.told folder.new) (StaysWholeOutside (growth_of file) from)) }
+    ensures silent { (F.told folder.old).files ≡ None → (F.told folder.new).files ≡ None }
+    ensures later { F.faults folder.old ≤ F.faults folder.new }
+    ensures failed { OnErr result (Rises (F.faults folder.old) (F.faults folder.new)) }
 {
     let groups = blocks_in(files, file) / GROUP;
-    files.grow(f, file)?;
+    files.grow(folder, file)?;
     let start = groups * GROUP;
     Ok(Blocks { file, start, count })
 }
 
 // Adds a file of a kind, and gives it blocks, of which the first ones are the place.
 pub(crate) fn add_room<F: Folder>(
-    f: &mut F,
+    folder: &mut F,
     files: &mut BlockFiles,
     kind: Kind,
     count: u32,
@@ -70,30 +70,30 @@ pub(crate) fn add_room<F: Folder>(
     requires few { count ≤ group_size }
     requires block_kind { kind_number kind ≢ external }
     requires room { length (files_of files.old (kind_number kind)) < most_files }
-    requires agrees { ForSome (F.told f.old).files (Agrees files.old) }
+    requires agrees { ForSome (F.told folder.old).files (Agrees files.old) }
     ensures place { IfOk result (λ place. (place.file ≡ free_number files.old) × (place.start ≡ 0) × (place.count ≡ count)) }
     ensures fits { IfOk result (IsPlace files.new (kind_number kind) count) }
     ensures all { OnOk result (KeepsAll files.old files.new) }
     ensures links { OnOk result (KeepsLinks files.old files.new (free_number files.old)) }
     ensures standing { KeepsStanding files.old files.new }
-    ensures marks { OnOk result (ForSome (F.told f.old).files (λ from. ForSome (F.told f.new).files (KeepsMarks files.old from))) }
-    ensures fresh { OnOk result (ForSome (F.told f.old).files (λ from. ForSome (F.told f.new).files (λ image. AreAllocations image (free_number files.old) []))) }
-    ensures raised { OnOk result (ForSome (F.told f.old).files (λ from. ForSome (F.told f.new).files (λ image. empty_of (byte image (block (free_number files.old))) 3 ≡ 256))) }
+    ensures marks { OnOk result (ForSome (F.told folder.old).files (λ from. ForSome (F.told folder.new).files (KeepsMarks files.old from))) }
+    ensures fresh { OnOk result (ForSome (F.told folder.old).files (λ from. ForSome (F.told folder.new).files (λ image. AreAllocations image (free_number files.old) []))) }
+    ensures raised { OnOk result (ForSome (F.told folder.old).files (λ from. ForSome (F.told folder.new).files (λ image. empty_of (byte image (block (free_number files.old))) 3 ≡ 256))) }
     ensures blocks { OnOk result (blocks_of files.new (free_number files.old) ≡ 1024) }
-    ensures kept_hints { OnOk result (ForSome (F.told f.old).files (λ from. ForSome (F.told f.new).files (KeepsHintsOf files.old from))) }
-    ensures empty { OnOk result (ForSome (F.told f.old).files (λ from. ForSome (F.told f.new).files (λ image. EmptyAgrees image (free_number files.old)))) }
-    ensures hints { OnOk result (ForSome (F.told f.old).files (λ from. ForSome (F.told f.new).files (λ image. HasNoHints image (free_number files.old)))) }
+    ensures kept_hints { OnOk result (ForSome (F.told folder.old).files (λ from. ForSome (F.told folder.new).files (KeepsHintsOf files.old from))) }
+    ensures empty { OnOk result (ForSome (F.told folder.old).files (λ from. ForSome (F.told folder.new).files (λ image. EmptyAgrees image (free_number files.old)))) }
+    ensures hints { OnOk result (ForSome (F.told folder.old).files (λ from. ForSome (F.told folder.new).files (λ image. HasNoHints image (free_number files.old)))) }
     ensures least { OnOk result (IsLeastFileNumber files.old (free_number files.old)) }
-    ensures markable { IfOk result (λ place. ForSome (F.told f.old).files (λ from. ForSome (F.told f.new).files (λ image. CanBeMarked image place))) }
-    ensures keeps { OnOk result (ForSome (F.told f.old).files (λ from. ForSome (F.told f.new).files (KeepsFiles files.old from))) }
-    ensures agrees { OnOk result (ForSome (F.told f.new).files (Agrees files.new)) }
-    ensures stops { ForSome (F.told f.old).files (λ from. Passes (F.told f.old) (F.told f.new) (StaysWholeOutside (either (addition_of files.old (kind_number kind)) (growth_of (free_number files.old))) from)) }
-    ensures silent { (F.told f.old).files ≡ None → (F.told f.new).files ≡ None }
-    ensures later { F.faults f.old ≤ F.faults f.new }
-    ensures failed { OnErr result (Rises (F.faults f.old) (F.faults f.new)) }
+    ensures markable { IfOk result (λ place. ForSome (F.told folder.old).files (λ from. ForSome (F.told folder.new).files (λ image. CanBeMarked image place))) }
+    ensures keeps { OnOk result (ForSome (F.told folder.old).files (λ from. ForSome (F.told folder.new).files (KeepsFiles files.old from))) }
+    ensures agrees { OnOk result (ForSome (F.told folder.new).files (Agrees files.new)) }
+    ensures stops { ForSome (F.told folder.old).files (λ from. Passes (F.told folder.old) (F.told folder.new) (StaysWholeOutside (either (addition_of files.old (kind_number kind)) (growth_of (free_number files.old))) from)) }
+    ensures silent { (F.told folder.old).files ≡ None → (F.told folder.new).files ≡ None }
+    ensures later { F.faults folder.old ≤ F.faults folder.new }
+    ensures failed { OnErr result (Rises (F.faults folder.old) (F.faults folder.new)) }
 {
-    let file = files.add_file(f, kind)?;
-    let place = grow_room(f, files, kind, file, count)?;
+    let file = files.add_file(folder, kind)?;
+    let place = grow_room(folder, files, kind, file, count)?;
     Ok(place)
 }
 

@@ -11,36 +11,41 @@ use blk_record::BlockHead;
 
 // Writes the number of allocations of a file, and how many groups have each longest free run.
 fn write_counters<F: Folder>(
-    f: &mut F,
+    folder: &mut F,
     file: u8,
     allocations: u32,
     empty: &[u32; 4],
 ) -> Result<(), Failed>
     requires four { length empty.now ≡ 4 }
-    requires header { ForSome (F.told f.old).files (λ image. 8192 ≤ length_of image (block file)) }
-    ensures steps { OnOk result (Applies (F.told f.old) (F.told f.new) (word_steps (block file) (counter_words allocations empty.now))) }
-    ensures prefix { AppliesPrefix (F.told f.old) (F.told f.new) (word_steps (block file) (counter_words allocations empty.now)) }
-    ensures later { F.faults f.old ≤ F.faults f.new }
-    ensures failed { OnErr result (Rises (F.faults f.old) (F.faults f.new)) }
+    requires header { ForSome (F.told folder.old).files (λ image. 8192 ≤ length_of image (block file)) }
+    ensures steps { OnOk result (Applies (F.told folder.old) (F.told folder.new) (word_steps (block file) (counter_words allocations empty.now))) }
+    ensures prefix { AppliesPrefix (F.told folder.old) (F.told folder.new) (word_steps (block file) (counter_words allocations empty.now)) }
+    ensures later { F.faults folder.old ≤ F.faults folder.new }
+    ensures failed { OnErr result (Rises (F.faults folder.old) (F.faults folder.new)) }
 {
-    write_word(f, FileId::Block(file), BlockHead::ALLOCATIONS, allocations)?;
-    write_run(f, FileId::Block(file), BlockHead::EMPTY, empty)
+    write_word(
+        folder,
+        FileId::Block(file),
+        BlockHead::ALLOCATIONS,
+        allocations,
+    )?;
+    write_run(folder, FileId::Block(file), BlockHead::EMPTY, empty)
 }
 
 // Writes the counters of a file, and then that its change is done.
 pub(crate) fn finish<F: Folder>(
-    f: &mut F,
+    folder: &mut F,
     file: u8,
     allocations: u32,
     empty: &[u32; 4],
 ) -> Result<(), Failed>
     requires four { length empty.now ≡ 4 }
-    requires header { ForSome (F.told f.old).files (λ image. 8192 ≤ length_of image (block file)) }
-    ensures steps { OnOk result (Applies (F.told f.old) (F.told f.new) (word_steps (block file) (finish_words allocations empty.now))) }
-    ensures prefix { AppliesPrefix (F.told f.old) (F.told f.new) (word_steps (block file) (finish_words allocations empty.now)) }
-    ensures later { F.faults f.old ≤ F.faults f.new }
-    ensures failed { OnErr result (Rises (F.faults f.old) (F.faults f.new)) }
+    requires header { ForSome (F.told folder.old).files (λ image. 8192 ≤ length_of image (block file)) }
+    ensures steps { OnOk result (Applies (F.told folder.old) (F.told folder.new) (word_steps (block file) (finish_words allocations empty.now))) }
+    ensures prefix { AppliesPrefix (F.told folder.old) (F.told folder.new) (word_steps (block file) (finish_words allocations empty.now)) }
+    ensures later { F.faults folder.old ≤ F.faults folder.new }
+    ensures failed { OnErr result (Rises (F.faults folder.old) (F.faults folder.new)) }
 {
-    write_counters(f, file, allocations, empty)?;
-    write_word(f, FileId::Block(file), BlockHead::UPDATING, 0)
+    write_counters(folder, file, allocations, empty)?;
+    write_word(folder, FileId::Block(file), BlockHead::UPDATING, 0)
 }

@@ -10,7 +10,7 @@ ghost use Rattle.spec_format.specs.Maps.{group_size, groups_of, EmptyAgrees};
 ghost use Rattle.blk_addr.specs.Kind.{kind_number};
 ghost use Rattle.blk_io.specs.Faults.{IfDamaged, IfDevice};
 ghost use Rattle.blk_disk.specs.Tables.{Agrees, all_files, blocks_of, files_of};
-ghost use Rattle.blk_alloc.specs.Fitting.{HasNoRoom, IsByHint, IsFit, IsMapWord, IsPlace, IsSearchDamage, IsSought};
+ghost use Rattle.blk_alloc.specs.Fitting.{HasNoRoom, IsByHint, IsFit, IsMapWord, IsPlace, IsFittingDamage, IsGroupSought};
 ghost use Rattle.blk_alloc.specs.Allocating.{AreCounted, HaveNoRoom, most_words};
 
 use crate::blocks::{Blocks, Found};
@@ -66,7 +66,7 @@ fn miscount(file: u8, i: u32, found: u32) -> Damage
 
 // The blocks of a file to which hint i leads, of which `counted` groups have a longest free run of i + 1.
 pub(crate) fn find_by_hint<F: Folder, L: Ledger>(
-    f: &mut F,
+    folder: &mut F,
     files: &BlockFiles,
     kind: Kind,
     blocks: Blocks,
@@ -82,23 +82,23 @@ pub(crate) fn find_by_hint<F: Folder, L: Ledger>(
     requires number { blocks.file < 256 }
     requires linked { is_among (files_of files.now (kind_number kind)) blocks.file ≡ true }
     requires counts { 0 < counted }
-    requires counted { ForSome (F.told f.old).files (λ image. counted ≡ empty_of (byte image (block blocks.file)) i) }
-    ensures found { IfOk result (λ found. ForSome (F.told f.old).files (λ image. IsByHint image blocks.file (groups_of (blocks_of files.now blocks.file)) blocks.count i found.place.start)) }
-    ensures word { IfOk result (λ found. ForSome (F.told f.old).files (λ image. IsMapWord image blocks.file (found.place.start / 32) found.word)) }
+    requires counted { ForSome (F.told folder.old).files (λ image. counted ≡ empty_of (byte image (block blocks.file)) i) }
+    ensures found { IfOk result (λ found. ForSome (F.told folder.old).files (λ image. IsByHint image blocks.file (groups_of (blocks_of files.now blocks.file)) blocks.count i found.place.start)) }
+    ensures word { IfOk result (λ found. ForSome (F.told folder.old).files (λ image. IsMapWord image blocks.file (found.place.start / 32) found.word)) }
     ensures place { IfOk result (λ found. IsPlace files.now (kind_number kind) blocks.count found.place) }
     ensures file { IfOk result (λ found. (found.place.file ≡ blocks.file) × (found.i ≡ i)) }
     ensures most { steps.new ≤ steps.old + most_words files.now blocks.file }
-    ensures once { IfOk result (λ found. ForSome (F.told f.old).files (λ image. found.place.start / group_size ≡ hints_of (byte image (block blocks.file)) i % groups_of (blocks_of files.now blocks.file) → steps.new ≡ steps.old + 1)) }
-    ensures cause { IfDamaged result (IsSearchDamage files.now (kind_number kind) (F.told f.old)) }
-    ensures untold { ForSome (F.told f.old).files (λ image. Agrees files.now image × EmptyAgrees image blocks.file) → IfDamaged result (λ _. (F.told f.old).files ≡ None) }
-    ensures stays { Stays (F.told f.old) (F.told f.new) }
-    ensures later { F.faults f.old ≤ F.faults f.new }
-    ensures device { IfDevice result (Rises (F.faults f.old) (F.faults f.new)) }
+    ensures once { IfOk result (λ found. ForSome (F.told folder.old).files (λ image. found.place.start / group_size ≡ hints_of (byte image (block blocks.file)) i % groups_of (blocks_of files.now blocks.file) → steps.new ≡ steps.old + 1)) }
+    ensures cause { IfDamaged result (IsFittingDamage files.now (kind_number kind) (F.told folder.old)) }
+    ensures untold { ForSome (F.told folder.old).files (λ image. Agrees files.now image × EmptyAgrees image blocks.file) → IfDamaged result (λ _. (F.told folder.old).files ≡ None) }
+    ensures stays { Stays (F.told folder.old) (F.told folder.new) }
+    ensures later { F.faults folder.old ≤ F.faults folder.new }
+    ensures device { IfDevice result (Rises (F.faults folder.old) (F.faults folder.new)) }
 {
     let file = blocks.file;
     let count = blocks.count;
-    let hint = read_word(f, FileId::Block(file), HINTS + 4 * u64::from(i))?;
-    let Some(group) = first_met(f, files, file, hint, i + 1, steps)? else {
+    let hint = read_word(folder, FileId::Block(file), HINTS + 4 * u64::from(i))?;
+    let Some(group) = first_met(folder, files, file, hint, i + 1, steps)? else {
         return Err(Fault::Damaged(miscount(file, i, counted)));
     };
     let word = group.word;
@@ -110,7 +110,7 @@ pub(crate) fn find_by_hint<F: Folder, L: Ledger>(
 
 // The blocks of a file to which its counters and hints lead, where it has space for so many.
 fn find_in_file<F: Folder, L: Ledger>(
-    f: &mut F,
+    folder: &mut F,
     files: &BlockFiles,
     kind: Kind,
     file: u8,
@@ -121,33 +121,33 @@ fn find_in_file<F: Folder, L: Ledger>(
     requires some { 0 < count }
     requires few { count ≤ group_size }
     requires linked { is_among (files_of files.now (kind_number kind)) file ≡ true }
-    ensures full { IfOk result (λ found. found ≡ None → ForSome (F.told f.old).files (λ image. HasNoRoom image count file)) }
-    ensures fit { IfOk result (λ found. IfSome found (λ x. ForSome (F.told f.old).files (λ image. IsSought image file count x.i × IsByHint image file (groups_of (blocks_of files.now file)) count x.i x.place.start))) }
-    ensures word { IfOk result (λ found. IfSome found (λ x. ForSome (F.told f.old).files (λ image. IsMapWord image file (x.place.start / 32) x.word))) }
+    ensures full { IfOk result (λ found. found ≡ None → ForSome (F.told folder.old).files (λ image. HasNoRoom image count file)) }
+    ensures fit { IfOk result (λ found. IfSome found (λ x. ForSome (F.told folder.old).files (λ image. IsGroupSought image file count x.i × IsByHint image file (groups_of (blocks_of files.now file)) count x.i x.place.start))) }
+    ensures word { IfOk result (λ found. IfSome found (λ x. ForSome (F.told folder.old).files (λ image. IsMapWord image file (x.place.start / 32) x.word))) }
     ensures place { IfOk result (λ found. IfSome found (λ x. IsPlace files.now (kind_number kind) count x.place × (x.place.file ≡ file) × (x.i < 4))) }
     ensures none { IfOk result (λ found. found ≡ None → steps.new ≡ steps.old) }
     ensures most { steps.new ≤ steps.old + most_words files.now file }
-    ensures once { IfOk result (λ found. IfSome found (λ x. ForSome (F.told f.old).files (λ image. x.place.start / group_size ≡ hints_of (byte image (block file)) x.i % groups_of (blocks_of files.now file) → steps.new ≡ steps.old + 1))) }
-    ensures cause { IfDamaged result (IsSearchDamage files.now (kind_number kind) (F.told f.old)) }
-    ensures untold { ForSome (F.told f.old).files (λ image. Agrees files.now image × EmptyAgrees image file) → IfDamaged result (λ _. (F.told f.old).files ≡ None) }
-    ensures stays { Stays (F.told f.old) (F.told f.new) }
-    ensures later { F.faults f.old ≤ F.faults f.new }
-    ensures device { IfDevice result (Rises (F.faults f.old) (F.faults f.new)) }
+    ensures once { IfOk result (λ found. IfSome found (λ x. ForSome (F.told folder.old).files (λ image. x.place.start / group_size ≡ hints_of (byte image (block file)) x.i % groups_of (blocks_of files.now file) → steps.new ≡ steps.old + 1))) }
+    ensures cause { IfDamaged result (IsFittingDamage files.now (kind_number kind) (F.told folder.old)) }
+    ensures untold { ForSome (F.told folder.old).files (λ image. Agrees files.now image × EmptyAgrees image file) → IfDamaged result (λ _. (F.told folder.old).files ≡ None) }
+    ensures stays { Stays (F.told folder.old) (F.told folder.new) }
+    ensures later { F.faults folder.old ≤ F.faults folder.new }
+    ensures device { IfDevice result (Rises (F.faults folder.old) (F.faults folder.new)) }
 {
-    let counters = Counters::read(f, file)?;
+    let counters = Counters::read(folder, file)?;
     let empty = counters.empty;
     let Some(i) = sought(&empty, count) else {
         return Ok(None);
     };
     let start = 0;
     let blocks = Blocks { file, start, count };
-    let found = find_by_hint(f, files, kind, blocks, i, empty[i as usize], steps)?;
+    let found = find_by_hint(folder, files, kind, blocks, i, empty[i as usize], steps)?;
     Ok(Some(found))
 }
 
 // The blocks of the first file of a kind that has space for so many, by its counters and hints.
 pub(crate) fn find<F: Folder, L: Ledger>(
-    f: &mut F,
+    folder: &mut F,
     files: &BlockFiles,
     kind: Kind,
     count: u32,
@@ -156,26 +156,26 @@ pub(crate) fn find<F: Folder, L: Ledger>(
     requires block_kind { kind_number kind ≢ external }
     requires some { 0 < count }
     requires few { count ≤ group_size }
-    requires agrees { ForSome (F.told f.old).files (Agrees files.now) }
-    ensures full { IfOk result (λ found. found ≡ None → ForSome (F.told f.old).files (HaveNoRoom files.now (kind_number kind) count)) }
-    ensures fit { IfOk result (λ found. IfSome found (λ x. ForSome (F.told f.old).files (λ image. IsFit image (files_of files.now (kind_number kind)) count x.place))) }
-    ensures sought { IfOk result (λ found. IfSome found (λ x. ForSome (F.told f.old).files (λ image. IsSought image x.place.file count x.i))) }
-    ensures word { IfOk result (λ found. IfSome found (λ x. ForSome (F.told f.old).files (λ image. IsMapWord image x.place.file (x.place.start / 32) x.word))) }
+    requires agrees { ForSome (F.told folder.old).files (Agrees files.now) }
+    ensures full { IfOk result (λ found. found ≡ None → ForSome (F.told folder.old).files (HaveNoRoom files.now (kind_number kind) count)) }
+    ensures fit { IfOk result (λ found. IfSome found (λ x. ForSome (F.told folder.old).files (λ image. IsFit image (files_of files.now (kind_number kind)) count x.place))) }
+    ensures sought { IfOk result (λ found. IfSome found (λ x. ForSome (F.told folder.old).files (λ image. IsGroupSought image x.place.file count x.i))) }
+    ensures word { IfOk result (λ found. IfSome found (λ x. ForSome (F.told folder.old).files (λ image. IsMapWord image x.place.file (x.place.start / 32) x.word))) }
     ensures place { IfOk result (λ found. IfSome found (λ x. IsPlace files.now (kind_number kind) count x.place × (x.i < 4))) }
     ensures none { IfOk result (λ found. found ≡ None → steps.new ≡ steps.old) }
     ensures most { IfOk result (λ found. IfSome found (λ x. steps.new ≤ steps.old + most_words files.now x.place.file)) }
-    ensures once { IfOk result (λ found. IfSome found (λ x. ForSome (F.told f.old).files (λ image. x.place.start / group_size ≡ hints_of (byte image (block x.place.file)) x.i % groups_of (blocks_of files.now x.place.file) → steps.new ≡ steps.old + 1))) }
-    ensures cause { IfDamaged result (IsSearchDamage files.now (kind_number kind) (F.told f.old)) }
-    ensures untold { ForSome (F.told f.old).files (AreCounted files.now (kind_number kind)) → IfDamaged result (λ _. (F.told f.old).files ≡ None) }
-    ensures stays { Stays (F.told f.old) (F.told f.new) }
-    ensures later { F.faults f.old ≤ F.faults f.new }
-    ensures device { IfDevice result (Rises (F.faults f.old) (F.faults f.new)) }
+    ensures once { IfOk result (λ found. IfSome found (λ x. ForSome (F.told folder.old).files (λ image. x.place.start / group_size ≡ hints_of (byte image (block x.place.file)) x.i % groups_of (blocks_of files.now x.place.file) → steps.new ≡ steps.old + 1))) }
+    ensures cause { IfDamaged result (IsFittingDamage files.now (kind_number kind) (F.told folder.old)) }
+    ensures untold { ForSome (F.told folder.old).files (AreCounted files.now (kind_number kind)) → IfDamaged result (λ _. (F.told folder.old).files ≡ None) }
+    ensures stays { Stays (F.told folder.old) (F.told folder.new) }
+    ensures later { F.faults folder.old ≤ F.faults folder.new }
+    ensures device { IfDevice result (Rises (F.faults folder.old) (F.faults folder.new)) }
 {
     for k in 0..files.count(kind) {
         let Some(file) = files.file_at(kind, k) else {
             unreachable!();
         };
-        if let Some(found) = find_in_file(f, files, kind, file, count, steps)? {
+        if let Some(found) = find_in_file(folder, files, kind, file, count, steps)? {
             return Ok(Some(found));
         }
     }

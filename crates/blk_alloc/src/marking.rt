@@ -21,7 +21,7 @@ use blk_io::{Fault, Folder};
 // Marks blocks of a file as used: lengthens the file to all its blocks, where it is shorter, and marks them, where
 // the word of the map that has them was read.
 pub(crate) fn mark<F: Folder>(
-    f: &mut F,
+    folder: &mut F,
     files: &mut BlockFiles,
     kind: Kind,
     place: Blocks,
@@ -31,30 +31,30 @@ pub(crate) fn mark<F: Folder>(
     requires some { 0 < place.count }
     requires node { kind_number kind ≡ rankings → place.count ≡ 1 }
     requires place { IsPlace files.old (kind_number kind) place.count place }
-    requires agrees { ForSome (F.told f.old).files (Agrees files.old) }
-    requires read { ForSome (F.told f.old).files (λ image. IsMapWord image place.file (place.start / 32) word) }
+    requires agrees { ForSome (F.told folder.old).files (Agrees files.old) }
+    requires read { ForSome (F.told folder.old).files (λ image. IsMapWord image place.file (place.start / 32) word) }
     ensures word { IfOk result (λ addr. addr ≡ address.block_word (kind_number kind) place.file place.start place.count) }
     ensures stands { IfOk result (λ addr. IsTrue (stands_among files.new addr)) }
     ensures keeps { KeepsStanding files.old files.new }
-    ensures counted { OnOk result (ForSome (F.told f.old).files (λ from. ForSome (F.told f.new).files (CountsUsed place.file place.start from))) }
-    ensures hints { OnOk result (ForSome (F.told f.old).files (λ from. ForSome (F.told f.new).files (KeepsHints from))) }
-    ensures used { IfOk result (λ addr. ForSome (F.told f.old).files (λ from. CanBeMarked from place → ForSome (F.told f.new).files (MarksUsed files.old from addr))) }
-    ensures agrees { ForSome (F.told f.new).files (Agrees files.new) }
+    ensures counted { OnOk result (ForSome (F.told folder.old).files (λ from. ForSome (F.told folder.new).files (CountsUsed place.file place.start from))) }
+    ensures hints { OnOk result (ForSome (F.told folder.old).files (λ from. ForSome (F.told folder.new).files (KeepsHints from))) }
+    ensures used { IfOk result (λ addr. ForSome (F.told folder.old).files (λ from. CanBeMarked from place → ForSome (F.told folder.new).files (MarksUsed files.old from addr))) }
+    ensures agrees { ForSome (F.told folder.new).files (Agrees files.new) }
     ensures links { OnOk result (KeepsLists files.old files.new) }
     ensures blocks { OnOk result (KeepsBlockCounts files.old files.new) }
     ensures long { OnOk result (HasItsBlocks files.new place.file) }
 
     // At each word only the length, the map and the counters of the file have changed, it is no shorter, and updating is 1 until the map and the counters are done.
-    ensures stops { ForSome (F.told f.old).files (λ from. CanBeMarked from place → PassesTo (F.told f.old) (F.told f.new) (MarksUsedInProgress place.file from) (λ image. MarksUsedInProgress place.file from image ⊎ (MarksUsed files.old from (address.block_word (kind_number kind) place.file place.start place.count) image × KeepsHints from image))) }
-    ensures silent { (F.told f.old).files ≡ None → (F.told f.new).files ≡ None }
+    ensures stops { ForSome (F.told folder.old).files (λ from. CanBeMarked from place → PassesTo (F.told folder.old) (F.told folder.new) (MarksUsedInProgress place.file from) (λ image. MarksUsedInProgress place.file from image ⊎ (MarksUsed files.old from (address.block_word (kind_number kind) place.file place.start place.count) image × KeepsHints from image))) }
+    ensures silent { (F.told folder.old).files ≡ None → (F.told folder.new).files ≡ None }
     ensures place { IsPlace files.new (kind_number kind) place.count place }
-    ensures cause { IfDamaged result (IsCause (F.told f.new) place.file place.start place.count true) }
-    ensures untold { IfDamaged result (λ _. ForSome (F.told f.old).files (λ image. CanBeMarked image place) → (F.told f.old).files ≡ None) }
-    ensures later { F.faults f.old ≤ F.faults f.new }
-    ensures device { IfDevice result (Rises (F.faults f.old) (F.faults f.new)) }
+    ensures cause { IfDamaged result (IsCause (F.told folder.new) place.file place.start place.count true) }
+    ensures untold { IfDamaged result (λ _. ForSome (F.told folder.old).files (λ image. CanBeMarked image place) → (F.told folder.old).files ≡ None) }
+    ensures later { F.faults folder.old ≤ F.faults folder.new }
+    ensures device { IfDevice result (Rises (F.faults folder.old) (F.faults folder.new)) }
 {
-    files.fit(f, place.file)?;
+    files.fit(folder, place.file)?;
     let addr = Addr::of_blocks(kind, place.file, place.start, place.count);
-    change(f, place.file, place.start, place.count, true, word)?;
+    change(folder, place.file, place.start, place.count, true, word)?;
     Ok(addr)
 }

@@ -5,7 +5,7 @@ ghost use Rattle.spec_image.specs.Image.{Block as block, HasRange, byte, length_
 ghost use Rattle.spec_image.specs.Told.{Rises, Stays};
 ghost use Rattle.spec_format.specs.Address.{header_size};
 ghost use Rattle.spec_format.specs.Headers.{block_fields_length};
-ghost use Rattle.blk_alloc.specs.Mending.{IsFrontWritten, AreBytesWritten, KeepsLength, PassesNeeded, StandAt};
+ghost use Rattle.blk_alloc.specs.Mending.{IsPrefixWritten, AreBytesWritten, KeepsLength, PassesNeeded, StandAt};
 ghost use Rattle.blk_alloc.specs.Rebuilding.{HasReadCounters, HasTheseCounters, IsCounting};
 
 use crate::layout::{ALLOCATIONS, EMPTY};
@@ -14,7 +14,7 @@ use blk_record::BlockHead;
 
 // Writes a word of a file, where it isn't the old one.
 pub(crate) fn mend_word<F: Folder>(
-    f: &mut F,
+    folder: &mut F,
     file: u8,
     at: u64,
     old: &[u8],
@@ -23,24 +23,24 @@ pub(crate) fn mend_word<F: Folder>(
     requires aligned { at % 4 ≡ 0 }
     requires old_word { length old.now ≡ 4 }
     requires new_word { length new.now ≡ 4 }
-    requires inside { ForSome (F.told f.old).files (λ image. HasRange image (block file) at 4) }
-    ensures done { OnOk result (ForSome (F.told f.old).files (λ from. StandAt (block file) at old.now 4 from → ForSome (F.told f.new).files (AreBytesWritten (block file) at new.now 4 from))) }
-    ensures stops { ForSome (F.told f.old).files (λ from. StandAt (block file) at old.now 4 from → PassesNeeded (F.told f.old) (F.told f.new) (λ image. (image ≡ from) ⊎ AreBytesWritten (block file) at new.now 4 from image)) }
-    ensures same { old.now ≡ new.now → Stays (F.told f.old) (F.told f.new) }
-    ensures long { ForSome (F.told f.old).files (λ from. ForSome (F.told f.new).files (KeepsLength (block file) from)) }
-    ensures silent { (F.told f.old).files ≡ None → (F.told f.new).files ≡ None }
-    ensures later { F.faults f.old ≤ F.faults f.new }
-    ensures failed { OnErr result (Rises (F.faults f.old) (F.faults f.new)) }
+    requires inside { ForSome (F.told folder.old).files (λ image. HasRange image (block file) at 4) }
+    ensures done { OnOk result (ForSome (F.told folder.old).files (λ from. StandAt (block file) at old.now 4 from → ForSome (F.told folder.new).files (AreBytesWritten (block file) at new.now 4 from))) }
+    ensures stops { ForSome (F.told folder.old).files (λ from. StandAt (block file) at old.now 4 from → PassesNeeded (F.told folder.old) (F.told folder.new) (λ image. (image ≡ from) ⊎ AreBytesWritten (block file) at new.now 4 from image)) }
+    ensures same { old.now ≡ new.now → Stays (F.told folder.old) (F.told folder.new) }
+    ensures long { ForSome (F.told folder.old).files (λ from. ForSome (F.told folder.new).files (KeepsLength (block file) from)) }
+    ensures silent { (F.told folder.old).files ≡ None → (F.told folder.new).files ≡ None }
+    ensures later { F.faults folder.old ≤ F.faults folder.new }
+    ensures failed { OnErr result (Rises (F.faults folder.old) (F.faults folder.new)) }
 {
     if *old == *new {
         return Ok(());
     }
-    f.write_at(FileId::Block(file), at, new)
+    folder.write_at(FileId::Block(file), at, new)
 }
 
 // Writes the words of a file from a place on that differ from the old ones.
 pub(crate) fn mend<F: Folder>(
-    f: &mut F,
+    folder: &mut F,
     file: u8,
     at: u64,
     old: &[u8],
@@ -50,24 +50,24 @@ pub(crate) fn mend<F: Folder>(
     requires words { length new.now % 4 ≡ 0 }
     requires alike { length old.now ≡ length new.now }
     requires small { at + length new.now < 2 ^ 32 }
-    requires inside { ForSome (F.told f.old).files (λ image. HasRange image (block file) at (length new.now)) }
-    ensures done { OnOk result (ForSome (F.told f.old).files (λ from. StandAt (block file) at old.now (length old.now) from → ForSome (F.told f.new).files (AreBytesWritten (block file) at new.now (length new.now) from))) }
-    ensures stops { ForSome (F.told f.old).files (λ from. StandAt (block file) at old.now (length old.now) from → PassesNeeded (F.told f.old) (F.told f.new) (IsFrontWritten (block file) at new.now from)) }
-    ensures long { ForSome (F.told f.old).files (λ from. ForSome (F.told f.new).files (KeepsLength (block file) from)) }
-    ensures silent { (F.told f.old).files ≡ None → (F.told f.new).files ≡ None }
-    ensures later { F.faults f.old ≤ F.faults f.new }
-    ensures failed { OnErr result (Rises (F.faults f.old) (F.faults f.new)) }
+    requires inside { ForSome (F.told folder.old).files (λ image. HasRange image (block file) at (length new.now)) }
+    ensures done { OnOk result (ForSome (F.told folder.old).files (λ from. StandAt (block file) at old.now (length old.now) from → ForSome (F.told folder.new).files (AreBytesWritten (block file) at new.now (length new.now) from))) }
+    ensures stops { ForSome (F.told folder.old).files (λ from. StandAt (block file) at old.now (length old.now) from → PassesNeeded (F.told folder.old) (F.told folder.new) (IsPrefixWritten (block file) at new.now from)) }
+    ensures long { ForSome (F.told folder.old).files (λ from. ForSome (F.told folder.new).files (KeepsLength (block file) from)) }
+    ensures silent { (F.told folder.old).files ≡ None → (F.told folder.new).files ≡ None }
+    ensures later { F.faults folder.old ≤ F.faults folder.new }
+    ensures failed { OnErr result (Rises (F.faults folder.old) (F.faults folder.new)) }
 {
     for k in 0..new.len() / 4 {
         let i = 4 * k;
-        mend_word(f, file, at + i as u64, &old[i..i + 4], &new[i..i + 4])?;
+        mend_word(folder, file, at + i as u64, &old[i..i + 4], &new[i..i + 4])?;
     }
     Ok(())
 }
 
 // Makes the counters of a file, of those that were read, these ones, where they differ.
 pub(crate) fn mend_counters<F: Folder>(
-    f: &mut F,
+    folder: &mut F,
     file: u8,
     fields: &[u8],
     allocations: u32,
@@ -75,17 +75,17 @@ pub(crate) fn mend_counters<F: Folder>(
 ) -> Result<(), Failed>
     requires four { length empty.now ≡ 4 }
     requires long_fields { length fields.now ≡ block_fields_length }
-    requires header { ForSome (F.told f.old).files (λ image. header_size ≤ length_of image (block file)) }
-    ensures done { OnOk result (ForSome (F.told f.old).files (λ from. HasReadCounters file fields.now from → ForSome (F.told f.new).files (λ image. HasTheseCounters (byte image (block file)) allocations empty.now))) }
-    ensures stops { ForSome (F.told f.old).files (λ from. HasReadCounters file fields.now from → PassesNeeded (F.told f.old) (F.told f.new) (IsCounting file allocations empty.now from)) }
-    ensures long { ForSome (F.told f.old).files (λ from. ForSome (F.told f.new).files (KeepsLength (block file) from)) }
-    ensures silent { (F.told f.old).files ≡ None → (F.told f.new).files ≡ None }
-    ensures later { F.faults f.old ≤ F.faults f.new }
-    ensures failed { OnErr result (Rises (F.faults f.old) (F.faults f.new)) }
+    requires header { ForSome (F.told folder.old).files (λ image. header_size ≤ length_of image (block file)) }
+    ensures done { OnOk result (ForSome (F.told folder.old).files (λ from. HasReadCounters file fields.now from → ForSome (F.told folder.new).files (λ image. HasTheseCounters (byte image (block file)) allocations empty.now))) }
+    ensures stops { ForSome (F.told folder.old).files (λ from. HasReadCounters file fields.now from → PassesNeeded (F.told folder.old) (F.told folder.new) (IsCounting file allocations empty.now from)) }
+    ensures long { ForSome (F.told folder.old).files (λ from. ForSome (F.told folder.new).files (KeepsLength (block file) from)) }
+    ensures silent { (F.told folder.old).files ≡ None → (F.told folder.new).files ≡ None }
+    ensures later { F.faults folder.old ≤ F.faults folder.new }
+    ensures failed { OnErr result (Rises (F.faults folder.old) (F.faults folder.new)) }
 {
     let number = &fields[ALLOCATIONS..ALLOCATIONS + 4];
     mend_word(
-        f,
+        folder,
         file,
         BlockHead::ALLOCATIONS,
         number,
@@ -98,7 +98,7 @@ pub(crate) fn mend_counters<F: Folder>(
         empty[3].to_le_bytes(),
     ];
     mend(
-        f,
+        folder,
         file,
         BlockHead::EMPTY,
         &fields[EMPTY..EMPTY + 16],

@@ -31,7 +31,7 @@ impl Plan {
     // The plan by which so many blocks from one on, which lie in one group, are all marked or all freed, where
     // the word of the map that has them was read.
     pub(crate) fn read<F: Folder>(
-        f: &mut F,
+        folder: &mut F,
         file: u8,
         start: u32,
         count: u32,
@@ -41,18 +41,18 @@ impl Plan {
         requires some { 0 < count }
         requires group { start % 4 + count ≤ group_size }
         requires small { start + count < 2 ^ 32 }
-        requires word { ForSome (F.told f.old).files (λ image. IsMapWord image file (start / 32) word) }
-        ensures plan { IfOk result (λ plan. ForSome (F.told f.old).files (λ image. IsPlan image file start count used plan)) }
+        requires word { ForSome (F.told folder.old).files (λ image. IsMapWord image file (start / 32) word) }
+        ensures plan { IfOk result (λ plan. ForSome (F.told folder.old).files (λ image. IsPlan image file start count used plan)) }
         ensures aligned { IfOk result (λ plan. plan.at % 4 ≡ 0) }
         ensures fits { IfOk result (λ plan. plan.counters.allocations < 2 ^ 32) }
         ensures runs_fit { IfOk result (λ plan. (i : ℕ) → i < 4 → slice_index plan.counters.empty i < 2 ^ 32) }
-        ensures cause { IfDamaged result (IsCause (F.told f.old) file start count used) }
-        ensures untold { IfDamaged result (λ _. ForSome (F.told f.old).files (λ image. CanChangeMarks image file start count used) → (F.told f.old).files ≡ None) }
-        ensures stays { Stays (F.told f.old) (F.told f.new) }
-        ensures later { F.faults f.old ≤ F.faults f.new }
-        ensures device { IfDevice result (Rises (F.faults f.old) (F.faults f.new)) }
+        ensures cause { IfDamaged result (IsCause (F.told folder.old) file start count used) }
+        ensures untold { IfDamaged result (λ _. ForSome (F.told folder.old).files (λ image. CanChangeMarks image file start count used) → (F.told folder.old).files ≡ None) }
+        ensures stays { Stays (F.told folder.old) (F.told folder.new) }
+        ensures later { F.faults folder.old ≤ F.faults folder.new }
+        ensures device { IfDevice result (Rises (F.faults folder.old) (F.faults folder.new)) }
     {
-        let counters = Counters::read(f, file)?;
+        let counters = Counters::read(folder, file)?;
         let at = BlockHead::MAP + 4 * u64::from(start / BITS_OF_WORD);
         let mut bytes = word.to_le_bytes();
         let first = start % BITS_OF_WORD;
@@ -65,17 +65,22 @@ impl Plan {
     }
 
     // Writes the words of the plan.
-    pub(crate) fn write<F: Folder>(&self, f: &mut F, file: u8) -> Result<(), Failed>
+    pub(crate) fn write<F: Folder>(&self, folder: &mut F, file: u8) -> Result<(), Failed>
         requires aligned { self.now.at % 4 ≡ 0 }
-        requires inside { ForSome (F.told f.old).files (λ image. self.now.at + 4 ≤ 8192) }
-        requires header { ForSome (F.told f.old).files (λ image. 8192 ≤ length_of image (block file)) }
-        ensures steps { OnOk result (Applies (F.told f.old) (F.told f.new) (word_steps (block file) (plan_words self.now))) }
-        ensures prefix { AppliesPrefix (F.told f.old) (F.told f.new) (word_steps (block file) (plan_words self.now)) }
-        ensures later { F.faults f.old ≤ F.faults f.new }
-        ensures failed { OnErr result (Rises (F.faults f.old) (F.faults f.new)) }
+        requires inside { ForSome (F.told folder.old).files (λ image. self.now.at + 4 ≤ 8192) }
+        requires header { ForSome (F.told folder.old).files (λ image. 8192 ≤ length_of image (block file)) }
+        ensures steps { OnOk result (Applies (F.told folder.old) (F.told folder.new) (word_steps (block file) (plan_words self.now))) }
+        ensures prefix { AppliesPrefix (F.told folder.old) (F.told folder.new) (word_steps (block file) (plan_words self.now)) }
+        ensures later { F.faults folder.old ≤ F.faults folder.new }
+        ensures failed { OnErr result (Rises (F.faults folder.old) (F.faults folder.new)) }
     {
         let words = [(BlockHead::UPDATING, 1), (self.at, self.word)];
-        write_words(f, FileId::Block(file), &words)?;
-        finish(f, file, self.counters.allocations, &self.counters.empty)
+        write_words(folder, FileId::Block(file), &words)?;
+        finish(
+            folder,
+            file,
+            self.counters.allocations,
+            &self.counters.empty,
+        )
     }
 }

@@ -29,7 +29,7 @@ use blk_record::BlockHead;
 // Makes the map and the counters of a file those of the used blocks: of the map and the fields that were read, the
 // words that differ are written.
 fn mend_counts<F: Folder>(
-    f: &mut F,
+    folder: &mut F,
     claims: &Claims,
     file: u8,
     groups: u32,
@@ -39,25 +39,25 @@ fn mend_counts<F: Folder>(
     requires few { groups ≤ 16224 }
     requires long_map { length map.now ≡ map_length }
     requires long_fields { length fields.now ≡ block_fields_length }
-    requires header { ForSome (F.told f.old).files (λ image. header_size ≤ length_of image (block file)) }
-    ensures done { OnOk result (ForSome (F.told f.old).files (λ from. AreCountsRead file groups map.now fields.now from → ForSome (F.told f.new).files (λ image. HasMarksOf claims.now image file))) }
-    ensures stops { ForSome (F.told f.old).files (λ from. AreCountsRead file groups map.now fields.now from → PassesNeeded (F.told f.old) (F.told f.new) (IsMending claims.now file from)) }
-    ensures long { ForSome (F.told f.old).files (λ from. ForSome (F.told f.new).files (KeepsLength (block file) from)) }
-    ensures silent { (F.told f.old).files ≡ None → (F.told f.new).files ≡ None }
-    ensures later { F.faults f.old ≤ F.faults f.new }
-    ensures failed { OnErr result (Rises (F.faults f.old) (F.faults f.new)) }
+    requires header { ForSome (F.told folder.old).files (λ image. header_size ≤ length_of image (block file)) }
+    ensures done { OnOk result (ForSome (F.told folder.old).files (λ from. AreCountsRead file groups map.now fields.now from → ForSome (F.told folder.new).files (λ image. HasMarksOf claims.now image file))) }
+    ensures stops { ForSome (F.told folder.old).files (λ from. AreCountsRead file groups map.now fields.now from → PassesNeeded (F.told folder.old) (F.told folder.new) (IsMending claims.now file from)) }
+    ensures long { ForSome (F.told folder.old).files (λ from. ForSome (F.told folder.new).files (KeepsLength (block file) from)) }
+    ensures silent { (F.told folder.old).files ≡ None → (F.told folder.new).files ≡ None }
+    ensures later { F.faults folder.old ≤ F.faults folder.new }
+    ensures failed { OnErr result (Rises (F.faults folder.old) (F.faults folder.new)) }
 {
     let mut bytes = [0u8; MAP_LEN];
     mark_claimed(claims, file, &mut bytes);
     let mut empty = [0u32; 4];
     count_runs(&bytes, groups, &mut empty);
-    mend(f, file, BlockHead::MAP, map, &bytes)?;
-    mend_counters(f, file, fields, claims.allocations(file), &empty)
+    mend(folder, file, BlockHead::MAP, map, &bytes)?;
+    mend_counters(folder, file, fields, claims.allocations(file), &empty)
 }
 
 // Makes the map and the counters of a file those of the used blocks, and then says that they are no longer under way.
 fn mend_marks<F: Folder>(
-    f: &mut F,
+    folder: &mut F,
     claims: &Claims,
     file: u8,
     groups: u32,
@@ -67,16 +67,16 @@ fn mend_marks<F: Folder>(
     requires few { groups ≤ 16224 }
     requires long_map { length map.now ≡ map_length }
     requires long_fields { length fields.now ≡ block_fields_length }
-    requires header { ForSome (F.told f.old).files (λ image. header_size ≤ length_of image (block file)) }
-    ensures done { OnOk result (ForSome (F.told f.old).files (λ from. AreCountsRead file groups map.now fields.now from → StandAt (block file) updating_place (word_bytes 1) 4 from → ForSome (F.told f.new).files (λ image. IsRebuilt claims.now image file))) }
-    ensures stops { ForSome (F.told f.old).files (λ from. AreCountsRead file groups map.now fields.now from → StandAt (block file) updating_place (word_bytes 1) 4 from → PassesNeeded (F.told f.old) (F.told f.new) (IsMendingToEnd claims.now file from)) }
-    ensures silent { (F.told f.old).files ≡ None → (F.told f.new).files ≡ None }
-    ensures later { F.faults f.old ≤ F.faults f.new }
-    ensures failed { OnErr result (Rises (F.faults f.old) (F.faults f.new)) }
+    requires header { ForSome (F.told folder.old).files (λ image. header_size ≤ length_of image (block file)) }
+    ensures done { OnOk result (ForSome (F.told folder.old).files (λ from. AreCountsRead file groups map.now fields.now from → StandAt (block file) updating_place (word_bytes 1) 4 from → ForSome (F.told folder.new).files (λ image. IsRebuilt claims.now image file))) }
+    ensures stops { ForSome (F.told folder.old).files (λ from. AreCountsRead file groups map.now fields.now from → StandAt (block file) updating_place (word_bytes 1) 4 from → PassesNeeded (F.told folder.old) (F.told folder.new) (IsMendingToEnd claims.now file from)) }
+    ensures silent { (F.told folder.old).files ≡ None → (F.told folder.new).files ≡ None }
+    ensures later { F.faults folder.old ≤ F.faults folder.new }
+    ensures failed { OnErr result (Rises (F.faults folder.old) (F.faults folder.new)) }
 {
-    mend_counts(f, claims, file, groups, map, fields)?;
+    mend_counts(folder, claims, file, groups, map, fields)?;
     mend_word(
-        f,
+        folder,
         file,
         BlockHead::UPDATING,
         &1u32.to_le_bytes(),
@@ -87,7 +87,7 @@ fn mend_marks<F: Folder>(
 // Makes the map and the counters of a file, as they were read, those of the used blocks, and updating 0. Where they are
 // already, only updating is written, and otherwise it is 1 until they are.
 fn mend_file<F: Folder>(
-    f: &mut F,
+    folder: &mut F,
     claims: &Claims,
     file: u8,
     groups: u32,
@@ -97,69 +97,81 @@ fn mend_file<F: Folder>(
     requires few { groups ≤ 16224 }
     requires long_map { length map.now ≡ map_length }
     requires long_fields { length fields.now ≡ block_fields_length }
-    requires header { ForSome (F.told f.old).files (λ image. header_size ≤ length_of image (block file)) }
-    ensures done { OnOk result (ForSome (F.told f.old).files (λ from. groups ≡ groups_of (max_entries_in from file) → AreHeaderBytes from file map.now fields.now → ForSome (F.told f.new).files (λ image. IsRebuilt claims.now image file))) }
-    ensures stops { ForSome (F.told f.old).files (λ from. groups ≡ groups_of (max_entries_in from file) → AreHeaderBytes from file map.now fields.now → PassesNeeded (F.told f.old) (F.told f.new) (RemakesInProgress claims.now file from)) }
-    ensures clean { ForSome (F.told f.old).files (λ from. groups ≡ groups_of (max_entries_in from file) → AreHeaderBytes from file map.now fields.now → IsRebuilt claims.now from file → Stays (F.told f.old) (F.told f.new)) }
-    ensures silent { (F.told f.old).files ≡ None → (F.told f.new).files ≡ None }
-    ensures later { F.faults f.old ≤ F.faults f.new }
-    ensures failed { OnErr result (Rises (F.faults f.old) (F.faults f.new)) }
+    requires header { ForSome (F.told folder.old).files (λ image. header_size ≤ length_of image (block file)) }
+    ensures done { OnOk result (ForSome (F.told folder.old).files (λ from. groups ≡ groups_of (max_entries_in from file) → AreHeaderBytes from file map.now fields.now → ForSome (F.told folder.new).files (λ image. IsRebuilt claims.now image file))) }
+    ensures stops { ForSome (F.told folder.old).files (λ from. groups ≡ groups_of (max_entries_in from file) → AreHeaderBytes from file map.now fields.now → PassesNeeded (F.told folder.old) (F.told folder.new) (RemakesInProgress claims.now file from)) }
+    ensures clean { ForSome (F.told folder.old).files (λ from. groups ≡ groups_of (max_entries_in from file) → AreHeaderBytes from file map.now fields.now → IsRebuilt claims.now from file → Stays (F.told folder.old) (F.told folder.new)) }
+    ensures silent { (F.told folder.old).files ≡ None → (F.told folder.new).files ≡ None }
+    ensures later { F.faults folder.old ≤ F.faults folder.new }
+    ensures failed { OnErr result (Rises (F.faults folder.old) (F.faults folder.new)) }
 {
     let updating = &fields[UPDATING..UPDATING + 4];
     if is_right(claims, file, groups, map, fields) {
-        return mend_word(f, file, BlockHead::UPDATING, updating, &0u32.to_le_bytes());
+        return mend_word(
+            folder,
+            file,
+            BlockHead::UPDATING,
+            updating,
+            &0u32.to_le_bytes(),
+        );
     }
-    mend_word(f, file, BlockHead::UPDATING, updating, &1u32.to_le_bytes())?;
-    mend_marks(f, claims, file, groups, map, fields)
+    mend_word(
+        folder,
+        file,
+        BlockHead::UPDATING,
+        updating,
+        &1u32.to_le_bytes(),
+    )?;
+    mend_marks(folder, claims, file, groups, map, fields)
 }
 
 // Reads the header of a file, and writes those of its words that aren't as the used blocks have them.
-fn remake<F: Folder>(f: &mut F, claims: &Claims, file: u8, groups: u32) -> Result<(), Fault>
+fn remake<F: Folder>(folder: &mut F, claims: &Claims, file: u8, groups: u32) -> Result<(), Fault>
     requires few { groups ≤ 16224 }
-    requires header { ForSome (F.told f.old).files (λ image. header_size ≤ length_of image (block file)) }
-    ensures done { OnOk result (ForSome (F.told f.old).files (λ from. groups ≡ groups_of (max_entries_in from file) → ForSome (F.told f.new).files (λ image. IsRebuilt claims.now image file))) }
-    ensures stops { ForSome (F.told f.old).files (λ from. groups ≡ groups_of (max_entries_in from file) → PassesNeeded (F.told f.old) (F.told f.new) (RemakesInProgress claims.now file from)) }
-    ensures clean { ForSome (F.told f.old).files (λ from. groups ≡ groups_of (max_entries_in from file) → IsRebuilt claims.now from file → Stays (F.told f.old) (F.told f.new)) }
-    ensures cause { IfDamaged result (IsShortRead (F.told f.new) file) }
-    ensures untold { IfDamaged result (λ _. (F.told f.old).files ≡ None) }
-    ensures silent { (F.told f.old).files ≡ None → (F.told f.new).files ≡ None }
-    ensures later { F.faults f.old ≤ F.faults f.new }
-    ensures device { IfDevice result (Rises (F.faults f.old) (F.faults f.new)) }
+    requires header { ForSome (F.told folder.old).files (λ image. header_size ≤ length_of image (block file)) }
+    ensures done { OnOk result (ForSome (F.told folder.old).files (λ from. groups ≡ groups_of (max_entries_in from file) → ForSome (F.told folder.new).files (λ image. IsRebuilt claims.now image file))) }
+    ensures stops { ForSome (F.told folder.old).files (λ from. groups ≡ groups_of (max_entries_in from file) → PassesNeeded (F.told folder.old) (F.told folder.new) (RemakesInProgress claims.now file from)) }
+    ensures clean { ForSome (F.told folder.old).files (λ from. groups ≡ groups_of (max_entries_in from file) → IsRebuilt claims.now from file → Stays (F.told folder.old) (F.told folder.new)) }
+    ensures cause { IfDamaged result (IsShortRead (F.told folder.new) file) }
+    ensures untold { IfDamaged result (λ _. (F.told folder.old).files ≡ None) }
+    ensures silent { (F.told folder.old).files ≡ None → (F.told folder.new).files ≡ None }
+    ensures later { F.faults folder.old ≤ F.faults folder.new }
+    ensures device { IfDevice result (Rises (F.faults folder.old) (F.faults folder.new)) }
 {
     let mut map = [0u8; MAP_LEN];
-    read_exact(f, FileId::Block(file), BlockHead::MAP, &mut map)?;
+    read_exact(folder, FileId::Block(file), BlockHead::MAP, &mut map)?;
     let mut fields = [0u8; BlockHead::LEN];
-    read_exact(f, FileId::Block(file), 0, &mut fields)?;
-    mend_file(f, claims, file, groups, &map, &fields)?;
+    read_exact(folder, FileId::Block(file), 0, &mut fields)?;
+    mend_file(folder, claims, file, groups, &map, &fields)?;
     Ok(())
 }
 
 // Lengthens a file to all its blocks, where it is shorter, and makes its map and counters anew, where they aren't those
 // of the used blocks already.
 fn rebuild_file<F: Folder>(
-    f: &mut F,
+    folder: &mut F,
     files: &mut BlockFiles,
     claims: &Claims,
     file: u8,
 ) -> Result<(), Fault>
     requires linked { IsTrue (is_among (all_files files.old) file) }
-    requires agrees { ForSome (F.told f.old).files (Agrees files.old) }
-    ensures done { OnOk result (ForSome (F.told f.new).files (λ image. IsRebuilt claims.now image file)) }
+    requires agrees { ForSome (F.told folder.old).files (Agrees files.old) }
+    ensures done { OnOk result (ForSome (F.told folder.new).files (λ image. IsRebuilt claims.now image file)) }
     ensures fitted { OnOk result (Resizes files.old files.new file (max (length_in files.old file) (whole_length files.old file))) }
-    ensures agrees { ForSome (F.told f.new).files (Agrees files.new) }
+    ensures agrees { ForSome (F.told folder.new).files (Agrees files.new) }
     ensures all { (kind : ℕ) → files_of files.new kind ≡ files_of files.old kind }
     ensures keeps { KeepsStanding files.old files.new }
-    ensures stops { ForSome (F.told f.old).files (λ from. PassesNeeded (F.told f.old) (F.told f.new) (IsRebuilding claims.now (file ∷ []) from)) }
-    ensures clean { ForSome (F.told f.old).files (λ from. HasItsBlocks files.old file → IsRebuilt claims.now from file → Stays (F.told f.old) (F.told f.new)) }
-    ensures cause { IfDamaged result (IsShortRead (F.told f.new) file) }
-    ensures untold { IfDamaged result (λ _. (F.told f.old).files ≡ None) }
-    ensures silent { (F.told f.old).files ≡ None → (F.told f.new).files ≡ None }
-    ensures later { F.faults f.old ≤ F.faults f.new }
-    ensures device { IfDevice result (Rises (F.faults f.old) (F.faults f.new)) }
+    ensures stops { ForSome (F.told folder.old).files (λ from. PassesNeeded (F.told folder.old) (F.told folder.new) (IsRebuilding claims.now (file ∷ []) from)) }
+    ensures clean { ForSome (F.told folder.old).files (λ from. HasItsBlocks files.old file → IsRebuilt claims.now from file → Stays (F.told folder.old) (F.told folder.new)) }
+    ensures cause { IfDamaged result (IsShortRead (F.told folder.new) file) }
+    ensures untold { IfDamaged result (λ _. (F.told folder.old).files ≡ None) }
+    ensures silent { (F.told folder.old).files ≡ None → (F.told folder.new).files ≡ None }
+    ensures later { F.faults folder.old ≤ F.faults folder.new }
+    ensures device { IfDevice result (Rises (F.faults folder.old) (F.faults folder.new)) }
 {
-    files.fit(f, file)?;
+    files.fit(folder, file)?;
     let groups = blocks_in(files, file) / GROUP;
-    remake(f, claims, file, groups)
+    remake(folder, claims, file, groups)
 }
 
 /// Makes the maps and the counters of all linked block files those of the used blocks, and `updating` 0. Hints stay.

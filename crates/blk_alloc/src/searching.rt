@@ -71,7 +71,7 @@ pub(crate) fn least_of_group(bytes: &[u8], group: u32, count: u32) -> u32
 // The first group of a file, from a hint on and round to the front, whose longest free run is so long; or none
 // where one round has none.
 pub(crate) fn first_met<F: Folder, L: Ledger>(
-    f: &mut F,
+    folder: &mut F,
     files: &BlockFiles,
     file: u8,
     hint: u32,
@@ -79,18 +79,18 @@ pub(crate) fn first_met<F: Folder, L: Ledger>(
     steps: &mut Steps<L>,
 ) -> Result<Option<Group>, Fault>
     requires linked { is_among (all_files files.now) file ≡ true }
-    ensures met { IfOk result (λ found. IfSome found (λ group. ForSome (F.told f.old).files (λ image. IsFirstMet (is_block_marked image file) (groups_of (blocks_of files.now file)) hint run (8 * group.number + group.place)))) }
-    ensures word { IfOk result (λ found. IfSome found (λ group. ForSome (F.told f.old).files (λ image. IsMapWord image file group.number group.word))) }
+    ensures met { IfOk result (λ found. IfSome found (λ group. ForSome (F.told folder.old).files (λ image. IsFirstMet (is_block_marked image file) (groups_of (blocks_of files.now file)) hint run (8 * group.number + group.place)))) }
+    ensures word { IfOk result (λ found. IfSome found (λ group. ForSome (F.told folder.old).files (λ image. IsMapWord image file group.number group.word))) }
     ensures run { IfOk result (λ found. IfSome found (λ group. maps.longest_run (has_bit (word_bytes group.word)) group.place ≡ run)) }
     ensures place { IfOk result (λ found. IfSome found (λ group. (group.place < 8) × (8 * group.number + group.place < groups_of (blocks_of files.now file)))) }
-    ensures none { IfOk result (λ found. found ≡ None → ForSome (F.told f.old).files (λ image. (g : ℕ) → g < groups_of (blocks_of files.now file) → maps.longest_run (is_block_marked image file) g ≢ run)) }
+    ensures none { IfOk result (λ found. found ≡ None → ForSome (F.told folder.old).files (λ image. (g : ℕ) → g < groups_of (blocks_of files.now file) → maps.longest_run (is_block_marked image file) g ≢ run)) }
     ensures most { steps.new ≤ steps.old + (blocks_of files.now file / 32 + 1) }
-    ensures once { IfOk result (λ found. IfSome found (λ group. ForSome (F.told f.old).files (λ image. 8 * group.number + group.place ≡ hint % groups_of (blocks_of files.now file) → steps.new ≡ steps.old + 1))) }
-    ensures cause { IfDamaged result (IsShortSearch files.now file (F.told f.old)) }
-    ensures untold { ForSome (F.told f.old).files (Agrees files.now) → IfDamaged result (λ _. (F.told f.old).files ≡ None) }
-    ensures stays { Stays (F.told f.old) (F.told f.new) }
-    ensures later { F.faults f.old ≤ F.faults f.new }
-    ensures device { IfDevice result (Rises (F.faults f.old) (F.faults f.new)) }
+    ensures once { IfOk result (λ found. IfSome found (λ group. ForSome (F.told folder.old).files (λ image. 8 * group.number + group.place ≡ hint % groups_of (blocks_of files.now file) → steps.new ≡ steps.old + 1))) }
+    ensures cause { IfDamaged result (IsShortSearch files.now file (F.told folder.old)) }
+    ensures untold { ForSome (F.told folder.old).files (Agrees files.now) → IfDamaged result (λ _. (F.told folder.old).files ≡ None) }
+    ensures stays { Stays (F.told folder.old) (F.told folder.new) }
+    ensures later { F.faults folder.old ≤ F.faults folder.new }
+    ensures device { IfDevice result (Rises (F.faults folder.old) (F.faults folder.new)) }
 {
     let Some(blocks) = files.max_entries(file) else {
         unreachable!();
@@ -102,7 +102,7 @@ pub(crate) fn first_met<F: Folder, L: Ledger>(
     let start = hint % (GROUPS_OF_WORD * words);
     for turn in 0..words + 1 {
         let number = (start / GROUPS_OF_WORD + turn) % words;
-        let word = files.map_word(f, file, number, steps)?;
+        let word = files.map_word(folder, file, number, steps)?;
         let bytes = word.to_le_bytes();
         if let Some(place) = group_in(&bytes, first_in(turn, start), run) {
             return Ok(Some(Group {

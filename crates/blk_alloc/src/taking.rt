@@ -22,7 +22,7 @@ use blk_io::{Fault, Folder};
 
 // Takes blocks that were found: the hint that led to them becomes the number of their group, and they are marked.
 pub(crate) fn take<F: Folder>(
-    f: &mut F,
+    folder: &mut F,
     files: &mut BlockFiles,
     kind: Kind,
     found: Found,
@@ -32,28 +32,28 @@ pub(crate) fn take<F: Folder>(
     requires node { kind_number kind ≡ rankings → found.place.count ≡ 1 }
     requires small { found.i < 4 }
     requires place { IsPlace files.old (kind_number kind) found.place.count found.place }
-    requires read { ForSome (F.told f.old).files (λ image. IsMapWord image found.place.file (found.place.start / 32) found.word) }
-    requires agrees { ForSome (F.told f.old).files (Agrees files.old) }
+    requires read { ForSome (F.told folder.old).files (λ image. IsMapWord image found.place.file (found.place.start / 32) found.word) }
+    requires agrees { ForSome (F.told folder.old).files (Agrees files.old) }
     ensures word { IfOk result (λ addr. addr ≡ address.block_word (kind_number kind) found.place.file found.place.start found.place.count) }
     ensures stands { IfOk result (λ addr. IsTrue (stands_among files.new addr)) }
     ensures keeps { KeepsStanding files.old files.new }
-    ensures counted { OnOk result (ForSome (F.told f.old).files (λ from. ForSome (F.told f.new).files (CountsUsed found.place.file found.place.start from))) }
-    ensures hint { OnOk result (ForSome (F.told f.old).files (λ from. ForSome (F.told f.new).files (HasHintAmong found.place.file found.i (found.place.start / group_size) from))) }
-    ensures used { IfOk result (λ addr. ForSome (F.told f.old).files (λ from. CanBeMarked from found.place → ForSome (F.told f.new).files (MarksUsed files.old from addr))) }
-    ensures agrees { ForSome (F.told f.new).files (Agrees files.new) }
+    ensures counted { OnOk result (ForSome (F.told folder.old).files (λ from. ForSome (F.told folder.new).files (CountsUsed found.place.file found.place.start from))) }
+    ensures hint { OnOk result (ForSome (F.told folder.old).files (λ from. ForSome (F.told folder.new).files (HasHintAmong found.place.file found.i (found.place.start / group_size) from))) }
+    ensures used { IfOk result (λ addr. ForSome (F.told folder.old).files (λ from. CanBeMarked from found.place → ForSome (F.told folder.new).files (MarksUsed files.old from addr))) }
+    ensures agrees { ForSome (F.told folder.new).files (Agrees files.new) }
     ensures links { OnOk result (KeepsLists files.old files.new) }
     ensures blocks { OnOk result (KeepsBlockCounts files.old files.new) }
     ensures long { OnOk result (HasItsBlocks files.new found.place.file) }
 
     // At each word only the length, the hint, the map and the counters of the file have changed, it is no shorter, and updating is 1 until the map and the counters are done.
-    ensures stops { ForSome (F.told f.old).files (λ from. CanBeMarked from found.place → PassesTo (F.told f.old) (F.told f.new) (MarksUsedInProgress found.place.file from) (λ image. MarksUsedInProgress found.place.file from image ⊎ (MarksUsed files.old from (address.block_word (kind_number kind) found.place.file found.place.start found.place.count) image × HasHintAmong found.place.file found.i (found.place.start / group_size) from image))) }
-    ensures silent { (F.told f.old).files ≡ None → (F.told f.new).files ≡ None }
+    ensures stops { ForSome (F.told folder.old).files (λ from. CanBeMarked from found.place → PassesTo (F.told folder.old) (F.told folder.new) (MarksUsedInProgress found.place.file from) (λ image. MarksUsedInProgress found.place.file from image ⊎ (MarksUsed files.old from (address.block_word (kind_number kind) found.place.file found.place.start found.place.count) image × HasHintAmong found.place.file found.i (found.place.start / group_size) from image))) }
+    ensures silent { (F.told folder.old).files ≡ None → (F.told folder.new).files ≡ None }
     ensures place { IsPlace files.new (kind_number kind) found.place.count found.place }
-    ensures cause { IfDamaged result (IsCause (F.told f.new) found.place.file found.place.start found.place.count true) }
-    ensures untold { IfDamaged result (λ _. ForSome (F.told f.old).files (λ image. CanBeMarked image found.place) → (F.told f.old).files ≡ None) }
-    ensures later { F.faults f.old ≤ F.faults f.new }
-    ensures device { IfDevice result (Rises (F.faults f.old) (F.faults f.new)) }
+    ensures cause { IfDamaged result (IsCause (F.told folder.new) found.place.file found.place.start found.place.count true) }
+    ensures untold { IfDamaged result (λ _. ForSome (F.told folder.old).files (λ image. CanBeMarked image found.place) → (F.told folder.old).files ≡ None) }
+    ensures later { F.faults folder.old ≤ F.faults folder.new }
+    ensures device { IfDevice result (Rises (F.faults folder.old) (F.faults folder.new)) }
 {
-    set_hint(f, found.place.file, found.i, found.place.start / GROUP)?;
-    mark(f, files, kind, found.place, found.word)
+    set_hint(folder, found.place.file, found.i, found.place.start / GROUP)?;
+    mark(folder, files, kind, found.place, found.word)
 }

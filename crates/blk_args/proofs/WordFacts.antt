@@ -63,8 +63,8 @@ plain_short (x ∷ []) plain = by_test (x == 45)
     by_test false = refl
 plain_short (x ∷ y ∷ rest) plain = ap (λ b. option_and_then short_of_rest (if b then Some (y ∷ rest) else None)) plain
 
-behind_front : (word front : List ℕ) (n : ℕ) → bytes_eq (take n word) front ≡ true → word ≡ front ++ drop n word
-behind_front word front n same = sym (take-append-drop n word) ∙ ap (λ (l : List ℕ). l ++ drop n word) ((bytes_eq-Decides (take n word) front).0 same)
+behind_prefix : (word front : List ℕ) (n : ℕ) → bytes_eq (take n word) front ≡ true → word ≡ front ++ drop n word
+behind_prefix word front n same = sym (take-append-drop n word) ∙ ap (λ (l : List ℕ). l ++ drop n word) ((bytes_eq-Decides (take n word) front).0 same)
 
 pub is_written : (word : List ℕ) → IsWritten word (word_of word)
 unfolding word_of
@@ -72,8 +72,8 @@ is_written word =
     choose word (bytes_eq word (codes "--")) _ _ (bytes_eq-Decides word (codes "--")).0 (λ no_end.
     choose word (bytes_eq word (codes "--max")) _ _ (bytes_eq-Decides word (codes "--max")).0 (λ _.
     choose word (bytes_eq word (codes "--items")) _ _ (bytes_eq-Decides word (codes "--items")).0 (λ _.
-    choose word (begins_with (codes "--max=") word) _ _ (behind_front word (codes "--max=") 6) (λ _.
-    choose word (begins_with (codes "--items=") word) _ _ (behind_front word (codes "--items=") 8) (λ _.
+    choose word (begins_with (codes "--max=") word) _ _ (behind_prefix word (codes "--max=") 6) (λ _.
+    choose word (begins_with (codes "--items=") word) _ _ (behind_prefix word (codes "--items=") 8) (λ _.
     choose word (is_dashed word) _ _ (λ _. tt) (λ plain.
     record { no_end = no_end; no_long = plain_long word plain; no_short = plain_short word plain }))))))
 

@@ -20,7 +20,7 @@ use Rattle.blk_disk.specs.declared.tables.BlockFiles.{BlockFiles}
 use Rattle.blk_disk.specs.Tables.{Agrees, is_node_among, stands_among, names_among}
 use Rattle.blk_lru.proofs.NodeWords.{stands_as_node, names_node, node_kind, node_stands, node_place}
 use Rattle.blk_audit.specs.Filling.{node_said}
-use Rattle.blk_audit.specs.Filled.{IsFilled}
+use Rattle.blk_audit.specs.Filled.{AreNodesFilled}
 use Rattle.blk_audit.specs.Nodes.{node_of, loaded_node, said_at, AreNodesOf, HasNodes}
 use Rattle.blk_audit.specs.Walking.{IsNodeWord}
 use Rattle.blk_audit.specs.declared.nodes.Node.{Node}
@@ -67,7 +67,7 @@ unfolding names_among
 address_of files w is = (and_parts (is_address w) ((kind_of w == rankings) && stands_among files w) is).0
 
 -- each node that is there was read from its place
-pub each_there : (files : BlockFiles) (image : Image) (nodes : Nodes) → ((n : ℕ) → n < 256 → IsFilled files image nodes n) → HasNodes files image
+pub each_there : (files : BlockFiles) (image : Image) (nodes : Nodes) → ((n : ℕ) → n < 256 → AreNodesFilled files image nodes n) → HasNodes files image
 each_there files image nodes filled w is =
     let kind = node_kind files w is in
     let of_file = filled (file_selector w) (AreFields-of w).file in
@@ -82,7 +82,7 @@ each_there files image nodes filled w is =
     lt_by : (a b : ℕ) → nat_lt a b ≡ true → a < b
     lt_by a b e = grind (arith, nat_tests)
 
-module _ (files : BlockFiles) (image : Image) (nodes : Nodes) (agrees : Agrees files image) (small : AreBytes image) (filled : (n : ℕ) → n < 256 → IsFilled files image nodes n) where
+module _ (files : BlockFiles) (image : Image) (nodes : Nodes) (agrees : Agrees files image) (small : AreBytes image) (filled : (n : ℕ) → n < 256 → AreNodesFilled files image nodes n) where
   no_address : (w : ℕ) → is_address w ≡ false → stands_as image rankings w ≡ false
   unfolding stands
   no_address w e = rw e refl

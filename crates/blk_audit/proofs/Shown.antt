@@ -20,7 +20,7 @@ use Rattle.blk_disk.proofs.SealedReads.{record_read}
 use Rattle.blk_disk.specs.declared.tables.BlockFiles.{BlockFiles}
 use Rattle.blk_disk.specs.Tables.{Agrees, is_record_among, stands_among, names_among}
 use Rattle.law_folder.proofs.chains.ChainWords.{same-fields, shown-of}
-use Rattle.law_folder.proofs.updates.Fronts.{AreSmall, small-take, small-range, entry_checks-front, entry_checks-by}
+use Rattle.law_folder.proofs.updates.Prefixes.{AreSmall, small-take, small-range, entry_checks-prefix, entry_checks-by}
 use Rattle.law_folder.proofs.updates.Updates.{entry-here, entry-seal}
 use Rattle.blk_io.specs.declared.folder.FileId.TheVariants as names
 use Rattle.blk_io.specs.declared.fault.Damage.{Damage}
@@ -61,7 +61,7 @@ module _ (image : Image) (w : ℕ) (small : AreBytes image) (kind : kind_of w �
       let front : AreSmall (take 92 (record_at image w)) = small-take 92 (record_at image w) (small-range (record_size w) (place w) (byte image (Block (file_selector w))) (small (Block (file_selector w)))) in
       let seal : word_at (byte image (Block (file_selector w))) (place w + 92) ≡ word_at (content (record_at image w)) 92 = sym (record_word image w 92 (omega (arith, s, seal_last (kind_of w)))) in
       entry_checks-by (entry_at image w) (entry_in (content (record_at image w)) 0) seal (entry-here image w kind)
-      ∙ entry_checks-front (record_at image w) front (omega (arith, s, length-record w image))
+      ∙ entry_checks-prefix (record_at image w) front (omega (arith, s, length-record w image))
 
   -- the bytes that are read check where the record does
   pub checks_read : (bytes : List ℕ) → bytes ≡ range_at (byte image (Block (file_selector w))) (place w + 0) 96 → checks 92 bytes ≡ entry_checks (entry_at image w)

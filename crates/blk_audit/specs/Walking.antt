@@ -60,6 +60,6 @@ pub record HasEnds (files : BlockFiles) (image : Image) : Type 0 where
   pub flight : HasFlight files image
 
 -- what is read of the LRU list is there: the nodes that are there, and its ends
-pub record HasUseList (files : BlockFiles) (image : Image) : Type 0 where
+pub record HasLruList (files : BlockFiles) (image : Image) : Type 0 where
   pub nodes : HasNodes files image
   pub ends : HasEnds files image

@@ -50,7 +50,7 @@ fn add_nodes(nodes: &mut Vec<Node>, bytes: &[u8], count: usize) -> Result<(), No
 
 // Reads so many nodes of a file from one on into a buffer of their size, by one folder call, and adds them.
 fn read_piece<F: Folder>(
-    f: &mut F,
+    folder: &mut F,
     file: u8,
     first: u32,
     count: usize,
@@ -59,42 +59,42 @@ fn read_piece<F: Folder>(
 ) -> Result<(), ScanFault>
     requires few { count ≤ nodes_of_piece }
     requires size { length bytes.old ≡ node_size * count }
-    ensures nodes { OnOk result (ForSome (F.told f.old).files (λ image. nodes.new.items ≡ nodes.old.items ++ nodes_from (byte image (block file)) (header_size + first * node_size) count)) }
-    ensures checked { OnOk result (ForSome (F.told f.old).files (λ image. 0 < count → HasRange image (block file) (header_size + first * node_size) (node_size * count))) }
-    ensures stays { Stays (F.told f.old) (F.told f.new) }
-    ensures damaged { IfScanDamaged result (IsShortOfNodes (F.told f.new) file) }
-    ensures untold { ForSome (F.told f.new).files (λ image. HasRange image (block file) (header_size + first * node_size) (node_size * count)) → IfScanDamaged result (λ _. (F.told f.new).files ≡ None) }
-    ensures later { F.faults f.old ≤ F.faults f.new }
-    ensures device { IfScanDevice result (Rises (F.faults f.old) (F.faults f.new)) }
+    ensures nodes { OnOk result (ForSome (F.told folder.old).files (λ image. nodes.new.items ≡ nodes.old.items ++ nodes_from (byte image (block file)) (header_size + first * node_size) count)) }
+    ensures checked { OnOk result (ForSome (F.told folder.old).files (λ image. 0 < count → HasRange image (block file) (header_size + first * node_size) (node_size * count))) }
+    ensures stays { Stays (F.told folder.old) (F.told folder.new) }
+    ensures damaged { IfScanDamaged result (IsShortOfNodes (F.told folder.new) file) }
+    ensures untold { ForSome (F.told folder.new).files (λ image. HasRange image (block file) (header_size + first * node_size) (node_size * count)) → IfScanDamaged result (λ _. (F.told folder.new).files ≡ None) }
+    ensures later { F.faults folder.old ≤ F.faults folder.new }
+    ensures device { IfScanDevice result (Rises (F.faults folder.old) (F.faults folder.new)) }
 {
     let at = BlockHead::HEADER_LEN + u64::from(first) * NodeView::SIZE as u64;
-    read_exact(f, FileId::Block(file), at, bytes)?;
+    read_exact(folder, FileId::Block(file), at, bytes)?;
     add_nodes(nodes, bytes, count)?;
     Ok(())
 }
 
 // Reads the first nodes of a file, piece after piece, and adds them.
 pub(crate) fn read_file<F: Folder>(
-    f: &mut F,
+    folder: &mut F,
     file: u8,
     count: u32,
     nodes: &mut Vec<Node>,
 ) -> Result<(), ScanFault>
     requires few { count ≤ 65536 }
-    ensures nodes { OnOk result (ForSome (F.told f.old).files (λ image. nodes.new.items ≡ nodes.old.items ++ nodes_from (byte image (block file)) header_size count)) }
-    ensures checked { OnOk result (ForSome (F.told f.old).files (λ image. 0 < count → HasRange image (block file) header_size (node_size * count))) }
-    ensures stays { Stays (F.told f.old) (F.told f.new) }
-    ensures damaged { IfScanDamaged result (IsShortOfNodes (F.told f.new) file) }
-    ensures untold { ForSome (F.told f.new).files (λ image. 0 < count → HasRange image (block file) header_size (node_size * count)) → IfScanDamaged result (λ _. (F.told f.new).files ≡ None) }
-    ensures later { F.faults f.old ≤ F.faults f.new }
-    ensures device { IfScanDevice result (Rises (F.faults f.old) (F.faults f.new)) }
+    ensures nodes { OnOk result (ForSome (F.told folder.old).files (λ image. nodes.new.items ≡ nodes.old.items ++ nodes_from (byte image (block file)) header_size count)) }
+    ensures checked { OnOk result (ForSome (F.told folder.old).files (λ image. 0 < count → HasRange image (block file) header_size (node_size * count))) }
+    ensures stays { Stays (F.told folder.old) (F.told folder.new) }
+    ensures damaged { IfScanDamaged result (IsShortOfNodes (F.told folder.new) file) }
+    ensures untold { ForSome (F.told folder.new).files (λ image. 0 < count → HasRange image (block file) header_size (node_size * count)) → IfScanDamaged result (λ _. (F.told folder.new).files ≡ None) }
+    ensures later { F.faults folder.old ≤ F.faults folder.new }
+    ensures device { IfScanDevice result (Rises (F.faults folder.old) (F.faults folder.new)) }
 {
     let mut buffer = [0u8; NodeView::SIZE * NODES_OF_PIECE];
     let mut first: u32 = 0;
     while first < count {
         let piece = piece_from(first, count);
         let bytes = &mut buffer[..NodeView::SIZE * piece as usize];
-        read_piece(f, file, first, piece as usize, bytes, nodes)?;
+        read_piece(folder, file, first, piece as usize, bytes, nodes)?;
         first += piece;
     }
     Ok(())

@@ -57,20 +57,20 @@ impl Lists {
     /// The record of a valid address: it was read with the lists, or its words are read by one folder call.
     pub fn record_at<F: Folder>(
         &self,
-        f: &mut F,
+        folder: &mut F,
         files: &BlockFiles,
         entry: Addr,
     ) -> Result<ReadRecord, Fault>
         requires kind { kind_of entry ≡ blocks_256 }
         requires stands { IsTrue (stands_among files.now entry) }
-        ensures said { IfOk result (λ said. ForSome (F.told f.old).files (λ image. AreListsOf image self.now → IsSaidBy image entry said)) }
-        ensures stays { Stays (F.told f.old) (F.told f.new) }
-        ensures damaged { IfDamaged result (IsRecordDamage files.now (F.told f.new)) }
-        ensures untold { ForSome (F.told f.new).files (Agrees files.now) → IfDamaged result (λ _. (F.told f.new).files ≡ None) }
-        ensures later { F.faults f.old ≤ F.faults f.new }
-        ensures device { IfDevice result (Rises (F.faults f.old) (F.faults f.new)) }
+        ensures said { IfOk result (λ said. ForSome (F.told folder.old).files (λ image. AreListsOf image self.now → IsSaidBy image entry said)) }
+        ensures stays { Stays (F.told folder.old) (F.told folder.new) }
+        ensures damaged { IfDamaged result (IsRecordDamage files.now (F.told folder.new)) }
+        ensures untold { ForSome (F.told folder.new).files (Agrees files.now) → IfDamaged result (λ _. (F.told folder.new).files ≡ None) }
+        ensures later { F.faults folder.old ≤ F.faults folder.new }
+        ensures device { IfDevice result (Rises (F.faults folder.old) (F.faults folder.new)) }
     {
-        record_of(f, files, &self.records, entry)
+        record_of(folder, files, &self.records, entry)
     }
 
     /// Whether the node of a word is walked and names a record.

@@ -39,7 +39,7 @@ pub(crate) struct Nodes {
 }
 
 impl Nodes {
-    ghost use Rattle.blk_audit.specs.Filled.{CountStands, IsFilled};
+    ghost use Rattle.blk_audit.specs.Filled.{CountStands, AreNodesFilled};
     ghost use Rattle.blk_audit.specs.Nodes.{node_of};
 
     // No nodes.
@@ -54,25 +54,25 @@ impl Nodes {
     // Reads the nodes of a file, and adds them.
     pub(crate) fn add_file<F: Folder>(
         &mut self,
-        f: &mut F,
+        folder: &mut F,
         files: &BlockFiles,
         file: u8,
     ) -> Result<(), ScanFault>
-        ensures here { OnOk result (ForSome (F.told f.old).files (λ image. IsFilled files.now image self.new file)) }
-        ensures others { OnOk result (ForSome (F.told f.old).files (λ image. (n : ℕ) → n ≢ file → IsFilled files.now image self.old n → IsFilled files.now image self.new n)) }
+        ensures here { OnOk result (ForSome (F.told folder.old).files (λ image. AreNodesFilled files.now image self.new file)) }
+        ensures others { OnOk result (ForSome (F.told folder.old).files (λ image. (n : ℕ) → n ≢ file → AreNodesFilled files.now image self.old n → AreNodesFilled files.now image self.new n)) }
         ensures counted { OnOk result (CountStands files.now self.new file) }
         ensures others_counted { OnOk result ((n : ℕ) → n ≢ file → CountStands files.now self.old n → CountStands files.now self.new n) }
-        ensures stays { Stays (F.told f.old) (F.told f.new) }
-        ensures damaged { IfScanDamaged result (IsNodesDamage (F.told f.new)) }
-        ensures untold { ForSome (F.told f.new).files (Agrees files.now) → IfScanDamaged result (λ _. (F.told f.new).files ≡ None) }
-        ensures later { F.faults f.old ≤ F.faults f.new }
-        ensures device { IfScanDevice result (Rises (F.faults f.old) (F.faults f.new)) }
+        ensures stays { Stays (F.told folder.old) (F.told folder.new) }
+        ensures damaged { IfScanDamaged result (IsNodesDamage (F.told folder.new)) }
+        ensures untold { ForSome (F.told folder.new).files (Agrees files.now) → IfScanDamaged result (λ _. (F.told folder.new).files ≡ None) }
+        ensures later { F.faults folder.old ≤ F.faults folder.new }
+        ensures device { IfScanDevice result (Rises (F.faults folder.old) (F.faults folder.new)) }
     {
         let count = count_there(files, file);
         let Ok(begin) = u32::try_from(self.nodes.as_slice().len()) else {
             return Err(ScanFault::Memory);
         };
-        read_file(f, file, count, &mut self.nodes)?;
+        read_file(folder, file, count, &mut self.nodes)?;
         self.begins[usize::from(file)] = begin;
         self.counts[usize::from(file)] = count;
         Ok(())

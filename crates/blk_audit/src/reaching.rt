@@ -153,93 +153,93 @@ impl Reached {
 /// call.
 pub fn chains<F: Folder>(
     alloc: Global,
-    f: &mut F,
+    folder: &mut F,
     files: &BlockFiles,
     named: &Claims,
 ) -> Result<Reached, ScanFault>
-    ensures reached { IfOk result (λ reached. ForSome (F.told f.old).files (λ image. Agrees files.now image → words_reached reached ≡ reached_by (store_of image) table_length)) }
-    ensures buckets { IfOk result (λ reached. ForSome (F.told f.old).files (λ image. Agrees files.now image → AreBucketsOf (store_of image) reached)) }
+    ensures reached { IfOk result (λ reached. ForSome (F.told folder.old).files (λ image. Agrees files.now image → words_reached reached ≡ reached_by (store_of image) table_length)) }
+    ensures buckets { IfOk result (λ reached. ForSome (F.told folder.old).files (λ image. Agrees files.now image → AreBucketsOf (store_of image) reached)) }
     ensures met { IfOk result AreReached }
     ensures stand { IfOk result (λ reached. RecordsStand files.now (words_reached reached)) }
     ensures ends { IfOk result HasBuckets }
-    ensures checked { IfOk result (λ reached. ForSome (F.told f.old).files (λ image. AreChainsThere files.now image (words_reached reached))) }
-    ensures stays { Stays (F.told f.old) (F.told f.new) }
+    ensures checked { IfOk result (λ reached. ForSome (F.told folder.old).files (λ image. AreChainsThere files.now image (words_reached reached))) }
+    ensures stays { Stays (F.told folder.old) (F.told folder.new) }
 
     // An observable folder reports corruption only where its index is too short or the block files don't agree with it.
-    ensures damaged { IfScanDamaged result (IsChainsDamage files.now (F.told f.new)) }
-    ensures untold { ForSome (F.told f.old).files (IsOpen files.now) → IfScanDamaged result (λ _. (F.told f.old).files ≡ None) }
+    ensures damaged { IfScanDamaged result (IsChainsDamage files.now (F.told folder.new)) }
+    ensures untold { ForSome (F.told folder.old).files (IsOpen files.now) → IfScanDamaged result (λ _. (F.told folder.old).files ≡ None) }
 
-    ensures later { F.faults f.old ≤ F.faults f.new }
-    ensures device { IfScanDevice result (Rises (F.faults f.old) (F.faults f.new)) }
+    ensures later { F.faults folder.old ≤ F.faults folder.new }
+    ensures device { IfScanDevice result (Rises (F.faults folder.old) (F.faults folder.new)) }
 {
-    let records = read_records(alloc, f, files, named)?;
-    chains_over(alloc, f, files, &records)
+    let records = read_records(alloc, folder, files, named)?;
+    chains_over(alloc, folder, files, &records)
 }
 
 // Follows the chains, where these records were read before.
 pub(crate) fn chains_over<F: Folder>(
     alloc: Global,
-    f: &mut F,
+    folder: &mut F,
     files: &BlockFiles,
     records: &Records,
 ) -> Result<Reached, ScanFault>
-    requires records { ForSome (F.told f.old).files (λ image. AreRecordsOf image records.now) }
-    ensures reached { IfOk result (λ reached. ForSome (F.told f.old).files (λ image. Agrees files.now image → words_reached reached ≡ reached_by (store_of image) table_length)) }
-    ensures buckets { IfOk result (λ reached. ForSome (F.told f.old).files (λ image. Agrees files.now image → AreBucketsOf (store_of image) reached)) }
+    requires records { ForSome (F.told folder.old).files (λ image. AreRecordsOf image records.now) }
+    ensures reached { IfOk result (λ reached. ForSome (F.told folder.old).files (λ image. Agrees files.now image → words_reached reached ≡ reached_by (store_of image) table_length)) }
+    ensures buckets { IfOk result (λ reached. ForSome (F.told folder.old).files (λ image. Agrees files.now image → AreBucketsOf (store_of image) reached)) }
     ensures met { IfOk result AreReached }
     ensures stand { IfOk result (λ reached. RecordsStand files.now (words_reached reached)) }
     ensures ends { IfOk result HasBuckets }
-    ensures checked { IfOk result (λ reached. ForSome (F.told f.old).files (λ image. AreChainsThere files.now image (words_reached reached))) }
-    ensures stays { Stays (F.told f.old) (F.told f.new) }
-    ensures damaged { IfScanDamaged result (IsChainsDamage files.now (F.told f.new)) }
-    ensures untold { ForSome (F.told f.old).files (IsOpen files.now) → IfScanDamaged result (λ _. (F.told f.old).files ≡ None) }
-    ensures later { F.faults f.old ≤ F.faults f.new }
-    ensures device { IfScanDevice result (Rises (F.faults f.old) (F.faults f.new)) }
+    ensures checked { IfOk result (λ reached. ForSome (F.told folder.old).files (λ image. AreChainsThere files.now image (words_reached reached))) }
+    ensures stays { Stays (F.told folder.old) (F.told folder.new) }
+    ensures damaged { IfScanDamaged result (IsChainsDamage files.now (F.told folder.new)) }
+    ensures untold { ForSome (F.told folder.old).files (IsOpen files.now) → IfScanDamaged result (λ _. (F.told folder.old).files ≡ None) }
+    ensures later { F.faults folder.old ≤ F.faults folder.new }
+    ensures device { IfScanDevice result (Rises (F.faults folder.old) (F.faults folder.new)) }
 {
     let mut reached = Reached::none(alloc);
     for piece in 0..PIECES {
         let first = piece * BUCKETS_OF_PIECE as u16;
-        follow_piece(f, files, records, first, &mut reached)?;
+        follow_piece(folder, files, records, first, &mut reached)?;
     }
     Ok(reached)
 }
 
 // Follows the chains of a piece of the table, from a bucket one on, where those before it were followed.
 fn follow_piece<F: Folder>(
-    f: &mut F,
+    folder: &mut F,
     files: &BlockFiles,
     records: &Records,
     first: u16,
     reached: &mut Reached,
 ) -> Result<(), ScanFault>
     requires inside { first + buckets_of_piece ≤ table_length }
-    requires records { ForSome (F.told f.old).files (λ image. AreRecordsOf image records.now) }
+    requires records { ForSome (F.told folder.old).files (λ image. AreRecordsOf image records.now) }
     requires met { AreReached reached.old }
-    requires there { ForSome (F.told f.old).files (λ image. HasFirst files.now image (words_reached reached.old) first) }
-    requires before { ForSome (F.told f.old).files (λ image. Agrees files.now image → AreFirstReached (store_of image) first reached.old) }
+    requires there { ForSome (F.told folder.old).files (λ image. HasFirst files.now image (words_reached reached.old) first) }
+    requires before { ForSome (F.told folder.old).files (λ image. Agrees files.now image → AreFirstReached (store_of image) first reached.old) }
     requires stand { RecordsStand files.now (words_reached reached.old) }
     requires many { length reached.old.ends.items ≡ first }
     ensures met { OnOk result (AreReached reached.new) }
-    ensures checked { OnOk result (ForSome (F.told f.old).files (λ image. HasFirst files.now image (words_reached reached.new) (first + buckets_of_piece))) }
-    ensures table { OnOk result (ForSome (F.told f.old).files (λ image. HasRange image index (place_of_bucket first) table_piece_length)) }
-    ensures reached { OnOk result (ForSome (F.told f.old).files (λ image. Agrees files.now image → AreFirstReached (store_of image) (first + buckets_of_piece) reached.new)) }
+    ensures checked { OnOk result (ForSome (F.told folder.old).files (λ image. HasFirst files.now image (words_reached reached.new) (first + buckets_of_piece))) }
+    ensures table { OnOk result (ForSome (F.told folder.old).files (λ image. HasRange image index (place_of_bucket first) table_piece_length)) }
+    ensures reached { OnOk result (ForSome (F.told folder.old).files (λ image. Agrees files.now image → AreFirstReached (store_of image) (first + buckets_of_piece) reached.new)) }
     ensures stand { OnOk result (RecordsStand files.now (words_reached reached.new)) }
     ensures many { OnOk result (length reached.new.ends.items ≡ first + buckets_of_piece) }
-    ensures stays { Stays (F.told f.old) (F.told f.new) }
-    ensures damaged { IfScanDamaged result (IsChainsDamage files.now (F.told f.new)) }
-    ensures untold { ForSome (F.told f.new).files (IsOpen files.now) → IfScanDamaged result (λ _. (F.told f.new).files ≡ None) }
-    ensures later { F.faults f.old ≤ F.faults f.new }
-    ensures device { IfScanDevice result (Rises (F.faults f.old) (F.faults f.new)) }
+    ensures stays { Stays (F.told folder.old) (F.told folder.new) }
+    ensures damaged { IfScanDamaged result (IsChainsDamage files.now (F.told folder.new)) }
+    ensures untold { ForSome (F.told folder.new).files (IsOpen files.now) → IfScanDamaged result (λ _. (F.told folder.new).files ≡ None) }
+    ensures later { F.faults folder.old ≤ F.faults folder.new }
+    ensures device { IfScanDevice result (Rises (F.faults folder.old) (F.faults folder.new)) }
 {
     let mut table = [0u32; BUCKETS_OF_PIECE];
-    buckets(f, first, &mut table)?;
-    follow_all(f, files, records, first, &table, reached)?;
+    buckets(folder, first, &mut table)?;
+    follow_all(folder, files, records, first, &table, reached)?;
     Ok(())
 }
 
 // Follows the chains of neighbouring buckets from one on, by their words of the table.
 fn follow_all<F: Folder>(
-    f: &mut F,
+    folder: &mut F,
     files: &BlockFiles,
     records: &Records,
     first: u16,
@@ -247,27 +247,27 @@ fn follow_all<F: Folder>(
     reached: &mut Reached,
 ) -> Result<(), ScanFault>
     requires inside { first + length table.now ≤ table_length }
-    requires records { ForSome (F.told f.old).files (λ image. AreRecordsOf image records.now) }
-    requires words { ForSome (F.told f.old).files (λ image. AreBuckets image first table.now) }
+    requires records { ForSome (F.told folder.old).files (λ image. AreRecordsOf image records.now) }
+    requires words { ForSome (F.told folder.old).files (λ image. AreBuckets image first table.now) }
     requires met { AreReached reached.old }
-    requires there { ForSome (F.told f.old).files (λ image. HasFirst files.now image (words_reached reached.old) first) }
-    requires before { ForSome (F.told f.old).files (λ image. Agrees files.now image → AreFirstReached (store_of image) first reached.old) }
+    requires there { ForSome (F.told folder.old).files (λ image. HasFirst files.now image (words_reached reached.old) first) }
+    requires before { ForSome (F.told folder.old).files (λ image. Agrees files.now image → AreFirstReached (store_of image) first reached.old) }
     requires stand { RecordsStand files.now (words_reached reached.old) }
     requires many { length reached.old.ends.items ≡ first }
     ensures met { OnOk result (AreReached reached.new) }
-    ensures checked { OnOk result (ForSome (F.told f.old).files (λ image. HasFirst files.now image (words_reached reached.new) (first + length table.now))) }
-    ensures reached { OnOk result (ForSome (F.told f.old).files (λ image. Agrees files.now image → AreFirstReached (store_of image) (first + length table.now) reached.new)) }
+    ensures checked { OnOk result (ForSome (F.told folder.old).files (λ image. HasFirst files.now image (words_reached reached.new) (first + length table.now))) }
+    ensures reached { OnOk result (ForSome (F.told folder.old).files (λ image. Agrees files.now image → AreFirstReached (store_of image) (first + length table.now) reached.new)) }
     ensures stand { OnOk result (RecordsStand files.now (words_reached reached.new)) }
     ensures many { OnOk result (length reached.new.ends.items ≡ first + length table.now) }
-    ensures stays { Stays (F.told f.old) (F.told f.new) }
-    ensures damaged { IfScanDamaged result (IsRecordDamage files.now (F.told f.new)) }
-    ensures untold { ForSome (F.told f.new).files (Agrees files.now) → IfScanDamaged result (λ _. (F.told f.new).files ≡ None) }
-    ensures later { F.faults f.old ≤ F.faults f.new }
-    ensures device { IfScanDevice result (Rises (F.faults f.old) (F.faults f.new)) }
+    ensures stays { Stays (F.told folder.old) (F.told folder.new) }
+    ensures damaged { IfScanDamaged result (IsRecordDamage files.now (F.told folder.new)) }
+    ensures untold { ForSome (F.told folder.new).files (Agrees files.now) → IfScanDamaged result (λ _. (F.told folder.new).files ≡ None) }
+    ensures later { F.faults folder.old ≤ F.faults folder.new }
+    ensures device { IfScanDevice result (Rises (F.faults folder.old) (F.faults folder.new)) }
 {
     for i in 0..table.len() {
         let bucket = u32::from(first) + i as u32;
-        let end = follow(f, files, records, bucket, table[i], reached)?;
+        let end = follow(folder, files, records, bucket, table[i], reached)?;
         reached.end_bucket(end == 0)?;
     }
     Ok(())
@@ -276,7 +276,7 @@ fn follow_all<F: Folder>(
 // Follows the chain of a bucket from a word on, and adds the records that it reaches. Those reached before are of
 // earlier buckets. Gives the word at which the chain ends.
 fn follow<F: Folder>(
-    f: &mut F,
+    folder: &mut F,
     files: &BlockFiles,
     records: &Records,
     bucket: u32,
@@ -284,28 +284,28 @@ fn follow<F: Folder>(
     reached: &mut Reached,
 ) -> Result<u32, ScanFault>
     requires bucket { bucket < table_length }
-    requires records { ForSome (F.told f.old).files (λ image. AreRecordsOf image records.now) }
+    requires records { ForSome (F.told folder.old).files (λ image. AreRecordsOf image records.now) }
     requires met { AreReached reached.old }
-    requires there { ForSome (F.told f.old).files (λ image. HasRecords files.now image (words_reached reached.old)) }
+    requires there { ForSome (F.told folder.old).files (λ image. HasRecords files.now image (words_reached reached.old)) }
     requires stand { RecordsStand files.now (words_reached reached.old) }
-    requires others { ForSome (F.told f.old).files (λ image. Agrees files.now image → AreOfFirst (store_of image) bucket (words_reached reached.old)) }
+    requires others { ForSome (F.told folder.old).files (λ image. Agrees files.now image → AreOfFirst (store_of image) bucket (words_reached reached.old)) }
     ensures met { OnOk result (AreReached reached.new) }
-    ensures checked { OnOk result (ForSome (F.told f.old).files (λ image. HasRecords files.now image (words_reached reached.new))) }
-    ensures looked { OnOk result (ForSome (F.told f.old).files (λ image. IsLookedAt files.now image (words_reached reached.new) start)) }
-    ensures more { OnOk result (ForSome (F.told f.old).files (λ image. length (words_reached reached.old) ≤ length (words_reached reached.new))) }
-    ensures reached { OnOk result (ForSome (F.told f.old).files (λ image. Agrees files.now image → words_reached reached.new ≡ words_reached reached.old ++ (chain_from (store_of image) bucket most_records [] start).reached)) }
-    ensures end { IfOk result (λ end. ForSome (F.told f.old).files (λ image. Agrees files.now image → end ≡ (chain_from (store_of image) bucket most_records [] start).end)) }
+    ensures checked { OnOk result (ForSome (F.told folder.old).files (λ image. HasRecords files.now image (words_reached reached.new))) }
+    ensures looked { OnOk result (ForSome (F.told folder.old).files (λ image. IsLookedAt files.now image (words_reached reached.new) start)) }
+    ensures more { OnOk result (ForSome (F.told folder.old).files (λ image. length (words_reached reached.old) ≤ length (words_reached reached.new))) }
+    ensures reached { OnOk result (ForSome (F.told folder.old).files (λ image. Agrees files.now image → words_reached reached.new ≡ words_reached reached.old ++ (chain_from (store_of image) bucket most_records [] start).reached)) }
+    ensures end { IfOk result (λ end. ForSome (F.told folder.old).files (λ image. Agrees files.now image → end ≡ (chain_from (store_of image) bucket most_records [] start).end)) }
     ensures stand { OnOk result (RecordsStand files.now (words_reached reached.new)) }
     ensures ends { OnOk result (KeepsEnds reached.old reached.new) }
-    ensures stays { Stays (F.told f.old) (F.told f.new) }
-    ensures damaged { IfScanDamaged result (IsRecordDamage files.now (F.told f.new)) }
-    ensures untold { ForSome (F.told f.new).files (Agrees files.now) → IfScanDamaged result (λ _. (F.told f.new).files ≡ None) }
-    ensures later { F.faults f.old ≤ F.faults f.new }
-    ensures device { IfScanDevice result (Rises (F.faults f.old) (F.faults f.new)) }
+    ensures stays { Stays (F.told folder.old) (F.told folder.new) }
+    ensures damaged { IfScanDamaged result (IsRecordDamage files.now (F.told folder.new)) }
+    ensures untold { ForSome (F.told folder.new).files (Agrees files.now) → IfScanDamaged result (λ _. (F.told folder.new).files ≡ None) }
+    ensures later { F.faults folder.old ≤ F.faults folder.new }
+    ensures device { IfScanDevice result (Rises (F.faults folder.old) (F.faults folder.new)) }
 {
     let mut word = start;
     for i in 0..MOST_RECORDS {
-        match reach(f, files, records, bucket, reached, word)? {
+        match reach(folder, files, records, bucket, reached, word)? {
             Some(next) => word = next,
             None => return Ok(word),
         }
@@ -316,7 +316,7 @@ fn follow<F: Folder>(
 // Reaches the record of a word, where there is one whose first block was not met, that checks, and is of the bucket.
 // Gives its next.
 fn reach<F: Folder>(
-    f: &mut F,
+    folder: &mut F,
     files: &BlockFiles,
     records: &Records,
     bucket: u32,
@@ -324,21 +324,21 @@ fn reach<F: Folder>(
     word: u32,
 ) -> Result<Option<u32>, ScanFault>
     requires bucket { bucket < table_length }
-    requires records { ForSome (F.told f.old).files (λ image. AreRecordsOf image records.now) }
+    requires records { ForSome (F.told folder.old).files (λ image. AreRecordsOf image records.now) }
     requires met { AreReached reached.old }
-    requires there { ForSome (F.told f.old).files (λ image. AreReachedThere files.now image (words_reached reached.old)) }
+    requires there { ForSome (F.told folder.old).files (λ image. AreReachedThere files.now image (words_reached reached.old)) }
     requires stand { RecordsStand files.now (words_reached reached.old) }
     ensures met { OnOk result (AreReached reached.new) }
     ensures stand { OnOk result (RecordsStand files.now (words_reached reached.new)) }
     ensures ends { OnOk result (KeepsEnds reached.old reached.new) }
-    ensures checked { OnOk result (ForSome (F.told f.old).files (λ image. HasEntry files.now image word)) }
-    ensures taken { IfOk result (λ next. ForSome (F.told f.old).files (λ image. IsStepTaken files.now image (words_reached reached.old) word (words_reached reached.new) next)) }
-    ensures step { IfOk result (λ next. ForSome (F.told f.old).files (λ image. Agrees files.now image → IsReach (store_of image) bucket (words_reached reached.old) word (words_reached reached.new) next)) }
-    ensures stays { Stays (F.told f.old) (F.told f.new) }
-    ensures damaged { IfScanDamaged result (IsRecordDamage files.now (F.told f.new)) }
-    ensures untold { ForSome (F.told f.new).files (Agrees files.now) → IfScanDamaged result (λ _. (F.told f.new).files ≡ None) }
-    ensures later { F.faults f.old ≤ F.faults f.new }
-    ensures device { IfScanDevice result (Rises (F.faults f.old) (F.faults f.new)) }
+    ensures checked { OnOk result (ForSome (F.told folder.old).files (λ image. HasEntry files.now image word)) }
+    ensures taken { IfOk result (λ next. ForSome (F.told folder.old).files (λ image. IsStepTaken files.now image (words_reached reached.old) word (words_reached reached.new) next)) }
+    ensures step { IfOk result (λ next. ForSome (F.told folder.old).files (λ image. Agrees files.now image → IsReach (store_of image) bucket (words_reached reached.old) word (words_reached reached.new) next)) }
+    ensures stays { Stays (F.told folder.old) (F.told folder.new) }
+    ensures damaged { IfScanDamaged result (IsRecordDamage files.now (F.told folder.new)) }
+    ensures untold { ForSome (F.told folder.new).files (Agrees files.now) → IfScanDamaged result (λ _. (F.told folder.new).files ≡ None) }
+    ensures later { F.faults folder.old ≤ F.faults folder.new }
+    ensures device { IfScanDevice result (Rises (F.faults folder.old) (F.faults folder.new)) }
 {
     let Some(addr) = files.entry(word) else {
         return Ok(None);
@@ -346,7 +346,7 @@ fn reach<F: Folder>(
     if reached.has(addr) {
         return Ok(None);
     }
-    let said = record_of(f, files, records, addr)?;
+    let said = record_of(folder, files, records, addr)?;
     if !said.words.checks {
         return Ok(None);
     }

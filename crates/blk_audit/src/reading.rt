@@ -17,21 +17,21 @@ use std::alloc::Global;
 // Reads the nodes that are there, file after file, each file in pieces.
 pub(crate) fn read_nodes<F: Folder>(
     alloc: Global,
-    f: &mut F,
+    folder: &mut F,
     files: &BlockFiles,
 ) -> Result<Nodes, ScanFault>
-    ensures nodes { IfOk result (λ nodes. ForSome (F.told f.old).files (λ image. Agrees files.now image → AreNodesOf image nodes)) }
-    ensures checked { OnOk result (ForSome (F.told f.old).files (HasNodes files.now)) }
+    ensures nodes { IfOk result (λ nodes. ForSome (F.told folder.old).files (λ image. Agrees files.now image → AreNodesOf image nodes)) }
+    ensures checked { OnOk result (ForSome (F.told folder.old).files (HasNodes files.now)) }
     ensures counted { IfOk result (CountsStand files.now) }
-    ensures stays { Stays (F.told f.old) (F.told f.new) }
-    ensures damaged { IfScanDamaged result (IsNodesDamage (F.told f.new)) }
-    ensures untold { ForSome (F.told f.old).files (Agrees files.now) → IfScanDamaged result (λ _. (F.told f.old).files ≡ None) }
-    ensures later { F.faults f.old ≤ F.faults f.new }
-    ensures device { IfScanDevice result (Rises (F.faults f.old) (F.faults f.new)) }
+    ensures stays { Stays (F.told folder.old) (F.told folder.new) }
+    ensures damaged { IfScanDamaged result (IsNodesDamage (F.told folder.new)) }
+    ensures untold { ForSome (F.told folder.old).files (Agrees files.now) → IfScanDamaged result (λ _. (F.told folder.old).files ≡ None) }
+    ensures later { F.faults folder.old ≤ F.faults folder.new }
+    ensures device { IfScanDevice result (Rises (F.faults folder.old) (F.faults folder.new)) }
 {
     let mut nodes = Nodes::none(alloc);
     for n in 0..BLOCK_FILES as u32 {
-        nodes.add_file(f, files, n as u8)?;
+        nodes.add_file(folder, files, n as u8)?;
     }
     Ok(nodes)
 }

@@ -125,25 +125,25 @@ impl Records {
     // Reads a piece of a file that lies in it, by one folder call, and adds its records; no call where it has none.
     fn read_piece<F: Folder>(
         &mut self,
-        f: &mut F,
+        folder: &mut F,
         named: &Claims,
         file: u8,
         first: u32,
     ) -> Result<(), ScanFault>
         requires inside { first + blocks_of_piece ≤ 65536 }
-        ensures records { OnOk result (ForSome (F.told f.old).files (λ image. AreRecordsOf image self.old → AreRecordsOf image self.new)) }
-        ensures stays { Stays (F.told f.old) (F.told f.new) }
-        ensures damaged { IfScanDamaged result (IsRecordsDamage (F.told f.new)) }
-        ensures untold { ForSome (F.told f.new).files (λ image. HasRange image (block file) (header_size + first * record_block_size) piece_length) → IfScanDamaged result (λ _. (F.told f.new).files ≡ None) }
-        ensures later { F.faults f.old ≤ F.faults f.new }
-        ensures device { IfScanDevice result (Rises (F.faults f.old) (F.faults f.new)) }
+        ensures records { OnOk result (ForSome (F.told folder.old).files (λ image. AreRecordsOf image self.old → AreRecordsOf image self.new)) }
+        ensures stays { Stays (F.told folder.old) (F.told folder.new) }
+        ensures damaged { IfScanDamaged result (IsRecordsDamage (F.told folder.new)) }
+        ensures untold { ForSome (F.told folder.new).files (λ image. HasRange image (block file) (header_size + first * record_block_size) piece_length) → IfScanDamaged result (λ _. (F.told folder.new).files ≡ None) }
+        ensures later { F.faults folder.old ≤ F.faults folder.new }
+        ensures device { IfScanDevice result (Rises (F.faults folder.old) (F.faults folder.new)) }
     {
         if !has_named(named, file, first) {
             return Ok(());
         }
         let mut bytes = [0u8; PIECE];
         let at = BlockHead::HEADER_LEN + u64::from(first) * BLOCK as u64;
-        read_exact(f, FileId::Block(file), at, &mut bytes)?;
+        read_exact(folder, FileId::Block(file), at, &mut bytes)?;
         self.add_piece(named, file, first, &bytes)?;
         Ok(())
     }
@@ -151,17 +151,17 @@ impl Records {
     // Reads the pieces of a file that have a named block, up to the first that does not lie in it.
     fn read_file<F: Folder>(
         &mut self,
-        f: &mut F,
+        folder: &mut F,
         files: &BlockFiles,
         named: &Claims,
         file: u8,
     ) -> Result<(), ScanFault>
-        ensures records { OnOk result (ForSome (F.told f.old).files (λ image. AreRecordsOf image self.old → AreRecordsOf image self.new)) }
-        ensures stays { Stays (F.told f.old) (F.told f.new) }
-        ensures damaged { IfScanDamaged result (IsRecordsDamage (F.told f.new)) }
-        ensures untold { ForSome (F.told f.new).files (Agrees files.now) → IfScanDamaged result (λ _. (F.told f.new).files ≡ None) }
-        ensures later { F.faults f.old ≤ F.faults f.new }
-        ensures device { IfScanDevice result (Rises (F.faults f.old) (F.faults f.new)) }
+        ensures records { OnOk result (ForSome (F.told folder.old).files (λ image. AreRecordsOf image self.old → AreRecordsOf image self.new)) }
+        ensures stays { Stays (F.told folder.old) (F.told folder.new) }
+        ensures damaged { IfScanDamaged result (IsRecordsDamage (F.told folder.new)) }
+        ensures untold { ForSome (F.told folder.new).files (Agrees files.now) → IfScanDamaged result (λ _. (F.told folder.new).files ≡ None) }
+        ensures later { F.faults folder.old ≤ F.faults folder.new }
+        ensures device { IfScanDevice result (Rises (F.faults folder.old) (F.faults folder.new)) }
     {
         for piece in 0..PIECES {
             let first = piece * BLOCKS_OF_PIECE;
@@ -169,7 +169,7 @@ impl Records {
             if !files.stands(last) {
                 return Ok(());
             }
-            self.read_piece(f, named, file, first)?;
+            self.read_piece(folder, named, file, first)?;
         }
         Ok(())
     }
@@ -186,60 +186,64 @@ fn has_named(named: &Claims, file: u8, first: u32) -> bool
 // Reads the records whose first blocks are named, file after file and each file in pieces.
 pub(crate) fn read_records<F: Folder>(
     alloc: Global,
-    f: &mut F,
+    folder: &mut F,
     files: &BlockFiles,
     named: &Claims,
 ) -> Result<Records, ScanFault>
-    ensures records { IfOk result (λ records. ForSome (F.told f.old).files (λ image. AreRecordsOf image records)) }
-    ensures stays { Stays (F.told f.old) (F.told f.new) }
-    ensures damaged { IfScanDamaged result (IsRecordsDamage (F.told f.new)) }
-    ensures untold { ForSome (F.told f.new).files (Agrees files.now) → IfScanDamaged result (λ _. (F.told f.new).files ≡ None) }
-    ensures later { F.faults f.old ≤ F.faults f.new }
-    ensures device { IfScanDevice result (Rises (F.faults f.old) (F.faults f.new)) }
+    ensures records { IfOk result (λ records. ForSome (F.told folder.old).files (λ image. AreRecordsOf image records)) }
+    ensures stays { Stays (F.told folder.old) (F.told folder.new) }
+    ensures damaged { IfScanDamaged result (IsRecordsDamage (F.told folder.new)) }
+    ensures untold { ForSome (F.told folder.new).files (Agrees files.now) → IfScanDamaged result (λ _. (F.told folder.new).files ≡ None) }
+    ensures later { F.faults folder.old ≤ F.faults folder.new }
+    ensures device { IfScanDevice result (Rises (F.faults folder.old) (F.faults folder.new)) }
 {
     let mut records = Records {
         placed: Vec::new(alloc),
     };
     for n in 0..BLOCK_FILES as u32 {
-        records.read_file(f, files, named, n as u8)?;
+        records.read_file(folder, files, named, n as u8)?;
     }
     Ok(records)
 }
 
 // The record of a valid address: it was read in a piece, or its words are read by one folder call.
 pub(crate) fn record_of<F: Folder>(
-    f: &mut F,
+    folder: &mut F,
     files: &BlockFiles,
     records: &Records,
     addr: Addr,
 ) -> Result<ReadRecord, Fault>
     requires kind { kind_of addr ≡ blocks_256 }
     requires stands { IsTrue (stands_among files.now addr) }
-    ensures said { IfOk result (λ said. ForSome (F.told f.old).files (λ image. AreRecordsOf image records.now → IsSaidBy image addr said)) }
-    ensures stays { Stays (F.told f.old) (F.told f.new) }
-    ensures damaged { IfDamaged result (IsRecordDamage files.now (F.told f.new)) }
-    ensures untold { ForSome (F.told f.new).files (Agrees files.now) → IfDamaged result (λ _. (F.told f.new).files ≡ None) }
-    ensures later { F.faults f.old ≤ F.faults f.new }
-    ensures device { IfDevice result (Rises (F.faults f.old) (F.faults f.new)) }
+    ensures said { IfOk result (λ said. ForSome (F.told folder.old).files (λ image. AreRecordsOf image records.now → IsSaidBy image addr said)) }
+    ensures stays { Stays (F.told folder.old) (F.told folder.new) }
+    ensures damaged { IfDamaged result (IsRecordDamage files.now (F.told folder.new)) }
+    ensures untold { ForSome (F.told folder.new).files (Agrees files.now) → IfDamaged result (λ _. (F.told folder.new).files ≡ None) }
+    ensures later { F.faults folder.old ≤ F.faults folder.new }
+    ensures device { IfDevice result (Rises (F.faults folder.old) (F.faults folder.new)) }
 {
     match records.get(addr) {
         Some(said) => Ok(said),
-        None => read_record(f, files, addr),
+        None => read_record(folder, files, addr),
     }
 }
 
 // Reads the words of the record of a valid address, by one folder call.
-fn read_record<F: Folder>(f: &mut F, files: &BlockFiles, addr: Addr) -> Result<ReadRecord, Fault>
+fn read_record<F: Folder>(
+    folder: &mut F,
+    files: &BlockFiles,
+    addr: Addr,
+) -> Result<ReadRecord, Fault>
     requires kind { kind_of addr ≡ blocks_256 }
     requires stands { IsTrue (stands_among files.now addr) }
-    ensures said { IfOk result (λ said. ForSome (F.told f.old).files (λ image. IsSaidBy image addr said)) }
-    ensures stays { Stays (F.told f.old) (F.told f.new) }
-    ensures damaged { IfDamaged result (IsRecordDamage files.now (F.told f.new)) }
-    ensures untold { ForSome (F.told f.new).files (Agrees files.now) → IfDamaged result (λ _. (F.told f.new).files ≡ None) }
-    ensures later { F.faults f.old ≤ F.faults f.new }
-    ensures device { IfDevice result (Rises (F.faults f.old) (F.faults f.new)) }
+    ensures said { IfOk result (λ said. ForSome (F.told folder.old).files (λ image. IsSaidBy image addr said)) }
+    ensures stays { Stays (F.told folder.old) (F.told folder.new) }
+    ensures damaged { IfDamaged result (IsRecordDamage files.now (F.told folder.new)) }
+    ensures untold { ForSome (F.told folder.new).files (Agrees files.now) → IfDamaged result (λ _. (F.told folder.new).files ≡ None) }
+    ensures later { F.faults folder.old ≤ F.faults folder.new }
+    ensures device { IfDevice result (Rises (F.faults folder.old) (F.faults folder.new)) }
 {
-    let words = read_words(f, files, addr)?;
+    let words = read_words(folder, files, addr)?;
     Ok(ReadRecord {
         words,
         hash_is_right: false,

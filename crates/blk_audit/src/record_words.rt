@@ -50,22 +50,22 @@ pub struct RecordWords {
 ///
 /// A failed check is a read that gave too few bytes; a folder whose files are those of `files` gives none.
 pub fn read_words<F: Folder>(
-    f: &mut F,
+    folder: &mut F,
     files: &BlockFiles,
     entry: Addr,
 ) -> Result<RecordWords, Fault>
     requires kind { kind_of entry ≡ blocks_256 }
     requires stands { IsTrue (stands_among files.now entry) }
-    ensures words { IfOk result (λ words. ForSome (F.told f.old).files (λ image. AreWordsOf image entry words)) }
-    ensures checked { OnOk result (ForSome (F.told f.old).files (λ image. HasRange image (block (file_selector entry)) (place entry) entry_size)) }
-    ensures stays { Stays (F.told f.old) (F.told f.new) }
-    ensures short { IfDamaged result (IsShort (F.told f.old) (FileId.Block (file_selector entry)) (place entry) entry_size) }
-    ensures untold { ForSome (F.told f.old).files (Agrees files.now) → IfDamaged result (λ _. (F.told f.old).files ≡ None) }
-    ensures later { F.faults f.old ≤ F.faults f.new }
-    ensures device { IfDevice result (Rises (F.faults f.old) (F.faults f.new)) }
+    ensures words { IfOk result (λ words. ForSome (F.told folder.old).files (λ image. AreWordsOf image entry words)) }
+    ensures checked { OnOk result (ForSome (F.told folder.old).files (λ image. HasRange image (block (file_selector entry)) (place entry) entry_size)) }
+    ensures stays { Stays (F.told folder.old) (F.told folder.new) }
+    ensures short { IfDamaged result (IsShort (F.told folder.old) (FileId.Block (file_selector entry)) (place entry) entry_size) }
+    ensures untold { ForSome (F.told folder.old).files (Agrees files.now) → IfDamaged result (λ _. (F.told folder.old).files ≡ None) }
+    ensures later { F.faults folder.old ≤ F.faults folder.new }
+    ensures device { IfDevice result (Rises (F.faults folder.old) (F.faults folder.new)) }
 {
     let mut bytes = [0u8; EntryView::SIZE];
-    files.read_block(f, entry, 0, &mut bytes)?;
+    files.read_block(folder, entry, 0, &mut bytes)?;
     Ok(words_of(&bytes))
 }
 

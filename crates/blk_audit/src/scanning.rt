@@ -10,7 +10,7 @@ ghost use Rattle.blk_disk.specs.Tables.{Agrees};
 ghost use Rattle.blk_audit.specs.Chaining.{AreChainsThere, reached_by, words_reached};
 ghost use Rattle.blk_audit.specs.Faults.{IfScanDamaged, IfScanDevice, IsListsDamage};
 ghost use Rattle.blk_audit.specs.ReadLists.{AreListsAmong, AreListsOf};
-ghost use Rattle.blk_audit.specs.Walking.{HasUseList, nodes_walked};
+ghost use Rattle.blk_audit.specs.Walking.{HasLruList, nodes_walked};
 
 use crate::fault::ScanFault;
 use crate::list_walk::Walked;
@@ -47,28 +47,28 @@ pub struct Lists {
 /// folder failed in this call.
 pub fn read_lists<F: Folder>(
     alloc: Global,
-    f: &mut F,
+    folder: &mut F,
     files: &BlockFiles,
 ) -> Result<Lists, ScanFault>
-    ensures walked { IfOk result (λ lists. ForSome (F.told f.old).files (λ image. Agrees files.now image → nodes_walked lists.walked ≡ completed_walk image)) }
-    ensures reached { IfOk result (λ lists. ForSome (F.told f.old).files (λ image. Agrees files.now image → words_reached lists.reached ≡ reached_by (store_of image) table_length)) }
-    ensures checked { IfOk result (λ lists. ForSome (F.told f.old).files (λ image. HasUseList files.now image × AreChainsThere files.now image (words_reached lists.reached))) }
-    ensures lists { IfOk result (λ lists. ForSome (F.told f.old).files (λ image. Agrees files.now image → AreListsOf image lists)) }
+    ensures walked { IfOk result (λ lists. ForSome (F.told folder.old).files (λ image. Agrees files.now image → nodes_walked lists.walked ≡ completed_walk image)) }
+    ensures reached { IfOk result (λ lists. ForSome (F.told folder.old).files (λ image. Agrees files.now image → words_reached lists.reached ≡ reached_by (store_of image) table_length)) }
+    ensures checked { IfOk result (λ lists. ForSome (F.told folder.old).files (λ image. HasLruList files.now image × AreChainsThere files.now image (words_reached lists.reached))) }
+    ensures lists { IfOk result (λ lists. ForSome (F.told folder.old).files (λ image. Agrees files.now image → AreListsOf image lists)) }
     ensures stand { IfOk result (AreListsAmong files.now) }
-    ensures stays { Stays (F.told f.old) (F.told f.new) }
+    ensures stays { Stays (F.told folder.old) (F.told folder.new) }
 
     // An observable folder reports corruption only where its index is too short or the block files don't agree with it.
-    ensures damaged { IfScanDamaged result (IsListsDamage files.now (F.told f.new)) }
-    ensures untold { ForSome (F.told f.old).files (IsOpen files.now) → IfScanDamaged result (λ _. (F.told f.old).files ≡ None) }
+    ensures damaged { IfScanDamaged result (IsListsDamage files.now (F.told folder.new)) }
+    ensures untold { ForSome (F.told folder.old).files (IsOpen files.now) → IfScanDamaged result (λ _. (F.told folder.old).files ≡ None) }
 
-    ensures later { F.faults f.old ≤ F.faults f.new }
-    ensures device { IfScanDevice result (Rises (F.faults f.old) (F.faults f.new)) }
+    ensures later { F.faults folder.old ≤ F.faults folder.new }
+    ensures device { IfScanDevice result (Rises (F.faults folder.old) (F.faults folder.new)) }
 {
-    let nodes = read_nodes(alloc, f, files)?;
-    let walked = walk_over(alloc, f, files, &nodes)?;
+    let nodes = read_nodes(alloc, folder, files)?;
+    let walked = walk_over(alloc, folder, files, &nodes)?;
     let named = named_by(alloc, &nodes, &walked)?;
-    let records = read_records(alloc, f, files, &named)?;
-    let reached = chains_over(alloc, f, files, &records)?;
+    let records = read_records(alloc, folder, files, &named)?;
+    let reached = chains_over(alloc, folder, files, &records)?;
     Ok(Lists {
         walked,
         reached,

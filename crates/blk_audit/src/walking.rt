@@ -8,7 +8,7 @@ ghost use Rattle.blk_disk.specs.Open.{IsOpen};
 ghost use Rattle.blk_disk.specs.Tables.{Agrees};
 ghost use Rattle.blk_audit.specs.Filled.{CountsStand};
 ghost use Rattle.blk_audit.specs.Nodes.{AreNodesOf};
-ghost use Rattle.blk_audit.specs.Walking.{AreMet, HasEnds, HasUseList, NodesStand, nodes_walked};
+ghost use Rattle.blk_audit.specs.Walking.{AreMet, HasEnds, HasLruList, NodesStand, nodes_walked};
 
 use crate::fault::ScanFault;
 use crate::list_walk::{Walked, walk_nodes};
@@ -26,45 +26,49 @@ use std::alloc::Global;
 /// One call reads 1024 nodes of a file, of which each takes 20 bytes of memory, one the head, and at most seven the
 /// operation in flight and its nodes. A failed check is a read that gave too few bytes; a folder whose files are those
 /// of `files` gives none. `Device` comes only where the folder failed in this call.
-pub fn walk<F: Folder>(alloc: Global, f: &mut F, files: &BlockFiles) -> Result<Walked, ScanFault>
-    ensures walked { IfOk result (λ walked. ForSome (F.told f.old).files (λ image. Agrees files.now image → nodes_walked walked ≡ completed_walk image)) }
+pub fn walk<F: Folder>(
+    alloc: Global,
+    folder: &mut F,
+    files: &BlockFiles,
+) -> Result<Walked, ScanFault>
+    ensures walked { IfOk result (λ walked. ForSome (F.told folder.old).files (λ image. Agrees files.now image → nodes_walked walked ≡ completed_walk image)) }
     ensures met { IfOk result AreMet }
     ensures stand { IfOk result (λ walked. NodesStand files.now (nodes_walked walked)) }
-    ensures checked { OnOk result (ForSome (F.told f.old).files (HasUseList files.now)) }
-    ensures stays { Stays (F.told f.old) (F.told f.new) }
+    ensures checked { OnOk result (ForSome (F.told folder.old).files (HasLruList files.now)) }
+    ensures stays { Stays (F.told folder.old) (F.told folder.new) }
 
     // An observable folder reports corruption only where its index is too short or the block files don't agree with it.
-    ensures damaged { IfScanDamaged result (IsWalkDamage files.now (F.told f.new)) }
-    ensures untold { ForSome (F.told f.old).files (IsOpen files.now) → IfScanDamaged result (λ _. (F.told f.old).files ≡ None) }
+    ensures damaged { IfScanDamaged result (IsWalkDamage files.now (F.told folder.new)) }
+    ensures untold { ForSome (F.told folder.old).files (IsOpen files.now) → IfScanDamaged result (λ _. (F.told folder.old).files ≡ None) }
 
-    ensures later { F.faults f.old ≤ F.faults f.new }
-    ensures device { IfScanDevice result (Rises (F.faults f.old) (F.faults f.new)) }
+    ensures later { F.faults folder.old ≤ F.faults folder.new }
+    ensures device { IfScanDevice result (Rises (F.faults folder.old) (F.faults folder.new)) }
 {
-    let nodes = read_nodes(alloc, f, files)?;
-    walk_over(alloc, f, files, &nodes)
+    let nodes = read_nodes(alloc, folder, files)?;
+    walk_over(alloc, folder, files, &nodes)
 }
 
 // Walks `nodes`, the nodes of the folder, as completing the operation in flight would link them.
 pub(crate) fn walk_over<F: Folder>(
     alloc: Global,
-    f: &mut F,
+    folder: &mut F,
     files: &BlockFiles,
     nodes: &Nodes,
 ) -> Result<Walked, ScanFault>
-    requires nodes { ForSome (F.told f.old).files (λ image. Agrees files.now image → AreNodesOf image nodes.now) }
+    requires nodes { ForSome (F.told folder.old).files (λ image. Agrees files.now image → AreNodesOf image nodes.now) }
     requires counted { CountsStand files.now nodes.now }
-    ensures walked { IfOk result (λ walked. ForSome (F.told f.old).files (λ image. Agrees files.now image → nodes_walked walked ≡ completed_walk image)) }
+    ensures walked { IfOk result (λ walked. ForSome (F.told folder.old).files (λ image. Agrees files.now image → nodes_walked walked ≡ completed_walk image)) }
     ensures met { IfOk result AreMet }
     ensures stand { IfOk result (λ walked. NodesStand files.now (nodes_walked walked)) }
-    ensures checked { OnOk result (ForSome (F.told f.old).files (HasEnds files.now)) }
-    ensures stays { Stays (F.told f.old) (F.told f.new) }
-    ensures damaged { IfScanDamaged result (IsWalkDamage files.now (F.told f.new)) }
-    ensures untold { ForSome (F.told f.old).files (IsOpen files.now) → IfScanDamaged result (λ _. (F.told f.old).files ≡ None) }
-    ensures later { F.faults f.old ≤ F.faults f.new }
-    ensures device { IfScanDevice result (Rises (F.faults f.old) (F.faults f.new)) }
+    ensures checked { OnOk result (ForSome (F.told folder.old).files (HasEnds files.now)) }
+    ensures stays { Stays (F.told folder.old) (F.told folder.new) }
+    ensures damaged { IfScanDamaged result (IsWalkDamage files.now (F.told folder.new)) }
+    ensures untold { ForSome (F.told folder.old).files (IsOpen files.now) → IfScanDamaged result (λ _. (F.told folder.old).files ≡ None) }
+    ensures later { F.faults folder.old ≤ F.faults folder.new }
+    ensures device { IfScanDevice result (Rises (F.faults folder.old) (F.faults folder.new)) }
 {
-    let head = word(f, IndexHead::HEADS)?;
-    let plan = pending(f, files)?;
+    let head = word(folder, IndexHead::HEADS)?;
+    let plan = pending(folder, files)?;
     let walked = walk_nodes(alloc, nodes, head, plan.as_slice())?;
     Ok(walked)
 }

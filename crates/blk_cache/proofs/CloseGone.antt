@@ -29,7 +29,7 @@ use Rattle.law_state.specs.Keeping.{Keeps}
 use Rattle.law_state.proofs.CommandEnding.{closes-doomed}
 use Rattle.law_state.proofs.OneCalls.{closes-of-doomed-unlink}
 use Rattle.law_state.proofs.Stopping.{stop-after}
-use Rattle.blk_object.specs.Ending.{Cleans, FreesAll, HasFreeable, LiesFreeable, MayEnd}
+use Rattle.blk_object.specs.Ending.{Cleans, FreesAll, HasFreeable, LiesFreeable, MayEndObject}
 use Rattle.blk_object.specs.Freeing.{AreGoing, Removes}
 use Rattle.blk_object.specs.Owning.{LoadsWith}
 use Rattle.blk_object.proofs.FreedPlaces.{all-counted, all-gone, freeable, going-finds}
@@ -156,9 +156,9 @@ module _ (cache : Cache) (old mid now : Told) (stays : mid ≡ old) (handle : �
   shut = freed-last cache.handles new.handles handle b object frees was
 
   -- a folder where the cache keeps a state has what its end asks for
-  pub closed-may : ForSome old.files (KeepsAny cache) → ForSome mid.files (MayEnd object.doomed object.entry object.node)
+  pub closed-may : ForSome old.files (KeepsAny cache) → ForSome mid.files (MayEndObject object.doomed object.entry object.node)
   closed-may any = by object.doomed refl where
-    by : (t : Bool) → object.doomed ≡ t → ForSome mid.files (MayEnd t object.entry object.node)
+    by : (t : Bool) → object.doomed ≡ t → ForSome mid.files (MayEndObject t object.entry object.node)
     by true e = subst (λ (o : OpenObject). ForSome mid.files (HasFreeable o.entry)) (sym was.object_is) (mid-freeable cache handle small b bound shut (sym same-mark ∙ e) old mid now stays any)
     by false e = subst (λ (o : OpenObject). ForSome mid.files (λ image. (list_of image).checks o.node ≡ true)) (sym was.object_is) (mid-node cache handle small b bound old mid mid stays shut (sym same-mark ∙ e) any)
 

@@ -34,7 +34,7 @@ use Rattle.blk_handles.specs.declared.open_object.Released.{Released}
 use Rattle.blk_handles.specs.declared.open_object.Released.TheVariants as released
 use Rattle.blk_handles.specs.Bindings.{Binding, Bindings, binding_of, is_open, open_object}
 use Rattle.law_state.specs.Commands.{Does, MayStop, MayStopAtEach}
-use Rattle.law_state.specs.CommandStates.{IsLast}
+use Rattle.law_state.specs.CommandStates.{IsLastHandle}
 use Rattle.law_state.specs.Keeping.{Keeps}
 use Rattle.law_state.specs.RecordLaws.{IsMarked, IsMarking}
 use Rattle.law_state.proofs.CommandEnding.{closes-free, closes-settle, passed}
@@ -152,7 +152,7 @@ module _ (cache : Cache) (handle : ℕ) (small : handle < 2 ^ 16) (b : Binding) 
       none : is_named (less cache state image k handle b bound) n ≡ false
       none = sym (less-open cache state image k handle b bound) ∙ last
 
-      is-last : IsLast state handle n it.object
+      is-last : IsLastHandle state handle n it.object
       is-last = record { names = named cache state image k handle b bound; here = it.here; live = live; last = none }
 
       node-is : b.node ≡ k.layout.place (main it.object.key)

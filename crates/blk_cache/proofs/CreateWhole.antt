@@ -31,8 +31,8 @@ use Rattle.blk_cache.specs.Covering.{no_parts}
 use Rattle.blk_cache.specs.Creating.{IsNotRefused, IsReadyForSome, IsReadyToCreate, WantsRoomAlone, create_refusal}
 use Rattle.blk_cache.specs.Evicting.{IsEvicting}
 use Rattle.blk_cache.specs.MakingRoom.{ForRoom}
-use Rattle.blk_items.specs.RoomPrinting.{Prints}
-use Rattle.blk_cache.specs.Stepping.{SaysEvicted, SaysFront}
+use Rattle.blk_items.specs.RoomPrinting.{PrintsUnlessFailed}
+use Rattle.blk_cache.specs.Stepping.{SaysEvicted, SaysPrefix}
 use Rattle.blk_cache.proofs.CoveredParts.{for-none}
 use Rattle.blk_cache.proofs.CreateRoom.{finds-room, wants-one}
 use Rattle.blk_items.proofs.RoomTexts.{none-behind, none-printed}
@@ -85,17 +85,17 @@ module _ (moment handle : ℕ) (key : List ℕ) where
   module _ (cache : Cache) (told : Told) (failed_before failed : Bool) (old new : Option (List ℕ)) where
     -- a refusal prints nothing of this
     pub refused-says : (why : Refusal) → ForKept (KeepsState cache) told (λ state. refused moment (to_create handle key) state ≡ Some why) → SaysEvicted cache told moment (to_create handle key) failed_before failed_before old old
-    refused-says why is image there state k = subst (λ (groups : List Group). Prints failed_before failed_before old old (evicted_text groups)) (sym (refused-groups state why (is image there state k))) (none-printed failed_before old)
+    refused-says why is image there state k = subst (λ (groups : List Group). PrintsUnlessFailed failed_before failed_before old old (evicted_text groups)) (sym (refused-groups state why (is image there state k))) (none-printed failed_before old)
 
     -- nor does what fails before
-    pub front-before : SaysFront cache told moment (to_create handle key) old old
+    pub front-before : SaysPrefix cache told moment (to_create handle key) old old
     front-before image there state k = record { front = []; rest = evicted_text (step state moment (to_create handle key)).groups; split = refl; written = none-behind old }
 
     module _ (passes : IsNotRefused cache told moment handle key) where
-      pub made-says : ForKept (KeepsState cache) told (λ state. Prints failed_before failed old new (evicted_text (evicted_for (room state [] (length key) 1)))) → SaysEvicted cache told moment (to_create handle key) failed_before failed old new
-      made-says prints image there state k = subst (λ (groups : List Group). Prints failed_before failed old new (evicted_text groups)) (sym (groups-made state (passes image there state k))) (prints image there state k)
+      pub made-says : ForKept (KeepsState cache) told (λ state. PrintsUnlessFailed failed_before failed old new (evicted_text (evicted_for (room state [] (length key) 1)))) → SaysEvicted cache told moment (to_create handle key) failed_before failed old new
+      made-says prints image there state k = subst (λ (groups : List Group). PrintsUnlessFailed failed_before failed old new (evicted_text groups)) (sym (groups-made state (passes image there state k))) (prints image there state k)
 
-      pub made-front : ForKept (KeepsState cache) told (λ state. Appends old new (evicted_text (evicted_for (room state [] (length key) 1)))) → SaysFront cache told moment (to_create handle key) old new
+      pub made-front : ForKept (KeepsState cache) told (λ state. Appends old new (evicted_text (evicted_for (room state [] (length key) 1)))) → SaysPrefix cache told moment (to_create handle key) old new
       made-front front image there state k = subst (λ (groups : List Group). Appends old new (evicted_text groups)) (sym (groups-made state (passes image there state k))) (front image there state k)
 
 -- ---- lack of space

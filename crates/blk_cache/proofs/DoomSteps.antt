@@ -28,7 +28,7 @@ use Rattle.blk_cache.specs.declared.cache.Cache.{Cache}
 use Rattle.blk_items.specs.declared.dooming_objects.Target.{Target}
 use Rattle.blk_cache.specs.CacheKeeping.{IsBoundTo, KeepsState}
 use Rattle.blk_cache.specs.Dooming.{ForEachKept, ForEachOpen, doom_refusal}
-use Rattle.blk_items.specs.DoomingObjects.{IsTarget, IsTargetAt, LiesOpen}
+use Rattle.blk_items.specs.DoomingObjects.{IsDoomTarget, IsTargetAt, LiesOpen}
 use Rattle.blk_cache.proofs.BoundObjects.{free-of, named-at, number-of}
 use Rattle.blk_cache.proofs.Closes.{within-some}
 

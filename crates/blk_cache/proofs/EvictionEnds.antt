@@ -21,8 +21,8 @@ use Rattle.blk_cache.specs.declared.cache.Cache.{Cache}
 use Rattle.blk_cache.specs.CacheKeeping.{KeepsState}
 use Rattle.blk_cache.specs.CommandClauses.{KeepsAny}
 use Rattle.blk_cache.specs.Evicting.{IsEvicting}
-use Rattle.blk_items.specs.RoomPrinting.{Prints}
-use Rattle.blk_cache.specs.Stepping.{SaysEvicted, SaysFront}
+use Rattle.blk_items.specs.RoomPrinting.{PrintsUnlessFailed}
+use Rattle.blk_cache.specs.Stepping.{SaysEvicted, SaysPrefix}
 use Rattle.blk_cache.proofs.CreateWhole.{there-after, untold-by}
 use Rattle.blk_cache.proofs.WriteUses.{never-told}
 
@@ -33,11 +33,11 @@ passed-groups moment request state is = ap (λ (o : Option Refusal). (outcome mo
 
 module _ (moment : ℕ) (request : Request) (cache : Cache) (told : Told) (passes : ForKept (KeepsState cache) told (λ state. refused moment request state ≡ None)) where
   -- what is evicted is printed
-  pub passed-says : (failed_before failed : Bool) (old new : Option (List ℕ)) → ForKept (KeepsState cache) told (λ state. Prints failed_before failed old new (evicted_text (evicted moment request state))) → SaysEvicted cache told moment request failed_before failed old new
-  passed-says failed_before failed old new prints image there state k = subst (λ (groups : List Group). Prints failed_before failed old new (evicted_text groups)) (sym (passed-groups moment request state (passes image there state k))) (prints image there state k)
+  pub passed-says : (failed_before failed : Bool) (old new : Option (List ℕ)) → ForKept (KeepsState cache) told (λ state. PrintsUnlessFailed failed_before failed old new (evicted_text (evicted moment request state))) → SaysEvicted cache told moment request failed_before failed old new
+  passed-says failed_before failed old new prints image there state k = subst (λ (groups : List Group). PrintsUnlessFailed failed_before failed old new (evicted_text groups)) (sym (passed-groups moment request state (passes image there state k))) (prints image there state k)
 
   -- or a prefix of it
-  pub passed-front : (old new : Option (List ℕ)) → ForKept (KeepsState cache) told (λ state. Appends old new (evicted_text (evicted moment request state))) → SaysFront cache told moment request old new
+  pub passed-front : (old new : Option (List ℕ)) → ForKept (KeepsState cache) told (λ state. Appends old new (evicted_text (evicted moment request state))) → SaysPrefix cache told moment request old new
   passed-front old new front image there state k = subst (λ (groups : List Group). Appends old new (evicted_text groups)) (sym (passed-groups moment request state (passes image there state k))) (front image there state k)
 
   module _ (mid : Told) (evicting : ForKept (KeepsState cache) told (λ state. Passes told mid (IsEvicting (evicted moment request state) state))) where

@@ -38,7 +38,7 @@ use Rattle.blk_cache.specs.CacheKeeping.{KeepsState}
 use Rattle.blk_cache.specs.Covering.{LieCovered, covers}
 use Rattle.blk_cache.specs.Evicting.{IsEvicting, KeepsInPlaces, count_of_groups}
 use Rattle.blk_items.specs.RoomLaws.{AreAllPinned, AreOfNamed, IsOfNamed, MayGo, group_for}
-use Rattle.blk_items.specs.RoomPrinting.{Prints}
+use Rattle.blk_items.specs.RoomPrinting.{PrintsUnlessFailed}
 use Rattle.blk_items.specs.ListPlaces.{IsLastAt, IsPinnedFrom}
 use Rattle.blk_items.proofs.RoomCounts.{counted-less}
 use Rattle.blk_items.proofs.RoomGroups.{covered-one, last-next, nothing-more, of-named-stay, others-next, pinned-before, without-none}
@@ -158,7 +158,7 @@ pub record HasEvicted (enough : State → Bool) (state : State) (covered : List 
   pub at : KeepsFrom new (without first state) covered parts behind image
   pub count : old.items ≡ new.items + count_of_groups first
   pub turned : turns ≤ count_of_groups first
-  pub prints : Prints failed_before failed w0 w1 (evicted_text first)
+  pub prints : PrintsUnlessFailed failed_before failed w0 w1 (evicted_text first)
   pub passes : Passes told now (IsEvicting (evicted_until enough state covered) state)
 
 pub none-finds : (cache : Cache) (state : State) (image : Image) → KeepsState cache state image → Finds (rest state) image
@@ -218,8 +218,8 @@ module _ (enough : State → Bool) (state : State) (covered : List Item) (parts 
     pub gone-count : old.items ≡ new.items + count_of_groups (evicted_until enough state covered)
     gone-count = subst (λ (gs : List Group). old.items ≡ new.items + count_of_groups gs) (sym done) h.count
 
-    pub gone-prints : Prints failed_before failed w0 w1 (evicted_text (evicted_until enough state covered))
-    gone-prints = subst (λ (gs : List Group). Prints failed_before failed w0 w1 (evicted_text gs)) (sym done) h.prints
+    pub gone-prints : PrintsUnlessFailed failed_before failed w0 w1 (evicted_text (evicted_until enough state covered))
+    gone-prints = subst (λ (gs : List Group). PrintsUnlessFailed failed_before failed w0 w1 (evicted_text gs)) (sym done) h.prints
 
   pub so-far-front : Appends w0 w1 (evicted_text (evicted_until enough state covered))
   so-far-front = subst (Appends w0 w1) (sym (ap evicted_text h.split ∙ text-both h.first h.others)) (appends-longer w0 w1 (evicted_text h.first) (evicted_text h.others) h.prints.front)
@@ -261,7 +261,7 @@ module _ (enough : State → Bool) (state : State) (covered : List Item) (parts 
         subst (Appends w0 w2) (sym (ap evicted_text split-is ∙ text-both (h.first ++ group ∷ []) later)) (appends-longer w0 w2 (evicted_text (h.first ++ group ∷ [])) (evicted_text later) (subst (Appends w0 w2) (sym (text-both h.first (group ∷ []))) so))
 
     -- once it is out
-    pub next-out : (mid later_now : Told) (left : Cache) (failed_now : Bool) (w2 : Option (List ℕ)) → mid ≡ now → Passes mid later_now (FindsEither between (without (group ∷ []) between)) → ForSome later_now.files (KeepsInPlaces left (without (group ∷ []) between) h.at.kept.layout) → Prints failed failed_now w1 w2 (evicted_text (group ∷ []))
+    pub next-out : (mid later_now : Told) (left : Cache) (failed_now : Bool) (w2 : Option (List ℕ)) → mid ≡ now → Passes mid later_now (FindsEither between (without (group ∷ []) between)) → ForSome later_now.files (KeepsInPlaces left (without (group ∷ []) between) h.at.kept.layout) → PrintsUnlessFailed failed failed_now w1 w2 (evicted_text (group ∷ []))
         → HasEvicted enough state covered parts old left found.behind (turns + 1) told later_now failed_before failed_now w0 w2
     next-out mid later_now left failed_now w2 same more kept prints =
         let p = passes_stayed same more in
@@ -288,7 +288,7 @@ module _ (enough : State → Bool) (state : State) (covered : List Item) (parts 
           });
           count = omega (arith, fewer, were, are, count, both);
           turned = omega (arith, turned, one, both);
-          prints = subst (λ (text : List ℕ). Prints failed_before failed_now w0 w2 text) (sym (text-both h.first (group ∷ []))) (printed-on failed_before failed failed_now w0 w1 w2 (evicted_text h.first) (evicted_text (group ∷ [])) h.prints prints);
+          prints = subst (λ (text : List ℕ). PrintsUnlessFailed failed_before failed_now w0 w2 text) (sym (text-both h.first (group ∷ []))) (printed-on failed_before failed failed_now w0 w1 w2 (evicted_text h.first) (evicted_text (group ∷ [])) h.prints prints);
           passes = next-passes mid later_now same more;
         }
 

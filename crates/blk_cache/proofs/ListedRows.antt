@@ -17,7 +17,7 @@ use Rattle.spec_folder.specs.Layout.{Layout, is_in}
 use Rattle.law_state.specs.Keeping.{Keeps}
 use Rattle.blk_cache.specs.declared.cache.Cache.{Cache}
 use Rattle.blk_cache.specs.CacheKeeping.{KeepsState}
-use Rattle.blk_items.specs.ItemRows.{HasState}
+use Rattle.blk_items.specs.ItemRows.{HasKeptState}
 use Rattle.blk_cache.proofs.Ends.{kept-open}
 
 no-node : {A : Type 0} {x : A} → ◌≡◌ {A = Option A} None (Some x) → ⊥
@@ -46,5 +46,5 @@ unfolding step outcome reply refusals evicted without
 list-answer state moment = refl
 
 -- a state that a cache keeps is there
-abbrev pub has-state : (cache : Cache) (state : State) (image : Image) → KeepsState cache state image → HasState cache.files image
+abbrev pub has-state : (cache : Cache) (state : State) (image : Image) → KeepsState cache state image → HasKeptState cache.files image
 has-state cache state image k = record { state = state; layout = k.layout; kept = k.kept; is_open = kept-open cache state image k }

@@ -38,7 +38,7 @@ use Rattle.law_recovery.specs.MendedChanges.{IsMidRepair}
 use Rattle.blk_scan.specs.declared.chains.KeptChains.{KeptChains}
 use Rattle.blk_scan.specs.declared.scan.Scan.{Scan}
 use Rattle.blk_scan.specs.Scans.{ChainsStandIf, IsEmptyScan, IsScanOf, StandAmong}
-use Rattle.blk_repair.specs.Endings.{BreaksOff, EndsOrBreaksOff, EndsWithCrashWord}
+use Rattle.blk_repair.specs.Endings.{RepairBreaksOff, EndsOrBreaksOff, EndsWithCrashWord}
 use Rattle.blk_repair.proofs.Endings.{breaks-none, either-weaker, ends-weaker}
 use Rattle.blk_repair.specs.Repair.{IsRepairDamage, IsRepairable, IsRepaired, next_id}
 use Rattle.blk_cache.specs.declared.opening.Opened.{Opened}
@@ -137,10 +137,10 @@ making-still entry moment un passes =
 
 -- ---- where nothing was written
 
-pub stayed-mid : {a b : Told} (from : Image) → a.files ≡ Some from → IsWellFormed from → b ≡ a → BreaksOff a b (IsMidRepair from)
+pub stayed-mid : {a b : Told} (from : Image) → a.files ≡ Some from → IsWellFormed from → b ≡ a → RepairBreaksOff a b (IsMidRepair from)
 stayed-mid from there well same = breaks-none (IsMidRepair from) same (λ i is. subst (IsMidRepair from) (some_inj (sym there ∙ is)) (record { well_formed = well; kept_same = refl; found_same = refl }))
 
-pub stayed-still : {a b : Told} (from : Image) → a.files ≡ Some from → b ≡ a → BreaksOff a b (HoldsStill from)
+pub stayed-still : {a b : Told} (from : Image) → a.files ≡ Some from → b ≡ a → RepairBreaksOff a b (HoldsStill from)
 stayed-still from there same = breaks-none (HoldsStill from) same (λ i is. subst (HoldsStill from) (some_inj (sym there ∙ is)) (record { usable = λ h. h; formed = λ h. h; found_same = refl }))
 
 -- a call that passes leaves an opaque folder opaque

@@ -32,8 +32,8 @@ use Rattle.blk_cache.specs.CacheKeeping.{IsBoundAs, KeepsState}
 use Rattle.blk_cache.specs.Listing.{OnlyRoomChanges}
 use Rattle.blk_cache.specs.Reading.{bytes_there}
 use Rattle.blk_cache.specs.ReadPrinting.{ForRead, KeepsToRead}
-use Rattle.blk_items.specs.RoomPrinting.{Prints, PrintsInPart}
-use Rattle.blk_cache.specs.Replying.{ForBytes, ForReply, ForRows, IsAfter, bytes_text, rows_text, text_of_reply}
+use Rattle.blk_items.specs.RoomPrinting.{PrintsUnlessFailed, PrintsInPart}
+use Rattle.blk_cache.specs.Replying.{ForBytes, ForReply, ForRows, IsStateAfter, bytes_text, rows_text, text_of_reply}
 use Rattle.blk_items.proofs.RoomTexts.{appends-longer, printed-on}
 use Rattle.blk_cache.proofs.Sizes.{named-object}
 
@@ -74,7 +74,7 @@ text-after moment request state given is = ap (λ (a : Answer). text_of_reply re
 
 -- ---- the state that is kept is the one after the command
 
-pub is-after : (moment : ℕ) (request : Request) (state : State) (given : Answer) → given ≡ answer_of (step state moment request).reply → IsAfter request given (step state moment request).state
+pub is-after : (moment : ℕ) (request : Request) (state : State) (given : Answer) → given ≡ answer_of (step state moment request).reply → IsStateAfter request given (step state moment request).state
 is-after moment request state given is = record { before = state; moment = moment; given_is = is; state_is = refl }
 
 -- ---- what a Read names once it is done
@@ -161,7 +161,7 @@ bytes-number bytes offset count = length-take count (drop offset bytes) ∙ ap (
 
 module _ (cache : Cache) (told : Told) (handle stream offset count number : ℕ) where
   -- what is to be read, in a state after a Read
-  pub to-read : (state : State) (image : Image) → KeepsState cache state image → IsAfter (to_read handle stream offset count) (answer.Bytes number) state → KeepsToRead cache handle stream offset number image
+  pub to-read : (state : State) (image : Image) → KeepsState cache state image → IsStateAfter (to_read handle stream offset count) (answer.Bytes number) state → KeepsToRead cache handle stream offset number image
   to-read state image k after =
       let there : stream_refusal state handle stream ≡ None = still-there after.moment handle stream offset count after.before number state after.given_is after.state_is in
       let one : NamesOne state handle = names-one state handle stream k.kept.entries.valid there in
@@ -215,7 +215,7 @@ rows-reply cache told request given n is P = subst (λ (a : Answer). ForRows cac
 pub part-longer : (before : Bool) (old new : Option (List ℕ)) (a b : List ℕ) → PrintsInPart before old new a → PrintsInPart before old new (a ++ b)
 part-longer before old new a b part = record { silent = part.silent; front = appends-longer old new a b part.front }
 
-pub rows-and-end : (before between failed : Bool) (w0 w1 w2 : Option (List ℕ)) (given : Answer) (state : State) → Prints before between w0 w1 (flat_map row_line (rows state)) → Prints between failed w1 w2 (reply_text (answered given)) → Prints before failed w0 w2 (rows_text given state)
+pub rows-and-end : (before between failed : Bool) (w0 w1 w2 : Option (List ℕ)) (given : Answer) (state : State) → PrintsUnlessFailed before between w0 w1 (flat_map row_line (rows state)) → PrintsUnlessFailed between failed w1 w2 (reply_text (answered given)) → PrintsUnlessFailed before failed w0 w2 (rows_text given state)
 rows-and-end before between failed w0 w1 w2 given state rows_are end_is = printed-on before between failed w0 w1 w2 (flat_map row_line (rows state)) (reply_text (answered given)) rows_are end_is
 
 -- ---- what a cache keeps doesn't depend on its buffers for names

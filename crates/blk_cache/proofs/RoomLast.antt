@@ -24,7 +24,7 @@ use Rattle.blk_cache.specs.declared.covered.Covered.{Covered}
 use Rattle.blk_cache.specs.CacheKeeping.{KeepsState}
 use Rattle.blk_cache.specs.Covering.{LieCovered, covers}
 use Rattle.blk_items.specs.RoomLaws.{AreAllPinned, IsLastUnpinned}
-use Rattle.blk_items.specs.ListPlaces.{AreInFront, IsLastAt, IsPinnedFrom}
+use Rattle.blk_items.specs.ListPlaces.{AreInPrefix, IsLastAt, IsPinnedFrom}
 use Rattle.blk_items.proofs.RoomGroups.{in-middle, last-goes}
 use Rattle.blk_cache.proofs.CoveredParts.{pinned-both}
 use Rattle.blk_cache.proofs.RoomBound.{record-pinned}
@@ -78,7 +78,7 @@ module _ (cache : Cache) (state : State) (image : Image) (kept : KeepsState cach
       said-contents image node n facts.node (subst (λ (w : ℕ). stands_as image rankings w ≡ true) facts.facts.node_is st.node) ∙ sym facts.facts.contents_is)
 
   -- these nodes are in front
-  pub front-is : (covered : List Item) (behind : Option ℕ) (p : IsPinnedFrom state kept.layout covered behind) → AreInFront (nodes_of kept.layout p.front) behind image
+  pub front-is : (covered : List Item) (behind : Option ℕ) (p : IsPinnedFrom state kept.layout covered behind) → AreInPrefix (nodes_of kept.layout p.front) behind image
   front-is covered behind p =
       let nodes : order state kept.layout ≡ nodes_of kept.layout p.front ++ nodes_of kept.layout p.rest = ap (nodes_of kept.layout) p.listed ∙ map-append kept.layout.place p.front p.rest in
       record {

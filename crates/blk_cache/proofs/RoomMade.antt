@@ -16,7 +16,7 @@ use Rattle.blk_cache.specs.declared.goal.Goal.TheVariants as goal
 use Rattle.blk_cache.specs.declared.cache.Cache.{Cache}
 use Rattle.blk_cache.specs.CacheKeeping.{KeepsState}
 use Rattle.blk_cache.specs.Evicting.{IsEvicting, is_met}
-use Rattle.blk_items.specs.RoomPrinting.{Prints}
+use Rattle.blk_items.specs.RoomPrinting.{PrintsUnlessFailed}
 use Rattle.blk_cache.proofs.Evictions.{none-finds}
 use Rattle.blk_items.proofs.RoomGroups.{without-none}
 use Rattle.blk_items.proofs.RoomTexts.{none-printed}
@@ -58,8 +58,8 @@ full-none state covered bytes more is = go (room state covered bytes more) is wh
 pub none-kept : (cache : Cache) (state : State) (groups : List Group) (image : Image) → groups ≡ [] → KeepsState cache state image → KeepsState cache (without groups state) image
 none-kept cache state groups image none k = subst (λ (gs : List Group). KeepsState cache (without gs state) image) (sym none) (subst (λ (s : State). KeepsState cache s image) (sym (without-none state)) k)
 
-pub none-printed-of : (groups : List Group) (failed : Bool) (w : Option (List ℕ)) → groups ≡ [] → Prints failed failed w w (evicted_text groups)
-none-printed-of groups failed w none = subst (λ (gs : List Group). Prints failed failed w w (evicted_text gs)) (sym none) (none-printed failed w)
+pub none-printed-of : (groups : List Group) (failed : Bool) (w : Option (List ℕ)) → groups ≡ [] → PrintsUnlessFailed failed failed w w (evicted_text groups)
+none-printed-of groups failed w none = subst (λ (gs : List Group). PrintsUnlessFailed failed failed w w (evicted_text gs)) (sym none) (none-printed failed w)
 
 pub none-stops : (told : Told) (cache : Cache) (state : State) (groups : List Group) (from : Image) → told.files ≡ Some from → KeepsState cache state from → Passes told told (IsEvicting groups state)
 none-stops told cache state groups from there k = passes_none {a = told} {b = told} (IsEvicting groups state) refl

@@ -27,7 +27,7 @@ use Rattle.blk_sparse.specs.declared.children.Parent.{Parent}
 use Rattle.blk_cache.specs.declared.cache.Cache.{Cache}
 use Rattle.blk_cache.specs.declared.sparse_asking.PlainObject.{PlainObject}
 use Rattle.blk_cache.specs.CacheKeeping.{IsBoundTo, KeepsState}
-use Rattle.blk_cache.specs.SparseAsking.{IsInside, IsLiveNamed, IsParentNamed, IsPlainNamed, early_sparse_refusal, sparse_refusal}
+use Rattle.blk_cache.specs.SparseAsking.{IsRangeInside, IsLiveNamed, IsParentNamed, IsPlainNamed, early_sparse_refusal, sparse_refusal}
 use Rattle.blk_cache.proofs.Asks.{none-named}
 use Rattle.blk_cache.proofs.BoundRecords.{SaysObject, bound-loads, bound-row, bound-says, no-main, row-shape}
 use Rattle.blk_cache.proofs.Closes.{is, named, number}
@@ -62,7 +62,7 @@ dooms-it o = option_map_or (λ object. object.doomed) o false
 
 module _ (bindings : Bindings) (handle offset count : ℕ) (passes : early_sparse_refusal bindings handle offset count ≡ None) where
   -- where nothing refuses early
-  pub goes-inside : IsInside (early_sparse_refusal bindings handle offset count) offset count
+  pub goes-inside : IsRangeInside (early_sparse_refusal bindings handle offset count) offset count
   goes-inside = record {
     passes = passes;
     few = let e : nat_lt 1048576 count ≡ false = not-second (is_none (binding_of bindings handle)) (nat_lt 1048576 count) (past_end offset count) (dooms-it (binding_of bindings handle)) refusal.BadHandle refusal.TooLarge refusal.RangeEnd refusal.Doomed passes in grind (arith, nat_tests);

@@ -41,7 +41,7 @@ use Rattle.blk_cache.specs.declared.cache.Cache.{Cache}
 use Rattle.blk_cache.specs.CacheKeeping.{KeepsState}
 use Rattle.blk_cache.specs.CommandClauses.{KeepsAny}
 use Rattle.blk_cache.specs.SparseTargets.{IsTargetNamed, NamesTarget}
-use Rattle.blk_items.specs.RoomPrinting.{Prints}
+use Rattle.blk_items.specs.RoomPrinting.{PrintsUnlessFailed}
 use Rattle.blk_script.specs.Reply.{evicted_text}
 use Rattle.blk_cache.specs.Stepping.{SaysEvicted}
 use Rattle.blk_items.proofs.RoomTexts.{none-printed}
@@ -166,4 +166,4 @@ module _ (cache : Cache) (old now : Told) (moment handle offset : ℕ) (found : 
   pub empty-says : (failed : Bool) (written : Option (List ℕ)) → SaysEvicted cache old moment (to_sparse_write handle offset []) failed failed written written
   empty-says failed written =
       passed-says moment (to_sparse_write handle offset []) cache old (λ image here state k. goes-on state moment handle offset k.layout found (names image here state k)) failed failed written written
-      (λ image here state k. subst (λ (groups : List Group). Prints failed failed written written (evicted_text groups)) (sym (none-evicted state moment handle offset k.layout found (names image here state k))) (none-printed failed written))
+      (λ image here state k. subst (λ (groups : List Group). PrintsUnlessFailed failed failed written written (evicted_text groups)) (sym (none-evicted state moment handle offset k.layout found (names image here state k))) (none-printed failed written))

@@ -28,7 +28,7 @@ use Rattle.law_state.proofs.Orders.{left-stops}
 use Rattle.law_state.proofs.Stopping.{refusals-done}
 use Rattle.blk_sparse.specs.SparseObjects.{FindsUsed, ForEachKeptParent, KeepsParent, KeepsParentUsed, parts_used}
 use Rattle.blk_sparse.specs.declared.children.Parent.{Parent}
-use Rattle.blk_sparse.proofs.FrontRuns.{front-bytes}
+use Rattle.blk_sparse.proofs.PrefixRuns.{front-bytes}
 use Rattle.blk_cache.specs.declared.cache.Cache.{Cache}
 use Rattle.blk_cache.specs.declared.sparse_asking.PlainObject.{PlainObject}
 use Rattle.blk_cache.specs.declared.sparse_reading.Wanted.{Wanted}

@@ -27,7 +27,7 @@ use Rattle.blk_cache.specs.Covering.{AreCovered, KeepsCovered}
 use Rattle.blk_cache.specs.Listing.{OnlyRoomChanges}
 use Rattle.blk_cache.specs.MakingRoom.{ForRoom}
 use Rattle.blk_cache.specs.SparseTargets.{AsksToStore, FindsTarget, HasRoomToStore, IsAmong, IsAskedTarget, IsRise, IsTargetNamed, IsToStore, NamesTarget}
-use Rattle.blk_cache.specs.SparseAsking.{IsInside, early_sparse_refusal}
+use Rattle.blk_cache.specs.SparseAsking.{IsRangeInside, early_sparse_refusal}
 use Rattle.blk_cache.specs.SparseWriting.{IsReadyToStore, IsTargetOf}
 use Rattle.blk_cache.proofs.Replies.{kept-still}
 use Rattle.blk_cache.proofs.SparseAsks.{goes-bound}
@@ -131,7 +131,7 @@ module _ (cache : Cache) (old mid : Told) (stays : mid ≡ old) (moment handle o
   asked-refused asked why is image there state k = subst (IsAskedTarget state k.layout moment handle offset bytes) is (asked image there state k)
 
 module _ (files : BlockFiles) (bindings : Bindings) (handle offset count : ℕ) (given : AskedTarget) (finds : FindsTarget files (early_sparse_refusal bindings handle offset count) offset count given) (found : Target) (is : given ≡ target.Found found) where
-  pub found-stands : IsAmong files found × IsInside (early_sparse_refusal bindings handle offset count) offset count
+  pub found-stands : IsAmong files found × IsRangeInside (early_sparse_refusal bindings handle offset count) offset count
   found-stands = subst (FindsTarget files (early_sparse_refusal bindings handle offset count) offset count) is finds
 
   -- its name is bound

@@ -17,9 +17,9 @@ use Rattle.blk_script.specs.Reply.{evicted_text, reply_text}
 use Rattle.blk_cache.specs.declared.cache.Cache.{Cache}
 use Rattle.blk_cache.specs.CacheKeeping.{KeepsState}
 use Rattle.blk_cache.specs.CommandClauses.{KeepsAny}
-use Rattle.blk_items.specs.RoomPrinting.{Prints, PrintsInPart}
+use Rattle.blk_items.specs.RoomPrinting.{PrintsUnlessFailed, PrintsInPart}
 use Rattle.blk_cache.specs.Replying.{ForReply, KeepsAfter}
-use Rattle.blk_cache.specs.Stepping.{SaysEvicted, SaysFront, evicted_first, outcome_text}
+use Rattle.blk_cache.specs.Stepping.{SaysEvicted, SaysPrefix, evicted_first, outcome_text}
 use Rattle.blk_items.proofs.RoomTexts.{none-printed, part-on, printed-on}
 use Rattle.blk_cache.proofs.Replies.{is-after, text-after}
 
@@ -64,10 +64,10 @@ no-groups moment request state n = outcome-groups moment request state (refused 
 
 module _ (cache : Cache) (told : Told) (moment : ℕ) (request : Request) (quiet : EvictsNothing request) (failed : Bool) (written : Option (List ℕ)) where
   pub says-nothing : SaysEvicted cache told moment request failed failed written written
-  says-nothing image there state k = subst (λ (groups : List Group). Prints failed failed written written (evicted_text groups)) (sym (no-groups moment request state quiet)) (none-printed failed written)
+  says-nothing image there state k = subst (λ (groups : List Group). PrintsUnlessFailed failed failed written written (evicted_text groups)) (sym (no-groups moment request state quiet)) (none-printed failed written)
 
-  pub front-nothing : SaysFront cache told moment request written written
-  front-nothing image there state k = subst (λ (groups : List Group). Appends written written (evicted_text groups)) (sym (no-groups moment request state quiet)) ((none-printed failed written).front)
+  pub prefix-nothing : SaysPrefix cache told moment request written written
+  prefix-nothing image there state k = subst (λ (groups : List Group). Appends written written (evicted_text groups)) (sym (no-groups moment request state quiet)) ((none-printed failed written).front)
 
 -- The whole text.
 
@@ -104,17 +104,17 @@ module _ (old done : Cache) (told mid now : Told) (moment : ℕ) (request : Requ
         record { state = (step one.0 moment request).state; kept = d.kept i here; after = is-after moment request one.0 answer d.answered }
 
     module _ (between failed : Bool) (w0 w1 w2 : Option (List ℕ)) (says : SaysEvicted old told moment request false between w0 w1) where
-      pub whole-printed : ForReply done now request answer (Prints between failed w1 w2) → failed ≡ false → ForKept (KeepsState old) told (λ state. w2 ≡ option_map (λ (w : List ℕ). w ++ outcome_text (step state moment request)) w0)
+      pub whole-printed : ForReply done now request answer (PrintsUnlessFailed between failed w1 w2) → failed ≡ false → ForKept (KeepsState old) told (λ state. w2 ≡ option_map (λ (w : List ℕ). w ++ outcome_text (step state moment request)) w0)
       whole-printed prints e image there state k =
-          (printed-on false between failed w0 w1 w2 (evicted_first (step state moment request)) (reply_text (step state moment request).reply) (says image there state k) (replied (Prints between failed w1 w2) prints image there state k)).whole e
+          (printed-on false between failed w0 w1 w2 (evicted_first (step state moment request)) (reply_text (step state moment request).reply) (says image there state k) (replied (PrintsUnlessFailed between failed w1 w2) prints image there state k)).whole e
 
-      pub front-printed : ForReply done now request answer (PrintsInPart between w1 w2) → ForKept (KeepsState old) told (λ state. Appends w0 w2 (outcome_text (step state moment request)))
-      front-printed part image there state k =
+      pub prefix-printed : ForReply done now request answer (PrintsInPart between w1 w2) → ForKept (KeepsState old) told (λ state. Appends w0 w2 (outcome_text (step state moment request)))
+      prefix-printed part image there state k =
           (part-on false between w0 w1 w2 (evicted_first (step state moment request)) (reply_text (step state moment request).reply) (says image there state k) (replied (PrintsInPart between w1 w2) part image there state k)).front
 
 -- a prefix of what is evicted is one of the whole text
 more-behind : (a b : List ℕ) (old new : Option (List ℕ)) → Appends old new a → Appends old new (a ++ b)
 more-behind a b old new front = record { front = front.front; rest = front.rest ++ b; split = ap (λ (l : List ℕ). l ++ b) front.split ∙ append_assoc front.front front.rest b; written = front.written }
 
-pub front-of-whole : (cache : Cache) (told : Told) (moment : ℕ) (request : Request) (old new : Option (List ℕ)) → SaysFront cache told moment request old new → ForKept (KeepsState cache) told (λ state. Appends old new (outcome_text (step state moment request)))
-front-of-whole cache told moment request old new says image there state k = more-behind (evicted_first (step state moment request)) (reply_text (step state moment request).reply) old new (says image there state k)
+pub prefix-of-whole : (cache : Cache) (told : Told) (moment : ℕ) (request : Request) (old new : Option (List ℕ)) → SaysPrefix cache told moment request old new → ForKept (KeepsState cache) told (λ state. Appends old new (outcome_text (step state moment request)))
+prefix-of-whole cache told moment request old new says image there state k = more-behind (evicted_first (step state moment request)) (reply_text (step state moment request).reply) old new (says image there state k)

@@ -24,8 +24,8 @@ use Rattle.blk_cache.specs.declared.covered.Covered.{Covered}
 use Rattle.blk_cache.specs.CacheKeeping.{KeepsState}
 use Rattle.blk_cache.specs.Covering.{ForCovered, no_parts}
 use Rattle.blk_cache.specs.Evicting.{IsEvicting, count_of_groups, is_met}
-use Rattle.blk_items.specs.RoomPrinting.{Prints}
-use Rattle.blk_cache.specs.Stepping.{SaysEvicted, SaysFront}
+use Rattle.blk_items.specs.RoomPrinting.{PrintsUnlessFailed}
+use Rattle.blk_cache.specs.Stepping.{SaysEvicted, SaysPrefix}
 use Rattle.blk_cache.proofs.CoveredParts.{for-none}
 
 module _ (moment bytes : ℕ) where
@@ -65,8 +65,8 @@ module _ (moment bytes : ℕ) where
     }
 
     module _ (failed_before failed : Bool) (old new : Option (List ℕ)) where
-      pub trim-says : ForCovered cache parts told (λ state covered. Prints failed_before failed old new (evicted_text (evicted_until (is_met (goal.Bytes bytes)) state covered))) → SaysEvicted cache told moment (to_trim bytes) failed_before failed old new
-      trim-says prints image there state k = subst (λ (groups : List Group). Prints failed_before failed old new (evicted_text groups)) (sym (trim-groups state)) (for-none cache parts told (λ s covered. Prints failed_before failed old new (evicted_text (evicted_until (is_met (goal.Bytes bytes)) s covered))) is prints image there state k)
+      pub trim-says : ForCovered cache parts told (λ state covered. PrintsUnlessFailed failed_before failed old new (evicted_text (evicted_until (is_met (goal.Bytes bytes)) state covered))) → SaysEvicted cache told moment (to_trim bytes) failed_before failed old new
+      trim-says prints image there state k = subst (λ (groups : List Group). PrintsUnlessFailed failed_before failed old new (evicted_text groups)) (sym (trim-groups state)) (for-none cache parts told (λ s covered. PrintsUnlessFailed failed_before failed old new (evicted_text (evicted_until (is_met (goal.Bytes bytes)) s covered))) is prints image there state k)
 
-      pub trim-front : ForCovered cache parts told (λ state covered. Appends old new (evicted_text (evicted_until (is_met (goal.Bytes bytes)) state covered))) → SaysFront cache told moment (to_trim bytes) old new
+      pub trim-front : ForCovered cache parts told (λ state covered. Appends old new (evicted_text (evicted_until (is_met (goal.Bytes bytes)) state covered))) → SaysPrefix cache told moment (to_trim bytes) old new
       trim-front front image there state k = subst (λ (groups : List Group). Appends old new (evicted_text groups)) (sym (trim-groups state)) (for-none cache parts told (λ s covered. Appends old new (evicted_text (evicted_until (is_met (goal.Bytes bytes)) s covered))) is front image there state k)

@@ -35,8 +35,8 @@ use Rattle.blk_cache.specs.Asking.{stream_refusal}
 use Rattle.blk_cache.specs.CacheKeeping.{KeepsState}
 use Rattle.blk_cache.specs.CommandClauses.{IsRefused, KeepsAny}
 use Rattle.blk_cache.specs.Evicting.{IsEvicting}
-use Rattle.blk_items.specs.RoomPrinting.{Prints}
-use Rattle.blk_cache.specs.Stepping.{SaysEvicted, SaysFront}
+use Rattle.blk_items.specs.RoomPrinting.{PrintsUnlessFailed}
+use Rattle.blk_cache.specs.Stepping.{SaysEvicted, SaysPrefix}
 use Rattle.blk_cache.specs.Writing.{IsReadyToWrite, IsReadyToWriteSome, MayBeWritten}
 use Rattle.blk_cache.proofs.CreateWhole.{there-after, untold-by}
 use Rattle.blk_cache.proofs.EvictionEnds.{passed-groups}
@@ -55,10 +55,10 @@ module _ (moment : ℕ) (request : Request) (cache : Cache) (told : Told) (faile
 
   -- a refusal prints nothing of what is evicted
   pub refused-says : (why : Refusal) → ForKept (KeepsState cache) told (λ state. refused moment request state ≡ Some why) → SaysEvicted cache told moment request failed_before failed_before old old
-  refused-says why is image there state k = subst (λ (groups : List Group). Prints failed_before failed_before old old (evicted_text groups)) (sym (refused-groups state why (is image there state k))) (none-printed failed_before old)
+  refused-says why is image there state k = subst (λ (groups : List Group). PrintsUnlessFailed failed_before failed_before old old (evicted_text groups)) (sym (refused-groups state why (is image there state k))) (none-printed failed_before old)
 
   -- nor does what fails before
-  pub front-before : SaysFront cache told moment request old old
+  pub front-before : SaysPrefix cache told moment request old old
   front-before image there state k = record { front = []; rest = evicted_text (step state moment request).groups; split = refl; written = none-behind old }
 
 -- ---- a request that is refused for lack of space alone, and needs space for so many bytes
@@ -96,10 +96,10 @@ module _ (moment : ℕ) (request : Request) (more : ℕ) where
         by full e = refused-groups moment request cache told failed_before failed old new state refusal.Full (refused-full state (is image there state k) (ap is_full e)) ∙ sym (ap evicted_for e)
         by (makes groups) e = passed-groups moment request state (not-refused state (is image there state k) (ap is_full e)) ∙ evicted-is state (is image there state k)
 
-      pub made-says : ForKept (KeepsState cache) told (λ state. Prints failed_before failed old new (evicted_text (evicted_for (room state [] more 0)))) → SaysEvicted cache told moment request failed_before failed old new
-      made-says prints image there state k = subst (λ (groups : List Group). Prints failed_before failed old new (evicted_text groups)) (sym (groups-made image there state k)) (prints image there state k)
+      pub made-says : ForKept (KeepsState cache) told (λ state. PrintsUnlessFailed failed_before failed old new (evicted_text (evicted_for (room state [] more 0)))) → SaysEvicted cache told moment request failed_before failed old new
+      made-says prints image there state k = subst (λ (groups : List Group). PrintsUnlessFailed failed_before failed old new (evicted_text groups)) (sym (groups-made image there state k)) (prints image there state k)
 
-      pub made-front : ForKept (KeepsState cache) told (λ state. Appends old new (evicted_text (evicted_for (room state [] more 0)))) → SaysFront cache told moment request old new
+      pub made-front : ForKept (KeepsState cache) told (λ state. Appends old new (evicted_text (evicted_for (room state [] more 0)))) → SaysPrefix cache told moment request old new
       made-front front image there state k = subst (λ (groups : List Group). Appends old new (evicted_text groups)) (sym (groups-made image there state k)) (front image there state k)
 
     module _ (mid : Told) (evicting : ForKept (KeepsState cache) told (λ state. Passes told mid (IsEvicting (evicted_for (room state [] more 0)) state))) where

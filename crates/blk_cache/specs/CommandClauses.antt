@@ -16,7 +16,7 @@ use Rattle.blk_lru.specs.Damages.{IsTouchDamage}
 use Rattle.blk_handles.specs.Bindings.{Bindings, binding_of}
 use Rattle.blk_cache.specs.declared.cache.Cache.{Cache}
 use Rattle.blk_cache.specs.CacheKeeping.{KeepsState}
-use Rattle.blk_items.specs.Looking.{IsLookDamage}
+use Rattle.blk_items.specs.Looking.{IsLookUpDamage}
 
 -- an answer is a refusal
 abbrev pub IsRefused : Answer → Type 0
@@ -64,4 +64,4 @@ pub record IsUseDamage (files : BlockFiles) (old new : Told) (damage : Damage) :
 
 -- the failed checks of an Open: of the search for the key, or of the use of what was found
 abbrev pub IsOpenDamage : BlockFiles → (old new : Told) → List ℕ → Damage → Type 0
-IsOpenDamage files old new key damage = IsLookDamage files old key damage ⊎ IsUseDamage files old new damage
+IsOpenDamage files old new key damage = IsLookUpDamage files old key damage ⊎ IsUseDamage files old new damage

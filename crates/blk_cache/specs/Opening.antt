@@ -34,8 +34,8 @@ abbrev pub StandsOpened : Image → Image → Type 0
 StandsOpened entry image = (limits : Bounds) → StandsFor image (open_state (found entry) limits)
 
 -- a folder was opened: at each step it holds what it held, none is a note, and the last one alone marks a session as open; there the folder stands for what was found, opened
-abbrev pub Opens : Image → Told → Told → Type 0
-Opens entry old new = EndsWithCrashWord old new (HoldsStill entry) (StandsOpened entry)
+abbrev pub OpensFolder : Image → Told → Told → Type 0
+OpensFolder entry old new = EndsWithCrashWord old new (HoldsStill entry) (StandsOpened entry)
 
 -- so it was, or the opening broke off: at each step made the folder holds what it held, none is a note, and none marks a session as open
 abbrev pub OpensOrBreaksOff : Image → Told → Told → Type 0

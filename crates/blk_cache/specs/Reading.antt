@@ -26,5 +26,5 @@ abbrev pub bytes_there : (size offset count : ℕ) → ℕ
 bytes_there size offset count = min count (size - offset)
 
 -- the failed checks of a Read before its note: of the record of its object, or of the use of its node
-abbrev pub IsReadDamage : Bindings → BlockFiles → (old new : Told) → (handle : ℕ) → Damage → Type 0
-IsReadDamage bindings files old new handle damage = IsAskDamage bindings old handle damage ⊎ IsUseDamage files old new damage
+abbrev pub IsCommandReadDamage : Bindings → BlockFiles → (old new : Told) → (handle : ℕ) → Damage → Type 0
+IsCommandReadDamage bindings files old new handle damage = IsAskDamage bindings old handle damage ⊎ IsUseDamage files old new damage

@@ -35,7 +35,7 @@ text_of_reply request (answer.Listed n) state = rows_text (answer.Listed n) stat
 text_of_reply request given state = reply_text (answered given)
 
 -- a state is the one after a request with this answer
-pub record IsAfter (request : Request) (given : Answer) (state : State) : Type 0 where
+pub record IsStateAfter (request : Request) (given : Answer) (state : State) : Type 0 where
   pub before : State
   pub moment : ℕ
   pub given_is : given ≡ answer_of (step before moment request).reply
@@ -43,11 +43,11 @@ pub record IsAfter (request : Request) (given : Answer) (state : State) : Type 0
 
 -- what holds of the text of a reply, by each state that is kept and is the one after the request
 abbrev pub ForReply : Cache → Told → Request → Answer → (List ℕ → Type 0) → Type 0
-ForReply cache told request given P = ForKept (KeepsState cache) told (λ state. IsAfter request given state → P (text_of_reply request given state))
+ForReply cache told request given P = ForKept (KeepsState cache) told (λ state. IsStateAfter request given state → P (text_of_reply request given state))
 
 -- of the line of the bytes that it reads, where it answers that there is this number of them
 abbrev pub ForBytes : Cache → Told → Request → (number : ℕ) → (List ℕ → Type 0) → Type 0
-ForBytes cache told request number P = ForKept (KeepsState cache) told (λ state. IsAfter request (answer.Bytes number) state → P (bytes_text request state))
+ForBytes cache told request number P = ForKept (KeepsState cache) told (λ state. IsStateAfter request (answer.Bytes number) state → P (bytes_text request state))
 
 -- of the rows of each state that is kept, and of the line of an answer after them
 abbrev pub ForRows : Cache → Told → Answer → (List ℕ → Type 0) → Type 0
@@ -57,4 +57,4 @@ ForRows cache told given P = ForKept (KeepsState cache) told (λ state. P (rows_
 pub record KeepsAfter (cache : Cache) (request : Request) (given : Answer) (image : Image) : Type 0 where
   pub state : State
   pub kept : KeepsState cache state image
-  pub after : IsAfter request given state
+  pub after : IsStateAfter request given state

@@ -80,7 +80,7 @@ IsAmongFiles files (asked.Plain found) = (is_node_among files found.node ≡ tru
 IsAmongFiles files (asked.Parent parent) = (is_node_among files parent.node ≡ true) × ((is_record_among files parent.entry ≡ true) × (cast_unsigned w64 parent.signature < signatures))
 
 -- where an object is found nothing refuses early: so the range lies inside of what sparse data may have
-pub record IsInside (early : Option Refusal) (offset count : ℕ) : Type 0 where
+pub record IsRangeInside (early : Option Refusal) (offset count : ℕ) : Type 0 where
   pub passes : early ≡ None
   pub few : count ≤ part_size
   pub inside : offset + count ≤ largest_offset
@@ -88,5 +88,5 @@ pub record IsInside (early : Option Refusal) (offset count : ℕ) : Type 0 where
 -- where an object is found the range is so
 abbrev pub FindsInside : (early : Option Refusal) → (offset count : ℕ) → AskedSparse → Type 0
 FindsInside early offset count (asked.Refused why) = Unit {0}
-FindsInside early offset count (asked.Plain found) = IsInside early offset count
-FindsInside early offset count (asked.Parent parent) = IsInside early offset count
+FindsInside early offset count (asked.Plain found) = IsRangeInside early offset count
+FindsInside early offset count (asked.Parent parent) = IsRangeInside early offset count

@@ -27,7 +27,7 @@ use Rattle.blk_cache.specs.declared.sparse_target.AskedTarget.{AskedTarget}
 use Rattle.blk_cache.specs.declared.sparse_target.AskedTarget.TheVariants as target
 use Rattle.blk_cache.specs.CacheKeeping.{KeepsState}
 use Rattle.blk_cache.specs.Covering.{AreCovered}
-use Rattle.blk_cache.specs.SparseAsking.{IsInside, IsLiveNamed, sparse_refusal}
+use Rattle.blk_cache.specs.SparseAsking.{IsRangeInside, IsLiveNamed, sparse_refusal}
 use Rattle.blk_cache.specs.SparseWriting.{IsRaisedBy, IsSignedBy, covered_of, index_charge}
 
 -- The object.
@@ -73,7 +73,7 @@ pub record IsAmong (files : BlockFiles) (found : Target) : Type 0 where
 -- what is found lies among the files, and nothing refuses early: so the range lies inside of what sparse data may have
 abbrev pub FindsTarget : BlockFiles → (early : Option Refusal) → (offset count : ℕ) → AskedTarget → Type 0
 FindsTarget files early offset count (target.Refused why) = Unit {0}
-FindsTarget files early offset count (target.Found found) = IsAmong files found × IsInside early offset count
+FindsTarget files early offset count (target.Found found) = IsAmong files found × IsRangeInside early offset count
 
 -- What is added.
 

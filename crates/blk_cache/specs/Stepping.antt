@@ -14,7 +14,7 @@ use Rattle.blk_cache.specs.declared.cache.Cache.{Cache}
 use Rattle.blk_cache.specs.declared.fault.StepFault.{StepFault}
 use Rattle.blk_cache.specs.declared.fault.StepFault.TheVariants as step_fault
 use Rattle.blk_cache.specs.CacheKeeping.{KeepsState}
-use Rattle.blk_items.specs.RoomPrinting.{Prints}
+use Rattle.blk_items.specs.RoomPrinting.{PrintsUnlessFailed}
 
 -- Texts.
 
@@ -28,11 +28,11 @@ outcome_text outcome = evicted_first outcome ++ reply_text outcome.reply
 
 -- what a command evicts was printed, unless the sink failed, whatever state was kept before
 abbrev pub SaysEvicted : Cache → Told → (moment : ℕ) → Request → (failed_before failed : Bool) → (old new : Option (List ℕ)) → Type 0
-SaysEvicted cache told moment request failed_before failed old new = ForKept (KeepsState cache) told (λ state. Prints failed_before failed old new (evicted_first (step state moment request)))
+SaysEvicted cache told moment request failed_before failed old new = ForKept (KeepsState cache) told (λ state. PrintsUnlessFailed failed_before failed old new (evicted_first (step state moment request)))
 
 -- a prefix of it was printed
-abbrev pub SaysFront : Cache → Told → (moment : ℕ) → Request → (old new : Option (List ℕ)) → Type 0
-SaysFront cache told moment request old new = ForKept (KeepsState cache) told (λ state. Appends old new (evicted_first (step state moment request)))
+abbrev pub SaysPrefix : Cache → Told → (moment : ℕ) → Request → (old new : Option (List ℕ)) → Type 0
+SaysPrefix cache told moment request old new = ForKept (KeepsState cache) told (λ state. Appends old new (evicted_first (step state moment request)))
 
 -- Answers.
 

@@ -47,19 +47,19 @@ impl Cache {
     /// decided before any folder call. A failed check is one of the object's record.
     pub(crate) fn ask_stream<F: Folder>(
         &self,
-        f: &mut F,
+        folder: &mut F,
         handle: u16,
         stream: u8,
     ) -> Result<Asked, Fault>
-        ensures asked { IfOk result (λ answer. ForSome (F.told f.old).files (λ image. (state : State) → (k : KeepsState self.now state image) → IsAsked state k.layout handle stream answer)) }
+        ensures asked { IfOk result (λ answer. ForSome (F.told folder.old).files (λ image. (state : State) → (k : KeepsState self.now state image) → IsAsked state k.layout handle stream answer)) }
         ensures early { IfSome (early_stream_refusal self.now.handles handle stream) (λ why. result ≡ Ok (asked.Refused why)) }
         ensures stands { IfOk result (StandsAmong self.now.files stream) }
-        ensures stays { Stays (F.told f.old) (F.told f.new) }
-        ensures damaged { IfDamaged result (IsAskDamage self.now.handles (F.told f.old) handle) }
-        ensures cause { IfDamaged result (IsFailedCheck self.now.files (F.told f.new)) }
-        ensures untold { ForSome (F.told f.old).files (KeepsAny self.now) → IfDamaged result (λ _. (F.told f.old).files ≡ None) }
-        ensures later { F.faults f.old ≤ F.faults f.new }
-        ensures device { IfDevice result (Rises (F.faults f.old) (F.faults f.new)) }
+        ensures stays { Stays (F.told folder.old) (F.told folder.new) }
+        ensures damaged { IfDamaged result (IsAskDamage self.now.handles (F.told folder.old) handle) }
+        ensures cause { IfDamaged result (IsFailedCheck self.now.files (F.told folder.new)) }
+        ensures untold { ForSome (F.told folder.old).files (KeepsAny self.now) → IfDamaged result (λ _. (F.told folder.old).files ≡ None) }
+        ensures later { F.faults folder.old ≤ F.faults folder.new }
+        ensures device { IfDevice result (Rises (F.faults folder.old) (F.faults folder.new)) }
     {
         if let Some(why) = self.refuses_stream(handle, stream) {
             return Ok(Asked::Refused(why));
@@ -67,7 +67,7 @@ impl Cache {
         let Some(object) = self.handles.object(handle) else {
             unreachable!();
         };
-        let head = read_head(f, &self.files, object.entry)?;
+        let head = read_head(folder, &self.files, object.entry)?;
         if keeps_stream(head.flags, stream) {
             return Ok(Asked::Refused(Refusal::SparseStream));
         }

@@ -1,7 +1,7 @@
 // What a cache keeps.
 ghost use Rattle.std.specs.Prelude.{◌≡◌, length};
 ghost use Rattle.blk_cache.specs.BoundNames.{AreBoundAmong};
-ghost use Rattle.blk_items.specs.NameRoom.{name_room};
+ghost use Rattle.blk_items.specs.NameBuffer.{name_buffer_len};
 
 use blk_disk::BlockFiles;
 use blk_handles::Handles;
@@ -27,5 +27,5 @@ pub struct Cache {
     // A buffer for the key of a parent and the name of a part.
     pub(crate) name: Vec<u8>,
     ghost stand: { AreBoundAmong files handles },
-    ghost room: { length name.items ≡ name_room },
+    ghost room: { length name.items ≡ name_buffer_len },
 }

@@ -11,7 +11,7 @@ ghost use Rattle.blk_model.specs.declared.Answer.TheVariants as answer;
 ghost use Rattle.blk_model.specs.declared.Refusal.TheVariants as refusal;
 ghost use Rattle.blk_handles.specs.Bindings.{AreShared, binding_of, is_open, open_object};
 ghost use Rattle.law_state.specs.Commands.{Does, MayStopAtEach};
-ghost use Rattle.blk_object.specs.Ending.{Cleans, FreesAll, MayEnd};
+ghost use Rattle.blk_object.specs.Ending.{Cleans, FreesAll, MayEndObject};
 ghost use Rattle.blk_object.specs.FailedChecks.{IsFailedCheck};
 ghost use Rattle.blk_cache.specs.CacheKeeping.{KeepsState};
 ghost use Rattle.blk_cache.specs.Closing.{CountsClosed};
@@ -32,31 +32,31 @@ impl Cache {
     /// It is refused with `BadHandle` where the name is free, or 4096 or more. For a last name one folder call reads the
     /// record; three more make the dirty word 0; for a doomed object one more reads its places, and each of at most six
     /// places takes seven at most. After a fault nothing is promised of the cache but that it can be dropped.
-    pub(crate) fn close<F: Folder>(&mut self, f: &mut F, handle: u16) -> Result<Answer, Fault>
-        requires is_open { ForSome (F.told f.old).files (IsOpen self.old.files) }
-        ensures does { (moment : ℕ) → IfOk result (λ answer. Does (KeepsState self.old) (KeepsState self.new) (F.told f.old) (F.told f.new) moment (to_close handle) answer) }
-        ensures stops { (moment : ℕ) → MayStopAtEach (KeepsState self.old) (F.told f.old) (F.told f.new) moment (to_close handle) }
+    pub(crate) fn close<F: Folder>(&mut self, folder: &mut F, handle: u16) -> Result<Answer, Fault>
+        requires is_open { ForSome (F.told folder.old).files (IsOpen self.old.files) }
+        ensures does { (moment : ℕ) → IfOk result (λ answer. Does (KeepsState self.old) (KeepsState self.new) (F.told folder.old) (F.told folder.new) moment (to_close handle) answer) }
+        ensures stops { (moment : ℕ) → MayStopAtEach (KeepsState self.old) (F.told folder.old) (F.told folder.new) moment (to_close handle) }
 
         // A name that is free is refused on every folder, and a refusal does nothing.
         ensures refuses { binding_of self.old.handles handle ≡ None → result ≡ Ok (answer.Refused refusal.BadHandle) }
-        ensures quiet { IfOk result (λ answer. IsRefused answer → Stays (F.told f.old) (F.told f.new)) }
+        ensures quiet { IfOk result (λ answer. IsRefused answer → Stays (F.told folder.old) (F.told folder.new)) }
         ensures unchanged { IfOk result (λ answer. IsRefused answer → self.new ≡ self.old) }
 
         // One that is bound is free then, on every folder, and the other names are bound as before.
         ensures frees { IsSome (binding_of self.old.handles handle) → OnOk result (self.new.handles ≡ slice_set self.old.handles handle None) }
 
-        ensures is_open { ForSome (F.told f.new).files (IsOpen self.new.files) }
+        ensures is_open { ForSome (F.told folder.new).files (IsOpen self.new.files) }
         ensures notes { self.new.notes ≡ self.old.notes }
         ensures mark { self.new.mark ≡ self.old.mark }
 
         // Corruption is a check that fails on what is read here; nothing is written after it.
-        ensures damaged { IfDamaged result (IsFailedCheck self.new.files (F.told f.new)) }
+        ensures damaged { IfDamaged result (IsFailedCheck self.new.files (F.told folder.new)) }
 
         // An observable folder reports no corruption where the cache keeps a state.
-        ensures untold { ForSome (F.told f.old).files (KeepsAny self.old) → IfDamaged result (λ _. (F.told f.old).files ≡ None) }
-        ensures silent { (F.told f.old).files ≡ None → (F.told f.new).files ≡ None }
-        ensures later { F.faults f.old ≤ F.faults f.new }
-        ensures device { IfDevice result (Rises (F.faults f.old) (F.faults f.new)) }
+        ensures untold { ForSome (F.told folder.old).files (KeepsAny self.old) → IfDamaged result (λ _. (F.told folder.old).files ≡ None) }
+        ensures silent { (F.told folder.old).files ≡ None → (F.told folder.new).files ≡ None }
+        ensures later { F.faults folder.old ≤ F.faults folder.new }
+        ensures device { IfDevice result (Rises (F.faults folder.old) (F.faults folder.new)) }
     {
         if self.handles.object(handle).is_none() {
             return Ok(Answer::Refused(Refusal::BadHandle));
@@ -64,8 +64,8 @@ impl Cache {
         match self.release(handle) {
             Released::More => Ok(Answer::Done),
             Released::Last(object) => {
-                let charge = read_charge(f, &self.files, object.entry)?;
-                self.end_last(f, &object, charge)?;
+                let charge = read_charge(folder, &self.files, object.entry)?;
+                self.end_last(folder, &object, charge)?;
                 Ok(Answer::Done)
             }
         }
@@ -89,7 +89,7 @@ impl Cache {
     // is clean as it lies there.
     fn end_last<F: Folder>(
         &mut self,
-        f: &mut F,
+        folder: &mut F,
         object: &OpenObject,
         charge: u64,
     ) -> Result<(), Fault>
@@ -97,19 +97,19 @@ impl Cache {
         requires kind { kind_of object.now.entry ≡ blocks_256 }
         requires record_stands { IsTrue (stands_among self.old.files object.now.entry) }
         requires stands { IsTrue (is_node_among self.old.files object.now.node) }
-        requires is_open { ForSome (F.told f.old).files (IsOpen self.old.files) }
-        ensures cleans { object.now.doomed ≡ false → Cleans self.new.files (F.told f.old) (F.told f.new) object.now result }
-        ensures frees { object.now.doomed ≡ true → FreesAll (F.told f.old) (F.told f.new) object.now.entry result }
+        requires is_open { ForSome (F.told folder.old).files (IsOpen self.old.files) }
+        ensures cleans { object.now.doomed ≡ false → Cleans self.new.files (F.told folder.old) (F.told folder.new) object.now result }
+        ensures frees { object.now.doomed ≡ true → FreesAll (F.told folder.old) (F.told folder.new) object.now.entry result }
         ensures counts { CountsClosed self.old self.new object.now.doomed charge }
-        ensures is_open { ForSome (F.told f.new).files (IsOpen self.new.files) }
-        ensures damaged { IfDamaged result (IsFailedCheck self.new.files (F.told f.new)) }
-        ensures untold { ForSome (F.told f.old).files (MayEnd object.now.doomed object.now.entry object.now.node) → IfDamaged result (λ _. (F.told f.old).files ≡ None) }
-        ensures silent { (F.told f.old).files ≡ None → (F.told f.new).files ≡ None }
-        ensures later { F.faults f.old ≤ F.faults f.new }
-        ensures device { IfDevice result (Rises (F.faults f.old) (F.faults f.new)) }
+        ensures is_open { ForSome (F.told folder.new).files (IsOpen self.new.files) }
+        ensures damaged { IfDamaged result (IsFailedCheck self.new.files (F.told folder.new)) }
+        ensures untold { ForSome (F.told folder.old).files (MayEndObject object.now.doomed object.now.entry object.now.node) → IfDamaged result (λ _. (F.told folder.old).files ≡ None) }
+        ensures silent { (F.told folder.old).files ≡ None → (F.told folder.new).files ≡ None }
+        ensures later { F.faults folder.old ≤ F.faults folder.new }
+        ensures device { IfDevice result (Rises (F.faults folder.old) (F.faults folder.new)) }
     {
         self.count_closed(object.doomed, charge);
-        end_object(f, &self.files, object)
+        end_object(folder, &self.files, object)
     }
 
     // Counts a closed object with its charge as open no longer, and a doomed one as no item.

@@ -21,9 +21,9 @@ ghost use Rattle.blk_object.specs.Making.{CanHaveNew};
 ghost use Rattle.blk_cache.specs.CacheKeeping.{KeepsState};
 ghost use Rattle.blk_cache.specs.CommandClauses.{IsRefused, KeepsAny, open_refusal};
 ghost use Rattle.blk_cache.specs.Creating.{CountsOneMore, HasRoomFor, IsNotRefused, IsReadyForSome, IsReadyToCreate, KeepsWithRoom, WantsRoomAlone, create_refusal};
-ghost use Rattle.blk_items.specs.Looking.{IsLookDamage};
+ghost use Rattle.blk_items.specs.Looking.{IsLookUpDamage};
 ghost use Rattle.blk_items.specs.RoomPrinting.{FailsWhereItRose};
-ghost use Rattle.blk_cache.specs.Stepping.{SaysEvicted, SaysFront};
+ghost use Rattle.blk_cache.specs.Stepping.{SaysEvicted, SaysPrefix};
 
 use crate::cache::Cache;
 use crate::covered::Covered;
@@ -43,45 +43,45 @@ impl Cache {
     /// be dropped.
     pub(crate) fn create<F: Folder, K: Sink>(
         &mut self,
-        f: &mut F,
+        folder: &mut F,
         out: &mut K,
         failed: &mut bool,
         handle: u16,
         key: &[u8],
         moment: u64,
     ) -> Result<Answer, Fault>
-        requires is_open { ForSome (F.told f.old).files (IsOpen self.old.files) }
-        ensures does { IfOk result (λ answer. Does (KeepsState self.old) (KeepsState self.new) (F.told f.old) (F.told f.new) moment (to_create handle key.now) answer) }
-        ensures stops { MayStopAtEach (KeepsState self.old) (F.told f.old) (F.told f.new) moment (to_create handle key.now) }
+        requires is_open { ForSome (F.told folder.old).files (IsOpen self.old.files) }
+        ensures does { IfOk result (λ answer. Does (KeepsState self.old) (KeepsState self.new) (F.told folder.old) (F.told folder.new) moment (to_create handle key.now) answer) }
+        ensures stops { MayStopAtEach (KeepsState self.old) (F.told folder.old) (F.told folder.new) moment (to_create handle key.now) }
 
         // What it evicts is printed, and on any answer a prefix of that.
-        ensures says { OnOk result (SaysEvicted self.old (F.told f.old) moment (to_create handle key.now) failed.old failed.new (K.written out.old) (K.written out.new)) }
-        ensures front { SaysFront self.old (F.told f.old) moment (to_create handle key.now) (K.written out.old) (K.written out.new) }
+        ensures says { OnOk result (SaysEvicted self.old (F.told folder.old) moment (to_create handle key.now) failed.old failed.new (K.written out.old) (K.written out.new)) }
+        ensures front { SaysPrefix self.old (F.told folder.old) moment (to_create handle key.now) (K.written out.old) (K.written out.new) }
         ensures fails { FailsWhereItRose failed.old failed.new (K.faults out.old) (K.faults out.new) }
 
         // What the names and the key tell is refused on every folder, and a refusal does nothing.
         ensures refuses { IfSome (open_refusal self.old.handles handle key.now) (λ why. result ≡ Ok (answer.Refused why)) }
-        ensures quiet { IfOk result (λ answer. IsRefused answer → Stays (F.told f.old) (F.told f.new)) }
+        ensures quiet { IfOk result (λ answer. IsRefused answer → Stays (F.told folder.old) (F.told folder.new)) }
         ensures unchanged { IfOk result (λ answer. IsRefused answer → self.new ≡ self.old) }
 
-        ensures is_open { OnOk result (ForSome (F.told f.new).files (IsOpen self.new.files)) }
+        ensures is_open { OnOk result (ForSome (F.told folder.new).files (IsOpen self.new.files)) }
         ensures notes { self.new.notes ≡ self.old.notes }
         ensures mark { self.new.mark ≡ self.old.mark }
 
         // Corruption is a check that fails on what is read here; nothing is written after it.
-        ensures damaged { IfDamaged result (IsFailedCheck self.new.files (F.told f.new)) }
+        ensures damaged { IfDamaged result (IsFailedCheck self.new.files (F.told folder.new)) }
 
         // An observable folder reports no corruption where the cache keeps a state.
-        ensures untold { ForSome (F.told f.old).files (KeepsAny self.old) → IfDamaged result (λ _. (F.told f.old).files ≡ None) }
-        ensures silent { (F.told f.old).files ≡ None → (F.told f.new).files ≡ None }
-        ensures later { F.faults f.old ≤ F.faults f.new }
+        ensures untold { ForSome (F.told folder.old).files (KeepsAny self.old) → IfDamaged result (λ _. (F.told folder.old).files ≡ None) }
+        ensures silent { (F.told folder.old).files ≡ None → (F.told folder.new).files ≡ None }
+        ensures later { F.faults folder.old ≤ F.faults folder.new }
         ensures sink_later { K.faults out.old ≤ K.faults out.new }
-        ensures device { IfDevice result (Rises (F.faults f.old) (F.faults f.new)) }
+        ensures device { IfDevice result (Rises (F.faults folder.old) (F.faults folder.new)) }
     {
-        if let Some(why) = self.refuses_create(f, handle, key)? {
+        if let Some(why) = self.refuses_create(folder, handle, key)? {
             return Ok(Answer::Refused(why));
         }
-        self.create_where_room(f, out, failed, handle, key, moment)
+        self.create_where_room(folder, out, failed, handle, key, moment)
     }
 
     // Makes a new object where there is space for it, by a Create that is refused for nothing else.
@@ -89,7 +89,7 @@ impl Cache {
     // It is known whether there is space before anything is evicted, made or bound.
     fn create_where_room<F: Folder, K: Sink>(
         &mut self,
-        f: &mut F,
+        folder: &mut F,
         out: &mut K,
         failed: &mut bool,
         handle: u16,
@@ -100,35 +100,35 @@ impl Cache {
         requires most { length key.now ≤ longest_key }
         requires known { handle < handle_names }
         requires free { binding_of self.old.handles handle ≡ None }
-        requires is_open { ForSome (F.told f.old).files (IsOpen self.old.files) }
+        requires is_open { ForSome (F.told folder.old).files (IsOpen self.old.files) }
 
         // It is the map's Create, and may crash at each word.
-        ensures does { WantsRoomAlone self.old (F.told f.old) moment handle key.now → IfOk result (λ answer. Does (KeepsState self.old) (KeepsState self.new) (F.told f.old) (F.told f.new) moment (to_create handle key.now) answer) }
-        ensures stops { WantsRoomAlone self.old (F.told f.old) moment handle key.now → MayStopAtEach (KeepsState self.old) (F.told f.old) (F.told f.new) moment (to_create handle key.now) }
+        ensures does { WantsRoomAlone self.old (F.told folder.old) moment handle key.now → IfOk result (λ answer. Does (KeepsState self.old) (KeepsState self.new) (F.told folder.old) (F.told folder.new) moment (to_create handle key.now) answer) }
+        ensures stops { WantsRoomAlone self.old (F.told folder.old) moment handle key.now → MayStopAtEach (KeepsState self.old) (F.told folder.old) (F.told folder.new) moment (to_create handle key.now) }
 
         // What it evicts is printed, and on any answer a prefix of that.
-        ensures says { WantsRoomAlone self.old (F.told f.old) moment handle key.now → OnOk result (SaysEvicted self.old (F.told f.old) moment (to_create handle key.now) failed.old failed.new (K.written out.old) (K.written out.new)) }
-        ensures front { WantsRoomAlone self.old (F.told f.old) moment handle key.now → SaysFront self.old (F.told f.old) moment (to_create handle key.now) (K.written out.old) (K.written out.new) }
+        ensures says { WantsRoomAlone self.old (F.told folder.old) moment handle key.now → OnOk result (SaysEvicted self.old (F.told folder.old) moment (to_create handle key.now) failed.old failed.new (K.written out.old) (K.written out.new)) }
+        ensures front { WantsRoomAlone self.old (F.told folder.old) moment handle key.now → SaysPrefix self.old (F.told folder.old) moment (to_create handle key.now) (K.written out.old) (K.written out.new) }
         ensures fails { FailsWhereItRose failed.old failed.new (K.faults out.old) (K.faults out.new) }
 
         // A refusal does nothing.
-        ensures quiet { IfOk result (λ answer. IsRefused answer → Stays (F.told f.old) (F.told f.new)) }
+        ensures quiet { IfOk result (λ answer. IsRefused answer → Stays (F.told folder.old) (F.told folder.new)) }
         ensures unchanged { IfOk result (λ answer. IsRefused answer → self.new ≡ self.old) }
 
-        ensures is_open { OnOk result (ForSome (F.told f.new).files (IsOpen self.new.files)) }
+        ensures is_open { OnOk result (ForSome (F.told folder.new).files (IsOpen self.new.files)) }
         ensures notes { self.new.notes ≡ self.old.notes }
         ensures mark { self.new.mark ≡ self.old.mark }
-        ensures damaged { IfDamaged result (IsFailedCheck self.new.files (F.told f.new)) }
-        ensures untold { WantsRoomAlone self.old (F.told f.old) moment handle key.now → ForSome (F.told f.old).files (KeepsAny self.old) → IfDamaged result (λ _. (F.told f.old).files ≡ None) }
-        ensures silent { (F.told f.old).files ≡ None → (F.told f.new).files ≡ None }
-        ensures later { F.faults f.old ≤ F.faults f.new }
+        ensures damaged { IfDamaged result (IsFailedCheck self.new.files (F.told folder.new)) }
+        ensures untold { WantsRoomAlone self.old (F.told folder.old) moment handle key.now → ForSome (F.told folder.old).files (KeepsAny self.old) → IfDamaged result (λ _. (F.told folder.old).files ≡ None) }
+        ensures silent { (F.told folder.old).files ≡ None → (F.told folder.new).files ≡ None }
+        ensures later { F.faults folder.old ≤ F.faults folder.new }
         ensures sink_later { K.faults out.old ≤ K.faults out.new }
-        ensures device { IfDevice result (Rises (F.faults f.old) (F.faults f.new)) }
+        ensures device { IfDevice result (Rises (F.faults folder.old) (F.faults folder.new)) }
     {
         if self.has_no_room(key) {
             return Ok(Answer::Refused(Refusal::Full));
         }
-        self.create_with_room(f, out, failed, handle, key, moment)
+        self.create_with_room(folder, out, failed, handle, key, moment)
     }
 
     // Whether there is no space for a new object with a key, by what is kept in memory.
@@ -137,7 +137,7 @@ impl Cache {
         ensures does { result ≡ true → (told : Told) (moment handle : ℕ) → WantsRoomAlone self.now told moment handle key.now → Does (KeepsState self.now) (KeepsState self.now) told told moment (to_create handle key.now) (answer.Refused refusal.Full) }
         ensures says { result ≡ true → (told : Told) (moment handle : ℕ) → WantsRoomAlone self.now told moment handle key.now → (failed : Bool) (written : Option (List ℕ)) → SaysEvicted self.now told moment (to_create handle key.now) failed failed written written }
         ensures stops { (told : Told) (moment handle : ℕ) → MayStopAtEach (KeepsState self.now) told told moment (to_create handle key.now) }
-        ensures front { (told : Told) (moment handle : ℕ) (written : Option (List ℕ)) → SaysFront self.now told moment (to_create handle key.now) written written }
+        ensures front { (told : Told) (moment handle : ℕ) (written : Option (List ℕ)) → SaysPrefix self.now told moment (to_create handle key.now) written written }
 
         // Else it isn't refused.
         ensures passes { result ≡ false → (told : Told) (moment handle : ℕ) → WantsRoomAlone self.now told moment handle key.now → IsNotRefused self.now told moment handle key.now }
@@ -148,7 +148,7 @@ impl Cache {
     // Makes a new object by a Create that isn't refused, once all that has to be evicted for it is out.
     fn create_with_room<F: Folder, K: Sink>(
         &mut self,
-        f: &mut F,
+        folder: &mut F,
         out: &mut K,
         failed: &mut bool,
         handle: u16,
@@ -159,40 +159,40 @@ impl Cache {
         requires most { length key.now ≤ longest_key }
         requires known { handle < handle_names }
         requires free { binding_of self.old.handles handle ≡ None }
-        requires is_open { ForSome (F.told f.old).files (IsOpen self.old.files) }
+        requires is_open { ForSome (F.told folder.old).files (IsOpen self.old.files) }
 
         // It is done, and may crash at each word.
-        ensures does { IsNotRefused self.old (F.told f.old) moment handle key.now → IfOk result (λ answer. Does (KeepsState self.old) (KeepsState self.new) (F.told f.old) (F.told f.new) moment (to_create handle key.now) answer) }
-        ensures stops { IsNotRefused self.old (F.told f.old) moment handle key.now → MayStopAtEach (KeepsState self.old) (F.told f.old) (F.told f.new) moment (to_create handle key.now) }
+        ensures does { IsNotRefused self.old (F.told folder.old) moment handle key.now → IfOk result (λ answer. Does (KeepsState self.old) (KeepsState self.new) (F.told folder.old) (F.told folder.new) moment (to_create handle key.now) answer) }
+        ensures stops { IsNotRefused self.old (F.told folder.old) moment handle key.now → MayStopAtEach (KeepsState self.old) (F.told folder.old) (F.told folder.new) moment (to_create handle key.now) }
 
         // What it evicts is printed, and on any answer a prefix of that.
-        ensures says { IsNotRefused self.old (F.told f.old) moment handle key.now → OnOk result (SaysEvicted self.old (F.told f.old) moment (to_create handle key.now) failed.old failed.new (K.written out.old) (K.written out.new)) }
-        ensures front { IsNotRefused self.old (F.told f.old) moment handle key.now → SaysFront self.old (F.told f.old) moment (to_create handle key.now) (K.written out.old) (K.written out.new) }
+        ensures says { IsNotRefused self.old (F.told folder.old) moment handle key.now → OnOk result (SaysEvicted self.old (F.told folder.old) moment (to_create handle key.now) failed.old failed.new (K.written out.old) (K.written out.new)) }
+        ensures front { IsNotRefused self.old (F.told folder.old) moment handle key.now → SaysPrefix self.old (F.told folder.old) moment (to_create handle key.now) (K.written out.old) (K.written out.new) }
         ensures fails { FailsWhereItRose failed.old failed.new (K.faults out.old) (K.faults out.new) }
 
         // No refusal is left, and so none does anything.
-        ensures quiet { IfOk result (λ answer. IsRefused answer → Stays (F.told f.old) (F.told f.new)) }
+        ensures quiet { IfOk result (λ answer. IsRefused answer → Stays (F.told folder.old) (F.told folder.new)) }
         ensures unchanged { IfOk result (λ answer. IsRefused answer → self.new ≡ self.old) }
 
-        ensures is_open { OnOk result (ForSome (F.told f.new).files (IsOpen self.new.files)) }
+        ensures is_open { OnOk result (ForSome (F.told folder.new).files (IsOpen self.new.files)) }
         ensures notes { self.new.notes ≡ self.old.notes }
         ensures mark { self.new.mark ≡ self.old.mark }
-        ensures damaged { IfDamaged result (IsFailedCheck self.new.files (F.told f.new)) }
-        ensures untold { IsNotRefused self.old (F.told f.old) moment handle key.now → ForSome (F.told f.old).files (KeepsAny self.old) → IfDamaged result (λ _. (F.told f.old).files ≡ None) }
-        ensures silent { (F.told f.old).files ≡ None → (F.told f.new).files ≡ None }
-        ensures later { F.faults f.old ≤ F.faults f.new }
+        ensures damaged { IfDamaged result (IsFailedCheck self.new.files (F.told folder.new)) }
+        ensures untold { IsNotRefused self.old (F.told folder.old) moment handle key.now → ForSome (F.told folder.old).files (KeepsAny self.old) → IfDamaged result (λ _. (F.told folder.old).files ≡ None) }
+        ensures silent { (F.told folder.old).files ≡ None → (F.told folder.new).files ≡ None }
+        ensures later { F.faults folder.old ≤ F.faults folder.new }
         ensures sink_later { K.faults out.old ≤ K.faults out.new }
-        ensures device { IfDevice result (Rises (F.faults f.old) (F.faults f.new)) }
+        ensures device { IfDevice result (Rises (F.faults folder.old) (F.faults folder.new)) }
     {
-        self.evict_for(f, out, failed, key.len() as u64, 1, &Covered::none())?;
-        self.end_create(f, handle, key, moment)
+        self.evict_for(folder, out, failed, key.len() as u64, 1, &Covered::none())?;
+        self.end_create(folder, handle, key, moment)
     }
 
     // Ends a Create that isn't refused, once all that it evicts is out: its object is made, with a free handle name
     // bound to it.
     pub(crate) fn end_create<F: Folder>(
         &mut self,
-        f: &mut F,
+        folder: &mut F,
         handle: u16,
         key: &[u8],
         moment: u64,
@@ -201,23 +201,23 @@ impl Cache {
         requires most { length key.now ≤ longest_key }
         requires known { handle < handle_names }
         requires free { binding_of self.old.handles handle ≡ None }
-        requires is_open { ForSome (F.told f.old).files (IsOpen self.old.files) }
+        requires is_open { ForSome (F.told folder.old).files (IsOpen self.old.files) }
 
         // It is done, whatever state the Create began with, and may crash at each word.
-        ensures does { IfOk result (λ answer. ForSome (F.told f.old).files (λ from. (state : State) → IsReadyToCreate self.old state moment handle key.now from → IsDone (KeepsState self.new) (F.told f.new) moment (to_create handle key.now) answer state)) }
-        ensures stops { ForSome (F.told f.old).files (λ from. (state : State) → IsReadyToCreate self.old state moment handle key.now from → Passes (F.told f.old) (F.told f.new) (MayStop state moment (to_create handle key.now))) }
+        ensures does { IfOk result (λ answer. ForSome (F.told folder.old).files (λ from. (state : State) → IsReadyToCreate self.old state moment handle key.now from → IsDone (KeepsState self.new) (F.told folder.new) moment (to_create handle key.now) answer state)) }
+        ensures stops { ForSome (F.told folder.old).files (λ from. (state : State) → IsReadyToCreate self.old state moment handle key.now from → Passes (F.told folder.old) (F.told folder.new) (MayStop state moment (to_create handle key.now))) }
 
         ensures done { IfOk result (λ given. given ≡ answer.Done) }
         ensures notes { self.new.notes ≡ self.old.notes }
         ensures mark { self.new.mark ≡ self.old.mark }
-        ensures is_open { OnOk result (ForSome (F.told f.new).files (IsOpen self.new.files)) }
-        ensures damaged { IfDamaged result (IsFailedCheck self.new.files (F.told f.new)) }
-        ensures untold { ForSome (F.told f.old).files (IsReadyForSome self.old handle key.now) → IfDamaged result (λ _. (F.told f.old).files ≡ None) }
-        ensures silent { (F.told f.old).files ≡ None → (F.told f.new).files ≡ None }
-        ensures later { F.faults f.old ≤ F.faults f.new }
-        ensures device { IfDevice result (Rises (F.faults f.old) (F.faults f.new)) }
+        ensures is_open { OnOk result (ForSome (F.told folder.new).files (IsOpen self.new.files)) }
+        ensures damaged { IfDamaged result (IsFailedCheck self.new.files (F.told folder.new)) }
+        ensures untold { ForSome (F.told folder.old).files (IsReadyForSome self.old handle key.now) → IfDamaged result (λ _. (F.told folder.old).files ≡ None) }
+        ensures silent { (F.told folder.old).files ≡ None → (F.told folder.new).files ≡ None }
+        ensures later { F.faults folder.old ≤ F.faults folder.new }
+        ensures device { IfDevice result (Rises (F.faults folder.old) (F.faults folder.new)) }
     {
-        self.make_object(f, handle, key, moment)?;
+        self.make_object(folder, handle, key, moment)?;
         Ok(Answer::Done)
     }
 
@@ -228,7 +228,7 @@ impl Cache {
     // promised of the cache but that it can be dropped.
     pub(crate) fn make_object<F: Folder>(
         &mut self,
-        f: &mut F,
+        folder: &mut F,
         handle: u16,
         key: &[u8],
         moment: u64,
@@ -237,28 +237,28 @@ impl Cache {
         requires most { length key.now ≤ longest_key }
         requires known { handle < handle_names }
         requires free { binding_of self.old.handles handle ≡ None }
-        requires is_open { ForSome (F.told f.old).files (IsOpen self.old.files) }
+        requires is_open { ForSome (F.told folder.old).files (IsOpen self.old.files) }
 
         // In the end each state that was kept, that has space for the object, is kept with it.
-        ensures made { OnOk result (ForSome (F.told f.old).files (λ from. (state : State) → KeepsState self.old state from → HasRoomFor state handle key.now → ForSome (F.told f.new).files (KeepsState self.new (created handle key.now state)))) }
+        ensures made { OnOk result (ForSome (F.told folder.old).files (λ from. (state : State) → KeepsState self.old state from → HasRoomFor state handle key.now → ForSome (F.told folder.new).files (KeepsState self.new (created handle key.now state)))) }
 
         // At each word the old durable contents are recovered.
-        ensures stops { ForSome (F.told f.old).files (λ from. (state : State) → KeepsState self.old state from → CanHaveNew state handle key.now → Passes (F.told f.old) (F.told f.new) (Finds (rest state))) }
+        ensures stops { ForSome (F.told folder.old).files (λ from. (state : State) → KeepsState self.old state from → CanHaveNew state handle key.now → Passes (F.told folder.old) (F.told folder.new) (Finds (rest state))) }
 
         ensures notes { self.new.notes ≡ self.old.notes }
         ensures mark { self.new.mark ≡ self.old.mark }
-        ensures is_open { OnOk result (ForSome (F.told f.new).files (IsOpen self.new.files)) }
+        ensures is_open { OnOk result (ForSome (F.told folder.new).files (IsOpen self.new.files)) }
 
         // Corruption is a check that fails on what is read here; nothing is written after it.
-        ensures damaged { IfDamaged result (IsFailedCheck self.new.files (F.told f.new)) }
+        ensures damaged { IfDamaged result (IsFailedCheck self.new.files (F.told folder.new)) }
 
         // An observable folder reports no corruption where the cache keeps such a state.
-        ensures untold { ForSome (F.told f.old).files (KeepsWithRoom self.old handle key.now) → IfDamaged result (λ _. (F.told f.old).files ≡ None) }
-        ensures silent { (F.told f.old).files ≡ None → (F.told f.new).files ≡ None }
-        ensures later { F.faults f.old ≤ F.faults f.new }
-        ensures device { IfDevice result (Rises (F.faults f.old) (F.faults f.new)) }
+        ensures untold { ForSome (F.told folder.old).files (KeepsWithRoom self.old handle key.now) → IfDamaged result (λ _. (F.told folder.old).files ≡ None) }
+        ensures silent { (F.told folder.old).files ≡ None → (F.told folder.new).files ≡ None }
+        ensures later { F.faults folder.old ≤ F.faults folder.new }
+        ensures device { IfDevice result (Rises (F.faults folder.old) (F.faults folder.new)) }
     {
-        let made = make_entry(f, &mut self.files, key, self.mark, moment)?;
+        let made = make_entry(folder, &mut self.files, key, self.mark, moment)?;
         let new = Live {
             entry: made.entry,
             node: made.node,
@@ -273,27 +273,27 @@ impl Cache {
     // the key tell, or with `Exists` where a live object has the key, the first of these. Nothing is written.
     pub(crate) fn refuses_create<F: Folder>(
         &self,
-        f: &mut F,
+        folder: &mut F,
         handle: u16,
         key: &[u8],
     ) -> Result<Option<Refusal>, Fault>
-        ensures refused { IfOk result (λ early. ForSome (F.told f.old).files (λ image. (state : State) (moment : ℕ) → KeepsState self.now state image → refused moment (to_create handle key.now) state ≡ create_refusal early (no_room moment (to_create handle key.now) state))) }
+        ensures refused { IfOk result (λ early. ForSome (F.told folder.old).files (λ image. (state : State) (moment : ℕ) → KeepsState self.now state image → refused moment (to_create handle key.now) state ≡ create_refusal early (no_room moment (to_create handle key.now) state))) }
 
         // What the names and the key tell is refused on every folder, and where it goes on they tell nothing.
         ensures refuses { IfSome (open_refusal self.now.handles handle key.now) (λ why. result ≡ Ok (Some why)) }
         ensures goes_on { IfOk result (λ early. early ≡ None → open_refusal self.now.handles handle key.now ≡ None) }
-        ensures stays { Stays (F.told f.old) (F.told f.new) }
+        ensures stays { Stays (F.told folder.old) (F.told folder.new) }
 
         // An observable folder reports no corruption where the cache keeps a state.
-        ensures damaged { IfDamaged result (IsLookDamage self.now.files (F.told f.old) key.now) }
-        ensures untold { ForSome (F.told f.old).files (IsOpen self.now.files) → ForSome (F.told f.old).files (KeepsAny self.now) → IfDamaged result (λ _. (F.told f.old).files ≡ None) }
-        ensures later { F.faults f.old ≤ F.faults f.new }
-        ensures device { IfDevice result (Rises (F.faults f.old) (F.faults f.new)) }
+        ensures damaged { IfDamaged result (IsLookUpDamage self.now.files (F.told folder.old) key.now) }
+        ensures untold { ForSome (F.told folder.old).files (IsOpen self.now.files) → ForSome (F.told folder.old).files (KeepsAny self.now) → IfDamaged result (λ _. (F.told folder.old).files ≡ None) }
+        ensures later { F.faults folder.old ≤ F.faults folder.new }
+        ensures device { IfDevice result (Rises (F.faults folder.old) (F.faults folder.new)) }
     {
         if let Some(why) = self.refuses_open(handle, key) {
             return Ok(Some(why));
         }
-        match find_live(f, &self.files, key)? {
+        match find_live(folder, &self.files, key)? {
             Some(_) => Ok(Some(Refusal::Exists)),
             None => Ok(None),
         }

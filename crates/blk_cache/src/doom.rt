@@ -29,28 +29,28 @@ impl Cache {
     /// It is refused with `BadHandle` where the name is free, or 4096 or more, and `Doomed` where its object is doomed. An
     /// object without parts takes at most 38 folder calls where the search passes one record of its chain or none, and one
     /// more for each further one. After a fault nothing is promised of the cache but that it can be dropped.
-    pub(crate) fn doom<F: Folder>(&mut self, f: &mut F, handle: u16) -> Result<Answer, Fault>
-        requires is_open { ForSome (F.told f.old).files (IsOpen self.old.files) }
-        ensures does { (moment : ℕ) → IfOk result (λ answer. Does (KeepsState self.old) (KeepsState self.new) (F.told f.old) (F.told f.new) moment (to_doom handle) answer) }
-        ensures stops { (moment : ℕ) → MayStopAtEach (KeepsState self.old) (F.told f.old) (F.told f.new) moment (to_doom handle) }
+    pub(crate) fn doom<F: Folder>(&mut self, folder: &mut F, handle: u16) -> Result<Answer, Fault>
+        requires is_open { ForSome (F.told folder.old).files (IsOpen self.old.files) }
+        ensures does { (moment : ℕ) → IfOk result (λ answer. Does (KeepsState self.old) (KeepsState self.new) (F.told folder.old) (F.told folder.new) moment (to_doom handle) answer) }
+        ensures stops { (moment : ℕ) → MayStopAtEach (KeepsState self.old) (F.told folder.old) (F.told folder.new) moment (to_doom handle) }
 
         // What the name is bound to is refused on every folder, and a refusal does nothing.
         ensures refuses { IfSome (doom_refusal self.old.handles handle) (λ why. result ≡ Ok (answer.Refused why)) }
-        ensures quiet { IfOk result (λ answer. IsRefused answer → Stays (F.told f.old) (F.told f.new)) }
+        ensures quiet { IfOk result (λ answer. IsRefused answer → Stays (F.told folder.old) (F.told folder.new)) }
         ensures unchanged { IfOk result (λ answer. IsRefused answer → self.new ≡ self.old) }
 
-        ensures is_open { ForSome (F.told f.new).files (IsOpen self.new.files) }
+        ensures is_open { ForSome (F.told folder.new).files (IsOpen self.new.files) }
         ensures notes { self.new.notes ≡ self.old.notes }
         ensures mark { self.new.mark ≡ self.old.mark }
 
         // Corruption is a check that fails on what is read here; nothing is written after it.
-        ensures damaged { IfDamaged result (IsFailedCheck self.new.files (F.told f.new)) }
+        ensures damaged { IfDamaged result (IsFailedCheck self.new.files (F.told folder.new)) }
 
         // An observable folder reports no corruption where the cache keeps a state.
-        ensures untold { ForSome (F.told f.old).files (KeepsAny self.old) → IfDamaged result (λ _. (F.told f.old).files ≡ None) }
-        ensures silent { (F.told f.old).files ≡ None → (F.told f.new).files ≡ None }
-        ensures later { F.faults f.old ≤ F.faults f.new }
-        ensures device { IfDevice result (Rises (F.faults f.old) (F.faults f.new)) }
+        ensures untold { ForSome (F.told folder.old).files (KeepsAny self.old) → IfDamaged result (λ _. (F.told folder.old).files ≡ None) }
+        ensures silent { (F.told folder.old).files ≡ None → (F.told folder.new).files ≡ None }
+        ensures later { F.faults folder.old ≤ F.faults folder.new }
+        ensures device { IfDevice result (Rises (F.faults folder.old) (F.faults folder.new)) }
     {
         let Some(object) = self.handles.object(handle) else {
             return Ok(Answer::Refused(Refusal::BadHandle));
@@ -58,27 +58,27 @@ impl Cache {
         if object.doomed {
             return Ok(Answer::Refused(Refusal::Doomed));
         }
-        self.doom_open(f, object.entry, object.node)?;
+        self.doom_open(folder, object.entry, object.node)?;
         Ok(Answer::Done)
     }
 
     // Dooms a live object that a handle names, by its record and its node.
-    fn doom_open<F: Folder>(&mut self, f: &mut F, entry: Addr, node: Addr) -> Result<(), Fault>
+    fn doom_open<F: Folder>(&mut self, folder: &mut F, entry: Addr, node: Addr) -> Result<(), Fault>
         requires names { IsTrue (is_record_among self.old.files entry) }
         requires node { IsTrue (is_node_among self.old.files node) }
-        requires is_open { ForSome (F.told f.old).files (IsOpen self.old.files) }
-        ensures dooms { OnOk result (ForSome (F.told f.old).files (λ from. ForEachOpen self.old node entry from (λ state number object. ForSome (F.told f.new).files (KeepsState self.new (doomed number state (Some object)))))) }
-        ensures stops { ForSome (F.told f.old).files (λ from. ForEachOpen self.old node entry from (λ state number object. Passes (F.told f.old) (F.told f.new) (FindsEither state (doomed number state (Some object))))) }
-        ensures is_open { ForSome (F.told f.new).files (IsOpen self.new.files) }
+        requires is_open { ForSome (F.told folder.old).files (IsOpen self.old.files) }
+        ensures dooms { OnOk result (ForSome (F.told folder.old).files (λ from. ForEachOpen self.old node entry from (λ state number object. ForSome (F.told folder.new).files (KeepsState self.new (doomed number state (Some object)))))) }
+        ensures stops { ForSome (F.told folder.old).files (λ from. ForEachOpen self.old node entry from (λ state number object. Passes (F.told folder.old) (F.told folder.new) (FindsEither state (doomed number state (Some object))))) }
+        ensures is_open { ForSome (F.told folder.new).files (IsOpen self.new.files) }
         ensures notes { self.new.notes ≡ self.old.notes }
         ensures mark { self.new.mark ≡ self.old.mark }
-        ensures damaged { IfDamaged result (IsFailedCheck self.new.files (F.told f.new)) }
-        ensures untold { ForSome (F.told f.old).files (λ from. ForEachOpen self.old node entry from (λ state number object. IfDamaged result (λ _. (F.told f.old).files ≡ None))) }
-        ensures silent { (F.told f.old).files ≡ None → (F.told f.new).files ≡ None }
-        ensures later { F.faults f.old ≤ F.faults f.new }
-        ensures device { IfDevice result (Rises (F.faults f.old) (F.faults f.new)) }
+        ensures damaged { IfDamaged result (IsFailedCheck self.new.files (F.told folder.new)) }
+        ensures untold { ForSome (F.told folder.old).files (λ from. ForEachOpen self.old node entry from (λ state number object. IfDamaged result (λ _. (F.told folder.old).files ≡ None))) }
+        ensures silent { (F.told folder.old).files ≡ None → (F.told folder.new).files ≡ None }
+        ensures later { F.faults folder.old ≤ F.faults folder.new }
+        ensures device { IfDevice result (Rises (F.faults folder.old) (F.faults folder.new)) }
     {
-        let gone = doom_named(f, &self.files, &mut self.name, entry, node)?;
+        let gone = doom_named(folder, &self.files, &mut self.name, entry, node)?;
         self.count_doomed(entry, &gone);
         Ok(())
     }

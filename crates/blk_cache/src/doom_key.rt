@@ -29,41 +29,50 @@ impl Cache {
     ///
     /// It is refused with `BadKey` where the key has no bytes or more than 32768, and `Missing` where no live object has
     /// the key. After a fault nothing is promised of the cache but that it can be dropped.
-    pub(crate) fn doom_key<F: Folder>(&mut self, f: &mut F, key: &[u8]) -> Result<Answer, Fault>
-        requires is_open { ForSome (F.told f.old).files (IsOpen self.old.files) }
-        ensures does { (moment : ℕ) → IfOk result (λ answer. Does (KeepsState self.old) (KeepsState self.new) (F.told f.old) (F.told f.new) moment (to_doom_key key.now) answer) }
-        ensures stops { (moment : ℕ) → MayStopAtEach (KeepsState self.old) (F.told f.old) (F.told f.new) moment (to_doom_key key.now) }
+    pub(crate) fn doom_key<F: Folder>(
+        &mut self,
+        folder: &mut F,
+        key: &[u8],
+    ) -> Result<Answer, Fault>
+        requires is_open { ForSome (F.told folder.old).files (IsOpen self.old.files) }
+        ensures does { (moment : ℕ) → IfOk result (λ answer. Does (KeepsState self.old) (KeepsState self.new) (F.told folder.old) (F.told folder.new) moment (to_doom_key key.now) answer) }
+        ensures stops { (moment : ℕ) → MayStopAtEach (KeepsState self.old) (F.told folder.old) (F.told folder.new) moment (to_doom_key key.now) }
 
         // A key that is none is refused on every folder, and a refusal does nothing.
         ensures refuses { IsTrue (no_key key.now) → result ≡ Ok (answer.Refused refusal.BadKey) }
-        ensures quiet { IfOk result (λ answer. IsRefused answer → Stays (F.told f.old) (F.told f.new)) }
+        ensures quiet { IfOk result (λ answer. IsRefused answer → Stays (F.told folder.old) (F.told folder.new)) }
         ensures unchanged { IfOk result (λ answer. IsRefused answer → self.new ≡ self.old) }
 
-        ensures is_open { ForSome (F.told f.new).files (IsOpen self.new.files) }
+        ensures is_open { ForSome (F.told folder.new).files (IsOpen self.new.files) }
         ensures notes { self.new.notes ≡ self.old.notes }
         ensures mark { self.new.mark ≡ self.old.mark }
 
         // Corruption is a check that fails on what is read here; nothing is written after it.
-        ensures damaged { IfDamaged result (IsFailedCheck self.new.files (F.told f.new)) }
+        ensures damaged { IfDamaged result (IsFailedCheck self.new.files (F.told folder.new)) }
 
         // An observable folder reports no corruption where the cache keeps a state.
-        ensures untold { ForSome (F.told f.old).files (KeepsAny self.old) → IfDamaged result (λ _. (F.told f.old).files ≡ None) }
-        ensures silent { (F.told f.old).files ≡ None → (F.told f.new).files ≡ None }
-        ensures later { F.faults f.old ≤ F.faults f.new }
-        ensures device { IfDevice result (Rises (F.faults f.old) (F.faults f.new)) }
+        ensures untold { ForSome (F.told folder.old).files (KeepsAny self.old) → IfDamaged result (λ _. (F.told folder.old).files ≡ None) }
+        ensures silent { (F.told folder.old).files ≡ None → (F.told folder.new).files ≡ None }
+        ensures later { F.faults folder.old ≤ F.faults folder.new }
+        ensures device { IfDevice result (Rises (F.faults folder.old) (F.faults folder.new)) }
     {
         if is_no_key(key) {
             return Ok(Answer::Refused(Refusal::BadKey));
         }
-        let Some(target) = find_target(f, &self.files, key)? else {
+        let Some(target) = find_target(folder, &self.files, key)? else {
             return Ok(Answer::Refused(Refusal::Missing));
         };
-        self.doom_found(f, &target, key)?;
+        self.doom_found(folder, &target, key)?;
         Ok(Answer::Done)
     }
 
     // Dooms a live object with a key, as it was found.
-    fn doom_found<F: Folder>(&mut self, f: &mut F, target: &Target, key: &[u8]) -> Result<(), Fault>
+    fn doom_found<F: Folder>(
+        &mut self,
+        folder: &mut F,
+        target: &Target,
+        key: &[u8],
+    ) -> Result<(), Fault>
         requires some { 1 ≤ length key.now }
         requires short { length key.now ≤ longest_key }
         requires node { IsTrue (is_node_among self.old.files target.now.node) }
@@ -71,21 +80,21 @@ impl Cache {
         requires stands { IsTrue (stands_among self.old.files target.now.found.entry) }
         requires kind_before { IfSome target.now.found.before (λ before. kind_of before ≡ blocks_256) }
         requires stands_before { IfSome target.now.found.before (λ before. IsTrue (stands_among self.old.files before)) }
-        requires is_open { ForSome (F.told f.old).files (IsOpen self.old.files) }
-        ensures dooms { OnOk result (ForSome (F.told f.old).files (λ from. ForEachKept self.old key.now target.now from (λ state number object. ForSome (F.told f.new).files (KeepsState self.new (doomed number state (Some object)))))) }
-        ensures stops { ForSome (F.told f.old).files (λ from. ForEachKept self.old key.now target.now from (λ state number object. Passes (F.told f.old) (F.told f.new) (FindsEither state (doomed number state (Some object))))) }
-        ensures is_open { ForSome (F.told f.new).files (IsOpen self.new.files) }
+        requires is_open { ForSome (F.told folder.old).files (IsOpen self.old.files) }
+        ensures dooms { OnOk result (ForSome (F.told folder.old).files (λ from. ForEachKept self.old key.now target.now from (λ state number object. ForSome (F.told folder.new).files (KeepsState self.new (doomed number state (Some object)))))) }
+        ensures stops { ForSome (F.told folder.old).files (λ from. ForEachKept self.old key.now target.now from (λ state number object. Passes (F.told folder.old) (F.told folder.new) (FindsEither state (doomed number state (Some object))))) }
+        ensures is_open { ForSome (F.told folder.new).files (IsOpen self.new.files) }
         ensures notes { self.new.notes ≡ self.old.notes }
         ensures mark { self.new.mark ≡ self.old.mark }
-        ensures damaged { IfDamaged result (IsFailedCheck self.new.files (F.told f.new)) }
-        ensures untold { ForSome (F.told f.old).files (λ from. ForEachKept self.old key.now target.now from (λ state number object. IfDamaged result (λ _. (F.told f.old).files ≡ None))) }
-        ensures silent { (F.told f.old).files ≡ None → (F.told f.new).files ≡ None }
-        ensures later { F.faults f.old ≤ F.faults f.new }
-        ensures device { IfDevice result (Rises (F.faults f.old) (F.faults f.new)) }
+        ensures damaged { IfDamaged result (IsFailedCheck self.new.files (F.told folder.new)) }
+        ensures untold { ForSome (F.told folder.old).files (λ from. ForEachKept self.old key.now target.now from (λ state number object. IfDamaged result (λ _. (F.told folder.old).files ≡ None))) }
+        ensures silent { (F.told folder.old).files ≡ None → (F.told folder.new).files ≡ None }
+        ensures later { F.faults folder.old ≤ F.faults folder.new }
+        ensures device { IfDevice result (Rises (F.faults folder.old) (F.faults folder.new)) }
     {
         let entry = target.found.entry;
         let is_held = self.handles.is_pinned(entry);
-        let gone = doom_target(f, &self.files, target, key, &mut self.name, is_held)?;
+        let gone = doom_target(folder, &self.files, target, key, &mut self.name, is_held)?;
         self.count_doomed(entry, &gone);
         Ok(())
     }

@@ -13,7 +13,7 @@ ghost use Rattle.blk_object.specs.RemovingObjects.{FindsEither};
 ghost use Rattle.blk_cache.specs.CacheKeeping.{KeepsState};
 ghost use Rattle.blk_cache.specs.Covering.{ForCovered, KeepsCovered};
 ghost use Rattle.blk_cache.specs.Evicting.{ForEachThatMayGo, IsEvicting, KeepsInPlaces, KeepsThatMayGo, OnlyItemsChange, count_of_groups, is_met};
-ghost use Rattle.blk_items.specs.RoomPrinting.{FailsWhereItRose, Prints};
+ghost use Rattle.blk_items.specs.RoomPrinting.{FailsWhereItRose, PrintsUnlessFailed};
 
 use crate::cache::Cache;
 use crate::covered::Covered;
@@ -29,69 +29,69 @@ impl Cache {
     /// printed, and the eviction goes on.
     pub(crate) fn evict_until<F: Folder, K: Sink>(
         &mut self,
-        f: &mut F,
+        folder: &mut F,
         out: &mut K,
         failed: &mut bool,
         goal: &Goal,
         parts: &Covered,
     ) -> Result<u64, Fault>
-        requires is_open { ForSome (F.told f.old).files (IsOpen self.old.files) }
+        requires is_open { ForSome (F.told folder.old).files (IsOpen self.old.files) }
 
         // Each state that was kept is kept without the groups that are evicted, and these are counted and printed.
-        ensures evicted { OnOk result (ForCovered self.old parts.now (F.told f.old) (λ state covered. ForSome (F.told f.new).files (KeepsState self.new (without (evicted_until (is_met goal.now) state covered) state)))) }
-        ensures counts { IfOk result (λ count. ForCovered self.old parts.now (F.told f.old) (λ state covered. count ≡ count_of_groups (evicted_until (is_met goal.now) state covered))) }
-        ensures prints { OnOk result (ForCovered self.old parts.now (F.told f.old) (λ state covered. Prints failed.old failed.new (K.written out.old) (K.written out.new) (evicted_text (evicted_until (is_met goal.now) state covered)))) }
+        ensures evicted { OnOk result (ForCovered self.old parts.now (F.told folder.old) (λ state covered. ForSome (F.told folder.new).files (KeepsState self.new (without (evicted_until (is_met goal.now) state covered) state)))) }
+        ensures counts { IfOk result (λ count. ForCovered self.old parts.now (F.told folder.old) (λ state covered. count ≡ count_of_groups (evicted_until (is_met goal.now) state covered))) }
+        ensures prints { OnOk result (ForCovered self.old parts.now (F.told folder.old) (λ state covered. PrintsUnlessFailed failed.old failed.new (K.written out.old) (K.written out.new) (evicted_text (evicted_until (is_met goal.now) state covered)))) }
 
         // At each word the first of them are out; on any answer a prefix of their text was printed.
-        ensures stops { ForCovered self.old parts.now (F.told f.old) (λ state covered. Passes (F.told f.old) (F.told f.new) (IsEvicting (evicted_until (is_met goal.now) state covered) state)) }
-        ensures front { ForCovered self.old parts.now (F.told f.old) (λ state covered. Appends (K.written out.old) (K.written out.new) (evicted_text (evicted_until (is_met goal.now) state covered))) }
+        ensures stops { ForCovered self.old parts.now (F.told folder.old) (λ state covered. Passes (F.told folder.old) (F.told folder.new) (IsEvicting (evicted_until (is_met goal.now) state covered) state)) }
+        ensures front { ForCovered self.old parts.now (F.told folder.old) (λ state covered. Appends (K.written out.old) (K.written out.new) (evicted_text (evicted_until (is_met goal.now) state covered))) }
 
         // Where the sink failed before nothing is printed.
         ensures quiet { failed.old ≡ true → (failed.new ≡ true) × (K.written out.new ≡ K.written out.old) }
         ensures fails { FailsWhereItRose failed.old failed.new (K.faults out.old) (K.faults out.new) }
         ensures others { OnlyItemsChange self.old self.new }
-        ensures is_open { ForSome (F.told f.new).files (IsOpen self.new.files) }
+        ensures is_open { ForSome (F.told folder.new).files (IsOpen self.new.files) }
 
         // Corruption is a check that fails on what is read here; nothing is written after it.
-        ensures damaged { IfDamaged result (IsFailedCheck self.new.files (F.told f.new)) }
+        ensures damaged { IfDamaged result (IsFailedCheck self.new.files (F.told folder.new)) }
 
         // An observable folder reports no corruption where the cache keeps a state, in which these parts are covered.
-        ensures untold { ForSome (F.told f.old).files (KeepsCovered self.old parts.now) → IfDamaged result (λ _. (F.told f.old).files ≡ None) }
-        ensures silent { (F.told f.old).files ≡ None → (F.told f.new).files ≡ None }
-        ensures later { F.faults f.old ≤ F.faults f.new }
+        ensures untold { ForSome (F.told folder.old).files (KeepsCovered self.old parts.now) → IfDamaged result (λ _. (F.told folder.old).files ≡ None) }
+        ensures silent { (F.told folder.old).files ≡ None → (F.told folder.new).files ≡ None }
+        ensures later { F.faults folder.old ≤ F.faults folder.new }
         ensures sink_later { K.faults out.old ≤ K.faults out.new }
-        ensures device { IfDevice result (Rises (F.faults f.old) (F.faults f.new)) }
+        ensures device { IfDevice result (Rises (F.faults folder.old) (F.faults folder.new)) }
     {
         let before = self.items;
-        self.evict_groups(f, out, failed, goal, parts)?;
+        self.evict_groups(folder, out, failed, goal, parts)?;
         Ok(before.saturating_sub(self.items))
     }
 
     // Evicts groups until enough is evicted or each item is pinned.
     fn evict_groups<F: Folder, K: Sink>(
         &mut self,
-        f: &mut F,
+        folder: &mut F,
         out: &mut K,
         failed: &mut bool,
         goal: &Goal,
         parts: &Covered,
     ) -> Result<(), Fault>
-        requires is_open { ForSome (F.told f.old).files (IsOpen self.old.files) }
-        ensures evicted { OnOk result (ForCovered self.old parts.now (F.told f.old) (λ state covered. ForSome (F.told f.new).files (KeepsState self.new (without (evicted_until (is_met goal.now) state covered) state)))) }
-        ensures counts { OnOk result (ForCovered self.old parts.now (F.told f.old) (λ state covered. self.old.items ≡ self.new.items + count_of_groups (evicted_until (is_met goal.now) state covered))) }
-        ensures prints { OnOk result (ForCovered self.old parts.now (F.told f.old) (λ state covered. Prints failed.old failed.new (K.written out.old) (K.written out.new) (evicted_text (evicted_until (is_met goal.now) state covered)))) }
-        ensures stops { ForCovered self.old parts.now (F.told f.old) (λ state covered. Passes (F.told f.old) (F.told f.new) (IsEvicting (evicted_until (is_met goal.now) state covered) state)) }
-        ensures front { ForCovered self.old parts.now (F.told f.old) (λ state covered. Appends (K.written out.old) (K.written out.new) (evicted_text (evicted_until (is_met goal.now) state covered))) }
+        requires is_open { ForSome (F.told folder.old).files (IsOpen self.old.files) }
+        ensures evicted { OnOk result (ForCovered self.old parts.now (F.told folder.old) (λ state covered. ForSome (F.told folder.new).files (KeepsState self.new (without (evicted_until (is_met goal.now) state covered) state)))) }
+        ensures counts { OnOk result (ForCovered self.old parts.now (F.told folder.old) (λ state covered. self.old.items ≡ self.new.items + count_of_groups (evicted_until (is_met goal.now) state covered))) }
+        ensures prints { OnOk result (ForCovered self.old parts.now (F.told folder.old) (λ state covered. PrintsUnlessFailed failed.old failed.new (K.written out.old) (K.written out.new) (evicted_text (evicted_until (is_met goal.now) state covered)))) }
+        ensures stops { ForCovered self.old parts.now (F.told folder.old) (λ state covered. Passes (F.told folder.old) (F.told folder.new) (IsEvicting (evicted_until (is_met goal.now) state covered) state)) }
+        ensures front { ForCovered self.old parts.now (F.told folder.old) (λ state covered. Appends (K.written out.old) (K.written out.new) (evicted_text (evicted_until (is_met goal.now) state covered))) }
         ensures quiet { failed.old ≡ true → (failed.new ≡ true) × (K.written out.new ≡ K.written out.old) }
         ensures fails { FailsWhereItRose failed.old failed.new (K.faults out.old) (K.faults out.new) }
         ensures others { OnlyItemsChange self.old self.new }
-        ensures is_open { ForSome (F.told f.new).files (IsOpen self.new.files) }
-        ensures damaged { IfDamaged result (IsFailedCheck self.new.files (F.told f.new)) }
-        ensures untold { ForSome (F.told f.old).files (KeepsCovered self.old parts.now) → IfDamaged result (λ _. (F.told f.old).files ≡ None) }
-        ensures silent { (F.told f.old).files ≡ None → (F.told f.new).files ≡ None }
-        ensures later { F.faults f.old ≤ F.faults f.new }
+        ensures is_open { ForSome (F.told folder.new).files (IsOpen self.new.files) }
+        ensures damaged { IfDamaged result (IsFailedCheck self.new.files (F.told folder.new)) }
+        ensures untold { ForSome (F.told folder.old).files (KeepsCovered self.old parts.now) → IfDamaged result (λ _. (F.told folder.old).files ≡ None) }
+        ensures silent { (F.told folder.old).files ≡ None → (F.told folder.new).files ≡ None }
+        ensures later { F.faults folder.old ≤ F.faults folder.new }
         ensures sink_later { K.faults out.old ≤ K.faults out.new }
-        ensures device { IfDevice result (Rises (F.faults f.old) (F.faults f.new)) }
+        ensures device { IfDevice result (Rises (F.faults folder.old) (F.faults folder.new)) }
     {
         let most = self.items;
         let mut behind = None;
@@ -99,11 +99,11 @@ impl Cache {
             if self.is_met(goal) {
                 return Ok(());
             }
-            let Some(found) = self.last_unpinned(f, behind, parts)? else {
+            let Some(found) = self.last_unpinned(folder, behind, parts)? else {
                 return Ok(());
             };
             behind = found.behind;
-            self.evict(f, out, failed, &found)?;
+            self.evict(folder, out, failed, &found)?;
         }
         Ok(())
     }
@@ -111,32 +111,32 @@ impl Cache {
     // Evicts the group of an item that isn't pinned, and prints its items: a main item with its parts, or a part alone.
     fn evict<F: Folder, K: Sink>(
         &mut self,
-        f: &mut F,
+        folder: &mut F,
         out: &mut K,
         failed: &mut bool,
         found: &Unpinned,
     ) -> Result<(), Fault>
         requires node { IsTrue (is_node_among self.old.files found.now.node) }
         requires record_stands { IsTrue (is_record_among self.old.files found.now.entry) }
-        requires is_open { ForSome (F.told f.old).files (IsOpen self.old.files) }
+        requires is_open { ForSome (F.told folder.old).files (IsOpen self.old.files) }
 
         // Where it may be evicted in a state that was kept, that is kept without its group.
-        ensures evicted { OnOk result (ForSome (F.told f.old).files (λ from. ForEachThatMayGo self.old found.now from (λ state layout group. ForSome (F.told f.new).files (KeepsInPlaces self.new (without (group ∷ []) state) layout)))) }
-        ensures prints { OnOk result (ForSome (F.told f.old).files (λ from. ForEachThatMayGo self.old found.now from (λ state layout group. Prints failed.old failed.new (K.written out.old) (K.written out.new) (evicted_text (group ∷ []))))) }
-        ensures stops { ForSome (F.told f.old).files (λ from. ForEachThatMayGo self.old found.now from (λ state layout group. Passes (F.told f.old) (F.told f.new) (FindsEither state (without (group ∷ []) state)))) }
-        ensures front { ForSome (F.told f.old).files (λ from. ForEachThatMayGo self.old found.now from (λ state layout group. Appends (K.written out.old) (K.written out.new) (evicted_text (group ∷ [])))) }
+        ensures evicted { OnOk result (ForSome (F.told folder.old).files (λ from. ForEachThatMayGo self.old found.now from (λ state layout group. ForSome (F.told folder.new).files (KeepsInPlaces self.new (without (group ∷ []) state) layout)))) }
+        ensures prints { OnOk result (ForSome (F.told folder.old).files (λ from. ForEachThatMayGo self.old found.now from (λ state layout group. PrintsUnlessFailed failed.old failed.new (K.written out.old) (K.written out.new) (evicted_text (group ∷ []))))) }
+        ensures stops { ForSome (F.told folder.old).files (λ from. ForEachThatMayGo self.old found.now from (λ state layout group. Passes (F.told folder.old) (F.told folder.new) (FindsEither state (without (group ∷ []) state)))) }
+        ensures front { ForSome (F.told folder.old).files (λ from. ForEachThatMayGo self.old found.now from (λ state layout group. Appends (K.written out.old) (K.written out.new) (evicted_text (group ∷ [])))) }
         ensures quiet { failed.old ≡ true → (failed.new ≡ true) × (K.written out.new ≡ K.written out.old) }
         ensures fails { FailsWhereItRose failed.old failed.new (K.faults out.old) (K.faults out.new) }
         ensures others { OnlyItemsChange self.old self.new }
-        ensures is_open { ForSome (F.told f.new).files (IsOpen self.new.files) }
-        ensures damaged { IfDamaged result (IsFailedCheck self.new.files (F.told f.new)) }
-        ensures untold { ForSome (F.told f.old).files (KeepsThatMayGo self.old found.now) → IfDamaged result (λ _. (F.told f.old).files ≡ None) }
-        ensures silent { (F.told f.old).files ≡ None → (F.told f.new).files ≡ None }
-        ensures later { F.faults f.old ≤ F.faults f.new }
+        ensures is_open { ForSome (F.told folder.new).files (IsOpen self.new.files) }
+        ensures damaged { IfDamaged result (IsFailedCheck self.new.files (F.told folder.new)) }
+        ensures untold { ForSome (F.told folder.old).files (KeepsThatMayGo self.old found.now) → IfDamaged result (λ _. (F.told folder.old).files ≡ None) }
+        ensures silent { (F.told folder.old).files ≡ None → (F.told folder.new).files ≡ None }
+        ensures later { F.faults folder.old ≤ F.faults folder.new }
         ensures sink_later { K.faults out.old ≤ K.faults out.new }
-        ensures device { IfDevice result (Rises (F.faults f.old) (F.faults f.new)) }
+        ensures device { IfDevice result (Rises (F.faults folder.old) (F.faults folder.new)) }
     {
-        let gone = evict_group(f, &self.files, &mut self.name, out, failed, found)?;
+        let gone = evict_group(folder, &self.files, &mut self.name, out, failed, found)?;
         self.items = self.items.saturating_sub(gone.items);
         self.bytes = self.bytes.saturating_sub(gone.bytes);
         Ok(())

@@ -16,6 +16,7 @@ mod goal;
 mod laws;
 mod listing;
 mod making_room;
+mod marking;
 mod names;
 mod open;
 mod opening;
@@ -38,7 +39,6 @@ mod starting;
 mod stepping;
 mod total;
 mod trim;
-mod unsettling;
 mod write;
 
 pub use cache::Cache;

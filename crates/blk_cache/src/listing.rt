@@ -13,7 +13,7 @@ ghost use Rattle.blk_object.specs.FailedChecks.{IsFailedCheck};
 ghost use Rattle.blk_cache.specs.CacheKeeping.{KeepsState};
 ghost use Rattle.blk_cache.specs.CommandClauses.{IsRefused, KeepsAny};
 ghost use Rattle.blk_cache.specs.Listing.{OnlyRoomChanges};
-ghost use Rattle.blk_items.specs.RoomPrinting.{FailsWhereItRose, Prints, PrintsInPart};
+ghost use Rattle.blk_items.specs.RoomPrinting.{FailsWhereItRose, PrintsUnlessFailed, PrintsInPart};
 
 use crate::cache::Cache;
 use blk_index::word;
@@ -24,19 +24,19 @@ use blk_record::IndexHead;
 
 impl Cache {
     /// How many items the LRU list has, by one folder call. Nothing is written, and nothing is refused.
-    pub(crate) fn list<F: Folder>(&self, f: &mut F) -> Result<Answer, Fault>
-        ensures does { (moment : ℕ) → IfOk result (λ answer. Does (KeepsState self.now) (KeepsState self.now) (F.told f.old) (F.told f.new) moment to_list answer) }
-        ensures stays { Stays (F.told f.old) (F.told f.new) }
+    pub(crate) fn list<F: Folder>(&self, folder: &mut F) -> Result<Answer, Fault>
+        ensures does { (moment : ℕ) → IfOk result (λ answer. Does (KeepsState self.now) (KeepsState self.now) (F.told folder.old) (F.told folder.new) moment to_list answer) }
+        ensures stays { Stays (F.told folder.old) (F.told folder.new) }
         ensures passes { IfOk result (λ given. IsRefused given → ⊥) }
 
         // Too few bytes, which an observable folder doesn't give where the cache keeps a state.
-        ensures damaged { IfDamaged result (IsShort (F.told f.old) names.Index IndexHead.SIZES 4) }
-        ensures cause { IfDamaged result (IsFailedCheck self.now.files (F.told f.new)) }
-        ensures untold { ForSome (F.told f.old).files (KeepsAny self.now) → IfDamaged result (λ _. (F.told f.old).files ≡ None) }
-        ensures later { F.faults f.old ≤ F.faults f.new }
-        ensures device { IfDevice result (Rises (F.faults f.old) (F.faults f.new)) }
+        ensures damaged { IfDamaged result (IsShort (F.told folder.old) names.Index IndexHead.SIZES 4) }
+        ensures cause { IfDamaged result (IsFailedCheck self.now.files (F.told folder.new)) }
+        ensures untold { ForSome (F.told folder.old).files (KeepsAny self.now) → IfDamaged result (λ _. (F.told folder.old).files ≡ None) }
+        ensures later { F.faults folder.old ≤ F.faults folder.new }
+        ensures device { IfDevice result (Rises (F.faults folder.old) (F.faults folder.new)) }
     {
-        let count = word(f, IndexHead::SIZES)?;
+        let count = word(folder, IndexHead::SIZES)?;
         Ok(Answer::Listed(u64::from(count)))
     }
 
@@ -47,21 +47,21 @@ impl Cache {
     /// prefix of the lines is printed.
     pub(crate) fn print_rows<F: Folder, K: Sink>(
         &mut self,
-        f: &mut F,
+        folder: &mut F,
         out: &mut K,
         failed: &mut bool,
     ) -> Result<(), Fault>
-        ensures printed { OnOk result (ForKept (KeepsState self.old) (F.told f.old) (λ state. Prints failed.old failed.new (K.written out.old) (K.written out.new) (flat_map row_line (rows state)))) }
-        ensures part { ForKept (KeepsState self.old) (F.told f.old) (λ state. PrintsInPart failed.old (K.written out.old) (K.written out.new) (flat_map row_line (rows state))) }
+        ensures printed { OnOk result (ForKept (KeepsState self.old) (F.told folder.old) (λ state. PrintsUnlessFailed failed.old failed.new (K.written out.old) (K.written out.new) (flat_map row_line (rows state)))) }
+        ensures part { ForKept (KeepsState self.old) (F.told folder.old) (λ state. PrintsInPart failed.old (K.written out.old) (K.written out.new) (flat_map row_line (rows state))) }
         ensures failed { FailsWhereItRose failed.old failed.new (K.faults out.old) (K.faults out.new) }
         ensures others { OnlyRoomChanges self.old self.new }
-        ensures stays { Stays (F.told f.old) (F.told f.new) }
-        ensures damaged { IfDamaged result (IsFailedCheck self.new.files (F.told f.new)) }
-        ensures untold { ForSome (F.told f.old).files (KeepsAny self.old) → IfDamaged result (λ _. (F.told f.old).files ≡ None) }
-        ensures later { F.faults f.old ≤ F.faults f.new }
+        ensures stays { Stays (F.told folder.old) (F.told folder.new) }
+        ensures damaged { IfDamaged result (IsFailedCheck self.new.files (F.told folder.new)) }
+        ensures untold { ForSome (F.told folder.old).files (KeepsAny self.old) → IfDamaged result (λ _. (F.told folder.old).files ≡ None) }
+        ensures later { F.faults folder.old ≤ F.faults folder.new }
         ensures later_out { K.faults out.old ≤ K.faults out.new }
-        ensures device { IfDevice result (Rises (F.faults f.old) (F.faults f.new)) }
+        ensures device { IfDevice result (Rises (F.faults folder.old) (F.faults folder.new)) }
     {
-        print_items(f, &self.files, &mut self.name, out, failed)
+        print_items(folder, &self.files, &mut self.name, out, failed)
     }
 }

@@ -17,7 +17,7 @@ ghost use Rattle.blk_cache.specs.CommandClauses.{KeepsAny};
 ghost use Rattle.blk_cache.specs.Covering.{ForCovered, KeepsCovered};
 ghost use Rattle.blk_cache.specs.Evicting.{IsEvicting, OnlyItemsChange};
 ghost use Rattle.blk_cache.specs.MakingRoom.{ForRoom, says_full};
-ghost use Rattle.blk_items.specs.RoomPrinting.{FailsWhereItRose, Prints};
+ghost use Rattle.blk_items.specs.RoomPrinting.{FailsWhereItRose, PrintsUnlessFailed};
 
 use crate::cache::Cache;
 use crate::covered::Covered;
@@ -40,45 +40,45 @@ impl Cache {
     /// After a fault nothing is promised of the cache but that it can be dropped.
     pub(crate) fn make_room<F: Folder, K: Sink>(
         &mut self,
-        f: &mut F,
+        folder: &mut F,
         out: &mut K,
         failed: &mut bool,
         bytes: u64,
         items: u64,
     ) -> Result<Room, Fault>
-        requires is_open { ForSome (F.told f.old).files (IsOpen self.old.files) }
+        requires is_open { ForSome (F.told folder.old).files (IsOpen self.old.files) }
 
         // There is no space exactly where the map has none; then nothing is done.
-        ensures full { IfOk result (λ answer. ForKept (KeepsState self.old) (F.told f.old) (λ state. says_full answer ≡ is_full_room (room state [] bytes items))) }
-        ensures stays { IfOk result (λ answer. says_full answer ≡ true → Stays (F.told f.old) (F.told f.new)) }
+        ensures full { IfOk result (λ answer. ForKept (KeepsState self.old) (F.told folder.old) (λ state. says_full answer ≡ is_full_room (room state [] bytes items))) }
+        ensures stays { IfOk result (λ answer. says_full answer ≡ true → Stays (F.told folder.old) (F.told folder.new)) }
         ensures unchanged { IfOk result (λ answer. says_full answer ≡ true → self.new ≡ self.old) }
         ensures unprinted { IfOk result (λ answer. says_full answer ≡ true → K.written out.new ≡ K.written out.old) }
 
         // Each state that was kept is kept without what is evicted for it, and that is printed.
-        ensures made { OnOk result (ForKept (KeepsState self.old) (F.told f.old) (λ state. ForSome (F.told f.new).files (KeepsState self.new (without (evicted_for (room state [] bytes items)) state)))) }
-        ensures prints { OnOk result (ForKept (KeepsState self.old) (F.told f.old) (λ state. Prints failed.old failed.new (K.written out.old) (K.written out.new) (evicted_text (evicted_for (room state [] bytes items))))) }
+        ensures made { OnOk result (ForKept (KeepsState self.old) (F.told folder.old) (λ state. ForSome (F.told folder.new).files (KeepsState self.new (without (evicted_for (room state [] bytes items)) state)))) }
+        ensures prints { OnOk result (ForKept (KeepsState self.old) (F.told folder.old) (λ state. PrintsUnlessFailed failed.old failed.new (K.written out.old) (K.written out.new) (evicted_text (evicted_for (room state [] bytes items))))) }
 
         // At each word the first of that are out; on any answer a prefix of its text was printed.
-        ensures stops { ForKept (KeepsState self.old) (F.told f.old) (λ state. Passes (F.told f.old) (F.told f.new) (IsEvicting (evicted_for (room state [] bytes items)) state)) }
-        ensures front { ForKept (KeepsState self.old) (F.told f.old) (λ state. Appends (K.written out.old) (K.written out.new) (evicted_text (evicted_for (room state [] bytes items)))) }
+        ensures stops { ForKept (KeepsState self.old) (F.told folder.old) (λ state. Passes (F.told folder.old) (F.told folder.new) (IsEvicting (evicted_for (room state [] bytes items)) state)) }
+        ensures front { ForKept (KeepsState self.old) (F.told folder.old) (λ state. Appends (K.written out.old) (K.written out.new) (evicted_text (evicted_for (room state [] bytes items)))) }
 
         // Where the sink failed before nothing is printed.
         ensures quiet { failed.old ≡ true → (failed.new ≡ true) × (K.written out.new ≡ K.written out.old) }
         ensures fails { FailsWhereItRose failed.old failed.new (K.faults out.old) (K.faults out.new) }
         ensures others { OnlyItemsChange self.old self.new }
-        ensures is_open { ForSome (F.told f.new).files (IsOpen self.new.files) }
+        ensures is_open { ForSome (F.told folder.new).files (IsOpen self.new.files) }
 
         // Corruption is a check that fails on what is read here; nothing is written after it.
-        ensures damaged { IfDamaged result (IsFailedCheck self.new.files (F.told f.new)) }
+        ensures damaged { IfDamaged result (IsFailedCheck self.new.files (F.told folder.new)) }
 
         // An observable folder reports no corruption where the cache keeps a state.
-        ensures untold { ForSome (F.told f.old).files (KeepsAny self.old) → IfDamaged result (λ _. (F.told f.old).files ≡ None) }
-        ensures silent { (F.told f.old).files ≡ None → (F.told f.new).files ≡ None }
-        ensures later { F.faults f.old ≤ F.faults f.new }
+        ensures untold { ForSome (F.told folder.old).files (KeepsAny self.old) → IfDamaged result (λ _. (F.told folder.old).files ≡ None) }
+        ensures silent { (F.told folder.old).files ≡ None → (F.told folder.new).files ≡ None }
+        ensures later { F.faults folder.old ≤ F.faults folder.new }
         ensures sink_later { K.faults out.old ≤ K.faults out.new }
-        ensures device { IfDevice result (Rises (F.faults f.old) (F.faults f.new)) }
+        ensures device { IfDevice result (Rises (F.faults folder.old) (F.faults folder.new)) }
     {
-        self.make_room_beside(f, out, failed, bytes, items, &Covered::none())
+        self.make_room_beside(folder, out, failed, bytes, items, &Covered::none())
     }
 
     /// Makes space for so many more bytes and items, where there can be space, and prints what is evicted for it. The
@@ -88,49 +88,49 @@ impl Cache {
     /// kept in memory. After a fault nothing is promised of the cache but that it can be dropped.
     pub(crate) fn make_room_beside<F: Folder, K: Sink>(
         &mut self,
-        f: &mut F,
+        folder: &mut F,
         out: &mut K,
         failed: &mut bool,
         bytes: u64,
         items: u64,
         parts: &Covered,
     ) -> Result<Room, Fault>
-        requires is_open { ForSome (F.told f.old).files (IsOpen self.old.files) }
+        requires is_open { ForSome (F.told folder.old).files (IsOpen self.old.files) }
 
         // There is no space exactly where the map has none; then nothing is done.
-        ensures full { IfOk result (λ answer. ForCovered self.old parts.now (F.told f.old) (λ state covered. says_full answer ≡ is_full_room (room state covered bytes items))) }
-        ensures stays { IfOk result (λ answer. says_full answer ≡ true → Stays (F.told f.old) (F.told f.new)) }
+        ensures full { IfOk result (λ answer. ForCovered self.old parts.now (F.told folder.old) (λ state covered. says_full answer ≡ is_full_room (room state covered bytes items))) }
+        ensures stays { IfOk result (λ answer. says_full answer ≡ true → Stays (F.told folder.old) (F.told folder.new)) }
         ensures unchanged { IfOk result (λ answer. says_full answer ≡ true → self.new ≡ self.old) }
         ensures unprinted { IfOk result (λ answer. says_full answer ≡ true → K.written out.new ≡ K.written out.old) }
 
         // Each state that was kept is kept without what is evicted for it, and that is printed.
-        ensures made { OnOk result (ForCovered self.old parts.now (F.told f.old) (λ state covered. ForSome (F.told f.new).files (KeepsState self.new (without (evicted_for (room state covered bytes items)) state)))) }
-        ensures prints { OnOk result (ForCovered self.old parts.now (F.told f.old) (λ state covered. Prints failed.old failed.new (K.written out.old) (K.written out.new) (evicted_text (evicted_for (room state covered bytes items))))) }
+        ensures made { OnOk result (ForCovered self.old parts.now (F.told folder.old) (λ state covered. ForSome (F.told folder.new).files (KeepsState self.new (without (evicted_for (room state covered bytes items)) state)))) }
+        ensures prints { OnOk result (ForCovered self.old parts.now (F.told folder.old) (λ state covered. PrintsUnlessFailed failed.old failed.new (K.written out.old) (K.written out.new) (evicted_text (evicted_for (room state covered bytes items))))) }
 
         // At each word the first of that are out; on any answer a prefix of its text was printed.
-        ensures stops { ForCovered self.old parts.now (F.told f.old) (λ state covered. Passes (F.told f.old) (F.told f.new) (IsEvicting (evicted_for (room state covered bytes items)) state)) }
-        ensures front { ForCovered self.old parts.now (F.told f.old) (λ state covered. Appends (K.written out.old) (K.written out.new) (evicted_text (evicted_for (room state covered bytes items)))) }
+        ensures stops { ForCovered self.old parts.now (F.told folder.old) (λ state covered. Passes (F.told folder.old) (F.told folder.new) (IsEvicting (evicted_for (room state covered bytes items)) state)) }
+        ensures front { ForCovered self.old parts.now (F.told folder.old) (λ state covered. Appends (K.written out.old) (K.written out.new) (evicted_text (evicted_for (room state covered bytes items)))) }
 
         // Where the sink failed before nothing is printed.
         ensures quiet { failed.old ≡ true → (failed.new ≡ true) × (K.written out.new ≡ K.written out.old) }
         ensures fails { FailsWhereItRose failed.old failed.new (K.faults out.old) (K.faults out.new) }
         ensures others { OnlyItemsChange self.old self.new }
-        ensures is_open { ForSome (F.told f.new).files (IsOpen self.new.files) }
+        ensures is_open { ForSome (F.told folder.new).files (IsOpen self.new.files) }
 
         // Corruption is a check that fails on what is read here; nothing is written after it.
-        ensures damaged { IfDamaged result (IsFailedCheck self.new.files (F.told f.new)) }
+        ensures damaged { IfDamaged result (IsFailedCheck self.new.files (F.told folder.new)) }
 
         // An observable folder reports no corruption where the cache keeps a state, in which these parts are covered.
-        ensures untold { ForSome (F.told f.old).files (KeepsCovered self.old parts.now) → IfDamaged result (λ _. (F.told f.old).files ≡ None) }
-        ensures silent { (F.told f.old).files ≡ None → (F.told f.new).files ≡ None }
-        ensures later { F.faults f.old ≤ F.faults f.new }
+        ensures untold { ForSome (F.told folder.old).files (KeepsCovered self.old parts.now) → IfDamaged result (λ _. (F.told folder.old).files ≡ None) }
+        ensures silent { (F.told folder.old).files ≡ None → (F.told folder.new).files ≡ None }
+        ensures later { F.faults folder.old ≤ F.faults folder.new }
         ensures sink_later { K.faults out.old ≤ K.faults out.new }
-        ensures device { IfDevice result (Rises (F.faults f.old) (F.faults f.new)) }
+        ensures device { IfDevice result (Rises (F.faults folder.old) (F.faults folder.new)) }
     {
         if self.is_full(bytes, items, parts) {
             return Ok(Room::Full);
         }
-        self.evict_for(f, out, failed, bytes, items, parts)?;
+        self.evict_for(folder, out, failed, bytes, items, parts)?;
         Ok(Room::Made)
     }
 
@@ -141,43 +141,43 @@ impl Cache {
     /// it can be dropped.
     pub(crate) fn evict_for<F: Folder, K: Sink>(
         &mut self,
-        f: &mut F,
+        folder: &mut F,
         out: &mut K,
         failed: &mut bool,
         bytes: u64,
         items: u64,
         parts: &Covered,
     ) -> Result<(), Fault>
-        requires is_open { ForSome (F.told f.old).files (IsOpen self.old.files) }
+        requires is_open { ForSome (F.told folder.old).files (IsOpen self.old.files) }
 
         // Each state that was kept, and has space, is kept without what is evicted for it, and that is printed.
-        ensures evicted { OnOk result (ForRoom self.old parts.now (F.told f.old) bytes items (λ state groups. ForSome (F.told f.new).files (KeepsState self.new (without groups state)))) }
-        ensures prints { OnOk result (ForRoom self.old parts.now (F.told f.old) bytes items (λ state groups. Prints failed.old failed.new (K.written out.old) (K.written out.new) (evicted_text groups))) }
+        ensures evicted { OnOk result (ForRoom self.old parts.now (F.told folder.old) bytes items (λ state groups. ForSome (F.told folder.new).files (KeepsState self.new (without groups state)))) }
+        ensures prints { OnOk result (ForRoom self.old parts.now (F.told folder.old) bytes items (λ state groups. PrintsUnlessFailed failed.old failed.new (K.written out.old) (K.written out.new) (evicted_text groups))) }
 
         // At each word the first of that are out; on any answer a prefix of its text was printed.
-        ensures stops { ForRoom self.old parts.now (F.told f.old) bytes items (λ state groups. Passes (F.told f.old) (F.told f.new) (IsEvicting groups state)) }
-        ensures front { ForRoom self.old parts.now (F.told f.old) bytes items (λ state groups. Appends (K.written out.old) (K.written out.new) (evicted_text groups)) }
+        ensures stops { ForRoom self.old parts.now (F.told folder.old) bytes items (λ state groups. Passes (F.told folder.old) (F.told folder.new) (IsEvicting groups state)) }
+        ensures front { ForRoom self.old parts.now (F.told folder.old) bytes items (λ state groups. Appends (K.written out.old) (K.written out.new) (evicted_text groups)) }
 
         // Where the sink failed before nothing is printed.
         ensures quiet { failed.old ≡ true → (failed.new ≡ true) × (K.written out.new ≡ K.written out.old) }
         ensures fails { FailsWhereItRose failed.old failed.new (K.faults out.old) (K.faults out.new) }
         ensures others { OnlyItemsChange self.old self.new }
-        ensures is_open { ForSome (F.told f.new).files (IsOpen self.new.files) }
+        ensures is_open { ForSome (F.told folder.new).files (IsOpen self.new.files) }
 
         // Corruption is a check that fails on what is read here; nothing is written after it.
-        ensures damaged { IfDamaged result (IsFailedCheck self.new.files (F.told f.new)) }
+        ensures damaged { IfDamaged result (IsFailedCheck self.new.files (F.told folder.new)) }
 
         // An observable folder reports no corruption where the cache keeps a state, in which these parts are covered.
-        ensures untold { ForSome (F.told f.old).files (KeepsCovered self.old parts.now) → IfDamaged result (λ _. (F.told f.old).files ≡ None) }
-        ensures silent { (F.told f.old).files ≡ None → (F.told f.new).files ≡ None }
-        ensures later { F.faults f.old ≤ F.faults f.new }
+        ensures untold { ForSome (F.told folder.old).files (KeepsCovered self.old parts.now) → IfDamaged result (λ _. (F.told folder.old).files ≡ None) }
+        ensures silent { (F.told folder.old).files ≡ None → (F.told folder.new).files ≡ None }
+        ensures later { F.faults folder.old ≤ F.faults folder.new }
         ensures sink_later { K.faults out.old ≤ K.faults out.new }
-        ensures device { IfDevice result (Rises (F.faults f.old) (F.faults f.new)) }
+        ensures device { IfDevice result (Rises (F.faults folder.old) (F.faults folder.new)) }
     {
         if self.wants_none(bytes, items) {
             return Ok(());
         }
-        self.evict_until(f, out, failed, &Goal::Room { bytes, items }, parts)?;
+        self.evict_until(folder, out, failed, &Goal::Room { bytes, items }, parts)?;
         Ok(())
     }
 

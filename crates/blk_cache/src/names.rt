@@ -1,7 +1,7 @@
 // The memory that a session has for names.
 ghost use Rattle.std.specs.Prelude.{◌≡◌, IfOk, length};
 ghost use Rattle.blk_handles.specs.Bindings.{all_free};
-ghost use Rattle.blk_items.specs.NameRoom.{name_room};
+ghost use Rattle.blk_items.specs.NameBuffer.{name_buffer_len};
 
 use blk_addr::NoMemory;
 use blk_entry::LONGEST_NAME;
@@ -10,7 +10,7 @@ use blk_ranges::LONGEST_KEY;
 use std::alloc::Global;
 
 // How many bytes there are for names: for the key of a parent, and for the name of a part.
-const NAME_ROOM: usize = LONGEST_KEY as usize + LONGEST_NAME as usize;
+const NAME_BUFFER_LEN: usize = LONGEST_KEY as usize + LONGEST_NAME as usize;
 
 // The handle names, and buffers for names of objects.
 #[derive(Drop)]
@@ -22,10 +22,10 @@ pub(crate) struct Names {
 // Takes the memory for the names of a session: all handle names are free.
 pub(crate) fn take_memory(alloc: Global) -> Result<Names, NoMemory>
     ensures free { IfOk result (λ names. names.handles ≡ all_free) }
-    ensures room { IfOk result (λ names. length names.room.items ≡ name_room) }
+    ensures room { IfOk result (λ names. length names.room.items ≡ name_buffer_len) }
 {
     let handles = Handles::new(alloc)?;
     let mut room = Vec::new(alloc);
-    room.resize(NAME_ROOM, 0)?;
+    room.resize(NAME_BUFFER_LEN, 0)?;
     Ok(Names { handles, room })
 }

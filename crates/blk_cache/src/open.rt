@@ -31,40 +31,40 @@ impl Cache {
     /// fault nothing is promised of the cache but that it can be dropped.
     pub(crate) fn open<F: Folder>(
         &mut self,
-        f: &mut F,
+        folder: &mut F,
         handle: u16,
         key: &[u8],
         moment: u64,
     ) -> Result<Answer, Fault>
-        requires is_open { ForSome (F.told f.old).files (IsOpen self.old.files) }
-        ensures does { IfOk result (λ answer. Does (KeepsState self.old) (KeepsState self.new) (F.told f.old) (F.told f.new) moment (to_open handle key.now) answer) }
-        ensures stops { MayStopAtEach (KeepsState self.old) (F.told f.old) (F.told f.new) moment (to_open handle key.now) }
+        requires is_open { ForSome (F.told folder.old).files (IsOpen self.old.files) }
+        ensures does { IfOk result (λ answer. Does (KeepsState self.old) (KeepsState self.new) (F.told folder.old) (F.told folder.new) moment (to_open handle key.now) answer) }
+        ensures stops { MayStopAtEach (KeepsState self.old) (F.told folder.old) (F.told folder.new) moment (to_open handle key.now) }
 
         // What the names and the key tell is refused on every folder, and a refusal does nothing.
         ensures refuses { IfSome (open_refusal self.old.handles handle key.now) (λ why. result ≡ Ok (answer.Refused why)) }
-        ensures quiet { IfOk result (λ answer. IsRefused answer → Stays (F.told f.old) (F.told f.new)) }
+        ensures quiet { IfOk result (λ answer. IsRefused answer → Stays (F.told folder.old) (F.told folder.new)) }
         ensures unchanged { IfOk result (λ answer. IsRefused answer → self.new ≡ self.old) }
 
-        ensures is_open { ForSome (F.told f.new).files (IsOpen self.new.files) }
+        ensures is_open { ForSome (F.told folder.new).files (IsOpen self.new.files) }
         ensures notes { self.new.notes ≡ self.old.notes }
         ensures mark { self.new.mark ≡ self.old.mark }
 
         // An observable folder reports no corruption where the cache keeps a state.
-        ensures damaged { IfDamaged result (IsOpenDamage self.old.files (F.told f.old) (F.told f.new) key.now) }
-        ensures cause { IfDamaged result (IsFailedCheck self.new.files (F.told f.new)) }
-        ensures untold { ForSome (F.told f.old).files (KeepsAny self.old) → IfDamaged result (λ _. (F.told f.old).files ≡ None) }
-        ensures silent { (F.told f.old).files ≡ None → (F.told f.new).files ≡ None }
-        ensures later { F.faults f.old ≤ F.faults f.new }
-        ensures device { IfDevice result (Rises (F.faults f.old) (F.faults f.new)) }
+        ensures damaged { IfDamaged result (IsOpenDamage self.old.files (F.told folder.old) (F.told folder.new) key.now) }
+        ensures cause { IfDamaged result (IsFailedCheck self.new.files (F.told folder.new)) }
+        ensures untold { ForSome (F.told folder.old).files (KeepsAny self.old) → IfDamaged result (λ _. (F.told folder.old).files ≡ None) }
+        ensures silent { (F.told folder.old).files ≡ None → (F.told folder.new).files ≡ None }
+        ensures later { F.faults folder.old ≤ F.faults folder.new }
+        ensures device { IfDevice result (Rises (F.faults folder.old) (F.faults folder.new)) }
     {
         if let Some(why) = self.refuses_open(handle, key) {
             return Ok(Answer::Refused(why));
         }
-        let Some(live) = find_live(f, &self.files, key)? else {
+        let Some(live) = find_live(folder, &self.files, key)? else {
             return Ok(Answer::Refused(Refusal::Missing));
         };
         let node = self.node_of(&live);
-        touch(f, &self.files, node, moment)?;
+        touch(folder, &self.files, node, moment)?;
         self.bind_live(handle, &live, node);
         Ok(Answer::Done)
     }

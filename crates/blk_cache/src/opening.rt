@@ -14,7 +14,7 @@ ghost use Rattle.blk_repair.specs.Repair.{IsRepairDamage, IsRepairable, NeedsOnl
 ghost use Rattle.law_recovery.specs.MendedChanges.{IsMidRepair};
 ghost use Rattle.blk_scan.specs.Scans.{StandAmong};
 ghost use Rattle.blk_cache.specs.Opened.{IsFirstDamage, IsJustMade, IsOpenedAs, IsOpeningDamage};
-ghost use Rattle.blk_cache.specs.Opening.{IfOpenDamaged, IfOpenDevice, IfOpenMemory, IsUsable, Opens, OpensOrBreaksOff, StandsOpened, WasMadeAt};
+ghost use Rattle.blk_cache.specs.Opening.{IfOpenDamaged, IfOpenDevice, IfOpenMemory, IsUsable, OpensFolder, OpensOrBreaksOff, StandsOpened, WasMadeAt};
 
 use crate::fault::OpenFault;
 use blk_disk::BlockFiles;
@@ -38,115 +38,119 @@ pub(crate) struct Opened {
 // Opens a folder, which is made where it is unfinished.
 pub(crate) fn open_folder<F: Folder>(
     alloc: Global,
-    f: &mut F,
+    folder: &mut F,
     moment: u64,
 ) -> Result<Opened, OpenFault>
-    ensures opened { IfOk result (λ opened. ForSome (F.told f.old).files (λ from. ForSome (F.told f.new).files (IsOpenedAs from opened))) }
-    ensures checked { OnOk result (ForSome (F.told f.old).files IsUsable) }
-    ensures made { OnOk result (ForSome (F.told f.old).files (λ from. IsUnfinished from → ForSome (F.told f.new).files (WasMadeAt moment))) }
-    ensures stops { ForSome (F.told f.old).files (λ from. OpensOrBreaksOff from (F.told f.old) (F.told f.new)) }
-    ensures last { OnOk result (ForSome (F.told f.old).files (λ from. Opens from (F.told f.old) (F.told f.new))) }
-    ensures damaged { IfOpenDamaged result (IsOpeningDamage (F.told f.new)) }
-    ensures first { IfOpenDamaged result (λ damage. ForSome (F.told f.old).files (IsFirstDamage damage)) }
-    ensures unwritten { IfOpenDamaged result (λ _. ForSome (F.told f.old).files (λ _. Stays (F.told f.old) (F.told f.new))) }
-    ensures memory { IfOpenMemory result (Stays (F.told f.old) (F.told f.new)) }
-    ensures silent { (F.told f.old).files ≡ None → (F.told f.new).files ≡ None }
-    ensures later { F.faults f.old ≤ F.faults f.new }
-    ensures device { IfOpenDevice result (Rises (F.faults f.old) (F.faults f.new)) }
+    ensures opened { IfOk result (λ opened. ForSome (F.told folder.old).files (λ from. ForSome (F.told folder.new).files (IsOpenedAs from opened))) }
+    ensures checked { OnOk result (ForSome (F.told folder.old).files IsUsable) }
+    ensures made { OnOk result (ForSome (F.told folder.old).files (λ from. IsUnfinished from → ForSome (F.told folder.new).files (WasMadeAt moment))) }
+    ensures stops { ForSome (F.told folder.old).files (λ from. OpensOrBreaksOff from (F.told folder.old) (F.told folder.new)) }
+    ensures last { OnOk result (ForSome (F.told folder.old).files (λ from. OpensFolder from (F.told folder.old) (F.told folder.new))) }
+    ensures damaged { IfOpenDamaged result (IsOpeningDamage (F.told folder.new)) }
+    ensures first { IfOpenDamaged result (λ damage. ForSome (F.told folder.old).files (IsFirstDamage damage)) }
+    ensures unwritten { IfOpenDamaged result (λ _. ForSome (F.told folder.old).files (λ _. Stays (F.told folder.old) (F.told folder.new))) }
+    ensures memory { IfOpenMemory result (Stays (F.told folder.old) (F.told folder.new)) }
+    ensures silent { (F.told folder.old).files ≡ None → (F.told folder.new).files ≡ None }
+    ensures later { F.faults folder.old ≤ F.faults folder.new }
+    ensures device { IfOpenDevice result (Rises (F.faults folder.old) (F.faults folder.new)) }
 {
-    match look(f)? {
-        Start::Unfinished => Ok(open_new(alloc, f, moment)?),
-        Start::Finished => open_finished(alloc, f),
+    match look(folder)? {
+        Start::Unfinished => Ok(open_new(alloc, folder, moment)?),
+        Start::Finished => open_finished(alloc, folder),
     }
 }
 
 // Makes a folder, and opens it.
-fn open_new<F: Folder>(alloc: Global, f: &mut F, moment: u64) -> Result<Opened, Fault>
-    requires unfinished { ForSome (F.told f.old).files IsUnfinished }
-    ensures opened { IfOk result (λ opened. ForSome (F.told f.old).files (λ from. ForSome (F.told f.new).files (IsOpenedAs from opened))) }
-    ensures made { OnOk result (ForSome (F.told f.old).files (λ _. ForSome (F.told f.new).files (WasMadeAt moment))) }
-    ensures stops { ForSome (F.told f.old).files (λ from. OpensOrBreaksOff from (F.told f.old) (F.told f.new)) }
-    ensures last { OnOk result (ForSome (F.told f.old).files (λ from. Opens from (F.told f.old) (F.told f.new))) }
-    ensures damaged { IfDamaged result (IsOpeningDamage (F.told f.new)) }
-    ensures untold { IfDamaged result (λ _. (F.told f.old).files ≡ None) }
-    ensures silent { (F.told f.old).files ≡ None → (F.told f.new).files ≡ None }
-    ensures later { F.faults f.old ≤ F.faults f.new }
-    ensures device { IfDevice result (Rises (F.faults f.old) (F.faults f.new)) }
+fn open_new<F: Folder>(alloc: Global, folder: &mut F, moment: u64) -> Result<Opened, Fault>
+    requires unfinished { ForSome (F.told folder.old).files IsUnfinished }
+    ensures opened { IfOk result (λ opened. ForSome (F.told folder.old).files (λ from. ForSome (F.told folder.new).files (IsOpenedAs from opened))) }
+    ensures made { OnOk result (ForSome (F.told folder.old).files (λ _. ForSome (F.told folder.new).files (WasMadeAt moment))) }
+    ensures stops { ForSome (F.told folder.old).files (λ from. OpensOrBreaksOff from (F.told folder.old) (F.told folder.new)) }
+    ensures last { OnOk result (ForSome (F.told folder.old).files (λ from. OpensFolder from (F.told folder.old) (F.told folder.new))) }
+    ensures damaged { IfDamaged result (IsOpeningDamage (F.told folder.new)) }
+    ensures untold { IfDamaged result (λ _. (F.told folder.old).files ≡ None) }
+    ensures silent { (F.told folder.old).files ≡ None → (F.told folder.new).files ≡ None }
+    ensures later { F.faults folder.old ≤ F.faults folder.new }
+    ensures device { IfDevice result (Rises (F.faults folder.old) (F.faults folder.new)) }
 {
-    make(f, moment)?;
-    open_made(alloc, f)
+    make(folder, moment)?;
+    open_made(alloc, folder)
 }
 
 // Opens a folder that was just made.
-fn open_made<F: Folder>(alloc: Global, f: &mut F) -> Result<Opened, Fault>
-    requires complete { ForSome (F.told f.old).files HasWholeIndex }
-    ensures opened { IfOk result (λ opened. ForSome (F.told f.old).files (λ from. IsJustMade from → ForSome (F.told f.new).files (IsOpenedAs from opened))) }
-    ensures made { OnOk result (ForSome (F.told f.old).files (λ from. IsJustMade from → ForSome (F.told f.new).files (WasMadeAt (create_time_of (byte from index))))) }
-    ensures stops { ForSome (F.told f.old).files (λ from. IsJustMade from → EndsOrBreaksOff (F.told f.old) (F.told f.new) (IsMidRepair from) (StandsOpened from)) }
-    ensures last { OnOk result (ForSome (F.told f.old).files (λ from. IsJustMade from → EndsWithCrashWord (F.told f.old) (F.told f.new) (IsMidRepair from) (StandsOpened from))) }
-    ensures damaged { IfDamaged result (IsOpeningDamage (F.told f.new)) }
-    ensures untold { ForSome (F.told f.old).files IsJustMade → IfDamaged result (λ _. (F.told f.old).files ≡ None) }
-    ensures silent { (F.told f.old).files ≡ None → (F.told f.new).files ≡ None }
-    ensures later { F.faults f.old ≤ F.faults f.new }
-    ensures device { IfDevice result (Rises (F.faults f.old) (F.faults f.new)) }
+fn open_made<F: Folder>(alloc: Global, folder: &mut F) -> Result<Opened, Fault>
+    requires complete { ForSome (F.told folder.old).files HasWholeIndex }
+    ensures opened { IfOk result (λ opened. ForSome (F.told folder.old).files (λ from. IsJustMade from → ForSome (F.told folder.new).files (IsOpenedAs from opened))) }
+    ensures made { OnOk result (ForSome (F.told folder.old).files (λ from. IsJustMade from → ForSome (F.told folder.new).files (WasMadeAt (create_time_of (byte from index))))) }
+    ensures stops { ForSome (F.told folder.old).files (λ from. IsJustMade from → EndsOrBreaksOff (F.told folder.old) (F.told folder.new) (IsMidRepair from) (StandsOpened from)) }
+    ensures last { OnOk result (ForSome (F.told folder.old).files (λ from. IsJustMade from → EndsWithCrashWord (F.told folder.old) (F.told folder.new) (IsMidRepair from) (StandsOpened from))) }
+    ensures damaged { IfDamaged result (IsOpeningDamage (F.told folder.new)) }
+    ensures untold { ForSome (F.told folder.old).files IsJustMade → IfDamaged result (λ _. (F.told folder.old).files ≡ None) }
+    ensures silent { (F.told folder.old).files ≡ None → (F.told folder.new).files ≡ None }
+    ensures later { F.faults folder.old ≤ F.faults folder.new }
+    ensures device { IfDevice result (Rises (F.faults folder.old) (F.faults folder.new)) }
 {
-    let files = BlockFiles::load(f)?;
-    mend(f, files, &Scan::empty(alloc))
+    let files = BlockFiles::load(folder)?;
+    mend(folder, files, &Scan::empty(alloc))
 }
 
 // Opens a folder whose index is finished.
-fn open_finished<F: Folder>(alloc: Global, f: &mut F) -> Result<Opened, OpenFault>
-    requires complete { ForSome (F.told f.old).files HasWholeIndex }
-    ensures opened { IfOk result (λ opened. ForSome (F.told f.old).files (λ from. IsFinished from → ForSome (F.told f.new).files (IsOpenedAs from opened))) }
-    ensures checked { OnOk result (ForSome (F.told f.old).files (λ from. IsFinished from → IsWellFormed from)) }
-    ensures stops { ForSome (F.told f.old).files (λ from. IsFinished from → OpensOrBreaksOff from (F.told f.old) (F.told f.new)) }
-    ensures last { OnOk result (ForSome (F.told f.old).files (λ from. IsFinished from → Opens from (F.told f.old) (F.told f.new))) }
-    ensures damaged { IfOpenDamaged result (IsOpeningDamage (F.told f.new)) }
-    ensures first { IfOpenDamaged result (λ damage. ForSome (F.told f.old).files (λ from. IsFinished from → first_damage from ≡ Some (damage_of damage))) }
-    ensures unwritten { IfOpenDamaged result (λ _. ForSome (F.told f.old).files (λ from. IsFinished from → Stays (F.told f.old) (F.told f.new))) }
-    ensures memory { IfOpenMemory result (Stays (F.told f.old) (F.told f.new)) }
-    ensures silent { (F.told f.old).files ≡ None → (F.told f.new).files ≡ None }
-    ensures later { F.faults f.old ≤ F.faults f.new }
-    ensures device { IfOpenDevice result (Rises (F.faults f.old) (F.faults f.new)) }
+fn open_finished<F: Folder>(alloc: Global, folder: &mut F) -> Result<Opened, OpenFault>
+    requires complete { ForSome (F.told folder.old).files HasWholeIndex }
+    ensures opened { IfOk result (λ opened. ForSome (F.told folder.old).files (λ from. IsFinished from → ForSome (F.told folder.new).files (IsOpenedAs from opened))) }
+    ensures checked { OnOk result (ForSome (F.told folder.old).files (λ from. IsFinished from → IsWellFormed from)) }
+    ensures stops { ForSome (F.told folder.old).files (λ from. IsFinished from → OpensOrBreaksOff from (F.told folder.old) (F.told folder.new)) }
+    ensures last { OnOk result (ForSome (F.told folder.old).files (λ from. IsFinished from → OpensFolder from (F.told folder.old) (F.told folder.new))) }
+    ensures damaged { IfOpenDamaged result (IsOpeningDamage (F.told folder.new)) }
+    ensures first { IfOpenDamaged result (λ damage. ForSome (F.told folder.old).files (λ from. IsFinished from → first_damage from ≡ Some (damage_of damage))) }
+    ensures unwritten { IfOpenDamaged result (λ _. ForSome (F.told folder.old).files (λ from. IsFinished from → Stays (F.told folder.old) (F.told folder.new))) }
+    ensures memory { IfOpenMemory result (Stays (F.told folder.old) (F.told folder.new)) }
+    ensures silent { (F.told folder.old).files ≡ None → (F.told folder.new).files ≡ None }
+    ensures later { F.faults folder.old ≤ F.faults folder.new }
+    ensures device { IfOpenDevice result (Rises (F.faults folder.old) (F.faults folder.new)) }
 {
-    let files = BlockFiles::load(f)?;
-    open_loaded(alloc, f, files)
+    let files = BlockFiles::load(folder)?;
+    open_loaded(alloc, folder, files)
 }
 
 // Opens a folder whose block files were loaded.
-fn open_loaded<F: Folder>(alloc: Global, f: &mut F, files: BlockFiles) -> Result<Opened, OpenFault>
-    requires is_open { ForSome (F.told f.old).files (IsOpen files) }
-    ensures opened { IfOk result (λ opened. ForSome (F.told f.old).files (λ from. IsWellFormed from → ForSome (F.told f.new).files (IsOpenedAs from opened))) }
-    ensures stops { ForSome (F.told f.old).files (λ from. IsWellFormed from → EndsOrBreaksOff (F.told f.old) (F.told f.new) (IsMidRepair from) (StandsOpened from)) }
-    ensures last { OnOk result (ForSome (F.told f.old).files (λ from. IsWellFormed from → EndsWithCrashWord (F.told f.old) (F.told f.new) (IsMidRepair from) (StandsOpened from))) }
-    ensures damaged { IfOpenDamaged result (IsOpeningDamage (F.told f.new)) }
-    ensures untold { ForSome (F.told f.old).files IsWellFormed → IfOpenDamaged result (λ _. (F.told f.old).files ≡ None) }
-    ensures memory { IfOpenMemory result (Stays (F.told f.old) (F.told f.new)) }
-    ensures silent { (F.told f.old).files ≡ None → (F.told f.new).files ≡ None }
-    ensures later { F.faults f.old ≤ F.faults f.new }
-    ensures device { IfOpenDevice result (Rises (F.faults f.old) (F.faults f.new)) }
+fn open_loaded<F: Folder>(
+    alloc: Global,
+    folder: &mut F,
+    files: BlockFiles,
+) -> Result<Opened, OpenFault>
+    requires is_open { ForSome (F.told folder.old).files (IsOpen files) }
+    ensures opened { IfOk result (λ opened. ForSome (F.told folder.old).files (λ from. IsWellFormed from → ForSome (F.told folder.new).files (IsOpenedAs from opened))) }
+    ensures stops { ForSome (F.told folder.old).files (λ from. IsWellFormed from → EndsOrBreaksOff (F.told folder.old) (F.told folder.new) (IsMidRepair from) (StandsOpened from)) }
+    ensures last { OnOk result (ForSome (F.told folder.old).files (λ from. IsWellFormed from → EndsWithCrashWord (F.told folder.old) (F.told folder.new) (IsMidRepair from) (StandsOpened from))) }
+    ensures damaged { IfOpenDamaged result (IsOpeningDamage (F.told folder.new)) }
+    ensures untold { ForSome (F.told folder.old).files IsWellFormed → IfOpenDamaged result (λ _. (F.told folder.old).files ≡ None) }
+    ensures memory { IfOpenMemory result (Stays (F.told folder.old) (F.told folder.new)) }
+    ensures silent { (F.told folder.old).files ≡ None → (F.told folder.new).files ≡ None }
+    ensures later { F.faults folder.old ≤ F.faults folder.new }
+    ensures device { IfOpenDevice result (Rises (F.faults folder.old) (F.faults folder.new)) }
 {
-    let scan = scan_files(alloc, f, &files)?;
-    Ok(mend(f, files, &scan)?)
+    let scan = scan_files(alloc, folder, &files)?;
+    Ok(mend(folder, files, &scan)?)
 }
 
 // Repairs a folder by its scan, and reads the number of the session.
-fn mend<F: Folder>(f: &mut F, files: BlockFiles, scan: &Scan) -> Result<Opened, Fault>
+fn mend<F: Folder>(folder: &mut F, files: BlockFiles, scan: &Scan) -> Result<Opened, Fault>
     requires stand { StandAmong files scan.now }
-    requires is_open { ForSome (F.told f.old).files (IsOpen files) }
-    ensures opened { IfOk result (λ opened. ForSome (F.told f.old).files (λ from. IsRepairable scan.now from → ForSome (F.told f.new).files (IsOpenedAs from opened))) }
-    ensures made { OnOk result (ForSome (F.told f.old).files (λ from. IsRepairable scan.now from → NeedsOnlyWords scan.now from → ForSome (F.told f.new).files (WasMadeAt (create_time_of (byte from index))))) }
-    ensures stops { ForSome (F.told f.old).files (λ from. IsRepairable scan.now from → EndsOrBreaksOff (F.told f.old) (F.told f.new) (IsMidRepair from) (StandsOpened from)) }
-    ensures last { OnOk result (ForSome (F.told f.old).files (λ from. IsRepairable scan.now from → EndsWithCrashWord (F.told f.old) (F.told f.new) (IsMidRepair from) (StandsOpened from))) }
-    ensures damaged { IfDamaged result (IsOpeningDamage (F.told f.new)) }
-    ensures untold { ForSome (F.told f.old).files (IsRepairable scan.now) → IfDamaged result (λ _. (F.told f.old).files ≡ None) }
-    ensures silent { (F.told f.old).files ≡ None → (F.told f.new).files ≡ None }
-    ensures later { F.faults f.old ≤ F.faults f.new }
-    ensures device { IfDevice result (Rises (F.faults f.old) (F.faults f.new)) }
+    requires is_open { ForSome (F.told folder.old).files (IsOpen files) }
+    ensures opened { IfOk result (λ opened. ForSome (F.told folder.old).files (λ from. IsRepairable scan.now from → ForSome (F.told folder.new).files (IsOpenedAs from opened))) }
+    ensures made { OnOk result (ForSome (F.told folder.old).files (λ from. IsRepairable scan.now from → NeedsOnlyWords scan.now from → ForSome (F.told folder.new).files (WasMadeAt (create_time_of (byte from index))))) }
+    ensures stops { ForSome (F.told folder.old).files (λ from. IsRepairable scan.now from → EndsOrBreaksOff (F.told folder.old) (F.told folder.new) (IsMidRepair from) (StandsOpened from)) }
+    ensures last { OnOk result (ForSome (F.told folder.old).files (λ from. IsRepairable scan.now from → EndsWithCrashWord (F.told folder.old) (F.told folder.new) (IsMidRepair from) (StandsOpened from))) }
+    ensures damaged { IfDamaged result (IsOpeningDamage (F.told folder.new)) }
+    ensures untold { ForSome (F.told folder.old).files (IsRepairable scan.now) → IfDamaged result (λ _. (F.told folder.old).files ≡ None) }
+    ensures silent { (F.told folder.old).files ≡ None → (F.told folder.new).files ≡ None }
+    ensures later { F.faults folder.old ≤ F.faults folder.new }
+    ensures device { IfDevice result (Rises (F.faults folder.old) (F.faults folder.new)) }
 {
     let mut files = files;
-    repair(f, &mut files, scan)?;
-    let mark = word(f, IndexHead::THIS_ID)?;
+    repair(folder, &mut files, scan)?;
+    let mark = word(folder, IndexHead::THIS_ID)?;
     Ok(Opened {
         files,
         items: scan.items(),

@@ -14,7 +14,7 @@ ghost use Rattle.blk_object.specs.FailedChecks.{IsFailedCheck};
 ghost use Rattle.blk_cache.specs.Asking.{early_stream_refusal};
 ghost use Rattle.blk_cache.specs.CacheKeeping.{KeepsState};
 ghost use Rattle.blk_cache.specs.CommandClauses.{IsRefused, KeepsAny};
-ghost use Rattle.blk_cache.specs.Reading.{IsReadDamage, UsesItem, bytes_there};
+ghost use Rattle.blk_cache.specs.Reading.{IsCommandReadDamage, UsesItem, bytes_there};
 
 use crate::asking::{Asked, NamedStream};
 use crate::cache::Cache;
@@ -32,36 +32,36 @@ impl Cache {
     /// call reads the record, and at most 36 use the item.
     pub(crate) fn use_read<F: Folder>(
         &self,
-        f: &mut F,
+        folder: &mut F,
         handle: u16,
         stream: u8,
         offset: u64,
         count: u64,
         moment: u64,
     ) -> Result<Answer, Fault>
-        requires is_open { ForSome (F.told f.old).files (IsOpen self.now.files) }
-        ensures does { IfOk result (λ answer. Does (KeepsState self.now) (KeepsState self.now) (F.told f.old) (F.told f.new) moment (to_read handle stream offset count) answer) }
-        ensures stops { MayStopAtEach (KeepsState self.now) (F.told f.old) (F.told f.new) moment (to_read handle stream offset count) }
+        requires is_open { ForSome (F.told folder.old).files (IsOpen self.now.files) }
+        ensures does { IfOk result (λ answer. Does (KeepsState self.now) (KeepsState self.now) (F.told folder.old) (F.told folder.new) moment (to_read handle stream offset count) answer) }
+        ensures stops { MayStopAtEach (KeepsState self.now) (F.told folder.old) (F.told folder.new) moment (to_read handle stream offset count) }
 
         // What the names and the stream tell is refused on every folder, and a refusal does nothing.
         ensures refuses { IfSome (early_stream_refusal self.now.handles handle stream) (λ why. result ≡ Ok (answer.Refused why)) }
-        ensures quiet { IfOk result (λ answer. IsRefused answer → Stays (F.told f.old) (F.told f.new)) }
+        ensures quiet { IfOk result (λ answer. IsRefused answer → Stays (F.told folder.old) (F.told folder.new)) }
 
-        ensures is_open { ForSome (F.told f.new).files (IsOpen self.now.files) }
+        ensures is_open { ForSome (F.told folder.new).files (IsOpen self.now.files) }
 
         // An observable folder reports no corruption where the cache keeps a state.
-        ensures damaged { IfDamaged result (IsReadDamage self.now.handles self.now.files (F.told f.old) (F.told f.new) handle) }
-        ensures cause { IfDamaged result (IsFailedCheck self.now.files (F.told f.new)) }
-        ensures untold { ForSome (F.told f.old).files (KeepsAny self.now) → IfDamaged result (λ _. (F.told f.old).files ≡ None) }
-        ensures silent { (F.told f.old).files ≡ None → (F.told f.new).files ≡ None }
-        ensures later { F.faults f.old ≤ F.faults f.new }
-        ensures device { IfDevice result (Rises (F.faults f.old) (F.faults f.new)) }
+        ensures damaged { IfDamaged result (IsCommandReadDamage self.now.handles self.now.files (F.told folder.old) (F.told folder.new) handle) }
+        ensures cause { IfDamaged result (IsFailedCheck self.now.files (F.told folder.new)) }
+        ensures untold { ForSome (F.told folder.old).files (KeepsAny self.now) → IfDamaged result (λ _. (F.told folder.old).files ≡ None) }
+        ensures silent { (F.told folder.old).files ≡ None → (F.told folder.new).files ≡ None }
+        ensures later { F.faults folder.old ≤ F.faults folder.new }
+        ensures device { IfDevice result (Rises (F.faults folder.old) (F.faults folder.new)) }
     {
-        let asked = self.ask_stream(f, handle, stream)?;
+        let asked = self.ask_stream(folder, handle, stream)?;
         match asked {
             Asked::Refused(why) => Ok(Answer::Refused(why)),
             Asked::Stream(named) => {
-                use_item(f, &self.files, &named, moment)?;
+                use_item(folder, &self.files, &named, moment)?;
                 Ok(Answer::Bytes(bytes_there(named.size, offset, count)))
             }
         }
@@ -70,25 +70,25 @@ impl Cache {
 
 // Puts the item of a live object in front of the LRU list; a doomed one has none.
 fn use_item<F: Folder>(
-    f: &mut F,
+    folder: &mut F,
     files: &BlockFiles,
     object: &NamedStream,
     moment: u64,
 ) -> Result<(), Fault>
     requires stands { IsTrue (is_node_among files.now object.now.node) }
-    requires is_open { ForSome (F.told f.old).files (IsOpen files.now) }
-    ensures uses { UsesItem files.now (F.told f.old) (F.told f.new) object.now moment result }
-    ensures is_open { ForSome (F.told f.new).files (IsOpen files.now) }
-    ensures damaged { IfDamaged result (IsTouchDamage object.now.node files.now (F.told f.old) (F.told f.new)) }
-    ensures untold { ForSome (F.told f.old).files (λ image. object.now.doomed ≡ false → IsListed object.now.node image) → IfDamaged result (λ _. (F.told f.old).files ≡ None) }
-    ensures silent { (F.told f.old).files ≡ None → (F.told f.new).files ≡ None }
-    ensures later { F.faults f.old ≤ F.faults f.new }
-    ensures device { IfDevice result (Rises (F.faults f.old) (F.faults f.new)) }
+    requires is_open { ForSome (F.told folder.old).files (IsOpen files.now) }
+    ensures uses { UsesItem files.now (F.told folder.old) (F.told folder.new) object.now moment result }
+    ensures is_open { ForSome (F.told folder.new).files (IsOpen files.now) }
+    ensures damaged { IfDamaged result (IsTouchDamage object.now.node files.now (F.told folder.old) (F.told folder.new)) }
+    ensures untold { ForSome (F.told folder.old).files (λ image. object.now.doomed ≡ false → IsListed object.now.node image) → IfDamaged result (λ _. (F.told folder.old).files ≡ None) }
+    ensures silent { (F.told folder.old).files ≡ None → (F.told folder.new).files ≡ None }
+    ensures later { F.faults folder.old ≤ F.faults folder.new }
+    ensures device { IfDevice result (Rises (F.faults folder.old) (F.faults folder.new)) }
 {
     if object.doomed {
         Ok(())
     } else {
-        touch(f, files, object.node, moment)
+        touch(folder, files, object.node, moment)
     }
 }
 

@@ -5,7 +5,7 @@ ghost use Rattle.spec_image.specs.Told.{Rises, Stays};
 ghost use Rattle.blk_io.specs.Faults.{IfDamaged, IfDevice};
 ghost use Rattle.blk_object.specs.FailedChecks.{IsFailedCheck};
 ghost use Rattle.blk_cache.specs.ReadPrinting.{ForRead, KeepsToRead, can_be_read};
-ghost use Rattle.blk_items.specs.RoomPrinting.{FailsWhereItRose, Prints, PrintsInPart};
+ghost use Rattle.blk_items.specs.RoomPrinting.{FailsWhereItRose, PrintsUnlessFailed, PrintsInPart};
 
 use crate::asking::STREAMS;
 use crate::cache::Cache;
@@ -20,7 +20,7 @@ impl Cache {
     /// has that number, nothing is printed. After a fault a prefix of the line is printed.
     pub(crate) fn print_read<F: Folder, K: Sink>(
         &self,
-        f: &mut F,
+        folder: &mut F,
         out: &mut K,
         failed: &mut bool,
         handle: u16,
@@ -28,17 +28,17 @@ impl Cache {
         offset: u64,
         number: u64,
     ) -> Result<(), Fault>
-        ensures printed { OnOk result (ForRead self.now (F.told f.old) handle stream offset number (Prints failed.old failed.new (K.written out.old) (K.written out.new))) }
-        ensures part { ForRead self.now (F.told f.old) handle stream offset number (PrintsInPart failed.old (K.written out.old) (K.written out.new)) }
+        ensures printed { OnOk result (ForRead self.now (F.told folder.old) handle stream offset number (PrintsUnlessFailed failed.old failed.new (K.written out.old) (K.written out.new))) }
+        ensures part { ForRead self.now (F.told folder.old) handle stream offset number (PrintsInPart failed.old (K.written out.old) (K.written out.new)) }
         ensures failed { FailsWhereItRose failed.old failed.new (K.faults out.old) (K.faults out.new) }
-        ensures stays { Stays (F.told f.old) (F.told f.new) }
+        ensures stays { Stays (F.told folder.old) (F.told folder.new) }
 
         // An observable folder reports no corruption where the cache keeps a state with so many bytes.
-        ensures damaged { IfDamaged result (IsFailedCheck self.now.files (F.told f.new)) }
-        ensures untold { ForSome (F.told f.old).files (KeepsToRead self.now handle stream offset number) → IfDamaged result (λ _. (F.told f.old).files ≡ None) }
-        ensures later { F.faults f.old ≤ F.faults f.new }
+        ensures damaged { IfDamaged result (IsFailedCheck self.now.files (F.told folder.new)) }
+        ensures untold { ForSome (F.told folder.old).files (KeepsToRead self.now handle stream offset number) → IfDamaged result (λ _. (F.told folder.old).files ≡ None) }
+        ensures later { F.faults folder.old ≤ F.faults folder.new }
         ensures later_out { K.faults out.old ≤ K.faults out.new }
-        ensures device { IfDevice result (Rises (F.faults f.old) (F.faults f.new)) }
+        ensures device { IfDevice result (Rises (F.faults folder.old) (F.faults folder.new)) }
     {
         let Some(object) = self.handles.object(handle) else {
             return Ok(());
@@ -52,7 +52,7 @@ impl Cache {
             offset,
             count: number,
         };
-        print_range(f, &self.files, out, failed, &range)
+        print_range(folder, &self.files, out, failed, &range)
     }
 }
 

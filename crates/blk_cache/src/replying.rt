@@ -10,7 +10,7 @@ ghost use Rattle.blk_object.specs.FailedChecks.{IsFailedCheck};
 ghost use Rattle.blk_script.specs.Reply.{reply_text};
 ghost use Rattle.blk_cache.specs.CommandClauses.{KeepsAny};
 ghost use Rattle.blk_cache.specs.Listing.{OnlyRoomChanges};
-ghost use Rattle.blk_items.specs.RoomPrinting.{FailsWhereItRose, Prints, PrintsInPart};
+ghost use Rattle.blk_items.specs.RoomPrinting.{FailsWhereItRose, PrintsUnlessFailed, PrintsInPart};
 ghost use Rattle.blk_cache.specs.Replying.{ForBytes, ForReply, ForRows, KeepsAfter};
 
 use crate::cache::Cache;
@@ -25,29 +25,29 @@ impl Cache {
     /// Nothing is written. After a fault a prefix of the reply is printed.
     pub(crate) fn reply<F: Folder, K: Sink>(
         &mut self,
-        f: &mut F,
+        folder: &mut F,
         out: &mut K,
         failed: &mut bool,
         command: &Command,
         answer: &Answer,
     ) -> Result<(), Fault>
-        requires is_open { ForSome (F.told f.old).files (IsOpen self.old.files) }
-        ensures printed { OnOk result (ForReply self.old (F.told f.old) (request_of command.now) answer.now (Prints failed.old failed.new (K.written out.old) (K.written out.new))) }
-        ensures part { ForReply self.old (F.told f.old) (request_of command.now) answer.now (PrintsInPart failed.old (K.written out.old) (K.written out.new)) }
+        requires is_open { ForSome (F.told folder.old).files (IsOpen self.old.files) }
+        ensures printed { OnOk result (ForReply self.old (F.told folder.old) (request_of command.now) answer.now (PrintsUnlessFailed failed.old failed.new (K.written out.old) (K.written out.new))) }
+        ensures part { ForReply self.old (F.told folder.old) (request_of command.now) answer.now (PrintsInPart failed.old (K.written out.old) (K.written out.new)) }
         ensures failed { FailsWhereItRose failed.old failed.new (K.faults out.old) (K.faults out.new) }
         ensures others { OnlyRoomChanges self.old self.new }
-        ensures stays { Stays (F.told f.old) (F.told f.new) }
+        ensures stays { Stays (F.told folder.old) (F.told folder.new) }
 
         // An observable folder reports no corruption where the cache keeps the state after the command.
-        ensures damaged { IfDamaged result (IsFailedCheck self.new.files (F.told f.new)) }
-        ensures untold { ForSome (F.told f.old).files (KeepsAfter self.old (request_of command.now) answer.now) → IfDamaged result (λ _. (F.told f.old).files ≡ None) }
-        ensures later { F.faults f.old ≤ F.faults f.new }
+        ensures damaged { IfDamaged result (IsFailedCheck self.new.files (F.told folder.new)) }
+        ensures untold { ForSome (F.told folder.old).files (KeepsAfter self.old (request_of command.now) answer.now) → IfDamaged result (λ _. (F.told folder.old).files ≡ None) }
+        ensures later { F.faults folder.old ≤ F.faults folder.new }
         ensures later_out { K.faults out.old ≤ K.faults out.new }
-        ensures device { IfDevice result (Rises (F.faults f.old) (F.faults f.new)) }
+        ensures device { IfDevice result (Rises (F.faults folder.old) (F.faults folder.new)) }
     {
         match *answer {
-            Answer::Bytes(number) => self.print_bytes_for(f, out, failed, command, number),
-            Answer::Listed(_) => self.print_list(f, out, failed, answer),
+            Answer::Bytes(number) => self.print_bytes_for(folder, out, failed, command, number),
+            Answer::Listed(_) => self.print_list(folder, out, failed, answer),
             _ => {
                 say_answer(out, failed, answer);
                 Ok(())
@@ -58,23 +58,23 @@ impl Cache {
     // Prints the bytes that a command reads, of which there is this number.
     fn print_bytes_for<F: Folder, K: Sink>(
         &mut self,
-        f: &mut F,
+        folder: &mut F,
         out: &mut K,
         failed: &mut bool,
         command: &Command,
         number: u64,
     ) -> Result<(), Fault>
-        requires is_open { ForSome (F.told f.old).files (IsOpen self.old.files) }
-        ensures printed { OnOk result (ForBytes self.old (F.told f.old) (request_of command.now) number (Prints failed.old failed.new (K.written out.old) (K.written out.new))) }
-        ensures part { ForBytes self.old (F.told f.old) (request_of command.now) number (PrintsInPart failed.old (K.written out.old) (K.written out.new)) }
+        requires is_open { ForSome (F.told folder.old).files (IsOpen self.old.files) }
+        ensures printed { OnOk result (ForBytes self.old (F.told folder.old) (request_of command.now) number (PrintsUnlessFailed failed.old failed.new (K.written out.old) (K.written out.new))) }
+        ensures part { ForBytes self.old (F.told folder.old) (request_of command.now) number (PrintsInPart failed.old (K.written out.old) (K.written out.new)) }
         ensures failed { FailsWhereItRose failed.old failed.new (K.faults out.old) (K.faults out.new) }
         ensures others { OnlyRoomChanges self.old self.new }
-        ensures stays { Stays (F.told f.old) (F.told f.new) }
-        ensures damaged { IfDamaged result (IsFailedCheck self.new.files (F.told f.new)) }
-        ensures untold { ForSome (F.told f.old).files (KeepsAfter self.old (request_of command.now) (Answer.Bytes number)) → IfDamaged result (λ _. (F.told f.old).files ≡ None) }
-        ensures later { F.faults f.old ≤ F.faults f.new }
+        ensures stays { Stays (F.told folder.old) (F.told folder.new) }
+        ensures damaged { IfDamaged result (IsFailedCheck self.new.files (F.told folder.new)) }
+        ensures untold { ForSome (F.told folder.old).files (KeepsAfter self.old (request_of command.now) (Answer.Bytes number)) → IfDamaged result (λ _. (F.told folder.old).files ≡ None) }
+        ensures later { F.faults folder.old ≤ F.faults folder.new }
         ensures later_out { K.faults out.old ≤ K.faults out.new }
-        ensures device { IfDevice result (Rises (F.faults f.old) (F.faults f.new)) }
+        ensures device { IfDevice result (Rises (F.faults folder.old) (F.faults folder.new)) }
     {
         match *command {
             Command::Read {
@@ -82,9 +82,9 @@ impl Cache {
                 stream,
                 offset,
                 ..
-            } => self.print_read(f, out, failed, handle, stream, offset, number),
+            } => self.print_read(folder, out, failed, handle, stream, offset, number),
             Command::SparseRead { handle, offset, .. } => {
-                self.print_sparse(f, out, failed, handle, offset, number)
+                self.print_sparse(folder, out, failed, handle, offset, number)
             }
             _ => Ok(()),
         }
@@ -93,24 +93,24 @@ impl Cache {
     // Prints the rows of a List, and then the line of its answer.
     fn print_list<F: Folder, K: Sink>(
         &mut self,
-        f: &mut F,
+        folder: &mut F,
         out: &mut K,
         failed: &mut bool,
         answer: &Answer,
     ) -> Result<(), Fault>
         requires has_line { (n : ℕ) → answer.now ≢ Answer.Bytes n }
-        ensures printed { OnOk result (ForRows self.old (F.told f.old) answer.now (Prints failed.old failed.new (K.written out.old) (K.written out.new))) }
-        ensures part { ForRows self.old (F.told f.old) answer.now (PrintsInPart failed.old (K.written out.old) (K.written out.new)) }
+        ensures printed { OnOk result (ForRows self.old (F.told folder.old) answer.now (PrintsUnlessFailed failed.old failed.new (K.written out.old) (K.written out.new))) }
+        ensures part { ForRows self.old (F.told folder.old) answer.now (PrintsInPart failed.old (K.written out.old) (K.written out.new)) }
         ensures failed { FailsWhereItRose failed.old failed.new (K.faults out.old) (K.faults out.new) }
         ensures others { OnlyRoomChanges self.old self.new }
-        ensures stays { Stays (F.told f.old) (F.told f.new) }
-        ensures damaged { IfDamaged result (IsFailedCheck self.new.files (F.told f.new)) }
-        ensures untold { ForSome (F.told f.old).files (KeepsAny self.old) → IfDamaged result (λ _. (F.told f.old).files ≡ None) }
-        ensures later { F.faults f.old ≤ F.faults f.new }
+        ensures stays { Stays (F.told folder.old) (F.told folder.new) }
+        ensures damaged { IfDamaged result (IsFailedCheck self.new.files (F.told folder.new)) }
+        ensures untold { ForSome (F.told folder.old).files (KeepsAny self.old) → IfDamaged result (λ _. (F.told folder.old).files ≡ None) }
+        ensures later { F.faults folder.old ≤ F.faults folder.new }
         ensures later_out { K.faults out.old ≤ K.faults out.new }
-        ensures device { IfDevice result (Rises (F.faults f.old) (F.faults f.new)) }
+        ensures device { IfDevice result (Rises (F.faults folder.old) (F.faults folder.new)) }
     {
-        self.print_rows(f, out, failed)?;
+        self.print_rows(folder, out, failed)?;
         say_answer(out, failed, answer);
         Ok(())
     }
@@ -119,7 +119,7 @@ impl Cache {
 // Prints the line of an answer, unless the sink failed before.
 fn say_answer<K: Sink>(out: &mut K, failed: &mut bool, answer: &Answer)
     requires has_line { (n : ℕ) → answer.now ≢ Answer.Bytes n }
-    ensures prints { Prints failed.old failed.new (K.written out.old) (K.written out.new) (reply_text (answered answer.now)) }
+    ensures prints { PrintsUnlessFailed failed.old failed.new (K.written out.old) (K.written out.new) (reply_text (answered answer.now)) }
     ensures failed { FailsWhereItRose failed.old failed.new (K.faults out.old) (K.faults out.new) }
     ensures later { K.faults out.old ≤ K.faults out.new }
 {

@@ -29,36 +29,36 @@ impl Cache {
     /// of the last one.
     pub(crate) fn last_unpinned<F: Folder>(
         &self,
-        f: &mut F,
+        folder: &mut F,
         behind: Option<Addr>,
         parts: &Covered,
     ) -> Result<Option<Unpinned>, Fault>
         requires stands { IfSome behind (λ node. IsTrue (is_node_among self.now.files node)) }
-        ensures last { IfOk result (λ found. ForSome (F.told f.old).files (λ image. (state : State) (kept : KeepsState self.now state image) (covered : List Item) → LieCovered state kept.layout covered parts.now → IsPinnedFrom state kept.layout covered behind → IsLast state kept.layout covered found)) }
+        ensures last { IfOk result (λ found. ForSome (F.told folder.old).files (λ image. (state : State) (kept : KeepsState self.now state image) (covered : List Item) → LieCovered state kept.layout covered parts.now → IsPinnedFrom state kept.layout covered behind → IsLast state kept.layout covered found)) }
 
         // On every folder none is found only where the list ends.
-        ensures ends { IfOk result (λ found. found ≡ None → ForSome (F.told f.old).files (WalkEnds self.now.files NodeView.PREV behind)) }
+        ensures ends { IfOk result (λ found. found ≡ None → ForSome (F.told folder.old).files (WalkEnds self.now.files NodeView.PREV behind)) }
 
         ensures node_stands { IfOk result (λ found. IfSome found (λ item. IsTrue (is_node_among self.now.files item.node))) }
         ensures record_stands { IfOk result (λ found. IfSome found (λ item. IsTrue (is_record_among self.now.files item.entry))) }
         ensures next_stands { IfOk result (λ found. IfSome found (λ item. IfSome item.behind (λ node. IsTrue (is_node_among self.now.files node)))) }
-        ensures stays { Stays (F.told f.old) (F.told f.new) }
+        ensures stays { Stays (F.told folder.old) (F.told folder.new) }
 
         // Corruption is a check that fails on what is read here; nothing is written after it.
-        ensures damaged { IfDamaged result (IsFailedCheck self.now.files (F.told f.new)) }
+        ensures damaged { IfDamaged result (IsFailedCheck self.now.files (F.told folder.new)) }
 
         // An observable folder reports no corruption where the cache keeps a state.
-        ensures untold { ForSome (F.told f.old).files (KeepsPinnedFrom self.now parts.now behind) → IfDamaged result (λ _. (F.told f.old).files ≡ None) }
+        ensures untold { ForSome (F.told folder.old).files (KeepsPinnedFrom self.now parts.now behind) → IfDamaged result (λ _. (F.told folder.old).files ≡ None) }
 
-        ensures later { F.faults f.old ≤ F.faults f.new }
-        ensures device { IfDevice result (Rises (F.faults f.old) (F.faults f.new)) }
+        ensures later { F.faults folder.old ≤ F.faults folder.new }
+        ensures device { IfDevice result (Rises (F.faults folder.old) (F.faults folder.new)) }
     {
         let mut behind = behind;
         for _ in 0..MOST_NODES + 1 {
-            let Some(node) = in_front(f, &self.files, &behind)? else {
+            let Some(node) = in_front(folder, &self.files, &behind)? else {
                 return Ok(None);
             };
-            let entry = entry_named(f, &self.files, node)?;
+            let entry = entry_named(folder, &self.files, node)?;
             if !self.pins(entry, node, parts) {
                 return Ok(Some(Unpinned {
                     node,
@@ -68,7 +68,7 @@ impl Cache {
             }
             behind = Some(node);
         }
-        let next = in_front(f, &self.files, &behind)?;
+        let next = in_front(folder, &self.files, &behind)?;
         end_walk(behind, NodeView::PREV, next)?;
         Ok(None)
     }

@@ -23,24 +23,24 @@ impl Cache {
     /// is 3 or more, and `SparseStream` where the object is sparse and the number isn't 0, the first of these.
     pub(crate) fn size<F: Folder>(
         &self,
-        f: &mut F,
+        folder: &mut F,
         handle: u16,
         stream: u8,
     ) -> Result<Answer, Fault>
-        ensures does { (moment : ℕ) → IfOk result (λ answer. Does (KeepsState self.now) (KeepsState self.now) (F.told f.old) (F.told f.new) moment (to_size handle stream) answer) }
-        ensures stays { Stays (F.told f.old) (F.told f.new) }
+        ensures does { (moment : ℕ) → IfOk result (λ answer. Does (KeepsState self.now) (KeepsState self.now) (F.told folder.old) (F.told folder.new) moment (to_size handle stream) answer) }
+        ensures stays { Stays (F.told folder.old) (F.told folder.new) }
 
         // What the names and the stream tell is refused on every folder.
         ensures refuses { IfSome (early_stream_refusal self.now.handles handle stream) (λ why. result ≡ Ok (answer.Refused why)) }
 
         // An observable folder reports no corruption where the cache keeps a state.
-        ensures damaged { IfDamaged result (IsAskDamage self.now.handles (F.told f.old) handle) }
-        ensures cause { IfDamaged result (IsFailedCheck self.now.files (F.told f.new)) }
-        ensures untold { ForSome (F.told f.old).files (KeepsAny self.now) → IfDamaged result (λ _. (F.told f.old).files ≡ None) }
-        ensures later { F.faults f.old ≤ F.faults f.new }
-        ensures device { IfDevice result (Rises (F.faults f.old) (F.faults f.new)) }
+        ensures damaged { IfDamaged result (IsAskDamage self.now.handles (F.told folder.old) handle) }
+        ensures cause { IfDamaged result (IsFailedCheck self.now.files (F.told folder.new)) }
+        ensures untold { ForSome (F.told folder.old).files (KeepsAny self.now) → IfDamaged result (λ _. (F.told folder.old).files ≡ None) }
+        ensures later { F.faults folder.old ≤ F.faults folder.new }
+        ensures device { IfDevice result (Rises (F.faults folder.old) (F.faults folder.new)) }
     {
-        let asked = self.ask_stream(f, handle, stream)?;
+        let asked = self.ask_stream(folder, handle, stream)?;
         match asked {
             Asked::Refused(why) => Ok(Answer::Refused(why)),
             Asked::Stream(named) => Ok(Answer::Size(u64::from(named.size))),

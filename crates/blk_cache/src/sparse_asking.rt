@@ -48,24 +48,24 @@ impl Cache {
     /// each is decided before any folder call. One folder call reads the record, and two more the index of a sparse object.
     pub(crate) fn ask_sparse<F: Folder>(
         &self,
-        f: &mut F,
+        folder: &mut F,
         handle: u16,
         offset: u64,
         count: u64,
     ) -> Result<AskedSparse, Fault>
-        ensures asked { IfOk result (λ answer. ForSome (F.told f.old).files (λ image. (state : State) → (k : KeepsState self.now state image) → IsAskedSparse state k.layout handle offset count answer)) }
+        ensures asked { IfOk result (λ answer. ForSome (F.told folder.old).files (λ image. (state : State) → (k : KeepsState self.now state image) → IsAskedSparse state k.layout handle offset count answer)) }
         ensures early { IfSome (early_sparse_refusal self.now.handles handle offset count) (λ why. result ≡ Ok (asked.Refused why)) }
 
         // On every folder.
         ensures stands { IfOk result (IsAmongFiles self.now.files) }
         ensures inside { IfOk result (FindsInside (early_sparse_refusal self.now.handles handle offset count) offset count) }
-        ensures stays { Stays (F.told f.old) (F.told f.new) }
+        ensures stays { Stays (F.told folder.old) (F.told folder.new) }
 
         // Corruption is a check that fails on what is read here. An observable folder gives none where the cache keeps a state.
-        ensures damaged { IfDamaged result (IsFailedCheck self.now.files (F.told f.new)) }
-        ensures untold { ForSome (F.told f.old).files (KeepsAny self.now) → IfDamaged result (λ _. (F.told f.old).files ≡ None) }
-        ensures later { F.faults f.old ≤ F.faults f.new }
-        ensures device { IfDevice result (Rises (F.faults f.old) (F.faults f.new)) }
+        ensures damaged { IfDamaged result (IsFailedCheck self.now.files (F.told folder.new)) }
+        ensures untold { ForSome (F.told folder.old).files (KeepsAny self.now) → IfDamaged result (λ _. (F.told folder.old).files ≡ None) }
+        ensures later { F.faults folder.old ≤ F.faults folder.new }
+        ensures device { IfDevice result (Rises (F.faults folder.old) (F.faults folder.new)) }
     {
         if let Some(why) = self.refuses_range(handle, offset, count) {
             return Ok(AskedSparse::Refused(why));
@@ -73,9 +73,9 @@ impl Cache {
         let Some(object) = self.handles.object(handle) else {
             unreachable!();
         };
-        let head = read_head(f, &self.files, object.entry)?;
+        let head = read_head(folder, &self.files, object.entry)?;
         if head.flags == SPARSE {
-            let signature = read_signature(f, &self.files, object.entry)?;
+            let signature = read_signature(folder, &self.files, object.entry)?;
             return Ok(AskedSparse::Parent(Parent {
                 entry: object.entry,
                 node: object.node,

@@ -31,7 +31,7 @@ impl Cache {
     /// then it gets the bytes, which raise what is kept by so many bytes and items.
     pub(crate) fn end_sparse_write<F: Folder>(
         &mut self,
-        f: &mut F,
+        folder: &mut F,
         handle: u16,
         target: &Target,
         offset: u64,
@@ -45,33 +45,33 @@ impl Cache {
         requires some { 1 ≤ length bytes.now }
         requires few { length bytes.now ≤ part_size }
         requires inside { offset + length bytes.now ≤ largest_offset }
-        requires is_open { ForSome (F.told f.old).files (IsOpen self.old.files) }
+        requires is_open { ForSome (F.told folder.old).files (IsOpen self.old.files) }
 
         // It is done, whatever state the SparseWrite began with, and may crash at each word.
-        ensures does { IfOk result (λ answer. ForSome (F.told f.old).files (λ from. (state : State) → IsReadyToStore self.old state moment handle offset bytes.now target.now more_bytes more_items from → IsDone (KeepsState self.new) (F.told f.new) moment (to_sparse_write handle offset bytes.now) answer state)) }
-        ensures stops { ForSome (F.told f.old).files (λ from. (state : State) → IsReadyToStore self.old state moment handle offset bytes.now target.now more_bytes more_items from → Passes (F.told f.old) (F.told f.new) (MayStop state moment (to_sparse_write handle offset bytes.now))) }
+        ensures does { IfOk result (λ answer. ForSome (F.told folder.old).files (λ from. (state : State) → IsReadyToStore self.old state moment handle offset bytes.now target.now more_bytes more_items from → IsDone (KeepsState self.new) (F.told folder.new) moment (to_sparse_write handle offset bytes.now) answer state)) }
+        ensures stops { ForSome (F.told folder.old).files (λ from. (state : State) → IsReadyToStore self.old state moment handle offset bytes.now target.now more_bytes more_items from → Passes (F.told folder.old) (F.told folder.new) (MayStop state moment (to_sparse_write handle offset bytes.now))) }
 
         ensures wrote { IfOk result (λ given. given ≡ answer.Wrote (length bytes.now)) }
         ensures notes { self.new.notes ≡ self.old.notes }
         ensures mark { self.new.mark ≡ self.old.mark }
-        ensures is_open { OnOk result (ForSome (F.told f.new).files (IsOpen self.new.files)) }
-        ensures damaged { IfDamaged result (IsFailedCheck self.new.files (F.told f.new)) }
-        ensures untold { ForSome (F.told f.old).files (IsReadyToStoreSome self.old handle offset bytes.now target.now more_bytes more_items) → IfDamaged result (λ _. (F.told f.old).files ≡ None) }
-        ensures silent { (F.told f.old).files ≡ None → (F.told f.new).files ≡ None }
-        ensures later { F.faults f.old ≤ F.faults f.new }
-        ensures device { IfDevice result (Rises (F.faults f.old) (F.faults f.new)) }
+        ensures is_open { OnOk result (ForSome (F.told folder.new).files (IsOpen self.new.files)) }
+        ensures damaged { IfDamaged result (IsFailedCheck self.new.files (F.told folder.new)) }
+        ensures untold { ForSome (F.told folder.old).files (IsReadyToStoreSome self.old handle offset bytes.now target.now more_bytes more_items) → IfDamaged result (λ _. (F.told folder.old).files ≡ None) }
+        ensures silent { (F.told folder.old).files ≡ None → (F.told folder.new).files ≡ None }
+        ensures later { F.faults folder.old ≤ F.faults folder.new }
+        ensures device { IfDevice result (Rises (F.faults folder.old) (F.faults folder.new)) }
     {
-        self.unsettle(f, handle)?;
-        self.store_unsettled(
-            f, handle, target, offset, bytes, more_bytes, more_items, moment,
+        self.set_dirty(folder, handle)?;
+        self.store_to_dirty(
+            folder, handle, target, offset, bytes, more_bytes, more_items, moment,
         )?;
         Ok(Answer::Wrote(bytes.len() as u64))
     }
 
     // Gives a dirty object some bytes of sparse data, and counts what they raise.
-    fn store_unsettled<F: Folder>(
+    fn store_to_dirty<F: Folder>(
         &mut self,
-        f: &mut F,
+        folder: &mut F,
         handle: u16,
         target: &Target,
         offset: u64,
@@ -85,29 +85,29 @@ impl Cache {
         requires some { 1 ≤ length bytes.now }
         requires few { length bytes.now ≤ part_size }
         requires inside { offset + length bytes.now ≤ largest_offset }
-        requires is_open { ForSome (F.told f.old).files (IsOpen self.old.files) }
+        requires is_open { ForSome (F.told folder.old).files (IsOpen self.old.files) }
 
         // In the end each state that was kept, whose object can get them, is kept with them, and with its items in front.
-        ensures stored { OnOk result (ForSome (F.told f.old).files (λ from. (state : State) → KeepsState self.old state from → (can : CanStore state handle offset bytes.now target.now more_bytes more_items) → ForSome (F.told f.new).files (KeepsState self.new (sparse_state state can.number can.object (signature_to target.now) offset bytes.now)))) }
+        ensures stored { OnOk result (ForSome (F.told folder.old).files (λ from. (state : State) → KeepsState self.old state from → (can : CanStore state handle offset bytes.now target.now more_bytes more_items) → ForSome (F.told folder.new).files (KeepsState self.new (sparse_state state can.number can.object (signature_to target.now) offset bytes.now)))) }
 
         // At each word the old durable contents are recovered.
-        ensures stops { ForSome (F.told f.old).files (λ from. (state : State) → KeepsState self.old state from → CanStore state handle offset bytes.now target.now more_bytes more_items → Passes (F.told f.old) (F.told f.new) (Finds (rest state))) }
+        ensures stops { ForSome (F.told folder.old).files (λ from. (state : State) → KeepsState self.old state from → CanStore state handle offset bytes.now target.now more_bytes more_items → Passes (F.told folder.old) (F.told folder.new) (Finds (rest state))) }
 
         ensures notes { self.new.notes ≡ self.old.notes }
         ensures mark { self.new.mark ≡ self.old.mark }
-        ensures is_open { OnOk result (ForSome (F.told f.new).files (IsOpen self.new.files)) }
-        ensures damaged { IfDamaged result (IsFailedCheck self.new.files (F.told f.new)) }
-        ensures untold { ForSome (F.told f.old).files (KeepsToStore self.old handle offset bytes.now target.now more_bytes more_items) → IfDamaged result (λ _. (F.told f.old).files ≡ None) }
-        ensures silent { (F.told f.old).files ≡ None → (F.told f.new).files ≡ None }
-        ensures later { F.faults f.old ≤ F.faults f.new }
-        ensures device { IfDevice result (Rises (F.faults f.old) (F.faults f.new)) }
+        ensures is_open { OnOk result (ForSome (F.told folder.new).files (IsOpen self.new.files)) }
+        ensures damaged { IfDamaged result (IsFailedCheck self.new.files (F.told folder.new)) }
+        ensures untold { ForSome (F.told folder.old).files (KeepsToStore self.old handle offset bytes.now target.now more_bytes more_items) → IfDamaged result (λ _. (F.told folder.old).files ≡ None) }
+        ensures silent { (F.told folder.old).files ≡ None → (F.told folder.new).files ≡ None }
+        ensures later { F.faults folder.old ≤ F.faults folder.new }
+        ensures device { IfDevice result (Rises (F.faults folder.old) (F.faults folder.new)) }
     {
         let Some(object) = self.handles.object(handle) else {
             unreachable!();
         };
         let own = own_target(&object, target);
         store_sparse(
-            f,
+            folder,
             &mut self.files,
             &own,
             &mut self.name,

@@ -7,7 +7,7 @@ ghost use Rattle.blk_disk.specs.Open.{IsOpen};
 ghost use Rattle.blk_object.specs.FailedChecks.{IsFailedCheck};
 ghost use Rattle.blk_cache.specs.Listing.{OnlyRoomChanges};
 ghost use Rattle.blk_cache.specs.ReadPrinting.{ForPresent, KeepsPresent};
-ghost use Rattle.blk_items.specs.RoomPrinting.{FailsWhereItRose, Prints, PrintsInPart};
+ghost use Rattle.blk_items.specs.RoomPrinting.{FailsWhereItRose, PrintsUnlessFailed, PrintsInPart};
 
 use crate::cache::Cache;
 use crate::sparse_asking::LARGEST_OFFSET;
@@ -23,26 +23,26 @@ impl Cache {
     /// printed. After a fault a prefix of the line is printed.
     pub(crate) fn print_sparse<F: Folder, K: Sink>(
         &mut self,
-        f: &mut F,
+        folder: &mut F,
         out: &mut K,
         failed: &mut bool,
         handle: u16,
         offset: u64,
         number: u64,
     ) -> Result<(), Fault>
-        requires is_open { ForSome (F.told f.old).files (IsOpen self.old.files) }
-        ensures printed { OnOk result (ForPresent self.old (F.told f.old) handle offset number (Prints failed.old failed.new (K.written out.old) (K.written out.new))) }
-        ensures part { ForPresent self.old (F.told f.old) handle offset number (PrintsInPart failed.old (K.written out.old) (K.written out.new)) }
+        requires is_open { ForSome (F.told folder.old).files (IsOpen self.old.files) }
+        ensures printed { OnOk result (ForPresent self.old (F.told folder.old) handle offset number (PrintsUnlessFailed failed.old failed.new (K.written out.old) (K.written out.new))) }
+        ensures part { ForPresent self.old (F.told folder.old) handle offset number (PrintsInPart failed.old (K.written out.old) (K.written out.new)) }
         ensures failed { FailsWhereItRose failed.old failed.new (K.faults out.old) (K.faults out.new) }
         ensures others { OnlyRoomChanges self.old self.new }
-        ensures stays { Stays (F.told f.old) (F.told f.new) }
+        ensures stays { Stays (F.told folder.old) (F.told folder.new) }
 
         // An observable folder reports no corruption where the cache keeps a state with so many bytes.
-        ensures damaged { IfDamaged result (IsFailedCheck self.new.files (F.told f.new)) }
-        ensures untold { ForSome (F.told f.old).files (KeepsPresent self.old handle offset number) → IfDamaged result (λ _. (F.told f.old).files ≡ None) }
-        ensures later { F.faults f.old ≤ F.faults f.new }
+        ensures damaged { IfDamaged result (IsFailedCheck self.new.files (F.told folder.new)) }
+        ensures untold { ForSome (F.told folder.old).files (KeepsPresent self.old handle offset number) → IfDamaged result (λ _. (F.told folder.old).files ≡ None) }
+        ensures later { F.faults folder.old ≤ F.faults folder.new }
         ensures later_out { K.faults out.old ≤ K.faults out.new }
-        ensures device { IfDevice result (Rises (F.faults f.old) (F.faults f.new)) }
+        ensures device { IfDevice result (Rises (F.faults folder.old) (F.faults folder.new)) }
     {
         let Some(object) = self.handles.object(handle) else {
             return Ok(());
@@ -56,6 +56,6 @@ impl Cache {
             offset,
             count: number,
         };
-        print_present(f, &self.files, &mut self.name, out, failed, &range)
+        print_present(folder, &self.files, &mut self.name, out, failed, &range)
     }
 }

@@ -38,39 +38,39 @@ impl Cache {
     /// plain, the first of these. After a fault nothing is promised of the cache but that it can be dropped.
     pub(crate) fn use_sparse<F: Folder>(
         &mut self,
-        f: &mut F,
+        folder: &mut F,
         wanted: Wanted,
         handle: u16,
         offset: u64,
         count: u64,
         moment: u64,
     ) -> Result<Answer, Fault>
-        requires is_open { ForSome (F.told f.old).files (IsOpen self.old.files) }
-        ensures does { IfOk result (λ answer. Does (KeepsState self.old) (KeepsState self.new) (F.told f.old) (F.told f.new) moment (to_use_sparse wanted handle offset count) answer) }
-        ensures stops { MayStopAtEach (KeepsState self.old) (F.told f.old) (F.told f.new) moment (to_use_sparse wanted handle offset count) }
+        requires is_open { ForSome (F.told folder.old).files (IsOpen self.old.files) }
+        ensures does { IfOk result (λ answer. Does (KeepsState self.old) (KeepsState self.new) (F.told folder.old) (F.told folder.new) moment (to_use_sparse wanted handle offset count) answer) }
+        ensures stops { MayStopAtEach (KeepsState self.old) (F.told folder.old) (F.told folder.new) moment (to_use_sparse wanted handle offset count) }
 
         // What the names and the range tell is refused on every folder, and a refusal does nothing.
         ensures refuses { IfSome (early_sparse_refusal self.old.handles handle offset count) (λ why. result ≡ Ok (answer.Refused why)) }
-        ensures quiet { IfOk result (λ answer. IsRefused answer → Stays (F.told f.old) (F.told f.new)) }
+        ensures quiet { IfOk result (λ answer. IsRefused answer → Stays (F.told folder.old) (F.told folder.new)) }
         ensures unchanged { IfOk result (λ answer. IsRefused answer → self.new ≡ self.old) }
 
         ensures others { OnlyRoomChanges self.old self.new }
-        ensures is_open { ForSome (F.told f.new).files (IsOpen self.new.files) }
+        ensures is_open { ForSome (F.told folder.new).files (IsOpen self.new.files) }
 
         // Corruption is a check that fails on what is read here; nothing is written after it. An observable folder gives none where the cache keeps a state.
-        ensures damaged { IfDamaged result (IsFailedCheck self.new.files (F.told f.new)) }
-        ensures untold { ForSome (F.told f.old).files (KeepsAny self.old) → IfDamaged result (λ _. (F.told f.old).files ≡ None) }
-        ensures silent { (F.told f.old).files ≡ None → (F.told f.new).files ≡ None }
-        ensures later { F.faults f.old ≤ F.faults f.new }
-        ensures device { IfDevice result (Rises (F.faults f.old) (F.faults f.new)) }
+        ensures damaged { IfDamaged result (IsFailedCheck self.new.files (F.told folder.new)) }
+        ensures untold { ForSome (F.told folder.old).files (KeepsAny self.old) → IfDamaged result (λ _. (F.told folder.old).files ≡ None) }
+        ensures silent { (F.told folder.old).files ≡ None → (F.told folder.new).files ≡ None }
+        ensures later { F.faults folder.old ≤ F.faults folder.new }
+        ensures device { IfDevice result (Rises (F.faults folder.old) (F.faults folder.new)) }
     {
-        let asked = self.ask_sparse(f, handle, offset, count)?;
+        let asked = self.ask_sparse(folder, handle, offset, count)?;
         match asked {
             AskedSparse::Refused(why) => Ok(Answer::Refused(why)),
             AskedSparse::Plain(_) => Ok(Answer::Refused(Refusal::NotSparse)),
             AskedSparse::Parent(parent) => {
                 let found = use_range(
-                    f,
+                    folder,
                     &self.files,
                     &parent,
                     &mut self.name,

@@ -35,7 +35,7 @@ impl Cache {
     /// Each covered part is searched, and two folder calls read one that there is.
     pub(crate) fn measure_rise<F: Folder>(
         &mut self,
-        f: &mut F,
+        folder: &mut F,
         target: &Target,
         offset: u64,
         count: u64,
@@ -45,27 +45,27 @@ impl Cache {
         requires some { 1 ≤ count }
         requires few { count ≤ part_size }
         requires inside { offset + count ≤ largest_offset }
-        requires is_open { ForSome (F.told f.old).files (IsOpen self.old.files) }
+        requires is_open { ForSome (F.told folder.old).files (IsOpen self.old.files) }
 
         // In each state that is kept, where a handle names the object, it is what the bytes raise.
-        ensures rises { IfOk result (λ rise. ForSome (F.told f.old).files (λ image. (state : State) (k : KeepsState self.old state image) (moment handle : ℕ) (bytes : List ℕ) → length bytes ≡ count → IsTargetNamed state k.layout moment handle offset count target.now → IsRise state k.layout moment handle offset bytes rise)) }
-        ensures stays { Stays (F.told f.old) (F.told f.new) }
+        ensures rises { IfOk result (λ rise. ForSome (F.told folder.old).files (λ image. (state : State) (k : KeepsState self.old state image) (moment handle : ℕ) (bytes : List ℕ) → length bytes ≡ count → IsTargetNamed state k.layout moment handle offset count target.now → IsRise state k.layout moment handle offset bytes rise)) }
+        ensures stays { Stays (F.told folder.old) (F.told folder.new) }
         ensures others { OnlyRoomChanges self.old self.new }
 
         // Corruption is a check that fails on what is read here. An observable folder gives none where the cache keeps such a state.
-        ensures damaged { IfDamaged result (IsFailedCheck self.new.files (F.told f.new)) }
-        ensures untold { ForSome (F.told f.old).files (λ image. (state : State) (k : KeepsState self.old state image) (moment handle : ℕ) → IsTargetNamed state k.layout moment handle offset count target.now → IfDamaged result (λ _. (F.told f.old).files ≡ None)) }
-        ensures later { F.faults f.old ≤ F.faults f.new }
-        ensures device { IfDevice result (Rises (F.faults f.old) (F.faults f.new)) }
+        ensures damaged { IfDamaged result (IsFailedCheck self.new.files (F.told folder.new)) }
+        ensures untold { ForSome (F.told folder.old).files (λ image. (state : State) (k : KeepsState self.old state image) (moment handle : ℕ) → IsTargetNamed state k.layout moment handle offset count target.now → IfDamaged result (λ _. (F.told folder.old).files ≡ None)) }
+        ensures later { F.faults folder.old ≤ F.faults folder.new }
+        ensures device { IfDevice result (Rises (F.faults folder.old) (F.faults folder.new)) }
     {
-        let found = self.measure_parts(f, target, offset, count)?;
+        let found = self.measure_parts(folder, target, offset, count)?;
         Ok(rise_of(target, &found))
     }
 
     // Measures the parts that so many bytes cover, of an object as one that is sparse.
     fn measure_parts<F: Folder>(
         &mut self,
-        f: &mut F,
+        folder: &mut F,
         target: &Target,
         offset: u64,
         count: u64,
@@ -75,19 +75,19 @@ impl Cache {
         requires some { 1 ≤ count }
         requires few { count ≤ part_size }
         requires inside { offset + count ≤ largest_offset }
-        requires is_open { ForSome (F.told f.old).files (IsOpen self.old.files) }
-        ensures measured { IfOk result (λ found. ForSome (F.told f.old).files (λ image. (state : State) (k : KeepsState self.old state image) (moment handle : ℕ) → (is : IsTargetNamed state k.layout moment handle offset count target.now) → IsMeasured k.layout (with_signature is.its.object (signature_to target.now)) (signature_to target.now) offset count found)) }
+        requires is_open { ForSome (F.told folder.old).files (IsOpen self.old.files) }
+        ensures measured { IfOk result (λ found. ForSome (F.told folder.old).files (λ image. (state : State) (k : KeepsState self.old state image) (moment handle : ℕ) → (is : IsTargetNamed state k.layout moment handle offset count target.now) → IsMeasured k.layout (with_signature is.its.object (signature_to target.now)) (signature_to target.now) offset count found)) }
         ensures light { IfOk result (λ found. found.bytes < 2 ^ 36) }
-        ensures stays { Stays (F.told f.old) (F.told f.new) }
+        ensures stays { Stays (F.told folder.old) (F.told folder.new) }
         ensures others { OnlyRoomChanges self.old self.new }
-        ensures damaged { IfDamaged result (IsFailedCheck self.new.files (F.told f.new)) }
-        ensures untold { ForSome (F.told f.old).files (λ image. (state : State) (k : KeepsState self.old state image) (moment handle : ℕ) → IsTargetNamed state k.layout moment handle offset count target.now → IfDamaged result (λ _. (F.told f.old).files ≡ None)) }
-        ensures later { F.faults f.old ≤ F.faults f.new }
-        ensures device { IfDevice result (Rises (F.faults f.old) (F.faults f.new)) }
+        ensures damaged { IfDamaged result (IsFailedCheck self.new.files (F.told folder.new)) }
+        ensures untold { ForSome (F.told folder.old).files (λ image. (state : State) (k : KeepsState self.old state image) (moment handle : ℕ) → IsTargetNamed state k.layout moment handle offset count target.now → IfDamaged result (λ _. (F.told folder.old).files ≡ None)) }
+        ensures later { F.faults folder.old ≤ F.faults folder.new }
+        ensures device { IfDevice result (Rises (F.faults folder.old) (F.faults folder.new)) }
     {
         if target.plain {
             return measure_plain(
-                f,
+                folder,
                 &self.files,
                 target.parent.entry,
                 target.parent.signature,
@@ -97,7 +97,7 @@ impl Cache {
             );
         }
         measure(
-            f,
+            folder,
             &self.files,
             &target.parent,
             &mut self.name,

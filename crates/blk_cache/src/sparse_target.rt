@@ -34,26 +34,26 @@ impl Cache {
     /// It is refused as `ask_sparse` tells, and then with `NotSparse` where it is plain and has more than one stream.
     pub(crate) fn ask_target<F: Folder>(
         &self,
-        f: &mut F,
+        folder: &mut F,
         handle: u16,
         offset: u64,
         bytes: &[u8],
         moment: u64,
     ) -> Result<AskedTarget, Fault>
-        ensures asked { IfOk result (λ answer. ForSome (F.told f.old).files (λ image. (state : State) → (k : KeepsState self.now state image) → IsAskedTarget state k.layout moment handle offset bytes.now answer)) }
+        ensures asked { IfOk result (λ answer. ForSome (F.told folder.old).files (λ image. (state : State) → (k : KeepsState self.now state image) → IsAskedTarget state k.layout moment handle offset bytes.now answer)) }
         ensures early { IfSome (early_sparse_refusal self.now.handles handle offset (length bytes.now)) (λ why. result ≡ Ok (target.Refused why)) }
 
         // On every folder.
         ensures finds { IfOk result (FindsTarget self.now.files (early_sparse_refusal self.now.handles handle offset (length bytes.now)) offset (length bytes.now)) }
-        ensures stays { Stays (F.told f.old) (F.told f.new) }
+        ensures stays { Stays (F.told folder.old) (F.told folder.new) }
 
         // Corruption is a check that fails on what is read here. An observable folder gives none where the cache keeps a state.
-        ensures damaged { IfDamaged result (IsFailedCheck self.now.files (F.told f.new)) }
-        ensures untold { ForSome (F.told f.old).files (KeepsAny self.now) → IfDamaged result (λ _. (F.told f.old).files ≡ None) }
-        ensures later { F.faults f.old ≤ F.faults f.new }
-        ensures device { IfDevice result (Rises (F.faults f.old) (F.faults f.new)) }
+        ensures damaged { IfDamaged result (IsFailedCheck self.now.files (F.told folder.new)) }
+        ensures untold { ForSome (F.told folder.old).files (KeepsAny self.now) → IfDamaged result (λ _. (F.told folder.old).files ≡ None) }
+        ensures later { F.faults folder.old ≤ F.faults folder.new }
+        ensures device { IfDevice result (Rises (F.faults folder.old) (F.faults folder.new)) }
     {
-        let asked = self.ask_sparse(f, handle, offset, bytes.len() as u64)?;
+        let asked = self.ask_sparse(folder, handle, offset, bytes.len() as u64)?;
         Ok(asked_target(asked, moment))
     }
 }

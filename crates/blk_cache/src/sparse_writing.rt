@@ -18,7 +18,7 @@ ghost use Rattle.blk_cache.specs.Listing.{OnlyRoomChanges};
 ghost use Rattle.blk_cache.specs.SparseAsking.{early_sparse_refusal};
 ghost use Rattle.blk_cache.specs.SparseTargets.{AsksToStore, HasRoomToStore, NamesTarget};
 ghost use Rattle.blk_items.specs.RoomPrinting.{FailsWhereItRose};
-ghost use Rattle.blk_cache.specs.Stepping.{SaysEvicted, SaysFront};
+ghost use Rattle.blk_cache.specs.Stepping.{SaysEvicted, SaysPrefix};
 
 use crate::cache::Cache;
 use crate::sparse_rise::Rise;
@@ -41,7 +41,7 @@ impl Cache {
     /// added exceed a limit, the first of these. After a fault nothing is promised of the cache but that it can be dropped.
     pub(crate) fn sparse_write<F: Folder, K: Sink>(
         &mut self,
-        f: &mut F,
+        folder: &mut F,
         out: &mut K,
         failed: &mut bool,
         handle: u16,
@@ -49,38 +49,38 @@ impl Cache {
         bytes: &[u8],
         moment: u64,
     ) -> Result<Answer, Fault>
-        requires is_open { ForSome (F.told f.old).files (IsOpen self.old.files) }
-        ensures does { IfOk result (λ answer. Does (KeepsState self.old) (KeepsState self.new) (F.told f.old) (F.told f.new) moment (to_sparse_write handle offset bytes.now) answer) }
-        ensures stops { MayStopAtEach (KeepsState self.old) (F.told f.old) (F.told f.new) moment (to_sparse_write handle offset bytes.now) }
+        requires is_open { ForSome (F.told folder.old).files (IsOpen self.old.files) }
+        ensures does { IfOk result (λ answer. Does (KeepsState self.old) (KeepsState self.new) (F.told folder.old) (F.told folder.new) moment (to_sparse_write handle offset bytes.now) answer) }
+        ensures stops { MayStopAtEach (KeepsState self.old) (F.told folder.old) (F.told folder.new) moment (to_sparse_write handle offset bytes.now) }
 
         // What it evicts is printed, and on any answer a prefix of that.
-        ensures says { OnOk result (SaysEvicted self.old (F.told f.old) moment (to_sparse_write handle offset bytes.now) failed.old failed.new (K.written out.old) (K.written out.new)) }
-        ensures front { SaysFront self.old (F.told f.old) moment (to_sparse_write handle offset bytes.now) (K.written out.old) (K.written out.new) }
+        ensures says { OnOk result (SaysEvicted self.old (F.told folder.old) moment (to_sparse_write handle offset bytes.now) failed.old failed.new (K.written out.old) (K.written out.new)) }
+        ensures front { SaysPrefix self.old (F.told folder.old) moment (to_sparse_write handle offset bytes.now) (K.written out.old) (K.written out.new) }
         ensures fails { FailsWhereItRose failed.old failed.new (K.faults out.old) (K.faults out.new) }
 
         // What the names and the range tell is refused on every folder, and a refusal does nothing, but to the buffers for
         // names.
         ensures refuses { IfSome (early_sparse_refusal self.old.handles handle offset (length bytes.now)) (λ why. result ≡ Ok (answer.Refused why)) }
-        ensures quiet { IfOk result (λ answer. IsRefused answer → Stays (F.told f.old) (F.told f.new)) }
+        ensures quiet { IfOk result (λ answer. IsRefused answer → Stays (F.told folder.old) (F.told folder.new)) }
         ensures unchanged { IfOk result (λ answer. IsRefused answer → OnlyRoomChanges self.old self.new) }
 
-        ensures is_open { OnOk result (ForSome (F.told f.new).files (IsOpen self.new.files)) }
+        ensures is_open { OnOk result (ForSome (F.told folder.new).files (IsOpen self.new.files)) }
         ensures notes { self.new.notes ≡ self.old.notes }
         ensures mark { self.new.mark ≡ self.old.mark }
 
         // Corruption is a check that fails on what is read here; nothing is written after it. An observable folder gives none where the cache keeps a state.
-        ensures damaged { IfDamaged result (IsFailedCheck self.new.files (F.told f.new)) }
-        ensures untold { ForSome (F.told f.old).files (KeepsAny self.old) → IfDamaged result (λ _. (F.told f.old).files ≡ None) }
-        ensures silent { (F.told f.old).files ≡ None → (F.told f.new).files ≡ None }
-        ensures later { F.faults f.old ≤ F.faults f.new }
+        ensures damaged { IfDamaged result (IsFailedCheck self.new.files (F.told folder.new)) }
+        ensures untold { ForSome (F.told folder.old).files (KeepsAny self.old) → IfDamaged result (λ _. (F.told folder.old).files ≡ None) }
+        ensures silent { (F.told folder.old).files ≡ None → (F.told folder.new).files ≡ None }
+        ensures later { F.faults folder.old ≤ F.faults folder.new }
         ensures sink_later { K.faults out.old ≤ K.faults out.new }
-        ensures device { IfDevice result (Rises (F.faults f.old) (F.faults f.new)) }
+        ensures device { IfDevice result (Rises (F.faults folder.old) (F.faults folder.new)) }
     {
-        let asked = self.ask_target(f, handle, offset, bytes, moment)?;
+        let asked = self.ask_target(folder, handle, offset, bytes, moment)?;
         match asked {
             AskedTarget::Refused(why) => Ok(Answer::Refused(why)),
             AskedTarget::Found(target) => self.write_target(
-                f, out, failed, handle, &target, offset, bytes, moment,
+                folder, out, failed, handle, &target, offset, bytes, moment,
             ),
         }
     }
@@ -88,7 +88,7 @@ impl Cache {
     // Writes some bytes of sparse data, or none, to an object that may get them.
     fn write_target<F: Folder, K: Sink>(
         &mut self,
-        f: &mut F,
+        folder: &mut F,
         out: &mut K,
         failed: &mut bool,
         handle: u16,
@@ -103,41 +103,41 @@ impl Cache {
         requires signature { signature_to target.now < signatures }
         requires few { length bytes.now ≤ part_size }
         requires inside { offset + length bytes.now ≤ largest_offset }
-        requires is_open { ForSome (F.told f.old).files (IsOpen self.old.files) }
+        requires is_open { ForSome (F.told folder.old).files (IsOpen self.old.files) }
 
         // It is the map's SparseWrite, and may crash at each word.
-        ensures does { NamesTarget self.old (F.told f.old) moment handle offset (length bytes.now) target.now → IfOk result (λ answer. Does (KeepsState self.old) (KeepsState self.new) (F.told f.old) (F.told f.new) moment (to_sparse_write handle offset bytes.now) answer) }
-        ensures stops { NamesTarget self.old (F.told f.old) moment handle offset (length bytes.now) target.now → MayStopAtEach (KeepsState self.old) (F.told f.old) (F.told f.new) moment (to_sparse_write handle offset bytes.now) }
+        ensures does { NamesTarget self.old (F.told folder.old) moment handle offset (length bytes.now) target.now → IfOk result (λ answer. Does (KeepsState self.old) (KeepsState self.new) (F.told folder.old) (F.told folder.new) moment (to_sparse_write handle offset bytes.now) answer) }
+        ensures stops { NamesTarget self.old (F.told folder.old) moment handle offset (length bytes.now) target.now → MayStopAtEach (KeepsState self.old) (F.told folder.old) (F.told folder.new) moment (to_sparse_write handle offset bytes.now) }
 
         // What it evicts is printed, and on any answer a prefix of that.
-        ensures says { NamesTarget self.old (F.told f.old) moment handle offset (length bytes.now) target.now → OnOk result (SaysEvicted self.old (F.told f.old) moment (to_sparse_write handle offset bytes.now) failed.old failed.new (K.written out.old) (K.written out.new)) }
-        ensures front { NamesTarget self.old (F.told f.old) moment handle offset (length bytes.now) target.now → SaysFront self.old (F.told f.old) moment (to_sparse_write handle offset bytes.now) (K.written out.old) (K.written out.new) }
+        ensures says { NamesTarget self.old (F.told folder.old) moment handle offset (length bytes.now) target.now → OnOk result (SaysEvicted self.old (F.told folder.old) moment (to_sparse_write handle offset bytes.now) failed.old failed.new (K.written out.old) (K.written out.new)) }
+        ensures front { NamesTarget self.old (F.told folder.old) moment handle offset (length bytes.now) target.now → SaysPrefix self.old (F.told folder.old) moment (to_sparse_write handle offset bytes.now) (K.written out.old) (K.written out.new) }
         ensures fails { FailsWhereItRose failed.old failed.new (K.faults out.old) (K.faults out.new) }
 
         // A refusal does nothing, but to the buffers for names.
-        ensures quiet { IfOk result (λ answer. IsRefused answer → Stays (F.told f.old) (F.told f.new)) }
+        ensures quiet { IfOk result (λ answer. IsRefused answer → Stays (F.told folder.old) (F.told folder.new)) }
         ensures unchanged { IfOk result (λ answer. IsRefused answer → OnlyRoomChanges self.old self.new) }
 
-        ensures is_open { OnOk result (ForSome (F.told f.new).files (IsOpen self.new.files)) }
+        ensures is_open { OnOk result (ForSome (F.told folder.new).files (IsOpen self.new.files)) }
         ensures notes { self.new.notes ≡ self.old.notes }
         ensures mark { self.new.mark ≡ self.old.mark }
-        ensures damaged { IfDamaged result (IsFailedCheck self.new.files (F.told f.new)) }
-        ensures untold { NamesTarget self.old (F.told f.old) moment handle offset (length bytes.now) target.now → ForSome (F.told f.old).files (KeepsAny self.old) → IfDamaged result (λ _. (F.told f.old).files ≡ None) }
-        ensures silent { (F.told f.old).files ≡ None → (F.told f.new).files ≡ None }
-        ensures later { F.faults f.old ≤ F.faults f.new }
+        ensures damaged { IfDamaged result (IsFailedCheck self.new.files (F.told folder.new)) }
+        ensures untold { NamesTarget self.old (F.told folder.old) moment handle offset (length bytes.now) target.now → ForSome (F.told folder.old).files (KeepsAny self.old) → IfDamaged result (λ _. (F.told folder.old).files ≡ None) }
+        ensures silent { (F.told folder.old).files ≡ None → (F.told folder.new).files ≡ None }
+        ensures later { F.faults folder.old ≤ F.faults folder.new }
         ensures sink_later { K.faults out.old ≤ K.faults out.new }
-        ensures device { IfDevice result (Rises (F.faults f.old) (F.faults f.new)) }
+        ensures device { IfDevice result (Rises (F.faults folder.old) (F.faults folder.new)) }
     {
         if bytes.is_empty() {
-            return self.use_target(f, target, moment);
+            return self.use_target(folder, target, moment);
         }
-        self.write_some(f, out, failed, handle, target, offset, bytes, moment)
+        self.write_some(folder, out, failed, handle, target, offset, bytes, moment)
     }
 
     // Writes some bytes of sparse data to an object that may get them.
     fn write_some<F: Folder, K: Sink>(
         &mut self,
-        f: &mut F,
+        folder: &mut F,
         out: &mut K,
         failed: &mut bool,
         handle: u16,
@@ -153,39 +153,41 @@ impl Cache {
         requires some { 1 ≤ length bytes.now }
         requires few { length bytes.now ≤ part_size }
         requires inside { offset + length bytes.now ≤ largest_offset }
-        requires is_open { ForSome (F.told f.old).files (IsOpen self.old.files) }
+        requires is_open { ForSome (F.told folder.old).files (IsOpen self.old.files) }
 
         // It is the map's SparseWrite, and may crash at each word.
-        ensures does { NamesTarget self.old (F.told f.old) moment handle offset (length bytes.now) target.now → IfOk result (λ answer. Does (KeepsState self.old) (KeepsState self.new) (F.told f.old) (F.told f.new) moment (to_sparse_write handle offset bytes.now) answer) }
-        ensures stops { NamesTarget self.old (F.told f.old) moment handle offset (length bytes.now) target.now → MayStopAtEach (KeepsState self.old) (F.told f.old) (F.told f.new) moment (to_sparse_write handle offset bytes.now) }
+        ensures does { NamesTarget self.old (F.told folder.old) moment handle offset (length bytes.now) target.now → IfOk result (λ answer. Does (KeepsState self.old) (KeepsState self.new) (F.told folder.old) (F.told folder.new) moment (to_sparse_write handle offset bytes.now) answer) }
+        ensures stops { NamesTarget self.old (F.told folder.old) moment handle offset (length bytes.now) target.now → MayStopAtEach (KeepsState self.old) (F.told folder.old) (F.told folder.new) moment (to_sparse_write handle offset bytes.now) }
 
         // What it evicts is printed, and on any answer a prefix of that.
-        ensures says { NamesTarget self.old (F.told f.old) moment handle offset (length bytes.now) target.now → OnOk result (SaysEvicted self.old (F.told f.old) moment (to_sparse_write handle offset bytes.now) failed.old failed.new (K.written out.old) (K.written out.new)) }
-        ensures front { NamesTarget self.old (F.told f.old) moment handle offset (length bytes.now) target.now → SaysFront self.old (F.told f.old) moment (to_sparse_write handle offset bytes.now) (K.written out.old) (K.written out.new) }
+        ensures says { NamesTarget self.old (F.told folder.old) moment handle offset (length bytes.now) target.now → OnOk result (SaysEvicted self.old (F.told folder.old) moment (to_sparse_write handle offset bytes.now) failed.old failed.new (K.written out.old) (K.written out.new)) }
+        ensures front { NamesTarget self.old (F.told folder.old) moment handle offset (length bytes.now) target.now → SaysPrefix self.old (F.told folder.old) moment (to_sparse_write handle offset bytes.now) (K.written out.old) (K.written out.new) }
         ensures fails { FailsWhereItRose failed.old failed.new (K.faults out.old) (K.faults out.new) }
 
         // A refusal does nothing, but to the buffers for names.
-        ensures quiet { IfOk result (λ answer. IsRefused answer → Stays (F.told f.old) (F.told f.new)) }
+        ensures quiet { IfOk result (λ answer. IsRefused answer → Stays (F.told folder.old) (F.told folder.new)) }
         ensures unchanged { IfOk result (λ answer. IsRefused answer → OnlyRoomChanges self.old self.new) }
 
-        ensures is_open { OnOk result (ForSome (F.told f.new).files (IsOpen self.new.files)) }
+        ensures is_open { OnOk result (ForSome (F.told folder.new).files (IsOpen self.new.files)) }
         ensures notes { self.new.notes ≡ self.old.notes }
         ensures mark { self.new.mark ≡ self.old.mark }
-        ensures damaged { IfDamaged result (IsFailedCheck self.new.files (F.told f.new)) }
-        ensures untold { NamesTarget self.old (F.told f.old) moment handle offset (length bytes.now) target.now → ForSome (F.told f.old).files (KeepsAny self.old) → IfDamaged result (λ _. (F.told f.old).files ≡ None) }
-        ensures silent { (F.told f.old).files ≡ None → (F.told f.new).files ≡ None }
-        ensures later { F.faults f.old ≤ F.faults f.new }
+        ensures damaged { IfDamaged result (IsFailedCheck self.new.files (F.told folder.new)) }
+        ensures untold { NamesTarget self.old (F.told folder.old) moment handle offset (length bytes.now) target.now → ForSome (F.told folder.old).files (KeepsAny self.old) → IfDamaged result (λ _. (F.told folder.old).files ≡ None) }
+        ensures silent { (F.told folder.old).files ≡ None → (F.told folder.new).files ≡ None }
+        ensures later { F.faults folder.old ≤ F.faults folder.new }
         ensures sink_later { K.faults out.old ≤ K.faults out.new }
-        ensures device { IfDevice result (Rises (F.faults f.old) (F.faults f.new)) }
+        ensures device { IfDevice result (Rises (F.faults folder.old) (F.faults folder.new)) }
     {
-        let rise = self.measure_rise(f, target, offset, bytes.len() as u64)?;
-        self.write_where_room(f, out, failed, handle, target, &rise, offset, bytes, moment)
+        let rise = self.measure_rise(folder, target, offset, bytes.len() as u64)?;
+        self.write_where_room(
+            folder, out, failed, handle, target, &rise, offset, bytes, moment,
+        )
     }
 
     // Writes them where there is space for what they add, which is known before anything is evicted or written.
     fn write_where_room<F: Folder, K: Sink>(
         &mut self,
-        f: &mut F,
+        folder: &mut F,
         out: &mut K,
         failed: &mut bool,
         handle: u16,
@@ -202,41 +204,43 @@ impl Cache {
         requires some { 1 ≤ length bytes.now }
         requires few { length bytes.now ≤ part_size }
         requires inside { offset + length bytes.now ≤ largest_offset }
-        requires is_open { ForSome (F.told f.old).files (IsOpen self.old.files) }
+        requires is_open { ForSome (F.told folder.old).files (IsOpen self.old.files) }
 
         // It is the map's SparseWrite, and may crash at each word.
-        ensures does { AsksToStore self.old (F.told f.old) moment handle offset bytes.now target.now rise.now → IfOk result (λ answer. Does (KeepsState self.old) (KeepsState self.new) (F.told f.old) (F.told f.new) moment (to_sparse_write handle offset bytes.now) answer) }
-        ensures stops { AsksToStore self.old (F.told f.old) moment handle offset bytes.now target.now rise.now → MayStopAtEach (KeepsState self.old) (F.told f.old) (F.told f.new) moment (to_sparse_write handle offset bytes.now) }
+        ensures does { AsksToStore self.old (F.told folder.old) moment handle offset bytes.now target.now rise.now → IfOk result (λ answer. Does (KeepsState self.old) (KeepsState self.new) (F.told folder.old) (F.told folder.new) moment (to_sparse_write handle offset bytes.now) answer) }
+        ensures stops { AsksToStore self.old (F.told folder.old) moment handle offset bytes.now target.now rise.now → MayStopAtEach (KeepsState self.old) (F.told folder.old) (F.told folder.new) moment (to_sparse_write handle offset bytes.now) }
 
         // What it evicts is printed, and on any answer a prefix of that.
-        ensures says { AsksToStore self.old (F.told f.old) moment handle offset bytes.now target.now rise.now → OnOk result (SaysEvicted self.old (F.told f.old) moment (to_sparse_write handle offset bytes.now) failed.old failed.new (K.written out.old) (K.written out.new)) }
-        ensures front { AsksToStore self.old (F.told f.old) moment handle offset bytes.now target.now rise.now → SaysFront self.old (F.told f.old) moment (to_sparse_write handle offset bytes.now) (K.written out.old) (K.written out.new) }
+        ensures says { AsksToStore self.old (F.told folder.old) moment handle offset bytes.now target.now rise.now → OnOk result (SaysEvicted self.old (F.told folder.old) moment (to_sparse_write handle offset bytes.now) failed.old failed.new (K.written out.old) (K.written out.new)) }
+        ensures front { AsksToStore self.old (F.told folder.old) moment handle offset bytes.now target.now rise.now → SaysPrefix self.old (F.told folder.old) moment (to_sparse_write handle offset bytes.now) (K.written out.old) (K.written out.new) }
         ensures fails { FailsWhereItRose failed.old failed.new (K.faults out.old) (K.faults out.new) }
 
         // A refusal does nothing, but to the buffers for names.
-        ensures quiet { IfOk result (λ answer. IsRefused answer → Stays (F.told f.old) (F.told f.new)) }
+        ensures quiet { IfOk result (λ answer. IsRefused answer → Stays (F.told folder.old) (F.told folder.new)) }
         ensures unchanged { IfOk result (λ answer. IsRefused answer → OnlyRoomChanges self.old self.new) }
 
-        ensures is_open { OnOk result (ForSome (F.told f.new).files (IsOpen self.new.files)) }
+        ensures is_open { OnOk result (ForSome (F.told folder.new).files (IsOpen self.new.files)) }
         ensures notes { self.new.notes ≡ self.old.notes }
         ensures mark { self.new.mark ≡ self.old.mark }
-        ensures damaged { IfDamaged result (IsFailedCheck self.new.files (F.told f.new)) }
-        ensures untold { AsksToStore self.old (F.told f.old) moment handle offset bytes.now target.now rise.now → ForSome (F.told f.old).files (KeepsAny self.old) → IfDamaged result (λ _. (F.told f.old).files ≡ None) }
-        ensures silent { (F.told f.old).files ≡ None → (F.told f.new).files ≡ None }
-        ensures later { F.faults f.old ≤ F.faults f.new }
+        ensures damaged { IfDamaged result (IsFailedCheck self.new.files (F.told folder.new)) }
+        ensures untold { AsksToStore self.old (F.told folder.old) moment handle offset bytes.now target.now rise.now → ForSome (F.told folder.old).files (KeepsAny self.old) → IfDamaged result (λ _. (F.told folder.old).files ≡ None) }
+        ensures silent { (F.told folder.old).files ≡ None → (F.told folder.new).files ≡ None }
+        ensures later { F.faults folder.old ≤ F.faults folder.new }
         ensures sink_later { K.faults out.old ≤ K.faults out.new }
-        ensures device { IfDevice result (Rises (F.faults f.old) (F.faults f.new)) }
+        ensures device { IfDevice result (Rises (F.faults folder.old) (F.faults folder.new)) }
     {
         if self.is_full(rise.bytes, rise.items, &rise.parts) {
             return Ok(Answer::Refused(Refusal::Full));
         }
-        self.write_with_room(f, out, failed, handle, target, rise, offset, bytes, moment)
+        self.write_with_room(
+            folder, out, failed, handle, target, rise, offset, bytes, moment,
+        )
     }
 
     // Writes them once all that has to be evicted for them is out, where nothing refuses it.
     fn write_with_room<F: Folder, K: Sink>(
         &mut self,
-        f: &mut F,
+        folder: &mut F,
         out: &mut K,
         failed: &mut bool,
         handle: u16,
@@ -253,36 +257,36 @@ impl Cache {
         requires some { 1 ≤ length bytes.now }
         requires few { length bytes.now ≤ part_size }
         requires inside { offset + length bytes.now ≤ largest_offset }
-        requires is_open { ForSome (F.told f.old).files (IsOpen self.old.files) }
+        requires is_open { ForSome (F.told folder.old).files (IsOpen self.old.files) }
 
         // It is the map's SparseWrite, and may crash at each word.
-        ensures does { HasRoomToStore self.old (F.told f.old) moment handle offset bytes.now target.now rise.now → IfOk result (λ answer. Does (KeepsState self.old) (KeepsState self.new) (F.told f.old) (F.told f.new) moment (to_sparse_write handle offset bytes.now) answer) }
-        ensures stops { HasRoomToStore self.old (F.told f.old) moment handle offset bytes.now target.now rise.now → MayStopAtEach (KeepsState self.old) (F.told f.old) (F.told f.new) moment (to_sparse_write handle offset bytes.now) }
+        ensures does { HasRoomToStore self.old (F.told folder.old) moment handle offset bytes.now target.now rise.now → IfOk result (λ answer. Does (KeepsState self.old) (KeepsState self.new) (F.told folder.old) (F.told folder.new) moment (to_sparse_write handle offset bytes.now) answer) }
+        ensures stops { HasRoomToStore self.old (F.told folder.old) moment handle offset bytes.now target.now rise.now → MayStopAtEach (KeepsState self.old) (F.told folder.old) (F.told folder.new) moment (to_sparse_write handle offset bytes.now) }
 
         // What it evicts is printed, and on any answer a prefix of that.
-        ensures says { HasRoomToStore self.old (F.told f.old) moment handle offset bytes.now target.now rise.now → OnOk result (SaysEvicted self.old (F.told f.old) moment (to_sparse_write handle offset bytes.now) failed.old failed.new (K.written out.old) (K.written out.new)) }
-        ensures front { HasRoomToStore self.old (F.told f.old) moment handle offset bytes.now target.now rise.now → SaysFront self.old (F.told f.old) moment (to_sparse_write handle offset bytes.now) (K.written out.old) (K.written out.new) }
+        ensures says { HasRoomToStore self.old (F.told folder.old) moment handle offset bytes.now target.now rise.now → OnOk result (SaysEvicted self.old (F.told folder.old) moment (to_sparse_write handle offset bytes.now) failed.old failed.new (K.written out.old) (K.written out.new)) }
+        ensures front { HasRoomToStore self.old (F.told folder.old) moment handle offset bytes.now target.now rise.now → SaysPrefix self.old (F.told folder.old) moment (to_sparse_write handle offset bytes.now) (K.written out.old) (K.written out.new) }
         ensures fails { FailsWhereItRose failed.old failed.new (K.faults out.old) (K.faults out.new) }
 
         // A refusal does nothing, but to the buffers for names.
-        ensures quiet { IfOk result (λ answer. IsRefused answer → Stays (F.told f.old) (F.told f.new)) }
+        ensures quiet { IfOk result (λ answer. IsRefused answer → Stays (F.told folder.old) (F.told folder.new)) }
         ensures unchanged { IfOk result (λ answer. IsRefused answer → OnlyRoomChanges self.old self.new) }
 
-        ensures is_open { OnOk result (ForSome (F.told f.new).files (IsOpen self.new.files)) }
+        ensures is_open { OnOk result (ForSome (F.told folder.new).files (IsOpen self.new.files)) }
         ensures notes { self.new.notes ≡ self.old.notes }
         ensures mark { self.new.mark ≡ self.old.mark }
-        ensures damaged { IfDamaged result (IsFailedCheck self.new.files (F.told f.new)) }
-        ensures untold { HasRoomToStore self.old (F.told f.old) moment handle offset bytes.now target.now rise.now → ForSome (F.told f.old).files (KeepsAny self.old) → IfDamaged result (λ _. (F.told f.old).files ≡ None) }
-        ensures silent { (F.told f.old).files ≡ None → (F.told f.new).files ≡ None }
-        ensures later { F.faults f.old ≤ F.faults f.new }
+        ensures damaged { IfDamaged result (IsFailedCheck self.new.files (F.told folder.new)) }
+        ensures untold { HasRoomToStore self.old (F.told folder.old) moment handle offset bytes.now target.now rise.now → ForSome (F.told folder.old).files (KeepsAny self.old) → IfDamaged result (λ _. (F.told folder.old).files ≡ None) }
+        ensures silent { (F.told folder.old).files ≡ None → (F.told folder.new).files ≡ None }
+        ensures later { F.faults folder.old ≤ F.faults folder.new }
         ensures sink_later { K.faults out.old ≤ K.faults out.new }
-        ensures device { IfDevice result (Rises (F.faults f.old) (F.faults f.new)) }
+        ensures device { IfDevice result (Rises (F.faults folder.old) (F.faults folder.new)) }
     {
         // That what is kept is within the limits of its types is known once it is read.
         let _bytes = self.kept_bytes();
-        self.evict_for(f, out, failed, rise.bytes, rise.items, &rise.parts)?;
+        self.evict_for(folder, out, failed, rise.bytes, rise.items, &rise.parts)?;
         self.end_sparse_write(
-            f, handle, target, offset, bytes, rise.bytes, rise.items, moment,
+            folder, handle, target, offset, bytes, rise.bytes, rise.items, moment,
         )
     }
 
@@ -297,23 +301,23 @@ impl Cache {
     // Does a SparseWrite of no bytes: the main item of its object is put in front of the LRU list.
     fn use_target<F: Folder>(
         &self,
-        f: &mut F,
+        folder: &mut F,
         target: &Target,
         moment: u64,
     ) -> Result<Answer, Fault>
         requires stands { IsTrue (is_node_among self.now.files target.now.parent.node) }
-        requires is_open { ForSome (F.told f.old).files (IsOpen self.now.files) }
-        ensures does { (handle offset : ℕ) → NamesTarget self.now (F.told f.old) moment handle offset 0 target.now → IfOk result (λ answer. Does (KeepsState self.now) (KeepsState self.now) (F.told f.old) (F.told f.new) moment (to_sparse_write handle offset []) answer) }
-        ensures stops { (handle offset : ℕ) → NamesTarget self.now (F.told f.old) moment handle offset 0 target.now → MayStopAtEach (KeepsState self.now) (F.told f.old) (F.told f.new) moment (to_sparse_write handle offset []) }
+        requires is_open { ForSome (F.told folder.old).files (IsOpen self.now.files) }
+        ensures does { (handle offset : ℕ) → NamesTarget self.now (F.told folder.old) moment handle offset 0 target.now → IfOk result (λ answer. Does (KeepsState self.now) (KeepsState self.now) (F.told folder.old) (F.told folder.new) moment (to_sparse_write handle offset []) answer) }
+        ensures stops { (handle offset : ℕ) → NamesTarget self.now (F.told folder.old) moment handle offset 0 target.now → MayStopAtEach (KeepsState self.now) (F.told folder.old) (F.told folder.new) moment (to_sparse_write handle offset []) }
         ensures wrote { IfOk result (λ given. given ≡ answer.Wrote 0) }
-        ensures is_open { ForSome (F.told f.new).files (IsOpen self.now.files) }
-        ensures damaged { IfDamaged result (IsFailedCheck self.now.files (F.told f.new)) }
-        ensures untold { (handle offset : ℕ) → NamesTarget self.now (F.told f.old) moment handle offset 0 target.now → ForSome (F.told f.old).files (KeepsAny self.now) → IfDamaged result (λ _. (F.told f.old).files ≡ None) }
-        ensures silent { (F.told f.old).files ≡ None → (F.told f.new).files ≡ None }
-        ensures later { F.faults f.old ≤ F.faults f.new }
-        ensures device { IfDevice result (Rises (F.faults f.old) (F.faults f.new)) }
+        ensures is_open { ForSome (F.told folder.new).files (IsOpen self.now.files) }
+        ensures damaged { IfDamaged result (IsFailedCheck self.now.files (F.told folder.new)) }
+        ensures untold { (handle offset : ℕ) → NamesTarget self.now (F.told folder.old) moment handle offset 0 target.now → ForSome (F.told folder.old).files (KeepsAny self.now) → IfDamaged result (λ _. (F.told folder.old).files ≡ None) }
+        ensures silent { (F.told folder.old).files ≡ None → (F.told folder.new).files ≡ None }
+        ensures later { F.faults folder.old ≤ F.faults folder.new }
+        ensures device { IfDevice result (Rises (F.faults folder.old) (F.faults folder.new)) }
     {
-        touch(f, &self.files, target.parent.node, moment)?;
+        touch(folder, &self.files, target.parent.node, moment)?;
         Ok(Answer::Wrote(0))
     }
 }

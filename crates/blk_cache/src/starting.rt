@@ -10,7 +10,7 @@ ghost use Rattle.spec_folder.specs.Found.{found};
 ghost use Rattle.blk_cache.specs.BoundNames.{AreAllFree};
 ghost use Rattle.blk_cache.specs.CacheKeeping.{KeepsState};
 ghost use Rattle.blk_cache.specs.Opened.{IsFirstDamage, IsOpeningDamage};
-ghost use Rattle.blk_cache.specs.Opening.{IfOpenDamaged, IfOpenDevice, IfOpenMemory, IsUsable, Opens, OpensOrBreaksOff, WasMadeAt, opened_id};
+ghost use Rattle.blk_cache.specs.Opening.{IfOpenDamaged, IfOpenDevice, IfOpenMemory, IsUsable, OpensFolder, OpensOrBreaksOff, WasMadeAt, opened_id};
 
 use crate::cache::Cache;
 use crate::fault::OpenFault;
@@ -50,7 +50,7 @@ impl Cache {
         // At each word the same is found, and the folder is unfinished or well formed where it was. The step that marks the
         // session as open is the last, and where it was made the folder stands for what was found, opened, whatever is answered.
         ensures stops { ForSome (F.told f.old).files (λ from. OpensOrBreaksOff from (F.told f.old) (F.told f.new)) }
-        ensures last { OnOk result (ForSome (F.told f.old).files (λ from. Opens from (F.told f.old) (F.told f.new))) }
+        ensures last { OnOk result (ForSome (F.told f.old).files (λ from. OpensFolder from (F.told f.old) (F.told f.new))) }
 
         // An observable folder reports corruption only where a check of its headers fails, and the first one.
         ensures damaged { IfOpenDamaged result (IsOpeningDamage (F.told f.new)) }

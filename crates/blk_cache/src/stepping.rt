@@ -14,7 +14,7 @@ ghost use Rattle.blk_object.specs.FailedChecks.{IsFailedCheck};
 ghost use Rattle.blk_cache.specs.CacheKeeping.{KeepsState};
 ghost use Rattle.blk_cache.specs.CommandClauses.{IsRefused, KeepsAny, OnlyNotesChange};
 ghost use Rattle.blk_items.specs.RoomPrinting.{FailsWhereItRose};
-ghost use Rattle.blk_cache.specs.Stepping.{IfDone, IfSink, IfStepDamaged, IfStepDevice, SaysEvicted, SaysFront, evicted_first, outcome_text};
+ghost use Rattle.blk_cache.specs.Stepping.{IfDone, IfSink, IfStepDamaged, IfStepDevice, SaysEvicted, SaysPrefix, evicted_first, outcome_text};
 
 use crate::cache::Cache;
 use crate::fault::StepFault;
@@ -64,7 +64,7 @@ impl Cache {
         // What it evicts is printed, and then the reply; where there is no answer, a prefix of it; where the folder failed nothing of the reply, or it failed in the reply, after the note.
         ensures printed { OnOk result (ForKept (KeepsState self.old) (F.told f.old) (λ state. K.written out.new ≡ option_map (λ w. w ++ outcome_text (step state moment (request_of command.now))) (K.written out.old))) }
         ensures front { ForKept (KeepsState self.old) (F.told f.old) (λ state. Appends (K.written out.old) (K.written out.new) (outcome_text (step state moment (request_of command.now)))) }
-        ensures unanswered { IfStepDevice result (SaysFront self.old (F.told f.old) moment (request_of command.now) (K.written out.old) (K.written out.new) ⊎ ForKept (KeepsState self.old) (F.told f.old) (IsNoted (F.told f.old) (F.told f.new) moment (request_of command.now) (note_number (self.old.notes + 1)))) }
+        ensures unanswered { IfStepDevice result (SaysPrefix self.old (F.told f.old) moment (request_of command.now) (K.written out.old) (K.written out.new) ⊎ ForKept (KeepsState self.old) (F.told f.old) (IsNoted (F.told f.old) (F.told f.new) moment (request_of command.now) (note_number (self.old.notes + 1)))) }
 
         ensures is_open { IfDone result (ForSome (F.told f.new).files (IsOpen self.new.files)) }
         ensures damaged { IfStepDamaged result (IsFailedCheck self.new.files (F.told f.new)) }
@@ -134,82 +134,86 @@ impl Cache {
     // Does a command but for its note and its reply.
     fn perform<F: Folder, K: Sink>(
         &mut self,
-        f: &mut F,
+        folder: &mut F,
         out: &mut K,
         failed: &mut bool,
         moment: u64,
         command: &Command,
     ) -> Result<Answer, Fault>
-        requires is_open { ForSome (F.told f.old).files (IsOpen self.old.files) }
-        ensures does { IfOk result (λ answer. Does (KeepsState self.old) (KeepsState self.new) (F.told f.old) (F.told f.new) moment (request_of command.now) answer) }
-        ensures stops { MayStopAtEach (KeepsState self.old) (F.told f.old) (F.told f.new) moment (request_of command.now) }
-        ensures says { OnOk result (SaysEvicted self.old (F.told f.old) moment (request_of command.now) failed.old failed.new (K.written out.old) (K.written out.new)) }
-        ensures front { SaysFront self.old (F.told f.old) moment (request_of command.now) (K.written out.old) (K.written out.new) }
+        requires is_open { ForSome (F.told folder.old).files (IsOpen self.old.files) }
+        ensures does { IfOk result (λ answer. Does (KeepsState self.old) (KeepsState self.new) (F.told folder.old) (F.told folder.new) moment (request_of command.now) answer) }
+        ensures stops { MayStopAtEach (KeepsState self.old) (F.told folder.old) (F.told folder.new) moment (request_of command.now) }
+        ensures says { OnOk result (SaysEvicted self.old (F.told folder.old) moment (request_of command.now) failed.old failed.new (K.written out.old) (K.written out.new)) }
+        ensures front { SaysPrefix self.old (F.told folder.old) moment (request_of command.now) (K.written out.old) (K.written out.new) }
         ensures failed { FailsWhereItRose failed.old failed.new (K.faults out.old) (K.faults out.new) }
-        ensures quiet { IfOk result (λ answer. IsRefused answer → Stays (F.told f.old) (F.told f.new)) }
+        ensures quiet { IfOk result (λ answer. IsRefused answer → Stays (F.told folder.old) (F.told folder.new)) }
         ensures notes { self.new.notes ≡ self.old.notes }
         ensures mark { self.new.mark ≡ self.old.mark }
-        ensures is_open { OnOk result (ForSome (F.told f.new).files (IsOpen self.new.files)) }
-        ensures damaged { IfDamaged result (IsFailedCheck self.new.files (F.told f.new)) }
-        ensures untold { ForSome (F.told f.old).files (KeepsAny self.old) → IfDamaged result (λ _. (F.told f.old).files ≡ None) }
-        ensures later { F.faults f.old ≤ F.faults f.new }
+        ensures is_open { OnOk result (ForSome (F.told folder.new).files (IsOpen self.new.files)) }
+        ensures damaged { IfDamaged result (IsFailedCheck self.new.files (F.told folder.new)) }
+        ensures untold { ForSome (F.told folder.old).files (KeepsAny self.old) → IfDamaged result (λ _. (F.told folder.old).files ≡ None) }
+        ensures later { F.faults folder.old ≤ F.faults folder.new }
         ensures printed_later { K.faults out.old ≤ K.faults out.new }
-        ensures device { IfDevice result (Rises (F.faults f.old) (F.faults f.new)) }
+        ensures device { IfDevice result (Rises (F.faults folder.old) (F.faults folder.new)) }
     {
         match *command {
-            Command::Create { handle, key } => self.create(f, out, failed, handle, key, moment),
-            Command::Open { handle, key } => self.open(f, handle, key, moment),
+            Command::Create { handle, key } => self.create(
+                folder, out, failed, handle, key, moment,
+            ),
+            Command::Open { handle, key } => self.open(folder, handle, key, moment),
             Command::Read {
                 handle,
                 stream,
                 offset,
                 count,
-            } => self.use_read(f, handle, stream, offset, count, moment),
+            } => self.use_read(folder, handle, stream, offset, count, moment),
             Command::Write {
                 handle,
                 stream,
                 offset,
                 cut,
                 bytes,
-            } => self.write(f, out, failed, handle, stream, offset, cut, bytes, moment),
-            Command::Size { handle, stream } => self.size(f, handle, stream),
-            Command::Doom { handle } => self.doom(f, handle),
-            Command::DoomKey { key } => self.doom_key(f, key),
-            Command::Close { handle } => self.close(f, handle),
-            Command::List => self.list(f),
-            Command::Trim { bytes } => self.trim(f, out, failed, bytes),
+            } => self.write(
+                folder, out, failed, handle, stream, offset, cut, bytes, moment,
+            ),
+            Command::Size { handle, stream } => self.size(folder, handle, stream),
+            Command::Doom { handle } => self.doom(folder, handle),
+            Command::DoomKey { key } => self.doom_key(folder, key),
+            Command::Close { handle } => self.close(folder, handle),
+            Command::List => self.list(folder),
+            Command::Trim { bytes } => self.trim(folder, out, failed, bytes),
             Command::Total => Ok(self.total()),
             Command::SparseWrite {
                 handle,
                 offset,
                 bytes,
-            } => self.sparse_write(f, out, failed, handle, offset, bytes, moment),
+            } => self.sparse_write(folder, out, failed, handle, offset, bytes, moment),
             Command::SparseRead {
                 handle,
                 offset,
                 count,
-            } => self.use_sparse(f, Wanted::Bytes, handle, offset, count, moment),
+            } => self.use_sparse(folder, Wanted::Bytes, handle, offset, count, moment),
             Command::SparseRange {
                 handle,
                 offset,
                 count,
-            } => self.use_sparse(f, Wanted::Run, handle, offset, count, moment),
+            } => self.use_sparse(folder, Wanted::Run, handle, offset, count, moment),
         }
     }
 
     // Notes that one command more is done.
-    fn note<F: Folder>(&mut self, f: &mut F) -> Result<(), Fault>
-        ensures done { OnOk result (Applies (F.told f.old) (F.told f.new) (Note (note_number (self.old.notes + 1)) ∷ [])) }
-        ensures undone { OnErr result (Stays (F.told f.old) (F.told f.new)) }
+    fn note<F: Folder>(&mut self, folder: &mut F) -> Result<(), Fault>
+        ensures done { OnOk result (Applies (F.told folder.old) (F.told folder.new) (Note (note_number (self.old.notes + 1)) ∷ [])) }
+        ensures undone { OnErr result (Stays (F.told folder.old) (F.told folder.new)) }
         ensures counts { self.new.notes ≡ note_number (self.old.notes + 1) }
         ensures others { OnlyNotesChange self.old self.new }
         ensures never { IfDamaged result (λ _. ⊥) }
-        ensures later { F.faults f.old ≤ F.faults f.new }
-        ensures device { IfDevice result (Rises (F.faults f.old) (F.faults f.new)) }
+        ensures later { F.faults folder.old ≤ F.faults folder.new }
+        ensures device { IfDevice result (Rises (F.faults folder.old) (F.faults folder.new)) }
     {
         let number = self.notes.saturating_add(1);
         self.notes = number;
-        match f.note(number) {
+        match folder.note(number) {
             Ok(()) => Ok(()),
             Err(_) => Err(Fault::Device),
         }

@@ -10,7 +10,7 @@ ghost use Rattle.blk_object.specs.FailedChecks.{IsFailedCheck};
 ghost use Rattle.blk_cache.specs.CacheKeeping.{KeepsState};
 ghost use Rattle.blk_cache.specs.CommandClauses.{IsRefused, KeepsAny};
 ghost use Rattle.blk_items.specs.RoomPrinting.{FailsWhereItRose};
-ghost use Rattle.blk_cache.specs.Stepping.{SaysEvicted, SaysFront};
+ghost use Rattle.blk_cache.specs.Stepping.{SaysEvicted, SaysPrefix};
 
 use crate::cache::Cache;
 use crate::covered::Covered;
@@ -25,36 +25,36 @@ impl Cache {
     /// After a fault nothing is promised of the cache but that it can be dropped.
     pub(crate) fn trim<F: Folder, K: Sink>(
         &mut self,
-        f: &mut F,
+        folder: &mut F,
         out: &mut K,
         failed: &mut bool,
         bytes: u64,
     ) -> Result<Answer, Fault>
-        requires is_open { ForSome (F.told f.old).files (IsOpen self.old.files) }
-        ensures does { (moment : ℕ) → IfOk result (λ answer. Does (KeepsState self.old) (KeepsState self.new) (F.told f.old) (F.told f.new) moment (to_trim bytes) answer) }
-        ensures stops { (moment : ℕ) → MayStopAtEach (KeepsState self.old) (F.told f.old) (F.told f.new) moment (to_trim bytes) }
+        requires is_open { ForSome (F.told folder.old).files (IsOpen self.old.files) }
+        ensures does { (moment : ℕ) → IfOk result (λ answer. Does (KeepsState self.old) (KeepsState self.new) (F.told folder.old) (F.told folder.new) moment (to_trim bytes) answer) }
+        ensures stops { (moment : ℕ) → MayStopAtEach (KeepsState self.old) (F.told folder.old) (F.told folder.new) moment (to_trim bytes) }
 
         // What it evicts is printed, and on any answer a prefix of that.
-        ensures says { (moment : ℕ) → OnOk result (SaysEvicted self.old (F.told f.old) moment (to_trim bytes) failed.old failed.new (K.written out.old) (K.written out.new)) }
-        ensures front { (moment : ℕ) → SaysFront self.old (F.told f.old) moment (to_trim bytes) (K.written out.old) (K.written out.new) }
+        ensures says { (moment : ℕ) → OnOk result (SaysEvicted self.old (F.told folder.old) moment (to_trim bytes) failed.old failed.new (K.written out.old) (K.written out.new)) }
+        ensures front { (moment : ℕ) → SaysPrefix self.old (F.told folder.old) moment (to_trim bytes) (K.written out.old) (K.written out.new) }
         ensures fails { FailsWhereItRose failed.old failed.new (K.faults out.old) (K.faults out.new) }
 
         ensures passes { IfOk result (λ given. IsRefused given → ⊥) }
-        ensures is_open { ForSome (F.told f.new).files (IsOpen self.new.files) }
+        ensures is_open { ForSome (F.told folder.new).files (IsOpen self.new.files) }
         ensures notes { self.new.notes ≡ self.old.notes }
         ensures mark { self.new.mark ≡ self.old.mark }
 
         // Corruption is a check that fails on what is read here; nothing is written after it.
-        ensures damaged { IfDamaged result (IsFailedCheck self.new.files (F.told f.new)) }
+        ensures damaged { IfDamaged result (IsFailedCheck self.new.files (F.told folder.new)) }
 
         // An observable folder reports no corruption where the cache keeps a state.
-        ensures untold { ForSome (F.told f.old).files (KeepsAny self.old) → IfDamaged result (λ _. (F.told f.old).files ≡ None) }
-        ensures silent { (F.told f.old).files ≡ None → (F.told f.new).files ≡ None }
-        ensures later { F.faults f.old ≤ F.faults f.new }
+        ensures untold { ForSome (F.told folder.old).files (KeepsAny self.old) → IfDamaged result (λ _. (F.told folder.old).files ≡ None) }
+        ensures silent { (F.told folder.old).files ≡ None → (F.told folder.new).files ≡ None }
+        ensures later { F.faults folder.old ≤ F.faults folder.new }
         ensures sink_later { K.faults out.old ≤ K.faults out.new }
-        ensures device { IfDevice result (Rises (F.faults f.old) (F.faults f.new)) }
+        ensures device { IfDevice result (Rises (F.faults folder.old) (F.faults folder.new)) }
     {
-        let count = self.evict_until(f, out, failed, &Goal::Bytes(bytes), &Covered::none())?;
+        let count = self.evict_until(folder, out, failed, &Goal::Bytes(bytes), &Covered::none())?;
         Ok(Answer::Trimmed(count))
     }
 }

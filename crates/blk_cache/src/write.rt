@@ -22,7 +22,7 @@ ghost use Rattle.blk_cache.specs.declared.asking.Asked.TheVariants as asked;
 ghost use Rattle.blk_cache.specs.CacheKeeping.{KeepsState};
 ghost use Rattle.blk_cache.specs.CommandClauses.{IsRefused, KeepsAny};
 ghost use Rattle.blk_items.specs.RoomPrinting.{FailsWhereItRose};
-ghost use Rattle.blk_cache.specs.Stepping.{SaysEvicted, SaysFront};
+ghost use Rattle.blk_cache.specs.Stepping.{SaysEvicted, SaysPrefix};
 ghost use Rattle.blk_cache.specs.Writing.{CanGetBytes, CountsRise, ForEachToUse, GoesOn, IsAskedToWrite, IsReadyToWrite, IsReadyToWriteSome, IsUsedAndCounted, KeepsToWrite, early_write_refusal};
 
 use crate::asking::{Asked, NamedStream};
@@ -50,7 +50,7 @@ impl Cache {
     /// these. After a fault nothing is promised of the cache but that it can be dropped.
     pub(crate) fn write<F: Folder, K: Sink>(
         &mut self,
-        f: &mut F,
+        folder: &mut F,
         out: &mut K,
         failed: &mut bool,
         handle: u16,
@@ -60,41 +60,43 @@ impl Cache {
         bytes: &[u8],
         moment: u64,
     ) -> Result<Answer, Fault>
-        requires is_open { ForSome (F.told f.old).files (IsOpen self.old.files) }
-        ensures does { IfOk result (λ answer. Does (KeepsState self.old) (KeepsState self.new) (F.told f.old) (F.told f.new) moment (to_write handle stream offset cut bytes.now) answer) }
-        ensures stops { MayStopAtEach (KeepsState self.old) (F.told f.old) (F.told f.new) moment (to_write handle stream offset cut bytes.now) }
+        requires is_open { ForSome (F.told folder.old).files (IsOpen self.old.files) }
+        ensures does { IfOk result (λ answer. Does (KeepsState self.old) (KeepsState self.new) (F.told folder.old) (F.told folder.new) moment (to_write handle stream offset cut bytes.now) answer) }
+        ensures stops { MayStopAtEach (KeepsState self.old) (F.told folder.old) (F.told folder.new) moment (to_write handle stream offset cut bytes.now) }
 
         // What it evicts is printed, and on any answer a prefix of that.
-        ensures says { OnOk result (SaysEvicted self.old (F.told f.old) moment (to_write handle stream offset cut bytes.now) failed.old failed.new (K.written out.old) (K.written out.new)) }
-        ensures front { SaysFront self.old (F.told f.old) moment (to_write handle stream offset cut bytes.now) (K.written out.old) (K.written out.new) }
+        ensures says { OnOk result (SaysEvicted self.old (F.told folder.old) moment (to_write handle stream offset cut bytes.now) failed.old failed.new (K.written out.old) (K.written out.new)) }
+        ensures front { SaysPrefix self.old (F.told folder.old) moment (to_write handle stream offset cut bytes.now) (K.written out.old) (K.written out.new) }
         ensures fails { FailsWhereItRose failed.old failed.new (K.faults out.old) (K.faults out.new) }
 
         // What the names, the stream and the length tell is refused on every folder, and a refusal does nothing.
         ensures refuses { IfSome (early_write_refusal self.old handle stream offset (length bytes.now)) (λ why. result ≡ Ok (answer.Refused why)) }
-        ensures quiet { IfOk result (λ answer. IsRefused answer → Stays (F.told f.old) (F.told f.new)) }
+        ensures quiet { IfOk result (λ answer. IsRefused answer → Stays (F.told folder.old) (F.told folder.new)) }
         ensures unchanged { IfOk result (λ answer. IsRefused answer → self.new ≡ self.old) }
 
-        ensures is_open { OnOk result (ForSome (F.told f.new).files (IsOpen self.new.files)) }
+        ensures is_open { OnOk result (ForSome (F.told folder.new).files (IsOpen self.new.files)) }
         ensures notes { self.new.notes ≡ self.old.notes }
         ensures mark { self.new.mark ≡ self.old.mark }
 
         // Corruption is a check that fails on what is read here; nothing is written after it. An observable folder gives none where the cache keeps a state.
-        ensures damaged { IfDamaged result (IsFailedCheck self.new.files (F.told f.new)) }
-        ensures untold { ForSome (F.told f.old).files (KeepsAny self.old) → IfDamaged result (λ _. (F.told f.old).files ≡ None) }
-        ensures silent { (F.told f.old).files ≡ None → (F.told f.new).files ≡ None }
-        ensures later { F.faults f.old ≤ F.faults f.new }
+        ensures damaged { IfDamaged result (IsFailedCheck self.new.files (F.told folder.new)) }
+        ensures untold { ForSome (F.told folder.old).files (KeepsAny self.old) → IfDamaged result (λ _. (F.told folder.old).files ≡ None) }
+        ensures silent { (F.told folder.old).files ≡ None → (F.told folder.new).files ≡ None }
+        ensures later { F.faults folder.old ≤ F.faults folder.new }
         ensures sink_later { K.faults out.old ≤ K.faults out.new }
-        ensures device { IfDevice result (Rises (F.faults f.old) (F.faults f.new)) }
+        ensures device { IfDevice result (Rises (F.faults folder.old) (F.faults folder.new)) }
     {
-        let asked = self.refuses_write(f, handle, stream, offset, bytes)?;
+        let asked = self.refuses_write(folder, handle, stream, offset, bytes)?;
         match asked {
             Asked::Refused(why) => Ok(Answer::Refused(why)),
             Asked::Stream(named) => {
                 let rise = rise(cut, named.size, offset, bytes);
-                match self.make_room(f, out, failed, rise, 0)? {
+                match self.make_room(folder, out, failed, rise, 0)? {
                     Room::Full => Ok(Answer::Refused(Refusal::Full)),
                     Room::Made => {
-                        self.end_write(f, handle, stream, offset, cut, bytes, named.size, moment)
+                        self.end_write(
+                            folder, handle, stream, offset, cut, bytes, named.size, moment,
+                        )
                     }
                 }
             }
@@ -104,7 +106,7 @@ impl Cache {
     // Ends a Write that isn't refused, once all that it evicts is out: its object is dirty, and then written.
     pub(crate) fn end_write<F: Folder>(
         &mut self,
-        f: &mut F,
+        folder: &mut F,
         handle: u16,
         stream: u8,
         offset: u64,
@@ -114,32 +116,32 @@ impl Cache {
         moment: u64,
     ) -> Result<Answer, Fault>
         requires passes { early_write_refusal self.old handle stream offset (length bytes.now) ≡ None }
-        requires is_open { ForSome (F.told f.old).files (IsOpen self.old.files) }
+        requires is_open { ForSome (F.told folder.old).files (IsOpen self.old.files) }
 
         // It is done, whatever state the Write began with, and may crash at each word.
-        ensures does { IfOk result (λ answer. ForSome (F.told f.old).files (λ from. (state : State) → IsReadyToWrite self.old state moment handle stream offset cut bytes.now size from → IsDone (KeepsState self.new) (F.told f.new) moment (to_write handle stream offset cut bytes.now) answer state)) }
-        ensures stops { ForSome (F.told f.old).files (λ from. (state : State) → IsReadyToWrite self.old state moment handle stream offset cut bytes.now size from → Passes (F.told f.old) (F.told f.new) (MayStop state moment (to_write handle stream offset cut bytes.now))) }
+        ensures does { IfOk result (λ answer. ForSome (F.told folder.old).files (λ from. (state : State) → IsReadyToWrite self.old state moment handle stream offset cut bytes.now size from → IsDone (KeepsState self.new) (F.told folder.new) moment (to_write handle stream offset cut bytes.now) answer state)) }
+        ensures stops { ForSome (F.told folder.old).files (λ from. (state : State) → IsReadyToWrite self.old state moment handle stream offset cut bytes.now size from → Passes (F.told folder.old) (F.told folder.new) (MayStop state moment (to_write handle stream offset cut bytes.now))) }
 
         ensures wrote { IfOk result (λ given. given ≡ answer.Wrote (length bytes.now)) }
         ensures notes { self.new.notes ≡ self.old.notes }
         ensures mark { self.new.mark ≡ self.old.mark }
-        ensures is_open { OnOk result (ForSome (F.told f.new).files (IsOpen self.new.files)) }
-        ensures damaged { IfDamaged result (IsFailedCheck self.new.files (F.told f.new)) }
-        ensures untold { ForSome (F.told f.old).files (IsReadyToWriteSome self.old handle stream offset cut bytes.now size) → IfDamaged result (λ _. (F.told f.old).files ≡ None) }
-        ensures silent { (F.told f.old).files ≡ None → (F.told f.new).files ≡ None }
-        ensures later { F.faults f.old ≤ F.faults f.new }
-        ensures device { IfDevice result (Rises (F.faults f.old) (F.faults f.new)) }
+        ensures is_open { OnOk result (ForSome (F.told folder.new).files (IsOpen self.new.files)) }
+        ensures damaged { IfDamaged result (IsFailedCheck self.new.files (F.told folder.new)) }
+        ensures untold { ForSome (F.told folder.old).files (IsReadyToWriteSome self.old handle stream offset cut bytes.now size) → IfDamaged result (λ _. (F.told folder.old).files ≡ None) }
+        ensures silent { (F.told folder.old).files ≡ None → (F.told folder.new).files ≡ None }
+        ensures later { F.faults folder.old ≤ F.faults folder.new }
+        ensures device { IfDevice result (Rises (F.faults folder.old) (F.faults folder.new)) }
     {
-        self.unsettle(f, handle)?;
-        self.write_unsettled(f, handle, stream, offset, cut, bytes, size, moment)?;
+        self.set_dirty(folder, handle)?;
+        self.write_to_dirty(folder, handle, stream, offset, cut, bytes, size, moment)?;
         Ok(Answer::Wrote(bytes.len() as u64))
     }
 
     // Writes bytes over a stream of so many of the object that a handle names, which is dirty: then the item of a live
     // object is used, and its rise is counted in the index; and that of any in the cache.
-    fn write_unsettled<F: Folder>(
+    fn write_to_dirty<F: Folder>(
         &mut self,
-        f: &mut F,
+        folder: &mut F,
         handle: u16,
         stream: u8,
         offset: u64,
@@ -149,35 +151,43 @@ impl Cache {
         moment: u64,
     ) -> Result<(), Fault>
         requires passes { early_write_refusal self.old handle stream offset (length bytes.now) ≡ None }
-        requires is_open { ForSome (F.told f.old).files (IsOpen self.old.files) }
+        requires is_open { ForSome (F.told folder.old).files (IsOpen self.old.files) }
 
         // In the end each state that was kept, whose object can get them, is kept with them, and with the item in front.
-        ensures written { OnOk result (ForSome (F.told f.old).files (λ from. (state : State) → KeepsState self.old state from → CanGetBytes state handle stream offset cut bytes.now size → ForSome (F.told f.new).files (KeepsState self.new (written handle stream offset cut bytes.now state)))) }
+        ensures written { OnOk result (ForSome (F.told folder.old).files (λ from. (state : State) → KeepsState self.old state from → CanGetBytes state handle stream offset cut bytes.now size → ForSome (F.told folder.new).files (KeepsState self.new (written handle stream offset cut bytes.now state)))) }
 
         // At each word the old durable contents are recovered.
-        ensures stops { ForSome (F.told f.old).files (λ from. (state : State) → KeepsState self.old state from → CanGetBytes state handle stream offset cut bytes.now size → Passes (F.told f.old) (F.told f.new) (Finds (rest state))) }
+        ensures stops { ForSome (F.told folder.old).files (λ from. (state : State) → KeepsState self.old state from → CanGetBytes state handle stream offset cut bytes.now size → Passes (F.told folder.old) (F.told folder.new) (Finds (rest state))) }
 
         ensures notes { self.new.notes ≡ self.old.notes }
         ensures mark { self.new.mark ≡ self.old.mark }
-        ensures is_open { OnOk result (ForSome (F.told f.new).files (IsOpen self.new.files)) }
-        ensures damaged { IfDamaged result (IsFailedCheck self.new.files (F.told f.new)) }
-        ensures untold { ForSome (F.told f.old).files (KeepsToWrite self.old handle stream offset cut bytes.now size) → IfDamaged result (λ _. (F.told f.old).files ≡ None) }
-        ensures silent { (F.told f.old).files ≡ None → (F.told f.new).files ≡ None }
-        ensures later { F.faults f.old ≤ F.faults f.new }
-        ensures device { IfDevice result (Rises (F.faults f.old) (F.faults f.new)) }
+        ensures is_open { OnOk result (ForSome (F.told folder.new).files (IsOpen self.new.files)) }
+        ensures damaged { IfDamaged result (IsFailedCheck self.new.files (F.told folder.new)) }
+        ensures untold { ForSome (F.told folder.old).files (KeepsToWrite self.old handle stream offset cut bytes.now size) → IfDamaged result (λ _. (F.told folder.old).files ≡ None) }
+        ensures silent { (F.told folder.old).files ≡ None → (F.told folder.new).files ≡ None }
+        ensures later { F.faults folder.old ≤ F.faults folder.new }
+        ensures device { IfDevice result (Rises (F.faults folder.old) (F.faults folder.new)) }
     {
         let Some(object) = self.handles.object(handle) else {
             unreachable!();
         };
         let after = length_after(cut, size, offset, bytes);
-        write_object(f, &mut self.files, object.entry, stream, offset, cut, bytes)?;
+        write_object(
+            folder,
+            &mut self.files,
+            object.entry,
+            stream,
+            offset,
+            cut,
+            bytes,
+        )?;
         let named = NamedStream {
             entry: object.entry,
             node: object.node,
             doomed: object.doomed,
             size,
         };
-        use_and_count(f, &self.files, &named, after, moment)?;
+        use_and_count(folder, &self.files, &named, after, moment)?;
         self.count_bytes(u64::from(size), after);
         Ok(())
     }
@@ -185,29 +195,29 @@ impl Cache {
     // The stream that a Write names, or why the Write is refused, but for lack of space. Nothing is written.
     pub(crate) fn refuses_write<F: Folder>(
         &self,
-        f: &mut F,
+        folder: &mut F,
         handle: u16,
         stream: u8,
         offset: u64,
         bytes: &[u8],
     ) -> Result<Asked, Fault>
-        ensures asked { IfOk result (λ answer. ForSome (F.told f.old).files (λ image. (state : State) (moment : ℕ) (cut : Bool) → (k : KeepsState self.now state image) → IsAskedToWrite state k.layout moment handle stream offset cut bytes.now answer)) }
+        ensures asked { IfOk result (λ answer. ForSome (F.told folder.old).files (λ image. (state : State) (moment : ℕ) (cut : Bool) → (k : KeepsState self.now state image) → IsAskedToWrite state k.layout moment handle stream offset cut bytes.now answer)) }
 
         // What the names, the stream and the length tell is refused on every folder, and where a stream is found they tell nothing.
         ensures refuses { IfSome (early_write_refusal self.now handle stream offset (length bytes.now)) (λ why. result ≡ Ok (asked.Refused why)) }
         ensures goes_on { IfOk result (GoesOn (early_write_refusal self.now handle stream offset (length bytes.now))) }
-        ensures stays { Stays (F.told f.old) (F.told f.new) }
+        ensures stays { Stays (F.told folder.old) (F.told folder.new) }
 
         // Corruption is a check that fails on what is read here. An observable folder gives none where the cache keeps a state.
-        ensures damaged { IfDamaged result (IsFailedCheck self.now.files (F.told f.new)) }
-        ensures untold { ForSome (F.told f.old).files (KeepsAny self.now) → IfDamaged result (λ _. (F.told f.old).files ≡ None) }
-        ensures later { F.faults f.old ≤ F.faults f.new }
-        ensures device { IfDevice result (Rises (F.faults f.old) (F.faults f.new)) }
+        ensures damaged { IfDamaged result (IsFailedCheck self.now.files (F.told folder.new)) }
+        ensures untold { ForSome (F.told folder.old).files (KeepsAny self.now) → IfDamaged result (λ _. (F.told folder.old).files ≡ None) }
+        ensures later { F.faults folder.old ≤ F.faults folder.new }
+        ensures device { IfDevice result (Rises (F.faults folder.old) (F.faults folder.new)) }
     {
         if let Some(why) = self.refuses_length(handle, stream, offset, bytes.len() as u64) {
             return Ok(Asked::Refused(why));
         }
-        self.ask_stream(f, handle, stream)
+        self.ask_stream(folder, handle, stream)
     }
 
     // Why a Write is refused, by what the names, the number of the stream and the length tell.
@@ -236,34 +246,34 @@ impl Cache {
 // Uses the item of a live object whose stream had so many bytes and has so many after, and counts the rise in the index.
 // A doomed one has no item, and isn't counted.
 fn use_and_count<F: Folder>(
-    f: &mut F,
+    folder: &mut F,
     files: &BlockFiles,
     object: &NamedStream,
     after: u64,
     moment: u64,
 ) -> Result<(), Fault>
     requires stands { IsTrue (is_node_among files.now object.now.node) }
-    requires is_open { ForSome (F.told f.old).files (IsOpen files.now) }
+    requires is_open { ForSome (F.told folder.old).files (IsOpen files.now) }
 
     // In the end each state that was kept is kept with the item in front, and the bytes of the index have risen.
-    ensures used { OnOk result (object.now.doomed ≡ false → ForSome (F.told f.old).files (λ from. ForEachToUse object.now.node from (λ state layout its. ForSome (F.told f.new).files (IsUsedAndCounted state layout its object.now.size after from)))) }
-    ensures stays { object.now.doomed ≡ true → Stays (F.told f.old) (F.told f.new) }
+    ensures used { OnOk result (object.now.doomed ≡ false → ForSome (F.told folder.old).files (λ from. ForEachToUse object.now.node from (λ state layout its. ForSome (F.told folder.new).files (IsUsedAndCounted state layout its object.now.size after from)))) }
+    ensures stays { object.now.doomed ≡ true → Stays (F.told folder.old) (F.told folder.new) }
 
     // At each word the old durable contents are recovered.
-    ensures stops { object.now.doomed ≡ false → ForSome (F.told f.old).files (λ from. ForEachToUse object.now.node from (λ state layout its. Passes (F.told f.old) (F.told f.new) (Finds (rest state)))) }
+    ensures stops { object.now.doomed ≡ false → ForSome (F.told folder.old).files (λ from. ForEachToUse object.now.node from (λ state layout its. Passes (F.told folder.old) (F.told folder.new) (Finds (rest state)))) }
 
-    ensures is_open { ForSome (F.told f.new).files (IsOpen files.now) }
-    ensures damaged { IfDamaged result (IsFailedCheck files.now (F.told f.new)) }
-    ensures untold { ForSome (F.told f.old).files (λ image. object.now.doomed ≡ false → IsListed object.now.node image) → IfDamaged result (λ _. (F.told f.old).files ≡ None) }
-    ensures silent { (F.told f.old).files ≡ None → (F.told f.new).files ≡ None }
-    ensures later { F.faults f.old ≤ F.faults f.new }
-    ensures device { IfDevice result (Rises (F.faults f.old) (F.faults f.new)) }
+    ensures is_open { ForSome (F.told folder.new).files (IsOpen files.now) }
+    ensures damaged { IfDamaged result (IsFailedCheck files.now (F.told folder.new)) }
+    ensures untold { ForSome (F.told folder.old).files (λ image. object.now.doomed ≡ false → IsListed object.now.node image) → IfDamaged result (λ _. (F.told folder.old).files ≡ None) }
+    ensures silent { (F.told folder.old).files ≡ None → (F.told folder.new).files ≡ None }
+    ensures later { F.faults folder.old ≤ F.faults folder.new }
+    ensures device { IfDevice result (Rises (F.faults folder.old) (F.faults folder.new)) }
 {
     if object.doomed {
         return Ok(());
     }
-    touch(f, files, object.node, moment)?;
-    count_rise(f, files, u64::from(object.size), after)
+    touch(folder, files, object.node, moment)?;
+    count_rise(folder, files, u64::from(object.size), after)
 }
 
 // The length of a stream of so many bytes once these are written over it from an offset on.

@@ -159,9 +159,9 @@ pub record IsFaultOfLink (bucket : ℕ) (before : Option ℕ) (found : ℕ) (fau
   pub of_word : damage.found ≡ found
 
 -- what a step finds at a word: a record that is there, and the next record's word where it isn't the one
-abbrev pub StandsAt : BlockFiles → ℕ → Step → Type 0
-StandsAt files w (Here entry) = (entry ≡ w) × (is_record_among files w ≡ true)
-StandsAt files w (On link) = (link.before ≡ Some w) × (is_record_among files w ≡ true)
+abbrev pub IsStepAt : BlockFiles → ℕ → Step → Type 0
+IsStepAt files w (Here entry) = (entry ≡ w) × (is_record_among files w ≡ true)
+IsStepAt files w (On link) = (link.before ≡ Some w) × (is_record_among files w ≡ true)
 
 -- the word is followed, and the record is the one that is sought, or it isn't and the search goes on at its next
 abbrev pub IsSearchStep : BlockFiles → List ℕ → Bool → ℕ → Step → Image → Type 0

@@ -12,7 +12,7 @@ ghost use Rattle.spec_folder.specs.View.{store_of};
 ghost use Rattle.blk_disk.specs.Tables.{Agrees, is_record_among, stands_among};
 ghost use Rattle.blk_entry.specs.Keys.{CanBeRead, IsRecordHead, IsPlaceDamage};
 ghost use Rattle.blk_chain.specs.Unlinking.{CanBeUnlinked};
-ghost use Rattle.blk_chain.specs.Finding.{CanBeSearched, IsAnswer, IsDanglingLink, IsChainDamage, IsKeyed, IsFaultOfLink, IsOutcome, IsSearchDamage, IsSought, IsSearchStep, StandsAt, StandsBefore};
+ghost use Rattle.blk_chain.specs.Finding.{CanBeSearched, IsAnswer, IsDanglingLink, IsChainDamage, IsKeyed, IsFaultOfLink, IsOutcome, IsSearchDamage, IsSought, IsSearchStep, IsStepAt, StandsBefore};
 ghost use Rattle.spec_folder.specs.Searches.{bucket_of_key};
 
 use crate::found::Found;
@@ -94,7 +94,7 @@ pub fn find<F: Folder>(
 
 // Follows a chain from the word of its bucket on, up to the record that is sought.
 fn search<F: Folder>(
-    f: &mut F,
+    folder: &mut F,
     files: &BlockFiles,
     key: &[u8],
     sought: &Sought,
@@ -102,21 +102,21 @@ fn search<F: Folder>(
 ) -> Result<Option<Found>, Fault>
     requires hash { sought.now.hash ≡ hash_of key.now }
     requires front { front.before ≡ None }
-    requires word { ForSome (F.told f.old).files (λ image. (store_of image).table (bucket_of_key key.now) ≡ front.word) }
-    ensures outcome { IfOk result (λ answer. ForSome (F.told f.old).files (IsOutcome files.now key.now sought.now.child answer)) }
-    ensures found { IfOk result (λ answer. ForSome (F.told f.old).files (λ image. CanBeSearched key.now image → IsAnswer key.now sought.now.child answer image)) }
+    requires word { ForSome (F.told folder.old).files (λ image. (store_of image).table (bucket_of_key key.now) ≡ front.word) }
+    ensures outcome { IfOk result (λ answer. ForSome (F.told folder.old).files (IsOutcome files.now key.now sought.now.child answer)) }
+    ensures found { IfOk result (λ answer. ForSome (F.told folder.old).files (λ image. CanBeSearched key.now image → IsAnswer key.now sought.now.child answer image)) }
     ensures names { IfOk result (λ answer. IfSome answer (λ found. IsTrue (is_record_among files.now found.entry))) }
     ensures kind { IfOk result (λ answer. IfSome answer (λ found. kind_of found.entry ≡ blocks_256)) }
     ensures stands { IfOk result (λ answer. IfSome answer (λ found. IsTrue (stands_among files.now found.entry))) }
     ensures names_before { IfOk result (λ answer. IfSome answer (λ found. StandsBefore files.now found.before)) }
     ensures kind_before { IfOk result (λ answer. IfSome answer (λ found. IfSome found.before (λ before. kind_of before ≡ blocks_256))) }
     ensures stands_before { IfOk result (λ answer. IfSome answer (λ found. IfSome found.before (λ before. IsTrue (stands_among files.now before)))) }
-    ensures linked { IfOk result (λ answer. IfSome answer (λ found. ForSome (F.told f.old).files (λ image. CanBeSearched key.now image → CanBeUnlinked found.entry found.before image))) }
-    ensures stays { Stays (F.told f.old) (F.told f.new) }
-    ensures damaged { IfDamaged result (IsChainDamage files.now (F.told f.old) key.now sought.now.child) }
-    ensures untold { ForSome (F.told f.old).files (Agrees files.now) → ForSome (F.told f.old).files (CanBeSearched key.now) → IfDamaged result (λ _. (F.told f.old).files ≡ None) }
-    ensures later { F.faults f.old ≤ F.faults f.new }
-    ensures device { IfDevice result (Rises (F.faults f.old) (F.faults f.new)) }
+    ensures linked { IfOk result (λ answer. IfSome answer (λ found. ForSome (F.told folder.old).files (λ image. CanBeSearched key.now image → CanBeUnlinked found.entry found.before image))) }
+    ensures stays { Stays (F.told folder.old) (F.told folder.new) }
+    ensures damaged { IfDamaged result (IsChainDamage files.now (F.told folder.old) key.now sought.now.child) }
+    ensures untold { ForSome (F.told folder.old).files (Agrees files.now) → ForSome (F.told folder.old).files (CanBeSearched key.now) → IfDamaged result (λ _. (F.told folder.old).files ≡ None) }
+    ensures later { F.faults folder.old ≤ F.faults folder.new }
+    ensures device { IfDevice result (Rises (F.faults folder.old) (F.faults folder.new)) }
 {
     let mut link = front;
     let mut left = MOST_RECORDS;
@@ -125,7 +125,7 @@ fn search<F: Folder>(
             return Err(damage_of(sought.hash, &link));
         }
         left -= 1;
-        match look_at(f, files, key, sought, &link)? {
+        match look_at(folder, files, key, sought, &link)? {
             Step::Here(entry) => {
                 return Ok(Some(Found {
                     entry,
@@ -140,7 +140,7 @@ fn search<F: Folder>(
 
 // Reads the record of a word, and compares it with what is sought.
 fn look_at<F: Folder>(
-    f: &mut F,
+    folder: &mut F,
     files: &BlockFiles,
     key: &[u8],
     sought: &Sought,
@@ -150,17 +150,17 @@ fn look_at<F: Folder>(
     requires some { link.now.word ≢ 0 }
     requires kind_before { IfSome link.now.before (λ before. kind_of before ≡ blocks_256) }
     requires named_before { StandsBefore files.now link.now.before }
-    ensures step { IfOk result (λ step. ForSome (F.told f.old).files (IsSearchStep files.now key.now sought.now.child link.now.word step)) }
-    ensures stands { IfOk result (StandsAt files.now link.now.word) }
-    ensures stays { Stays (F.told f.old) (F.told f.new) }
-    ensures damaged { IfDamaged result (IsChainDamage files.now (F.told f.old) key.now sought.now.child) }
-    ensures untold { ForSome (F.told f.old).files (Agrees files.now) → ForSome (F.told f.old).files (IsKeyed link.now.word) → IfDamaged result (λ _. (F.told f.old).files ≡ None) }
-    ensures later { F.faults f.old ≤ F.faults f.new }
-    ensures device { IfDevice result (Rises (F.faults f.old) (F.faults f.new)) }
+    ensures step { IfOk result (λ step. ForSome (F.told folder.old).files (IsSearchStep files.now key.now sought.now.child link.now.word step)) }
+    ensures stands { IfOk result (IsStepAt files.now link.now.word) }
+    ensures stays { Stays (F.told folder.old) (F.told folder.new) }
+    ensures damaged { IfDamaged result (IsChainDamage files.now (F.told folder.old) key.now sought.now.child) }
+    ensures untold { ForSome (F.told folder.old).files (Agrees files.now) → ForSome (F.told folder.old).files (IsKeyed link.now.word) → IfDamaged result (λ _. (F.told folder.old).files ≡ None) }
+    ensures later { F.faults folder.old ≤ F.faults folder.new }
+    ensures device { IfDevice result (Rises (F.faults folder.old) (F.faults folder.new)) }
 {
     let entry = record_of(files, sought.hash, link)?;
-    let head = read_head(f, files, entry)?;
-    if is_sought(f, files, entry, &head, key, sought)? {
+    let head = read_head(folder, files, entry)?;
+    if is_sought(folder, files, entry, &head, key, sought)? {
         return Ok(Step::Here(entry));
     }
     Ok(Step::On(Link {
@@ -171,7 +171,7 @@ fn look_at<F: Folder>(
 
 // Whether a record is the one that is sought. Its key is read only where hash, length and flag agree.
 fn is_sought<F: Folder>(
-    f: &mut F,
+    folder: &mut F,
     files: &BlockFiles,
     entry: Addr,
     head: &Head,
@@ -181,13 +181,13 @@ fn is_sought<F: Folder>(
     requires hash { sought.now.hash ≡ hash_of key.now }
     requires kind { kind_of entry ≡ blocks_256 }
     requires stands { IsTrue (stands_among files.now entry) }
-    requires head { ForSome (F.told f.old).files (λ image. IsRecordHead image entry head.now) }
-    ensures sought { IfOk result (λ same. ForSome (F.told f.old).files (λ image. IsTrue same ↔ IsSought key.now sought.now.child entry image)) }
-    ensures stays { Stays (F.told f.old) (F.told f.new) }
-    ensures damaged { IfDamaged result (IsPlaceDamage files.now (F.told f.old) entry (length key.now) head.now.long_key) }
-    ensures untold { ForSome (F.told f.old).files (CanBeRead files.now entry) → IfDamaged result (λ _. (F.told f.old).files ≡ None) }
-    ensures later { F.faults f.old ≤ F.faults f.new }
-    ensures device { IfDevice result (Rises (F.faults f.old) (F.faults f.new)) }
+    requires head { ForSome (F.told folder.old).files (λ image. IsRecordHead image entry head.now) }
+    ensures sought { IfOk result (λ same. ForSome (F.told folder.old).files (λ image. IsTrue same ↔ IsSought key.now sought.now.child entry image)) }
+    ensures stays { Stays (F.told folder.old) (F.told folder.new) }
+    ensures damaged { IfDamaged result (IsPlaceDamage files.now (F.told folder.old) entry (length key.now) head.now.long_key) }
+    ensures untold { ForSome (F.told folder.old).files (CanBeRead files.now entry) → IfDamaged result (λ _. (F.told folder.old).files ≡ None) }
+    ensures later { F.faults folder.old ≤ F.faults folder.new }
+    ensures device { IfDevice result (Rises (F.faults folder.old) (F.faults folder.new)) }
 {
     if head.hash != sought.hash {
         return Ok(false);
@@ -195,7 +195,7 @@ fn is_sought<F: Folder>(
     if (head.flags == EntryFlags::CHILD.bits()) != sought.child {
         return Ok(false);
     }
-    key_is(f, files, entry, head, key)
+    key_is(folder, files, entry, head, key)
 }
 
 // The record of a word, where it names one that is there.

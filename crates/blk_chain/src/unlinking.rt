@@ -20,7 +20,7 @@ use blk_record::{EntryView, IndexHead};
 
 // Takes the record out of its chain that comes after this one: its next becomes that record's.
 fn unlink_behind<F: Folder>(
-    f: &mut F,
+    folder: &mut F,
     files: &BlockFiles,
     entry: Addr,
     before: Addr,
@@ -29,43 +29,43 @@ fn unlink_behind<F: Folder>(
     requires stands { IsTrue (stands_among files.now entry) }
     requires kind_before { kind_of before ≡ blocks_256 }
     requires stands_before { IsTrue (stands_among files.now before) }
-    requires is_open { ForSome (F.told f.old).files (IsOpen files.now) }
-    ensures unlinked { OnOk result (ForSome (F.told f.old).files (λ from. CanBeUnlinked entry (Some before) from → ForSome (F.told f.new).files (IsUnlinked from entry (Some before)))) }
-    ensures sealed { OnOk result (ForSome (F.told f.old).files (λ from. ForSome (F.told f.new).files (IsSealedAgain from entry (Some before)))) }
-    ensures checked { OnOk result (ForSome (F.told f.old).files (RecordChecks before)) }
-    ensures is_open { ForSome (F.told f.new).files (IsOpen files.now) }
-    ensures steps { OnOk result (ForSome (F.told f.old).files (λ from. Applies (F.told f.old) (F.told f.new) (unlink_steps from entry (Some before)))) }
-    ensures prefix { MakesPartOf (F.told f.old) (F.told f.new) (λ from. unlink_steps from entry (Some before)) }
-    ensures commits { ForSome (F.told f.old).files (λ from. CanBeUnlinked entry (Some before) from → Commits (words_to_unlink (Some before)) (F.told f.old) (F.told f.new) (IsStillLinked from entry (Some before)) (IsUnlinked from entry (Some before))) }
-    ensures damaged { IfDamaged result (IsUnlinkDamage (F.told f.old) entry (Some before)) }
-    ensures unwritten { IfDamaged result (λ _. Stays (F.told f.old) (F.told f.new)) }
-    ensures untold { ForSome (F.told f.old).files (RecordChecks before) → IfDamaged result (λ _. (F.told f.old).files ≡ None) }
-    ensures later { F.faults f.old ≤ F.faults f.new }
-    ensures device { IfDevice result (Rises (F.faults f.old) (F.faults f.new)) }
+    requires is_open { ForSome (F.told folder.old).files (IsOpen files.now) }
+    ensures unlinked { OnOk result (ForSome (F.told folder.old).files (λ from. CanBeUnlinked entry (Some before) from → ForSome (F.told folder.new).files (IsUnlinked from entry (Some before)))) }
+    ensures sealed { OnOk result (ForSome (F.told folder.old).files (λ from. ForSome (F.told folder.new).files (IsSealedAgain from entry (Some before)))) }
+    ensures checked { OnOk result (ForSome (F.told folder.old).files (RecordChecks before)) }
+    ensures is_open { ForSome (F.told folder.new).files (IsOpen files.now) }
+    ensures steps { OnOk result (ForSome (F.told folder.old).files (λ from. Applies (F.told folder.old) (F.told folder.new) (unlink_steps from entry (Some before)))) }
+    ensures prefix { MakesPartOf (F.told folder.old) (F.told folder.new) (λ from. unlink_steps from entry (Some before)) }
+    ensures commits { ForSome (F.told folder.old).files (λ from. CanBeUnlinked entry (Some before) from → Commits (words_to_unlink (Some before)) (F.told folder.old) (F.told folder.new) (IsStillLinked from entry (Some before)) (IsUnlinked from entry (Some before))) }
+    ensures damaged { IfDamaged result (IsUnlinkDamage (F.told folder.old) entry (Some before)) }
+    ensures unwritten { IfDamaged result (λ _. Stays (F.told folder.old) (F.told folder.new)) }
+    ensures untold { ForSome (F.told folder.old).files (RecordChecks before) → IfDamaged result (λ _. (F.told folder.old).files ≡ None) }
+    ensures later { F.faults folder.old ≤ F.faults folder.new }
+    ensures device { IfDevice result (Rises (F.faults folder.old) (F.faults folder.new)) }
 {
-    let next = field(f, files, entry, EntryView::NEXT)?;
-    files.update_sealed(f, before, &[(EntryView::NEXT, next)])
+    let next = field(folder, files, entry, EntryView::NEXT)?;
+    files.update_sealed(folder, before, &[(EntryView::NEXT, next)])
 }
 
 // Takes the first record of a chain out: the word of its bucket becomes its next.
-fn unlink_first<F: Folder>(f: &mut F, files: &BlockFiles, entry: Addr) -> Result<(), Fault>
+fn unlink_first<F: Folder>(folder: &mut F, files: &BlockFiles, entry: Addr) -> Result<(), Fault>
     requires kind { kind_of entry ≡ blocks_256 }
     requires stands { IsTrue (stands_among files.now entry) }
-    requires is_open { ForSome (F.told f.old).files (IsOpen files.now) }
-    ensures unlinked { OnOk result (ForSome (F.told f.old).files (λ from. CanBeUnlinked entry None from → ForSome (F.told f.new).files (IsUnlinked from entry None))) }
-    ensures is_open { ForSome (F.told f.new).files (IsOpen files.now) }
-    ensures steps { OnOk result (ForSome (F.told f.old).files (λ from. Applies (F.told f.old) (F.told f.new) (unlink_steps from entry None))) }
-    ensures prefix { MakesPartOf (F.told f.old) (F.told f.new) (λ from. unlink_steps from entry None) }
-    ensures commits { ForSome (F.told f.old).files (λ from. CanBeUnlinked entry None from → Commits (words_to_unlink None) (F.told f.old) (F.told f.new) (IsStillLinked from entry None) (IsUnlinked from entry None)) }
-    ensures damaged { IfDamaged result (IsUnlinkDamage (F.told f.old) entry None) }
-    ensures unwritten { IfDamaged result (λ _. Stays (F.told f.old) (F.told f.new)) }
-    ensures untold { IfDamaged result (λ _. (F.told f.old).files ≡ None) }
-    ensures later { F.faults f.old ≤ F.faults f.new }
-    ensures device { IfDevice result (Rises (F.faults f.old) (F.faults f.new)) }
+    requires is_open { ForSome (F.told folder.old).files (IsOpen files.now) }
+    ensures unlinked { OnOk result (ForSome (F.told folder.old).files (λ from. CanBeUnlinked entry None from → ForSome (F.told folder.new).files (IsUnlinked from entry None))) }
+    ensures is_open { ForSome (F.told folder.new).files (IsOpen files.now) }
+    ensures steps { OnOk result (ForSome (F.told folder.old).files (λ from. Applies (F.told folder.old) (F.told folder.new) (unlink_steps from entry None))) }
+    ensures prefix { MakesPartOf (F.told folder.old) (F.told folder.new) (λ from. unlink_steps from entry None) }
+    ensures commits { ForSome (F.told folder.old).files (λ from. CanBeUnlinked entry None from → Commits (words_to_unlink None) (F.told folder.old) (F.told folder.new) (IsStillLinked from entry None) (IsUnlinked from entry None)) }
+    ensures damaged { IfDamaged result (IsUnlinkDamage (F.told folder.old) entry None) }
+    ensures unwritten { IfDamaged result (λ _. Stays (F.told folder.old) (F.told folder.new)) }
+    ensures untold { IfDamaged result (λ _. (F.told folder.old).files ≡ None) }
+    ensures later { F.faults folder.old ≤ F.faults folder.new }
+    ensures device { IfDevice result (Rises (F.faults folder.old) (F.faults folder.new)) }
 {
-    let next = field(f, files, entry, EntryView::NEXT)?;
-    let hash = field(f, files, entry, EntryView::HASH)?;
-    set_bucket(f, (hash % IndexHead::BUCKETS) as u16, next)?;
+    let next = field(folder, files, entry, EntryView::NEXT)?;
+    let hash = field(folder, files, entry, EntryView::HASH)?;
+    set_bucket(folder, (hash % IndexHead::BUCKETS) as u16, next)?;
     Ok(())
 }
 

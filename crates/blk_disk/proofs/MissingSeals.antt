@@ -62,13 +62,13 @@ module _ (files : BlockFiles) (w : ℕ) (stands : stands_among files w ≡ true)
   pub steps_sealed : Applies m b (missing_steps w missing) → ForSome a.files (λ from. Applies a b (seal_steps from w))
   steps_sealed applies from there = subst (λ (t : Told). Applies t b (seal_steps from w)) stays (subst (Applies m b) (steps_are from there) applies)
 
-  pub front_sealed : AppliesPrefix m b (missing_steps w missing) → ForSome a.files (λ from. AppliesPrefix a b (seal_steps from w))
-  front_sealed front from there = subst (λ (t : Told). AppliesPrefix t b (seal_steps from w)) stays (subst (AppliesPrefix m b) (steps_are from there) front)
+  pub prefix_sealed : AppliesPrefix m b (missing_steps w missing) → ForSome a.files (λ from. AppliesPrefix a b (seal_steps from w))
+  prefix_sealed front from there = subst (λ (t : Told). AppliesPrefix t b (seal_steps from w)) stays (subst (AppliesPrefix m b) (steps_are from there) front)
 
   pub stops_sealed : AppliesPrefix m b (missing_steps w missing) → ForSome a.files (λ from. RecordChecks w from → Passes a b (IsMidUpdate from w []))
   stops_sealed front from there good =
       let moment = IsMidUpdate from w [] in
-      passes_part moment moment (front_sealed front from there) (subst IsQuiet (steps_are from there) (missing_quiet w missing)) (λ image m. m)
+      passes_part moment moment (prefix_sealed front from there) (subst IsQuiet (steps_are from there) (missing_quiet w missing)) (λ image m. m)
       (λ image here. subst (λ (i : Image). Until moment moment i (seal_steps from w)) (some_inj (sym there ∙ here)) (sealing w from (inside from there) good))
 
   pub updated_sealed : ForSome a.files AreBytes → Applies m b (missing_steps w missing) → ForSome a.files (λ from. ForSome b.files (IsUpdated from w []))

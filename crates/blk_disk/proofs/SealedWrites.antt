@@ -131,8 +131,8 @@ module _ (w : ℕ) (changes : List (ℕ × ℕ)) (bytes : List ℕ) (a m b : Tol
   pub steps_read : Applies m b (steps_over bytes w changes) → ForSome a.files (λ from. Applies a b (sealed_steps from w changes))
   steps_read applies from there = subst (λ (t : Told). Applies t b (sealed_steps from w changes)) stays (subst (Applies m b) (steps_are from there) applies)
 
-  pub front_read : AppliesPrefix m b (steps_over bytes w changes) → ForSome a.files (λ from. AppliesPrefix a b (sealed_steps from w changes))
-  front_read front from there = subst (λ (t : Told). AppliesPrefix t b (sealed_steps from w changes)) stays (subst (AppliesPrefix m b) (steps_are from there) front)
+  pub prefix_read : AppliesPrefix m b (steps_over bytes w changes) → ForSome a.files (λ from. AppliesPrefix a b (sealed_steps from w changes))
+  prefix_read front from there = subst (λ (t : Told). AppliesPrefix t b (sealed_steps from w changes)) stays (subst (AppliesPrefix m b) (steps_are from there) front)
 
   pub stops_read : ForSome m.files (λ from. bytes ≡ record_at from w → RecordChecks w from → Passes m b (IsMidUpdate from w changes)) → ForSome a.files (λ from. RecordChecks w from → Passes a b (IsMidUpdate from w changes))
   stops_read stops from there good = passes_stayed stays (stops from (still from there) (read from there) good)

@@ -90,34 +90,34 @@ impl BlockFiles {
 }
 
 // Makes a file with a header and no blocks. The four fields that aren't 0 lie side by side, and are written by one call.
-fn make_file<F: Folder>(f: &mut F, kind: Kind, n: u8) -> Result<(), Failed>
+fn make_file<F: Folder>(folder: &mut F, kind: Kind, n: u8) -> Result<(), Failed>
     requires { kind_number kind ≢ external }
-    ensures steps { OnOk result (Applies (F.told f.old) (F.told f.new) (file_steps (kind_number kind) n)) }
-    ensures prefix { AppliesPrefix (F.told f.old) (F.told f.new) (file_steps (kind_number kind) n) }
-    ensures later { F.faults f.old ≤ F.faults f.new }
-    ensures failed { OnErr result (Rises (F.faults f.old) (F.faults f.new)) }
+    ensures steps { OnOk result (Applies (F.told folder.old) (F.told folder.new) (file_steps (kind_number kind) n)) }
+    ensures prefix { AppliesPrefix (F.told folder.old) (F.told folder.new) (file_steps (kind_number kind) n) }
+    ensures later { F.faults folder.old ≤ F.faults folder.new }
+    ensures failed { OnErr result (Rises (F.faults folder.old) (F.faults folder.new)) }
 {
     let file = FileId::Block(n);
-    f.set_len(file, 0)?;
-    f.set_len(file, BlockHead::HEADER_LEN)?;
+    folder.set_len(file, 0)?;
+    folder.set_len(file, BlockHead::HEADER_LEN)?;
     let words = [
         BlockHead::MAGIC,
         BlockHead::VERSION,
         u32::from(n),
         block_size(kind),
     ];
-    write_run(f, file, 0, &words)
+    write_run(folder, file, 0, &words)
 }
 
 // Writes the number of a file as the next one of another.
-fn link_file<F: Folder>(f: &mut F, last: u8, n: u8) -> Result<(), Failed>
-    requires { ForSome (F.told f.old).files (λ image. HasRange image (block last) 10 2) }
-    ensures steps { OnOk result (Applies (F.told f.old) (F.told f.new) (link_steps last n)) }
-    ensures prefix { AppliesPrefix (F.told f.old) (F.told f.new) (link_steps last n) }
-    ensures later { F.faults f.old ≤ F.faults f.new }
-    ensures failed { OnErr result (Rises (F.faults f.old) (F.faults f.new)) }
+fn link_file<F: Folder>(folder: &mut F, last: u8, n: u8) -> Result<(), Failed>
+    requires { ForSome (F.told folder.old).files (λ image. HasRange image (block last) 10 2) }
+    ensures steps { OnOk result (Applies (F.told folder.old) (F.told folder.new) (link_steps last n)) }
+    ensures prefix { AppliesPrefix (F.told folder.old) (F.told folder.new) (link_steps last n) }
+    ensures later { F.faults folder.old ≤ F.faults folder.new }
+    ensures failed { OnErr result (Rises (F.faults folder.old) (F.faults folder.new)) }
 {
-    f.write_at(
+    folder.write_at(
         FileId::Block(last),
         BlockHead::NEXT_FILE,
         &u16::from(n).to_le_bytes(),

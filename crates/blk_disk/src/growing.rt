@@ -65,14 +65,14 @@ impl BlockFiles {
     }
 
     // Makes a file as long as this, where it is shorter.
-    fn lengthen<F: Folder>(&self, f: &mut F, file: u8, size: u64) -> Result<(), Failed>
-        ensures steps { OnOk result (Applies (F.told f.old) (F.told f.new) (lengthen_steps self.now file size)) }
-        ensures undone { OnErr result (Stays (F.told f.old) (F.told f.new)) }
-        ensures later { F.faults f.old ≤ F.faults f.new }
-        ensures failed { OnErr result (Rises (F.faults f.old) (F.faults f.new)) }
+    fn lengthen<F: Folder>(&self, folder: &mut F, file: u8, size: u64) -> Result<(), Failed>
+        ensures steps { OnOk result (Applies (F.told folder.old) (F.told folder.new) (lengthen_steps self.now file size)) }
+        ensures undone { OnErr result (Stays (F.told folder.old) (F.told folder.new)) }
+        ensures later { F.faults folder.old ≤ F.faults folder.new }
+        ensures failed { OnErr result (Rises (F.faults folder.old) (F.faults folder.new)) }
     {
         if self.length(file) < size {
-            f.set_len(FileId::Block(file), size)?;
+            folder.set_len(FileId::Block(file), size)?;
         }
         Ok(())
     }
@@ -81,17 +81,17 @@ impl BlockFiles {
 // Raises the counter of empty groups of a file, and then writes its number of blocks.
 //
 // Bytes of the counter that the folder doesn't give count as 0.
-fn raise<F: Folder>(f: &mut F, file: u8, groups: u32, blocks: u32) -> Result<(), Failed>
-    requires { ForSome (F.told f.old).files (λ image. HasRange image (block file) 0 40) }
-    ensures steps { OnOk result (ForSome (F.told f.old).files (λ image. Applies (F.told f.old) (F.told f.new) (raise_steps image file groups blocks))) }
-    ensures prefix { ForSome (F.told f.old).files (λ image. AppliesPrefix (F.told f.old) (F.told f.new) (raise_steps image file groups blocks)) }
-    ensures untold { (F.told f.old).files ≡ None → (F.told f.new).files ≡ None }
-    ensures later { F.faults f.old ≤ F.faults f.new }
-    ensures failed { OnErr result (Rises (F.faults f.old) (F.faults f.new)) }
+fn raise<F: Folder>(folder: &mut F, file: u8, groups: u32, blocks: u32) -> Result<(), Failed>
+    requires { ForSome (F.told folder.old).files (λ image. HasRange image (block file) 0 40) }
+    ensures steps { OnOk result (ForSome (F.told folder.old).files (λ image. Applies (F.told folder.old) (F.told folder.new) (raise_steps image file groups blocks))) }
+    ensures prefix { ForSome (F.told folder.old).files (λ image. AppliesPrefix (F.told folder.old) (F.told folder.new) (raise_steps image file groups blocks)) }
+    ensures untold { (F.told folder.old).files ≡ None → (F.told folder.new).files ≡ None }
+    ensures later { F.faults folder.old ≤ F.faults folder.new }
+    ensures failed { OnErr result (Rises (F.faults folder.old) (F.faults folder.new)) }
 {
     let mut empty = [0u8; 4];
-    f.read_at(FileId::Block(file), EMPTY_GROUPS, &mut empty)?;
+    folder.read_at(FileId::Block(file), EMPTY_GROUPS, &mut empty)?;
     let raised = u32::from_le_bytes(empty).wrapping_add(groups);
     let words = [(EMPTY_GROUPS, raised), (BlockHead::MAX_ENTRIES, blocks)];
-    write_words(f, FileId::Block(file), &words)
+    write_words(folder, FileId::Block(file), &words)
 }

@@ -11,7 +11,7 @@ ghost use Rattle.spec_format.specs.BlockFiles as block_files;
 ghost use Rattle.spec_format.specs.BlockFiles.{most_files};
 ghost use Rattle.spec_format.specs.Headers.{block_fields_length};
 ghost use Rattle.blk_addr.specs.Kind.{kind_number};
-ghost use Rattle.blk_io.specs.Faults.{IfDamaged, IfDevice, IsShortFront, damage_of};
+ghost use Rattle.blk_io.specs.Faults.{IfDamaged, IfDevice, IsShortAtStart, damage_of};
 ghost use Rattle.blk_disk.specs.Tables.{all_files, files_of};
 ghost use Rattle.blk_disk.specs.Loading.{HasRoom, IsFresh, IsHeaderDamage, AnswersFileHeader, MayBeNext, ReadsAs, files_left, header_checks, next_of};
 
@@ -70,22 +70,27 @@ fn numbers_word(head: &BlockHead<'_>) -> u32
 
 impl BlockFiles {
     // Reads and checks the header of the next file of a kind.
-    pub(crate) fn read_head<F: Folder>(&self, f: &mut F, kind: Kind, n: u8) -> Result<Head, Fault>
+    pub(crate) fn read_head<F: Folder>(
+        &self,
+        folder: &mut F,
+        kind: Kind,
+        n: u8,
+    ) -> Result<Head, Fault>
         requires { kind_number kind ≢ external }
         ensures room { IfOk result (λ head. HasRoom (length (files_of self.now (kind_number kind)) + 1) head.next) }
         ensures number { IfOk result (λ head. MayBeNext (kind_number kind) head.next) }
         ensures fresh { IfOk result (λ head. IsFresh (all_files self.now ++ n ∷ []) head.next) }
         ensures count { IfOk result (λ head. IsTrue (block_files.is_block_count head.blocks)) }
-        ensures read { ForSome (F.told f.old).files (λ image. ReadsAs self.now image (kind_number kind) n result) }
-        ensures cause { IfDamaged result (IsHeaderDamage (F.told f.old) self.now (kind_number kind) n) }
-        ensures stays { Stays (F.told f.old) (F.told f.new) }
-        ensures later { F.faults f.old ≤ F.faults f.new }
-        ensures device { IfDevice result (Rises (F.faults f.old) (F.faults f.new)) }
+        ensures read { ForSome (F.told folder.old).files (λ image. ReadsAs self.now image (kind_number kind) n result) }
+        ensures cause { IfDamaged result (IsHeaderDamage (F.told folder.old) self.now (kind_number kind) n) }
+        ensures stays { Stays (F.told folder.old) (F.told folder.new) }
+        ensures later { F.faults folder.old ≤ F.faults folder.new }
+        ensures device { IfDevice result (Rises (F.faults folder.old) (F.faults folder.new)) }
     {
         let mut window = [0u8; BlockHead::LEN];
         let file = FileId::Block(n);
-        let given = f.read_at(file, 0, &mut window)?;
-        let size = f.length(file)?.unwrap_or(0);
+        let given = folder.read_at(file, 0, &mut window)?;
+        let size = folder.length(file)?.unwrap_or(0);
         let Some(head) = BlockHead::over(&window) else {
             unreachable!();
         };
@@ -108,7 +113,7 @@ impl BlockFiles {
         ensures fresh { IfOk result (λ head. IsFresh (all_files self.now ++ n ∷ []) head.next) }
         ensures count { IfOk result (λ head. IsTrue (block_files.is_block_count head.blocks)) }
         ensures judged { AnswersFileHeader (first_of (header_checks self.now (kind_number kind) n (content head.now) size)) (content head.now) size given result }
-        ensures cause { IfDamaged result (λ damage. IsShortFront (block_file n) block_fields_length given damage ⊎ (first_of (header_checks self.now (kind_number kind) n (content head.now) size) ≡ Some (damage_of damage))) }
+        ensures cause { IfDamaged result (λ damage. IsShortAtStart (block_file n) block_fields_length given damage ⊎ (first_of (header_checks self.now (kind_number kind) n (content head.now) size) ≡ Some (damage_of damage))) }
         ensures device { IfDevice result ⊥ }
     {
         if BlockHead::HEADER_LEN <= size && given < BlockHead::LEN {

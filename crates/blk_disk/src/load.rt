@@ -37,47 +37,47 @@ impl BlockFiles {
     }
 
     // Loads the files of a kind. Those of the kinds before it are loaded already.
-    fn follow<F: Folder>(&mut self, f: &mut F, kind: Kind) -> Result<(), Fault>
+    fn follow<F: Folder>(&mut self, folder: &mut F, kind: Kind) -> Result<(), Fault>
         requires block_kind { kind_number kind ≢ external }
         requires empty { files_of self.old (kind_number kind) ≡ [] }
-        requires begun { ForSome (F.told f.old).files (λ image. Follows self.old image (kind_number kind - 1) None) }
+        requires begun { ForSome (F.told folder.old).files (λ image. Follows self.old image (kind_number kind - 1) None) }
         requires numbers { AreNumbered (all_files self.old) (kind_number kind - 1) }
-        ensures followed { OnOk result (ForSome (F.told f.new).files (λ image. Follows self.new image (kind_number kind) None)) }
+        ensures followed { OnOk result (ForSome (F.told folder.new).files (λ image. Follows self.new image (kind_number kind) None)) }
         ensures numbers { OnOk result (AreNumbered (all_files self.new) (kind_number kind)) }
         ensures others { OnOk result (KeepsOthers self.old self.new (kind_number kind)) }
-        ensures damaged { IfDamaged result (λ damage. ForSome (F.told f.old).files (λ image. first_block_damage image ≡ Some (damage_of damage))) }
-        ensures cause { IfDamaged result (IsLoadDamage (F.told f.old)) }
-        ensures stays { Stays (F.told f.old) (F.told f.new) }
-        ensures later { F.faults f.old ≤ F.faults f.new }
-        ensures device { IfDevice result (Rises (F.faults f.old) (F.faults f.new)) }
+        ensures damaged { IfDamaged result (λ damage. ForSome (F.told folder.old).files (λ image. first_block_damage image ≡ Some (damage_of damage))) }
+        ensures cause { IfDamaged result (IsLoadDamage (F.told folder.old)) }
+        ensures stays { Stays (F.told folder.old) (F.told folder.new) }
+        ensures later { F.faults folder.old ≤ F.faults folder.new }
+        ensures device { IfDevice result (Rises (F.faults folder.old) (F.faults folder.new)) }
     {
         let mut next = Some(first_file(kind));
         while let Some(n) = next {
-            next = self.link(f, kind, n)?;
+            next = self.link(folder, kind, n)?;
         }
         Ok(())
     }
 
     // Loads the next file of a kind, which isn't linked yet, and gives the one after it.
-    fn link<F: Folder>(&mut self, f: &mut F, kind: Kind, n: u8) -> Result<Option<u8>, Fault>
+    fn link<F: Folder>(&mut self, folder: &mut F, kind: Kind, n: u8) -> Result<Option<u8>, Fault>
         requires block_kind { kind_number kind ≢ external }
         requires room { length (files_of self.old (kind_number kind)) < most_files }
         requires fresh { is_among (all_files self.old) n ≡ false }
-        requires next { ForSome (F.told f.old).files (λ image. Follows self.old image (kind_number kind) (Some n)) }
-        ensures linked { IfOk result (λ next. ForSome (F.told f.new).files (λ image. Follows self.new image (kind_number kind) next)) }
+        requires next { ForSome (F.told folder.old).files (λ image. Follows self.old image (kind_number kind) (Some n)) }
+        ensures linked { IfOk result (λ next. ForSome (F.told folder.new).files (λ image. Follows self.new image (kind_number kind) next)) }
         ensures room { IfOk result (HasRoom (length (files_of self.new (kind_number kind)))) }
         ensures number { IfOk result (MayBeNext (kind_number kind)) }
         ensures fresh { IfOk result (IsFresh (all_files self.new)) }
         ensures taken { OnOk result (TakesUp self.old self.new n) }
         ensures longer { OnOk result (length (files_of self.new (kind_number kind)) ≡ length (files_of self.old (kind_number kind)) + 1) }
         ensures others { OnOk result (KeepsOthers self.old self.new (kind_number kind)) }
-        ensures damaged { IfDamaged result (λ damage. ForSome (F.told f.old).files (λ image. first_block_damage image ≡ Some (damage_of damage))) }
-        ensures cause { IfDamaged result (IsHeaderDamage (F.told f.old) self.old (kind_number kind) n) }
-        ensures stays { Stays (F.told f.old) (F.told f.new) }
-        ensures later { F.faults f.old ≤ F.faults f.new }
-        ensures device { IfDevice result (Rises (F.faults f.old) (F.faults f.new)) }
+        ensures damaged { IfDamaged result (λ damage. ForSome (F.told folder.old).files (λ image. first_block_damage image ≡ Some (damage_of damage))) }
+        ensures cause { IfDamaged result (IsHeaderDamage (F.told folder.old) self.old (kind_number kind) n) }
+        ensures stays { Stays (F.told folder.old) (F.told folder.new) }
+        ensures later { F.faults folder.old ≤ F.faults folder.new }
+        ensures device { IfDevice result (Rises (F.faults folder.old) (F.faults folder.new)) }
     {
-        let head = self.read_head(f, kind, n)?;
+        let head = self.read_head(folder, kind, n)?;
         self.join(kind, n, head.blocks, head.size);
         Ok(head.next)
     }

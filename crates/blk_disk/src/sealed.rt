@@ -80,22 +80,22 @@ impl BlockFiles {
     /// this call.
     pub fn read_record<F: Folder>(
         &self,
-        f: &mut F,
+        folder: &mut F,
         addr: Addr,
         bytes: &mut [u8],
     ) -> Result<(), Fault>
         requires stands { IsTrue (stands_among self.now addr) }
         requires begins { BeginsWithRecord addr }
         requires size { length bytes.old ≡ record_size addr }
-        ensures bytes { OnOk result (ForSome (F.told f.old).files (λ image. bytes.new ≡ record_at image addr)) }
-        ensures checked { OnOk result (ForSome (F.told f.old).files (RecordChecks addr)) }
-        ensures stays { Stays (F.told f.old) (F.told f.new) }
-        ensures damaged { IfDamaged result (IsFailedRecord (F.told f.old) addr (record_size addr)) }
-        ensures untold { ForSome (F.told f.old).files (Agrees self.now) → ForSome (F.told f.old).files (RecordChecks addr) → IfDamaged result (λ _. (F.told f.old).files ≡ None) }
-        ensures later { F.faults f.old ≤ F.faults f.new }
-        ensures device { IfDevice result (Rises (F.faults f.old) (F.faults f.new)) }
+        ensures bytes { OnOk result (ForSome (F.told folder.old).files (λ image. bytes.new ≡ record_at image addr)) }
+        ensures checked { OnOk result (ForSome (F.told folder.old).files (RecordChecks addr)) }
+        ensures stays { Stays (F.told folder.old) (F.told folder.new) }
+        ensures damaged { IfDamaged result (IsFailedRecord (F.told folder.old) addr (record_size addr)) }
+        ensures untold { ForSome (F.told folder.old).files (Agrees self.now) → ForSome (F.told folder.old).files (RecordChecks addr) → IfDamaged result (λ _. (F.told folder.old).files ≡ None) }
+        ensures later { F.faults folder.old ≤ F.faults folder.new }
+        ensures device { IfDevice result (Rises (F.faults folder.old) (F.faults folder.new)) }
     {
-        self.read_block(f, addr, 0, bytes)?;
+        self.read_block(folder, addr, 0, bytes)?;
         let Some(found) = wrong_seal(addr.kind(), bytes) else {
             return Ok(());
         };
@@ -110,7 +110,7 @@ impl BlockFiles {
     /// `Failed` comes only where the folder failed in this call; a prefix of the words has then lasted.
     pub fn update_record<F: Folder>(
         &self,
-        f: &mut F,
+        folder: &mut F,
         addr: Addr,
         bytes: &mut [u8],
         changes: &[(u32, u32)],
@@ -119,21 +119,21 @@ impl BlockFiles {
         requires begins { BeginsWithRecord addr }
         requires changes { AreChanges (seal_place addr) changes.now }
         requires size { length bytes.old ≡ record_size addr }
-        requires agrees { ForSome (F.told f.old).files (Agrees self.now) }
+        requires agrees { ForSome (F.told folder.old).files (Agrees self.now) }
         ensures bytes { bytes.new ≡ sealed (seal_place addr) (with_words changes.now bytes.old) }
-        ensures updated { OnOk result (ForSome (F.told f.old).files (λ from. bytes.old ≡ record_at from addr → ForSome (F.told f.new).files (IsUpdated from addr changes.now))) }
-        ensures agrees { ForSome (F.told f.new).files (Agrees self.now) }
-        ensures steps { OnOk result (Applies (F.told f.old) (F.told f.new) (steps_over bytes.old addr changes.now)) }
-        ensures prefix { AppliesPrefix (F.told f.old) (F.told f.new) (steps_over bytes.old addr changes.now) }
+        ensures updated { OnOk result (ForSome (F.told folder.old).files (λ from. bytes.old ≡ record_at from addr → ForSome (F.told folder.new).files (IsUpdated from addr changes.now))) }
+        ensures agrees { ForSome (F.told folder.new).files (Agrees self.now) }
+        ensures steps { OnOk result (Applies (F.told folder.old) (F.told folder.new) (steps_over bytes.old addr changes.now)) }
+        ensures prefix { AppliesPrefix (F.told folder.old) (F.told folder.new) (steps_over bytes.old addr changes.now) }
 
         // At each word of an update of a record that has these bytes and checks, it still checks and has a prefix of the changes, and nothing else has
         // changed.
-        ensures stops { ForSome (F.told f.old).files (λ from. bytes.old ≡ record_at from addr → RecordChecks addr from → Passes (F.told f.old) (F.told f.new) (IsMidUpdate from addr changes.now)) }
-        ensures later { F.faults f.old ≤ F.faults f.new }
-        ensures failed { OnErr result (Rises (F.faults f.old) (F.faults f.new)) }
+        ensures stops { ForSome (F.told folder.old).files (λ from. bytes.old ≡ record_at from addr → RecordChecks addr from → Passes (F.told folder.old) (F.told folder.new) (IsMidUpdate from addr changes.now)) }
+        ensures later { F.faults folder.old ≤ F.faults folder.new }
+        ensures failed { OnErr result (Rises (F.faults folder.old) (F.faults folder.new)) }
     {
         let seal = seal_after(addr.kind(), bytes, changes);
-        self.write_update(f, addr, changes, seal)
+        self.write_update(folder, addr, changes, seal)
     }
 
     /// Seals the record at the front of an address's blocks: its seal becomes the hash of the bytes before it.
@@ -141,57 +141,57 @@ impl BlockFiles {
     /// The record is read by one folder call, and one word is written where the seal isn't the hash yet. A record that
     /// has too few bytes or doesn't check is corruption, and nothing is written. `Device` comes only where the folder
     /// failed in this call; the word may then be written.
-    pub fn seal<F: Folder>(&self, f: &mut F, addr: Addr) -> Result<(), Fault>
+    pub fn seal<F: Folder>(&self, folder: &mut F, addr: Addr) -> Result<(), Fault>
         requires stands { IsTrue (stands_among self.now addr) }
         requires begins { BeginsWithRecord addr }
-        requires agrees { ForSome (F.told f.old).files (Agrees self.now) }
-        ensures checked { OnOk result (ForSome (F.told f.old).files (RecordChecks addr)) }
-        ensures updated { OnOk result (ForSome (F.told f.old).files (λ from. ForSome (F.told f.new).files (IsUpdated from addr []))) }
-        ensures agrees { ForSome (F.told f.new).files (Agrees self.now) }
-        ensures steps { OnOk result (ForSome (F.told f.old).files (λ from. Applies (F.told f.old) (F.told f.new) (seal_steps from addr))) }
-        ensures prefix { MakesPartOf (F.told f.old) (F.told f.new) (λ from. seal_steps from addr) }
+        requires agrees { ForSome (F.told folder.old).files (Agrees self.now) }
+        ensures checked { OnOk result (ForSome (F.told folder.old).files (RecordChecks addr)) }
+        ensures updated { OnOk result (ForSome (F.told folder.old).files (λ from. ForSome (F.told folder.new).files (IsUpdated from addr []))) }
+        ensures agrees { ForSome (F.told folder.new).files (Agrees self.now) }
+        ensures steps { OnOk result (ForSome (F.told folder.old).files (λ from. Applies (F.told folder.old) (F.told folder.new) (seal_steps from addr))) }
+        ensures prefix { MakesPartOf (F.told folder.old) (F.told folder.new) (λ from. seal_steps from addr) }
 
         // Before and after the word the record checks with its fields, and nothing else has changed.
-        ensures stops { ForSome (F.told f.old).files (λ from. RecordChecks addr from → Passes (F.told f.old) (F.told f.new) (IsMidUpdate from addr [])) }
-        ensures damaged { IfDamaged result (IsFailedRecord (F.told f.old) addr (record_size addr)) }
-        ensures unwritten { IfDamaged result (λ _. Stays (F.told f.old) (F.told f.new)) }
-        ensures untold { ForSome (F.told f.old).files (RecordChecks addr) → IfDamaged result (λ _. (F.told f.old).files ≡ None) }
-        ensures later { F.faults f.old ≤ F.faults f.new }
-        ensures device { IfDevice result (Rises (F.faults f.old) (F.faults f.new)) }
+        ensures stops { ForSome (F.told folder.old).files (λ from. RecordChecks addr from → Passes (F.told folder.old) (F.told folder.new) (IsMidUpdate from addr [])) }
+        ensures damaged { IfDamaged result (IsFailedRecord (F.told folder.old) addr (record_size addr)) }
+        ensures unwritten { IfDamaged result (λ _. Stays (F.told folder.old) (F.told folder.new)) }
+        ensures untold { ForSome (F.told folder.old).files (RecordChecks addr) → IfDamaged result (λ _. (F.told folder.old).files ≡ None) }
+        ensures later { F.faults folder.old ≤ F.faults folder.new }
+        ensures device { IfDevice result (Rises (F.faults folder.old) (F.faults folder.new)) }
     {
         let mut window = [0u8; EntryView::SIZE];
         let bytes = &mut window[..size_of(addr.kind())];
-        self.read_record(f, addr, bytes)?;
-        self.write_seal(f, addr, missing_seal(addr.kind(), bytes))?;
+        self.read_record(folder, addr, bytes)?;
+        self.write_seal(folder, addr, missing_seal(addr.kind(), bytes))?;
         Ok(())
     }
 
     // Writes a seal, where it is missing.
     fn write_seal<F: Folder>(
         &self,
-        f: &mut F,
+        folder: &mut F,
         addr: Addr,
         missing: Option<u32>,
     ) -> Result<(), Failed>
         requires stands { IsTrue (stands_among self.now addr) }
         requires begins { BeginsWithRecord addr }
-        requires agrees { ForSome (F.told f.old).files (Agrees self.now) }
-        ensures steps { OnOk result (Applies (F.told f.old) (F.told f.new) (missing_steps addr missing)) }
-        ensures prefix { AppliesPrefix (F.told f.old) (F.told f.new) (missing_steps addr missing) }
-        ensures later { F.faults f.old ≤ F.faults f.new }
-        ensures failed { OnErr result (Rises (F.faults f.old) (F.faults f.new)) }
+        requires agrees { ForSome (F.told folder.old).files (Agrees self.now) }
+        ensures steps { OnOk result (Applies (F.told folder.old) (F.told folder.new) (missing_steps addr missing)) }
+        ensures prefix { AppliesPrefix (F.told folder.old) (F.told folder.new) (missing_steps addr missing) }
+        ensures later { F.faults folder.old ≤ F.faults folder.new }
+        ensures failed { OnErr result (Rises (F.faults folder.old) (F.faults folder.new)) }
     {
         let Some(seal) = missing else {
             return Ok(());
         };
         let at = place_of(addr) + u64::from(seal_of(addr.kind()));
-        write_word(f, file_of(addr), at, seal)
+        write_word(folder, file_of(addr), at, seal)
     }
 
     // Writes the words of an update, this seal last.
     fn write_update<F: Folder>(
         &self,
-        f: &mut F,
+        folder: &mut F,
         addr: Addr,
         changes: &[(u32, u32)],
         seal: u32,
@@ -199,14 +199,14 @@ impl BlockFiles {
         requires stands { IsTrue (stands_among self.now addr) }
         requires begins { BeginsWithRecord addr }
         requires changes { AreChanges (seal_place addr) changes.now }
-        requires agrees { ForSome (F.told f.old).files (Agrees self.now) }
-        ensures steps { OnOk result (Applies (F.told f.old) (F.told f.new) (update_steps addr changes.now seal)) }
-        ensures prefix { AppliesPrefix (F.told f.old) (F.told f.new) (update_steps addr changes.now seal) }
-        ensures later { F.faults f.old ≤ F.faults f.new }
-        ensures failed { OnErr result (Rises (F.faults f.old) (F.faults f.new)) }
+        requires agrees { ForSome (F.told folder.old).files (Agrees self.now) }
+        ensures steps { OnOk result (Applies (F.told folder.old) (F.told folder.new) (update_steps addr changes.now seal)) }
+        ensures prefix { AppliesPrefix (F.told folder.old) (F.told folder.new) (update_steps addr changes.now seal) }
+        ensures later { F.faults folder.old ≤ F.faults folder.new }
+        ensures failed { OnErr result (Rises (F.faults folder.old) (F.faults folder.new)) }
     {
         let words = words_of(place_of(addr), changes, seal_of(addr.kind()), seal);
-        write_words(f, file_of(addr), &words)
+        write_words(folder, file_of(addr), &words)
     }
 }
 

@@ -573,15 +573,15 @@ split_same f i k rest fits piece = (λ left. sym (take-append-drop k rest) ∙ (
     size = let h = length-drop k rest in omega (arith, h, fits)
 
 -- the piece is the same where all is
-pub front_same : (f : ℕ → ℕ) (i k : ℕ) (rest : List ℕ) → k ≤ length rest → rest ≡ range_at f i (length rest) → take k rest ≡ range_at f i k
-front_same f i k rest fits all = ap (take k) all ∙ take-range k (length rest) i f fits
+pub prefix_same : (f : ℕ → ℕ) (i k : ℕ) (rest : List ℕ) → k ≤ length rest → rest ≡ range_at f i (length rest) → take k rest ≡ range_at f i k
+prefix_same f i k rest fits all = ap (take k) all ∙ take-range k (length rest) i f fits
 
 module _ (image : Image) (w at k : ℕ) (rest piece more : List ℕ) (front : piece ≡ take k rest) (back : more ≡ drop k rest) (fits : k ≤ length rest) where
   size_of_piece : length piece ≡ k
   size_of_piece = let h = length-take k rest in ap length front ∙ omega (arith, h, fits)
 
   pub first_same : rest ≡ data_at image w at (length rest) → piece ≡ data_at image w at (length piece)
-  first_same all = front ∙ front_same (byte image (data_file w)) (data_start w + at) k rest fits all ∙ ap (range_at (byte image (data_file w)) (data_start w + at)) (sym size_of_piece)
+  first_same all = front ∙ prefix_same (byte image (data_file w)) (data_start w + at) k rest fits all ∙ ap (range_at (byte image (data_file w)) (data_start w + at)) (sym size_of_piece)
 
   pub next_same : (P : Type 0) → piece ≡ data_at image w at (length piece) → (rest ≡ data_at image w at (length rest)) ↔ P → (more ≡ data_at image w (at + length piece) (length more)) ↔ P
   next_same P same whole =

@@ -66,9 +66,9 @@ plain-alike f g i a = λ k. record {
 }
 
 -- the front of a record as a range
-front_of_range : (f : ℕ → ℕ) (i : ℕ) → take 32 (range_at f i 36) ≡ range_at f i 32
+prefix_of_range : (f : ℕ → ℕ) (i : ℕ) → take 32 (range_at f i 36) ≡ range_at f i 32
 unfolding range_at
-front_of_range f i = refl
+prefix_of_range f i = refl
 
 -- a node that is alike but for its dirty word, and whose seal is the hash of its bytes
 sealed-alike : (f g : ℕ → ℕ) (i mark : ℕ) → AreAlike f g i → word_at g (i + 28) ≡ mark → ((k : ℕ) → g k < 256) → word_at g (i + 32) ≡ hash (range_at g i 32) → node_in g i ≡ sealed_node (record (node_in f i) { dirty = mark })
@@ -142,7 +142,7 @@ module _ (from image : Image) (w mark : ℕ) (kind : kind_of w ≡ rankings) (sm
       let g : ℕ → ℕ = byte image (Block (file_selector w)) in
       let dirty : word_at (content (record_at image w)) 28 ≡ mark = updated_is_new from image w (dirty_change mark) are done 0 (28, mark) (omega arith) (All-cons (λ c. c.1 < 2 ^ 32) (28, mark) [] small (All-nil (λ c. c.1 < 2 ^ 32))) in
       let seal : word_at (content (record_at image w)) 32 ≡ seal_of 32 (record_at image w) = subst (λ (n : ℕ). word_at (content (record_at image w)) n ≡ seal_of n (record_at image w)) s (updated_seal from image w (dirty_change mark) are done) in
-      let front : take 32 (record_at image w) ≡ range_at g (place w) 32 = ap (λ (n : ℕ). take 32 (range_at g (place w) n)) size ∙ front_of_range g (place w) in
+      let front : take 32 (record_at image w) ≡ range_at g (place w) 32 = ap (λ (n : ℕ). take 32 (range_at g (place w) n)) size ∙ prefix_of_range g (place w) in
       sealed-alike f g (place w) mark
       (alike f g (place w) (λ q j e aligned low. file_word q j e (omega (arith, low)) aligned (updated_stays from image w (dirty_change mark) are done q aligned (omega (arith, s, low)) (All-cons (λ c. c.0 ≢ q) (28, mark) [] (λ same. omega (arith, same, low)) (All-nil (λ c. c.0 ≢ q))))))
       (sym (here image 28 (omega arith)) ∙ dirty) (below (Block (file_selector w))) (sym (here image 32 (omega arith)) ∙ seal ∙ ap hash front)

@@ -64,7 +64,7 @@ pub fn key_equals<F: Folder>(
 /// A failed check is a read of a piece that gave too few bytes, a length that the key can't have, or the word of a long
 /// key that isn't a valid address which stores the key.
 pub fn key_is<F: Folder>(
-    f: &mut F,
+    folder: &mut F,
     files: &BlockFiles,
     entry: Addr,
     head: &Head,
@@ -74,50 +74,50 @@ pub fn key_is<F: Folder>(
     requires stands { IsTrue (stands_among files.now entry) }
 
     // The bytes where those words say that the key lies are the key, and so its key is where they are the record's.
-    ensures bytes { IfOk result (λ same. ForSome (F.told f.old).files (λ image. IsTrue same ↔ AreKeyBytes key.now entry head.now.key_len head.now.long_key image)) }
-    ensures equal { IfOk result (λ same. ForSome (F.told f.old).files (λ image. IsRecordHead image entry head.now → HasReadableKey entry image → IsTrue same ↔ (key_at image entry ≡ Some key.now))) }
+    ensures bytes { IfOk result (λ same. ForSome (F.told folder.old).files (λ image. IsTrue same ↔ AreKeyBytes key.now entry head.now.key_len head.now.long_key image)) }
+    ensures equal { IfOk result (λ same. ForSome (F.told folder.old).files (λ image. IsRecordHead image entry head.now → HasReadableKey entry image → IsTrue same ↔ (key_at image entry ≡ Some key.now))) }
 
     // Where the length is the key's, the key has a place; where it is the same, its bytes are in the file.
     ensures placed { OnOk result (head.now.key_len ≡ length key.now → IsPlaced files.now entry head.now.key_len head.now.long_key) }
-    ensures there { IfOk result (λ same. IsTrue same → ForSome (F.told f.old).files (HasData (key_address entry head.now.key_len head.now.long_key) (bytes_before head.now.key_len) (length key.now))) }
-    ensures stays { Stays (F.told f.old) (F.told f.new) }
+    ensures there { IfOk result (λ same. IsTrue same → ForSome (F.told folder.old).files (HasData (key_address entry head.now.key_len head.now.long_key) (bytes_before head.now.key_len) (length key.now))) }
+    ensures stays { Stays (F.told folder.old) (F.told folder.new) }
 
     // An observable folder reports corruption only where the record has no key to read, or the words are others.
-    ensures damaged { IfDamaged result (IsPlaceDamage files.now (F.told f.old) entry (length key.now) head.now.long_key) }
-    ensures untold { ForSome (F.told f.old).files (CanBeRead files.now entry) → ForSome (F.told f.old).files (λ image. IsRecordHead image entry head.now) → IfDamaged result (λ _. (F.told f.old).files ≡ None) }
+    ensures damaged { IfDamaged result (IsPlaceDamage files.now (F.told folder.old) entry (length key.now) head.now.long_key) }
+    ensures untold { ForSome (F.told folder.old).files (CanBeRead files.now entry) → ForSome (F.told folder.old).files (λ image. IsRecordHead image entry head.now) → IfDamaged result (λ _. (F.told folder.old).files ≡ None) }
 
-    ensures later { F.faults f.old ≤ F.faults f.new }
-    ensures device { IfDevice result (Rises (F.faults f.old) (F.faults f.new)) }
+    ensures later { F.faults folder.old ≤ F.faults folder.new }
+    ensures device { IfDevice result (Rises (F.faults folder.old) (F.faults folder.new)) }
 {
     if head.key_len as usize != key.len() {
         return Ok(false);
     }
     let place = key_place(files, entry, *head)?;
-    data_is(f, files, place.addr, place.skip, key)
+    data_is(folder, files, place.addr, place.skip, key)
 }
 
 // Whether these bytes are those of the data of an address, from a place in it on.
 fn data_is<F: Folder>(
-    f: &mut F,
+    folder: &mut F,
     files: &BlockFiles,
     addr: Addr,
     at: u32,
     bytes: &[u8],
 ) -> Result<bool, Fault>
     requires inside { IsInside files.now addr at (length bytes.now) }
-    ensures same { IfOk result (λ same. ForSome (F.told f.old).files (λ image. IsTrue same ↔ (bytes.now ≡ data_at image addr at (length bytes.now)))) }
-    ensures short { IfDamaged result (IsCutPiece (F.told f.old) addr at (length bytes.now)) }
-    ensures there { IfOk result (λ same. IsTrue same → ForSome (F.told f.old).files (HasData addr at (length bytes.now))) }
-    ensures untold { ForSome (F.told f.old).files (Agrees files.now) → ForSome (F.told f.old).files (IsInFile addr at (length bytes.now)) → IfDamaged result (λ _. (F.told f.old).files ≡ None) }
-    ensures stays { Stays (F.told f.old) (F.told f.new) }
-    ensures later { F.faults f.old ≤ F.faults f.new }
-    ensures device { IfDevice result (Rises (F.faults f.old) (F.faults f.new)) }
+    ensures same { IfOk result (λ same. ForSome (F.told folder.old).files (λ image. IsTrue same ↔ (bytes.now ≡ data_at image addr at (length bytes.now)))) }
+    ensures short { IfDamaged result (IsCutPiece (F.told folder.old) addr at (length bytes.now)) }
+    ensures there { IfOk result (λ same. IsTrue same → ForSome (F.told folder.old).files (HasData addr at (length bytes.now))) }
+    ensures untold { ForSome (F.told folder.old).files (Agrees files.now) → ForSome (F.told folder.old).files (IsInFile addr at (length bytes.now)) → IfDamaged result (λ _. (F.told folder.old).files ≡ None) }
+    ensures stays { Stays (F.told folder.old) (F.told folder.new) }
+    ensures later { F.faults folder.old ≤ F.faults folder.new }
+    ensures device { IfDevice result (Rises (F.faults folder.old) (F.faults folder.new)) }
 {
     let mut place = at;
     let mut rest = bytes;
     while !rest.is_empty() {
         let (piece, more) = rest.split_at(rest.len().min(PIECE));
-        if !piece_is(f, files, addr, place, piece)? {
+        if !piece_is(folder, files, addr, place, piece)? {
             return Ok(false);
         }
         place += piece.len() as u32;
@@ -128,7 +128,7 @@ fn data_is<F: Folder>(
 
 // The same for a few bytes.
 fn piece_is<F: Folder>(
-    f: &mut F,
+    folder: &mut F,
     files: &BlockFiles,
     addr: Addr,
     at: u32,
@@ -136,16 +136,16 @@ fn piece_is<F: Folder>(
 ) -> Result<bool, Fault>
     requires few { length bytes.now ≤ 16398 }
     requires inside { IsInside files.now addr at (length bytes.now) }
-    ensures same { IfOk result (λ same. ForSome (F.told f.old).files (λ image. IsTrue same ↔ (bytes.now ≡ data_at image addr at (length bytes.now)))) }
-    ensures short { IfDamaged result (IsCut (F.told f.old) addr at (length bytes.now)) }
-    ensures there { IfOk result (λ same. IsTrue same → ForSome (F.told f.old).files (HasData addr at (length bytes.now))) }
-    ensures untold { ForSome (F.told f.old).files (Agrees files.now) → ForSome (F.told f.old).files (IsInFile addr at (length bytes.now)) → IfDamaged result (λ _. (F.told f.old).files ≡ None) }
-    ensures stays { Stays (F.told f.old) (F.told f.new) }
-    ensures later { F.faults f.old ≤ F.faults f.new }
-    ensures device { IfDevice result (Rises (F.faults f.old) (F.faults f.new)) }
+    ensures same { IfOk result (λ same. ForSome (F.told folder.old).files (λ image. IsTrue same ↔ (bytes.now ≡ data_at image addr at (length bytes.now)))) }
+    ensures short { IfDamaged result (IsCut (F.told folder.old) addr at (length bytes.now)) }
+    ensures there { IfOk result (λ same. IsTrue same → ForSome (F.told folder.old).files (HasData addr at (length bytes.now))) }
+    ensures untold { ForSome (F.told folder.old).files (Agrees files.now) → ForSome (F.told folder.old).files (IsInFile addr at (length bytes.now)) → IfDamaged result (λ _. (F.told folder.old).files ≡ None) }
+    ensures stays { Stays (F.told folder.old) (F.told folder.new) }
+    ensures later { F.faults folder.old ≤ F.faults folder.new }
+    ensures device { IfDevice result (Rises (F.faults folder.old) (F.faults folder.new)) }
 {
     let mut buffer = [0u8; PIECE];
     let piece = &mut buffer[..bytes.len()];
-    read_data(f, files, addr, at, piece)?;
+    read_data(folder, files, addr, at, piece)?;
     Ok(*bytes == *piece)
 }

@@ -20,50 +20,50 @@ use blk_io::{Failed, Fault, Folder};
 /// One folder call reads them. Too few bytes are corruption: the error has the place of the read, and finds how many
 /// bytes there were.
 pub fn read_data<F: Folder>(
-    f: &mut F,
+    folder: &mut F,
     files: &BlockFiles,
     addr: Addr,
     at: u32,
     out: &mut [u8],
 ) -> Result<(), Fault>
     requires inside { IsInside files.now addr at (length out.old) }
-    ensures bytes { OnOk result (ForSome (F.told f.old).files (λ image. out.new ≡ data_at image addr at (length out.old))) }
-    ensures checked { OnOk result (ForSome (F.told f.old).files (HasData addr at (length out.old))) }
-    ensures stays { Stays (F.told f.old) (F.told f.new) }
+    ensures bytes { OnOk result (ForSome (F.told folder.old).files (λ image. out.new ≡ data_at image addr at (length out.old))) }
+    ensures checked { OnOk result (ForSome (F.told folder.old).files (HasData addr at (length out.old))) }
+    ensures stays { Stays (F.told folder.old) (F.told folder.new) }
 
     // Too few bytes, which an observable folder gives only where its external file is too short.
-    ensures short { IfDamaged result (IsCut (F.told f.old) addr at (length out.old)) }
-    ensures untold { ForSome (F.told f.old).files (Agrees files.now) → ForSome (F.told f.old).files (IsInFile addr at (length out.old)) → IfDamaged result (λ _. (F.told f.old).files ≡ None) }
+    ensures short { IfDamaged result (IsCut (F.told folder.old) addr at (length out.old)) }
+    ensures untold { ForSome (F.told folder.old).files (Agrees files.now) → ForSome (F.told folder.old).files (IsInFile addr at (length out.old)) → IfDamaged result (λ _. (F.told folder.old).files ≡ None) }
 
-    ensures later { F.faults f.old ≤ F.faults f.new }
-    ensures device { IfDevice result (Rises (F.faults f.old) (F.faults f.new)) }
+    ensures later { F.faults folder.old ≤ F.faults folder.new }
+    ensures device { IfDevice result (Rises (F.faults folder.old) (F.faults folder.new)) }
 {
     if is_of(addr, Kind::External) {
-        blk_external::read(f, addr, u64::from(at), out)
+        blk_external::read(folder, addr, u64::from(at), out)
     } else {
-        files.read_block(f, addr, at, out)
+        files.read_block(folder, addr, at, out)
     }
 }
 
 // Writes bytes of the data of an address, and one zero byte after them.
 pub(crate) fn write_ended<F: Folder>(
-    f: &mut F,
+    folder: &mut F,
     files: &BlockFiles,
     addr: Addr,
     at: u32,
     bytes: &[u8],
 ) -> Result<(), Failed>
     requires inside { IsInside files.now addr at (length bytes.now + 1) }
-    requires agrees { ForSome (F.told f.old).files (Agrees files.now) }
-    requires external { ForSome (F.told f.old).files (IsInFile addr at (length bytes.now + 1)) }
-    ensures steps { OnOk result (Applies (F.told f.old) (F.told f.new) (ended_steps addr at bytes.now)) }
-    ensures prefix { AppliesPrefix (F.told f.old) (F.told f.new) (ended_steps addr at bytes.now) }
-    ensures agrees { ForSome (F.told f.new).files (Agrees files.now) }
-    ensures later { F.faults f.old ≤ F.faults f.new }
-    ensures failed { OnErr result (Rises (F.faults f.old) (F.faults f.new)) }
+    requires agrees { ForSome (F.told folder.old).files (Agrees files.now) }
+    requires external { ForSome (F.told folder.old).files (IsInFile addr at (length bytes.now + 1)) }
+    ensures steps { OnOk result (Applies (F.told folder.old) (F.told folder.new) (ended_steps addr at bytes.now)) }
+    ensures prefix { AppliesPrefix (F.told folder.old) (F.told folder.new) (ended_steps addr at bytes.now) }
+    ensures agrees { ForSome (F.told folder.new).files (Agrees files.now) }
+    ensures later { F.faults folder.old ≤ F.faults folder.new }
+    ensures failed { OnErr result (Rises (F.faults folder.old) (F.faults folder.new)) }
 {
-    write_data(f, files, addr, at, bytes)?;
-    write_data(f, files, addr, at + bytes.len() as u32, &[0])
+    write_data(folder, files, addr, at, bytes)?;
+    write_data(folder, files, addr, at + bytes.len() as u32, &[0])
 }
 
 /// Writes bytes of the data of an address, from a place in it on, one word after another: over its blocks,
@@ -72,29 +72,29 @@ pub(crate) fn write_ended<F: Folder>(
 /// One folder call writes them. `Failed` comes only where the folder failed in this call; a prefix of the words has
 /// then lasted.
 pub fn write_data<F: Folder>(
-    f: &mut F,
+    folder: &mut F,
     files: &BlockFiles,
     addr: Addr,
     at: u32,
     bytes: &[u8],
 ) -> Result<(), Failed>
     requires inside { IsInside files.now addr at (length bytes.now) }
-    requires agrees { ForSome (F.told f.old).files (Agrees files.now) }
-    requires external { ForSome (F.told f.old).files (IsInFile addr at (length bytes.now)) }
-    ensures agrees { ForSome (F.told f.new).files (Agrees files.now) }
-    ensures steps { OnOk result (Applies (F.told f.old) (F.told f.new) (data_steps addr at bytes.now)) }
-    ensures prefix { AppliesPrefix (F.told f.old) (F.told f.new) (data_steps addr at bytes.now) }
+    requires agrees { ForSome (F.told folder.old).files (Agrees files.now) }
+    requires external { ForSome (F.told folder.old).files (IsInFile addr at (length bytes.now)) }
+    ensures agrees { ForSome (F.told folder.new).files (Agrees files.now) }
+    ensures steps { OnOk result (Applies (F.told folder.old) (F.told folder.new) (data_steps addr at bytes.now)) }
+    ensures prefix { AppliesPrefix (F.told folder.old) (F.told folder.new) (data_steps addr at bytes.now) }
 
     // At each word no other byte has changed.
-    ensures outside { ForSome (F.told f.old).files (λ from. Passes (F.told f.old) (F.told f.new) (SameOutside (data_range addr at (length bytes.now)) from)) }
+    ensures outside { ForSome (F.told folder.old).files (λ from. Passes (F.told folder.old) (F.told folder.new) (SameOutside (data_range addr at (length bytes.now)) from)) }
 
-    ensures later { F.faults f.old ≤ F.faults f.new }
-    ensures failed { OnErr result (Rises (F.faults f.old) (F.faults f.new)) }
+    ensures later { F.faults folder.old ≤ F.faults folder.new }
+    ensures failed { OnErr result (Rises (F.faults folder.old) (F.faults folder.new)) }
 {
     if is_of(addr, Kind::External) {
-        blk_external::write(f, addr, u64::from(at), bytes)
+        blk_external::write(folder, addr, u64::from(at), bytes)
     } else {
-        files.write_block(f, addr, at, bytes)
+        files.write_block(folder, addr, at, bytes)
     }
 }
 

@@ -46,23 +46,23 @@ pub fn field<F: Folder>(f: &mut F, files: &BlockFiles, entry: Addr, at: u32) -> 
 ///
 /// One folder call reads its word. A failed check is a read that gave too few bytes, or a word that is no address of a
 /// node which is there.
-pub fn node_of<F: Folder>(f: &mut F, files: &BlockFiles, entry: Addr) -> Result<Addr, Fault>
+pub fn node_of<F: Folder>(folder: &mut F, files: &BlockFiles, entry: Addr) -> Result<Addr, Fault>
     requires kind { kind_of entry ≡ blocks_256 }
     requires stands { IsTrue (stands_among files.now entry) }
-    ensures node { IfOk result (λ node. ForSome (F.told f.old).files (λ image. node ≡ (entry_at image entry).rankings_node)) }
+    ensures node { IfOk result (λ node. ForSome (F.told folder.old).files (λ image. node ≡ (entry_at image entry).rankings_node)) }
     ensures kind { IfOk result (λ node. kind_of node ≡ rankings) }
     ensures stands { IfOk result (λ node. IsTrue (stands_among files.now node)) }
-    ensures checked { OnOk result (ForSome (F.told f.old).files (λ image. HasRange image (block (file_selector entry)) (place entry + node_place) 4)) }
-    ensures stays { Stays (F.told f.old) (F.told f.new) }
+    ensures checked { OnOk result (ForSome (F.told folder.old).files (λ image. HasRange image (block (file_selector entry)) (place entry + node_place) 4)) }
+    ensures stays { Stays (F.told folder.old) (F.told folder.new) }
 
     // An observable folder reports corruption only where the word is of no node that is there.
-    ensures damaged { IfDamaged result (IsNodeWordDamage files.now (F.told f.old) (FileId.Block (file_selector entry)) (place entry + node_place)) }
-    ensures untold { ForSome (F.told f.old).files (Agrees files.now) → ForSome (F.told f.old).files (λ image. is_node_among files.now (entry_at image entry).rankings_node ≡ true) → IfDamaged result (λ _. (F.told f.old).files ≡ None) }
+    ensures damaged { IfDamaged result (IsNodeWordDamage files.now (F.told folder.old) (FileId.Block (file_selector entry)) (place entry + node_place)) }
+    ensures untold { ForSome (F.told folder.old).files (Agrees files.now) → ForSome (F.told folder.old).files (λ image. is_node_among files.now (entry_at image entry).rankings_node ≡ true) → IfDamaged result (λ _. (F.told folder.old).files ≡ None) }
 
-    ensures later { F.faults f.old ≤ F.faults f.new }
-    ensures device { IfDevice result (Rises (F.faults f.old) (F.faults f.new)) }
+    ensures later { F.faults folder.old ≤ F.faults folder.new }
+    ensures device { IfDevice result (Rises (F.faults folder.old) (F.faults folder.new)) }
 {
-    let word = field(f, files, entry, EntryView::NODE)?;
+    let word = field(folder, files, entry, EntryView::NODE)?;
     match files.node(word) {
         Some(node) => Ok(node),
         None => Err(record_damage(entry, EntryView::NODE, word)),

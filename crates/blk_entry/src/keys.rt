@@ -102,22 +102,22 @@ pub fn key_piece<F: Folder>(
 /// Reads the words of a record that say what it is, by one folder call.
 ///
 /// A failed check is a read that gave too few bytes, or a record that doesn't check.
-pub fn read_head<F: Folder>(f: &mut F, files: &BlockFiles, entry: Addr) -> Result<Head, Fault>
+pub fn read_head<F: Folder>(folder: &mut F, files: &BlockFiles, entry: Addr) -> Result<Head, Fault>
     requires kind { kind_of entry ≡ blocks_256 }
     requires stands { IsTrue (stands_among files.now entry) }
-    ensures head { IfOk result (λ head. ForSome (F.told f.old).files (λ image. IsRecordHead image entry head)) }
-    ensures checked { OnOk result (ForSome (F.told f.old).files (HasRecord entry)) }
-    ensures stays { Stays (F.told f.old) (F.told f.new) }
+    ensures head { IfOk result (λ head. ForSome (F.told folder.old).files (λ image. IsRecordHead image entry head)) }
+    ensures checked { OnOk result (ForSome (F.told folder.old).files (HasRecord entry)) }
+    ensures stays { Stays (F.told folder.old) (F.told folder.new) }
 
     // An observable folder reports corruption only for a record that doesn't check.
-    ensures damaged { IfDamaged result (IsHeadDamage (F.told f.old) entry) }
-    ensures untold { ForSome (F.told f.old).files (Agrees files.now) → ForSome (F.told f.old).files (RecordChecks entry) → IfDamaged result (λ _. (F.told f.old).files ≡ None) }
+    ensures damaged { IfDamaged result (IsHeadDamage (F.told folder.old) entry) }
+    ensures untold { ForSome (F.told folder.old).files (Agrees files.now) → ForSome (F.told folder.old).files (RecordChecks entry) → IfDamaged result (λ _. (F.told folder.old).files ≡ None) }
 
-    ensures later { F.faults f.old ≤ F.faults f.new }
-    ensures device { IfDevice result (Rises (F.faults f.old) (F.faults f.new)) }
+    ensures later { F.faults folder.old ≤ F.faults folder.new }
+    ensures device { IfDevice result (Rises (F.faults folder.old) (F.faults folder.new)) }
 {
     let mut window = [0u8; EntryView::SIZE];
-    files.read_block(f, entry, 0, &mut window)?;
+    files.read_block(folder, entry, 0, &mut window)?;
     let Some(record) = EntryView::over(&window) else {
         unreachable!();
     };

@@ -30,7 +30,7 @@ pub fn set_dirty<F: Folder>(
     ensures later { F.faults f.old ≤ F.faults f.new }
     ensures device { IfDevice result (Rises (F.faults f.old) (F.faults f.new)) }
 {
-    write_mark(f, files, node, mark)
+    set_dirty_word(f, files, node, mark)
 }
 
 /// Marks a node clean: its dirty word becomes 0, in the same way.
@@ -42,19 +42,24 @@ pub fn set_clean<F: Folder>(f: &mut F, files: &BlockFiles, node: Addr) -> Result
     ensures later { F.faults f.old ≤ F.faults f.new }
     ensures device { IfDevice result (Rises (F.faults f.old) (F.faults f.new)) }
 {
-    write_mark(f, files, node, 0)
+    set_dirty_word(f, files, node, 0)
 }
 
 // Makes the dirty word of a node this one.
-fn write_mark<F: Folder>(f: &mut F, files: &BlockFiles, node: Addr, mark: u32) -> Result<(), Fault>
+fn set_dirty_word<F: Folder>(
+    folder: &mut F,
+    files: &BlockFiles,
+    node: Addr,
+    mark: u32,
+) -> Result<(), Fault>
     requires kind { kind_of node ≡ rankings }
     requires stands { IsTrue (stands_among files.now node) }
-    requires agrees { ForSome (F.told f.old).files (Agrees files.now) }
-    ensures sets { SetsDirty files.now (F.told f.old) (F.told f.new) node mark result }
-    ensures later { F.faults f.old ≤ F.faults f.new }
-    ensures device { IfDevice result (Rises (F.faults f.old) (F.faults f.new)) }
+    requires agrees { ForSome (F.told folder.old).files (Agrees files.now) }
+    ensures sets { SetsDirty files.now (F.told folder.old) (F.told folder.new) node mark result }
+    ensures later { F.faults folder.old ≤ F.faults folder.new }
+    ensures device { IfDevice result (Rises (F.faults folder.old) (F.faults folder.new)) }
 {
     // That the word is one of an address is known once it is read.
     let _word = node.word();
-    files.update_sealed(f, node, &[(NodeView::DIRTY, mark)])
+    files.update_sealed(folder, node, &[(NodeView::DIRTY, mark)])
 }

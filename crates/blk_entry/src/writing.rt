@@ -90,107 +90,107 @@ pub fn write_entry<F: Folder>(
 
 // Writes the key and its zero byte, then the record and the node.
 fn write_places<F: Folder>(
-    f: &mut F,
+    folder: &mut F,
     files: &BlockFiles,
     new: NewEntry,
     key: &[u8],
     moment: u64,
 ) -> Result<(), Failed>
     requires fits { FitsKey files.now new key.now }
-    requires agrees { ForSome (F.told f.old).files (Agrees files.now) }
-    requires external { ForSome (F.told f.old).files (HoldsLongKey new.long_key (length key.now)) }
-    ensures steps { OnOk result (Applies (F.told f.old) (F.told f.new) (entry_steps new key.now moment)) }
-    ensures prefix { AppliesPrefix (F.told f.old) (F.told f.new) (entry_steps new key.now moment) }
+    requires agrees { ForSome (F.told folder.old).files (Agrees files.now) }
+    requires external { ForSome (F.told folder.old).files (HoldsLongKey new.long_key (length key.now)) }
+    ensures steps { OnOk result (Applies (F.told folder.old) (F.told folder.new) (entry_steps new key.now moment)) }
+    ensures prefix { AppliesPrefix (F.told folder.old) (F.told folder.new) (entry_steps new key.now moment) }
     ensures words { AreWords new }
-    ensures later { F.faults f.old ≤ F.faults f.new }
-    ensures failed { OnErr result (Rises (F.faults f.old) (F.faults f.new)) }
+    ensures later { F.faults folder.old ≤ F.faults folder.new }
+    ensures failed { OnErr result (Rises (F.faults folder.old) (F.faults folder.new)) }
 {
-    write_key(f, files, &new, key)?;
-    write_records(f, files, &new, key, moment)
+    write_key(folder, files, &new, key)?;
+    write_records(folder, files, &new, key, moment)
 }
 
 // Writes a key at its place, and one zero byte after it.
 fn write_key<F: Folder>(
-    f: &mut F,
+    folder: &mut F,
     files: &BlockFiles,
     new: &NewEntry,
     key: &[u8],
 ) -> Result<(), Failed>
     requires fits { FitsKey files.now new.now key.now }
-    requires agrees { ForSome (F.told f.old).files (Agrees files.now) }
-    requires external { ForSome (F.told f.old).files (HoldsLongKey new.now.long_key (length key.now)) }
-    ensures steps { OnOk result (Applies (F.told f.old) (F.told f.new) (key_steps new.now key.now)) }
-    ensures prefix { AppliesPrefix (F.told f.old) (F.told f.new) (key_steps new.now key.now) }
-    ensures agrees { ForSome (F.told f.new).files (Agrees files.now) }
-    ensures later { F.faults f.old ≤ F.faults f.new }
-    ensures failed { OnErr result (Rises (F.faults f.old) (F.faults f.new)) }
+    requires agrees { ForSome (F.told folder.old).files (Agrees files.now) }
+    requires external { ForSome (F.told folder.old).files (HoldsLongKey new.now.long_key (length key.now)) }
+    ensures steps { OnOk result (Applies (F.told folder.old) (F.told folder.new) (key_steps new.now key.now)) }
+    ensures prefix { AppliesPrefix (F.told folder.old) (F.told folder.new) (key_steps new.now key.now) }
+    ensures agrees { ForSome (F.told folder.new).files (Agrees files.now) }
+    ensures later { F.faults folder.old ≤ F.faults folder.new }
+    ensures failed { OnErr result (Rises (F.faults folder.old) (F.faults folder.new)) }
 {
     match &new.long_key {
-        Some(addr) => write_ended(f, files, *addr, 0, key),
-        None => write_ended(f, files, new.entry, EntryView::SIZE as u32, key),
+        Some(addr) => write_ended(folder, files, *addr, 0, key),
+        None => write_ended(folder, files, new.entry, EntryView::SIZE as u32, key),
     }
 }
 
 // Writes the record and the node.
 fn write_records<F: Folder>(
-    f: &mut F,
+    folder: &mut F,
     files: &BlockFiles,
     new: &NewEntry,
     key: &[u8],
     moment: u64,
 ) -> Result<(), Failed>
     requires fits { FitsKey files.now new.now key.now }
-    requires agrees { ForSome (F.told f.old).files (Agrees files.now) }
-    ensures steps { OnOk result (Applies (F.told f.old) (F.told f.new) (record_steps new.now key.now moment ++ node_steps new.now moment)) }
-    ensures prefix { AppliesPrefix (F.told f.old) (F.told f.new) (record_steps new.now key.now moment ++ node_steps new.now moment) }
-    ensures later { F.faults f.old ≤ F.faults f.new }
-    ensures failed { OnErr result (Rises (F.faults f.old) (F.faults f.new)) }
+    requires agrees { ForSome (F.told folder.old).files (Agrees files.now) }
+    ensures steps { OnOk result (Applies (F.told folder.old) (F.told folder.new) (record_steps new.now key.now moment ++ node_steps new.now moment)) }
+    ensures prefix { AppliesPrefix (F.told folder.old) (F.told folder.new) (record_steps new.now key.now moment ++ node_steps new.now moment) }
+    ensures later { F.faults folder.old ≤ F.faults folder.new }
+    ensures failed { OnErr result (Rises (F.faults folder.old) (F.faults folder.new)) }
 {
-    write_record(f, files, new, key, moment)?;
-    write_node(f, files, new, moment)
+    write_record(folder, files, new, key, moment)?;
+    write_node(folder, files, new, moment)
 }
 
 // Writes the record, and zeros in the place of a key that lies elsewhere.
 fn write_record<F: Folder>(
-    f: &mut F,
+    folder: &mut F,
     files: &BlockFiles,
     new: &NewEntry,
     key: &[u8],
     moment: u64,
 ) -> Result<(), Failed>
     requires fits { FitsKey files.now new.now key.now }
-    requires agrees { ForSome (F.told f.old).files (Agrees files.now) }
-    ensures steps { OnOk result (Applies (F.told f.old) (F.told f.new) (record_steps new.now key.now moment)) }
-    ensures prefix { AppliesPrefix (F.told f.old) (F.told f.new) (record_steps new.now key.now moment) }
-    ensures agrees { ForSome (F.told f.new).files (Agrees files.now) }
-    ensures later { F.faults f.old ≤ F.faults f.new }
-    ensures failed { OnErr result (Rises (F.faults f.old) (F.faults f.new)) }
+    requires agrees { ForSome (F.told folder.old).files (Agrees files.now) }
+    ensures steps { OnOk result (Applies (F.told folder.old) (F.told folder.new) (record_steps new.now key.now moment)) }
+    ensures prefix { AppliesPrefix (F.told folder.old) (F.told folder.new) (record_steps new.now key.now moment) }
+    ensures agrees { ForSome (F.told folder.new).files (Agrees files.now) }
+    ensures later { F.faults folder.old ≤ F.faults folder.new }
+    ensures failed { OnErr result (Rises (F.faults folder.old) (F.faults folder.new)) }
 {
     let bytes = record_of(new, key, moment);
     let front = &bytes[..EntryView::SIZE];
     match &new.long_key {
-        Some(_) => files.write_block(f, new.entry, 0, &bytes),
-        None => files.write_block(f, new.entry, 0, front),
+        Some(_) => files.write_block(folder, new.entry, 0, &bytes),
+        None => files.write_block(folder, new.entry, 0, front),
     }
 }
 
 // Writes the node.
 fn write_node<F: Folder>(
-    f: &mut F,
+    folder: &mut F,
     files: &BlockFiles,
     new: &NewEntry,
     moment: u64,
 ) -> Result<(), Failed>
     requires kind { kind_of new.now.node ≡ rankings }
     requires stands { IsTrue (stands_among files.now new.now.node) }
-    requires agrees { ForSome (F.told f.old).files (Agrees files.now) }
-    ensures steps { OnOk result (Applies (F.told f.old) (F.told f.new) (node_steps new.now moment)) }
-    ensures prefix { AppliesPrefix (F.told f.old) (F.told f.new) (node_steps new.now moment) }
-    ensures later { F.faults f.old ≤ F.faults f.new }
-    ensures failed { OnErr result (Rises (F.faults f.old) (F.faults f.new)) }
+    requires agrees { ForSome (F.told folder.old).files (Agrees files.now) }
+    ensures steps { OnOk result (Applies (F.told folder.old) (F.told folder.new) (node_steps new.now moment)) }
+    ensures prefix { AppliesPrefix (F.told folder.old) (F.told folder.new) (node_steps new.now moment) }
+    ensures later { F.faults folder.old ≤ F.faults folder.new }
+    ensures failed { OnErr result (Rises (F.faults folder.old) (F.faults folder.new)) }
 {
     let bytes = node_of(new, moment);
-    files.write_block(f, new.node, 0, &bytes)
+    files.write_block(folder, new.node, 0, &bytes)
 }
 
 // The bytes of the record, and zeros after them to the end of a block.

@@ -182,9 +182,9 @@ unfolding past_header
 length_same n image now same = same.lengths (Block n) refl
 
 -- the zeros over the first blocks, and one more
-whole_front : (P : Image → Type 0) (steps : List TrailStep) (image : Image) → Along P image steps → P (after steps image)
-whole_front P [] image all = all
-whole_front P (x ∷ steps) image all = whole_front P steps (applied x image) all.1
+whole_prefix : (P : Image → Type 0) (steps : List TrailStep) (image : Image) → Along P image steps → P (after steps image)
+whole_prefix P [] image all = all
+whole_prefix P (x ∷ steps) image all = whole_prefix P steps (applied x image) all.1
 
 blocks_blank : (test : ℕ → Bool) (n size long count : ℕ) (image : Image) → length_of image (Block n) ≡ long → (b : ℕ) → b < count → test b ≡ true → IsBlank (after (zeros_over_blocks test (Block n) size long count) image) n size b
 unfolding zeros_over_blocks
@@ -197,7 +197,7 @@ blocks_blank test n size long (suc c) image known b below passes = λ i within.
     mid = after (zeros_over_blocks test (Block n) size long c) image
 
     mid_long : length_of mid (Block n) ≡ long
-    mid_long = length_same n image mid (whole_front (SameOutside (past_header n) image) (zeros_over_blocks test (Block n) size long c) image (zeros_past test n size long c image)) ∙ known
+    mid_long = length_same n image mid (whole_prefix (SameOutside (past_header n) image) (zeros_over_blocks test (Block n) size long c) image (zeros_past test n size long c image)) ∙ known
 
     by_test : (t : Bool) → test c ≡ t → (b < c → IsBlank mid n size b) → (i : ℕ) → i < size → (b < c) ⊎ (c ≤ b) → byte (after (if t then zeros_over_block (Block n) size long c else []) mid) (Block n) (8192 + b * size + i) ≡ 0
     by_test false fails blank i within (inl before) = blank before i within
@@ -367,7 +367,7 @@ freed_blank image n place new header whole =
     middle = after erased image
 
     between : SameOutside (past_header n) image middle
-    between = whole_front (SameOutside (past_header n) image) erased image (zeros_past test n size long 64896 image)
+    between = whole_prefix (SameOutside (past_header n) image) erased image (zeros_past test n size long 64896 image)
 
     fits : place + length new ≤ length_of middle (Block n)
     fits = omega (arith, length_same n image middle between)

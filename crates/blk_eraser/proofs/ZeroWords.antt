@@ -27,8 +27,8 @@ drop-zeros (suc a) n =
     let next : suc a + n ≡ suc (a + n) = omega arith in ap (λ (m : ℕ). drop (suc a) (replicate m 0)) next ∙ drop-zeros a n
 
 -- a prefix of zeros is zeros
-pub front_zeros : (n most : ℕ) → n ≤ most → take n (zeros most) ≡ zeros n
-front_zeros n most few =
+pub prefix_zeros : (n most : ℕ) → n ≤ most → take n (zeros most) ≡ zeros n
+prefix_zeros n most few =
     let all : n + (most - n) ≡ most = omega arith in sym (ap (λ (m : ℕ). take n (zeros m)) all) ∙ take-zeros n (most - n)
 
 pub no_words : (f : File) (place : ℕ) → words f place (zeros 0) ≡ []

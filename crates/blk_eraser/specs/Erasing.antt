@@ -56,8 +56,8 @@ abbrev pub delete_steps : Image → File → List TrailStep
 delete_steps image file = words file 0 (zeros (length_of image file)) ++ (Delete file ∷ [])
 
 -- where the files are told, the steps that they ask for are made
-abbrev pub Makes : Told → Told → (Image → List TrailStep) → Type 0
-Makes old new steps = ForSome old.files (λ image. Applies old new (steps image))
+abbrev pub MakesSteps : Told → Told → (Image → List TrailStep) → Type 0
+MakesSteps old new steps = ForSome old.files (λ image. Applies old new (steps image))
 
 -- where the files are told, the next of them after one
 abbrev pub TellsNext : Told → Option File → Option File → Type 0

@@ -5,7 +5,7 @@ ghost use Rattle.spec_image.specs.Order.{IsAfter};
 ghost use Rattle.spec_image.specs.Told.{Applies, GivesBytes, MakesPartOf, Rises, Stays};
 ghost use Rattle.spec_image.specs.Steps.{Note};
 ghost use Rattle.blk_io.specs.FileNames.{file_of};
-ghost use Rattle.blk_eraser.specs.Erasing.{Makes, TellsNext, delete_steps, length_steps, write_steps};
+ghost use Rattle.blk_eraser.specs.Erasing.{MakesSteps, TellsNext, delete_steps, length_steps, write_steps};
 
 use crate::freeing::write_over;
 use crate::zeros::{cut, remove};
@@ -84,7 +84,7 @@ impl<F: Folder> Folder for Eraser<F> {
     fn write_at(&mut self, file: FileId, at: u64, bytes: &[u8]) -> Result<(), Failed>
         ensures later { faults_of self.old ≤ faults_of self.new }
         ensures failed { OnErr result (Rises (faults_of self.old) (faults_of self.new)) }
-        ensures inside { OnOk result (Makes (F.told (folder_of self.old)) (F.told (folder_of self.new)) (λ image. write_steps image (file_of file) at bytes.now)) }
+        ensures inside { OnOk result (MakesSteps (F.told (folder_of self.old)) (F.told (folder_of self.new)) (λ image. write_steps image (file_of file) at bytes.now)) }
         ensures inside_part { MakesPartOf (F.told (folder_of self.old)) (F.told (folder_of self.new)) (λ image. write_steps image (file_of file) at bytes.now) }
     {
         counted(
@@ -96,7 +96,7 @@ impl<F: Folder> Folder for Eraser<F> {
     fn set_len(&mut self, file: FileId, length: u64) -> Result<(), Failed>
         ensures later { faults_of self.old ≤ faults_of self.new }
         ensures failed { OnErr result (Rises (faults_of self.old) (faults_of self.new)) }
-        ensures inside { OnOk result (Makes (F.told (folder_of self.old)) (F.told (folder_of self.new)) (λ image. length_steps image (file_of file) length)) }
+        ensures inside { OnOk result (MakesSteps (F.told (folder_of self.old)) (F.told (folder_of self.new)) (λ image. length_steps image (file_of file) length)) }
         ensures inside_part { MakesPartOf (F.told (folder_of self.old)) (F.told (folder_of self.new)) (λ image. length_steps image (file_of file) length) }
     {
         counted(cut(&mut self.inner, file, length), &mut self.faults)
@@ -105,7 +105,7 @@ impl<F: Folder> Folder for Eraser<F> {
     fn delete(&mut self, file: FileId) -> Result<(), Failed>
         ensures later { faults_of self.old ≤ faults_of self.new }
         ensures failed { OnErr result (Rises (faults_of self.old) (faults_of self.new)) }
-        ensures inside { OnOk result (Makes (F.told (folder_of self.old)) (F.told (folder_of self.new)) (λ image. delete_steps image (file_of file))) }
+        ensures inside { OnOk result (MakesSteps (F.told (folder_of self.old)) (F.told (folder_of self.new)) (λ image. delete_steps image (file_of file))) }
         ensures inside_part { MakesPartOf (F.told (folder_of self.old)) (F.told (folder_of self.new)) (λ image. delete_steps image (file_of file)) }
     {
         counted(remove(&mut self.inner, file), &mut self.faults)

@@ -8,7 +8,7 @@ ghost use Rattle.spec_format.specs.Address.{header_size};
 ghost use Rattle.spec_format.specs.BlockFiles.{most_blocks};
 ghost use Rattle.spec_format.specs.Headers.{entry_size_of};
 ghost use Rattle.blk_io.specs.FileNames.{file_of};
-ghost use Rattle.blk_eraser.specs.Erasing.{IsBlockFile, Makes, frees, write_steps, zeros_over_block, zeros_over_freed, zeros_before_write};
+ghost use Rattle.blk_eraser.specs.Erasing.{IsBlockFile, MakesSteps, frees, write_steps, zeros_over_block, zeros_over_freed, zeros_before_write};
 
 use crate::map::{BITS_OF_BYTE, HEADER_LEN, MAP, block_size, is_freed, read_header, touches_map};
 use crate::zeros::{erase, length};
@@ -16,7 +16,7 @@ use blk_io::{Failed, FileId, Folder};
 
 // Writes zeros over a block, as far as it lies inside the file, which has this length.
 fn erase_block<F: Folder>(
-    f: &mut F,
+    folder: &mut F,
     file: FileId,
     size: u64,
     long: u64,
@@ -24,21 +24,21 @@ fn erase_block<F: Folder>(
 ) -> Result<(), Failed>
     requires sizes { size < 2 ^ 32 }
     requires few { block < most_blocks }
-    requires known { ForSome (F.told f.old).files (λ image. length_of image (file_of file) ≡ long) }
-    ensures steps { OnOk result (Applies (F.told f.old) (F.told f.new) (zeros_over_block (file_of file) size long block)) }
-    ensures prefix { AppliesPrefix (F.told f.old) (F.told f.new) (zeros_over_block (file_of file) size long block) }
-    ensures known { ForSome (F.told f.new).files (λ image. length_of image (file_of file) ≡ long) }
+    requires known { ForSome (F.told folder.old).files (λ image. length_of image (file_of file) ≡ long) }
+    ensures steps { OnOk result (Applies (F.told folder.old) (F.told folder.new) (zeros_over_block (file_of file) size long block)) }
+    ensures prefix { AppliesPrefix (F.told folder.old) (F.told folder.new) (zeros_over_block (file_of file) size long block) }
+    ensures known { ForSome (F.told folder.new).files (λ image. length_of image (file_of file) ≡ long) }
 {
     let place = HEADER_LEN as u64 + block as u64 * size;
     if place >= long {
         return Ok(());
     }
-    erase(f, file, place, (place + size).min(long))
+    erase(folder, file, place, (place + size).min(long))
 }
 
 // Writes zeros over the blocks that a write of bytes at a place frees, by the header before it.
 fn erase_freed<F: Folder>(
-    f: &mut F,
+    folder: &mut F,
     file: FileId,
     long: u64,
     header: &[u8],
@@ -47,17 +47,17 @@ fn erase_freed<F: Folder>(
 ) -> Result<(), Failed>
     requires whole { length header.now ≡ header_size }
     requires front { at < header_size }
-    requires known { ForSome (F.told f.old).files (λ image. length_of image (file_of file) ≡ long) }
-    ensures steps { OnOk result (Applies (F.told f.old) (F.told f.new) (zeros_over_freed header.now (file_of file) long at bytes.now)) }
-    ensures prefix { AppliesPrefix (F.told f.old) (F.told f.new) (zeros_over_freed header.now (file_of file) long at bytes.now) }
-    ensures known { ForSome (F.told f.new).files (λ image. length_of image (file_of file) ≡ long) }
+    requires known { ForSome (F.told folder.old).files (λ image. length_of image (file_of file) ≡ long) }
+    ensures steps { OnOk result (Applies (F.told folder.old) (F.told folder.new) (zeros_over_freed header.now (file_of file) long at bytes.now)) }
+    ensures prefix { AppliesPrefix (F.told folder.old) (F.told folder.new) (zeros_over_freed header.now (file_of file) long at bytes.now) }
+    ensures known { ForSome (F.told folder.new).files (λ image. length_of image (file_of file) ≡ long) }
 {
     let size = block_size(header);
     let end = BITS_OF_BYTE * (at + bytes.len().min(HEADER_LEN - at)).saturating_sub(MAP);
     let mut block = BITS_OF_BYTE * at.saturating_sub(MAP);
     while block < end {
         if is_freed(header, at, bytes, block) {
-            erase_block(f, file, size, long, block)?;
+            erase_block(folder, file, size, long, block)?;
         }
         block += 1;
     }
@@ -66,7 +66,7 @@ fn erase_freed<F: Folder>(
 
 // Writes zeros over the blocks that a write of bytes at a place before the blocks of a block file frees.
 fn erase_by_header<F: Folder>(
-    f: &mut F,
+    folder: &mut F,
     file: FileId,
     long: u64,
     at: u64,
@@ -74,51 +74,51 @@ fn erase_by_header<F: Folder>(
 ) -> Result<(), Failed>
     requires file { IsBlockFile (file_of file) }
     requires front { at < header_size }
-    requires known { ForSome (F.told f.old).files (λ image. length_of image (file_of file) ≡ long) }
+    requires known { ForSome (F.told folder.old).files (λ image. length_of image (file_of file) ≡ long) }
     requires inside { at + length bytes.now ≤ long }
-    ensures steps { OnOk result (Makes (F.told f.old) (F.told f.new) (λ image. zeros_before_write image (file_of file) at bytes.now)) }
-    ensures prefix { MakesPartOf (F.told f.old) (F.told f.new) (λ image. zeros_before_write image (file_of file) at bytes.now) }
-    ensures known { ForSome (F.told f.new).files (λ image. length_of image (file_of file) ≡ long) }
+    ensures steps { OnOk result (MakesSteps (F.told folder.old) (F.told folder.new) (λ image. zeros_before_write image (file_of file) at bytes.now)) }
+    ensures prefix { MakesPartOf (F.told folder.old) (F.told folder.new) (λ image. zeros_before_write image (file_of file) at bytes.now) }
+    ensures known { ForSome (F.told folder.new).files (λ image. length_of image (file_of file) ≡ long) }
 {
     let mut header = [0u8; HEADER_LEN];
-    read_header(f, file, &mut header)?;
-    erase_freed(f, file, long, &header, at as usize, bytes)
+    read_header(folder, file, &mut header)?;
+    erase_freed(folder, file, long, &header, at as usize, bytes)
 }
 
 // Writes zeros over the blocks that a write of bytes at a place of a file frees.
 fn erase_before<F: Folder>(
-    f: &mut F,
+    folder: &mut F,
     file: FileId,
     long: u64,
     at: u64,
     bytes: &[u8],
 ) -> Result<(), Failed>
-    requires known { ForSome (F.told f.old).files (λ image. length_of image (file_of file) ≡ long) }
+    requires known { ForSome (F.told folder.old).files (λ image. length_of image (file_of file) ≡ long) }
     requires inside { at + length bytes.now ≤ long }
-    ensures steps { OnOk result (Makes (F.told f.old) (F.told f.new) (λ image. zeros_before_write image (file_of file) at bytes.now)) }
-    ensures prefix { MakesPartOf (F.told f.old) (F.told f.new) (λ image. zeros_before_write image (file_of file) at bytes.now) }
-    ensures known { ForSome (F.told f.new).files (λ image. length_of image (file_of file) ≡ long) }
+    ensures steps { OnOk result (MakesSteps (F.told folder.old) (F.told folder.new) (λ image. zeros_before_write image (file_of file) at bytes.now)) }
+    ensures prefix { MakesPartOf (F.told folder.old) (F.told folder.new) (λ image. zeros_before_write image (file_of file) at bytes.now) }
+    ensures known { ForSome (F.told folder.new).files (λ image. length_of image (file_of file) ≡ long) }
 {
     if touches_map(file, at, bytes) {
-        return erase_by_header(f, file, long, at, bytes);
+        return erase_by_header(folder, file, long, at, bytes);
     }
     Ok(())
 }
 
 /// Writes bytes of a file, where it has the range, after the zeros over what that frees.
 pub(crate) fn write_over<F: Folder>(
-    f: &mut F,
+    folder: &mut F,
     file: FileId,
     at: u64,
     bytes: &[u8],
 ) -> Result<(), Failed>
-    ensures steps { OnOk result (Makes (F.told f.old) (F.told f.new) (λ image. write_steps image (file_of file) at bytes.now)) }
-    ensures prefix { MakesPartOf (F.told f.old) (F.told f.new) (λ image. write_steps image (file_of file) at bytes.now) }
+    ensures steps { OnOk result (MakesSteps (F.told folder.old) (F.told folder.new) (λ image. write_steps image (file_of file) at bytes.now)) }
+    ensures prefix { MakesPartOf (F.told folder.old) (F.told folder.new) (λ image. write_steps image (file_of file) at bytes.now) }
 {
-    let long = length(f, file)?;
+    let long = length(folder, file)?;
     if at > long || bytes.len() as u64 > long - at {
         return Err(Failed);
     }
-    erase_before(f, file, long, at, bytes)?;
-    f.write_at(file, at, bytes)
+    erase_before(folder, file, long, at, bytes)?;
+    folder.write_at(file, at, bytes)
 }

@@ -68,12 +68,16 @@ pub(crate) fn touches_map(file: FileId, at: u64, bytes: &[u8]) -> bool
 }
 
 /// Reads the header of a block file. One that isn't there whole is a failure.
-pub(crate) fn read_header<F: Folder>(f: &mut F, file: FileId, out: &mut [u8]) -> Result<(), Failed>
+pub(crate) fn read_header<F: Folder>(
+    folder: &mut F,
+    file: FileId,
+    out: &mut [u8],
+) -> Result<(), Failed>
     requires { length out.old ≡ header_size }
-    ensures bytes { OnOk result (ForSome (F.told f.old).files (λ image. out.new ≡ range_at (byte image (file_of file)) 0 header_size)) }
-    ensures stays { Stays (F.told f.old) (F.told f.new) }
+    ensures bytes { OnOk result (ForSome (F.told folder.old).files (λ image. out.new ≡ range_at (byte image (file_of file)) 0 header_size)) }
+    ensures stays { Stays (F.told folder.old) (F.told folder.new) }
 {
-    match read_exact(f, file, 0, out) {
+    match read_exact(folder, file, 0, out) {
         Ok(()) => Ok(()),
         Err(_) => Err(Failed),
     }

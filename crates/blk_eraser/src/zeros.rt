@@ -6,7 +6,7 @@ ghost use Rattle.spec_image.specs.Image.{length_of};
 ghost use Rattle.spec_image.specs.Steps.{words};
 ghost use Rattle.spec_image.specs.Told.{Applies, AppliesPrefix, MakesPartOf, Stays};
 ghost use Rattle.blk_io.specs.FileNames.{file_of};
-ghost use Rattle.blk_eraser.specs.Erasing.{Makes, delete_steps, length_steps};
+ghost use Rattle.blk_eraser.specs.Erasing.{MakesSteps, delete_steps, length_steps};
 
 use blk_io::{Failed, FileId, Folder};
 
@@ -14,18 +14,18 @@ use blk_io::{Failed, FileId, Folder};
 const PIECE: usize = 4096;
 
 // The length of a file, 0 where there is none.
-pub(crate) fn length<F: Folder>(f: &mut F, file: FileId) -> Result<u64, Failed>
-    ensures length { IfOk result (λ n. ForSome (F.told f.old).files (λ image. length_of image (file_of file) ≡ n)) }
-    ensures stays { Stays (F.told f.old) (F.told f.new) }
+pub(crate) fn length<F: Folder>(folder: &mut F, file: FileId) -> Result<u64, Failed>
+    ensures length { IfOk result (λ n. ForSome (F.told folder.old).files (λ image. length_of image (file_of file) ≡ n)) }
+    ensures stays { Stays (F.told folder.old) (F.told folder.new) }
 {
-    match f.length(file)? {
+    match folder.length(file)? {
         Some(n) => Ok(n),
         None => Ok(0),
     }
 }
 
 // The first n of some zeros.
-#[tactic(auto, using(crate::proofs::ZeroWords::front_zeros))]
+#[tactic(auto, using(crate::proofs::ZeroWords::prefix_zeros))]
 fn front(bytes: &[u8], n: usize) -> &[u8]
     requires blank { bytes.now ≡ zeros 4096 }
     requires few { n ≤ 4096 }
@@ -36,38 +36,43 @@ fn front(bytes: &[u8], n: usize) -> &[u8]
 
 // Writes zeros over the bytes of a file from a place up to another, page by page.
 #[tactic(auto, unfolding(spec_image::specs::Bytes::zeros))]
-pub(crate) fn erase<F: Folder>(f: &mut F, file: FileId, from: u64, end: u64) -> Result<(), Failed>
+pub(crate) fn erase<F: Folder>(
+    folder: &mut F,
+    file: FileId,
+    from: u64,
+    end: u64,
+) -> Result<(), Failed>
     requires rising { from ≤ end }
-    requires inside { ForSome (F.told f.old).files (λ image. end ≤ length_of image (file_of file)) }
-    ensures steps { OnOk result (Applies (F.told f.old) (F.told f.new) (words (file_of file) from (zeros (end - from)))) }
-    ensures prefix { AppliesPrefix (F.told f.old) (F.told f.new) (words (file_of file) from (zeros (end - from))) }
+    requires inside { ForSome (F.told folder.old).files (λ image. end ≤ length_of image (file_of file)) }
+    ensures steps { OnOk result (Applies (F.told folder.old) (F.told folder.new) (words (file_of file) from (zeros (end - from)))) }
+    ensures prefix { AppliesPrefix (F.told folder.old) (F.told folder.new) (words (file_of file) from (zeros (end - from))) }
 {
     let blank = [0u8; PIECE];
     let mut place = from;
     while place < end {
         let n = (PIECE as u64 - place % PIECE as u64).min(end - place);
-        f.write_at(file, place, front(&blank, n as usize))?;
+        folder.write_at(file, place, front(&blank, n as usize))?;
         place += n;
     }
     Ok(())
 }
 
 /// Gives a file a length, after zeros over what that cuts off.
-pub(crate) fn cut<F: Folder>(f: &mut F, file: FileId, to: u64) -> Result<(), Failed>
-    ensures steps { OnOk result (Makes (F.told f.old) (F.told f.new) (λ image. length_steps image (file_of file) to)) }
-    ensures prefix { MakesPartOf (F.told f.old) (F.told f.new) (λ image. length_steps image (file_of file) to) }
+pub(crate) fn cut<F: Folder>(folder: &mut F, file: FileId, to: u64) -> Result<(), Failed>
+    ensures steps { OnOk result (MakesSteps (F.told folder.old) (F.told folder.new) (λ image. length_steps image (file_of file) to)) }
+    ensures prefix { MakesPartOf (F.told folder.old) (F.told folder.new) (λ image. length_steps image (file_of file) to) }
 {
-    let long = length(f, file)?;
-    erase(f, file, to.min(long), long)?;
-    f.set_len(file, to)
+    let long = length(folder, file)?;
+    erase(folder, file, to.min(long), long)?;
+    folder.set_len(file, to)
 }
 
 /// Removes a file, after zeros over its bytes.
-pub(crate) fn remove<F: Folder>(f: &mut F, file: FileId) -> Result<(), Failed>
-    ensures steps { OnOk result (Makes (F.told f.old) (F.told f.new) (λ image. delete_steps image (file_of file))) }
-    ensures prefix { MakesPartOf (F.told f.old) (F.told f.new) (λ image. delete_steps image (file_of file)) }
+pub(crate) fn remove<F: Folder>(folder: &mut F, file: FileId) -> Result<(), Failed>
+    ensures steps { OnOk result (MakesSteps (F.told folder.old) (F.told folder.new) (λ image. delete_steps image (file_of file))) }
+    ensures prefix { MakesPartOf (F.told folder.old) (F.told folder.new) (λ image. delete_steps image (file_of file)) }
 {
-    let long = length(f, file)?;
-    erase(f, file, 0, long)?;
-    f.delete(file)
+    let long = length(folder, file)?;
+    erase(folder, file, 0, long)?;
+    folder.delete(file)
 }

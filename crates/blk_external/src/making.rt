@@ -58,30 +58,34 @@ fn full(last: u32) -> Damage
 }
 
 // The first free number after the last one.
-fn first_free<F: Folder>(f: &mut F, last: u32) -> Result<Option<u32>, Failed>
+fn first_free<F: Folder>(folder: &mut F, last: u32) -> Result<Option<u32>, Failed>
     ensures number { IfOk result (λ found. ForSome found IsNumber) }
-    ensures first { IfOk result (λ found. ForSome (F.told f.old).files (λ image. IsSearched image last found)) }
-    ensures stays { Stays (F.told f.old) (F.told f.new) }
-    ensures later { F.faults f.old ≤ F.faults f.new }
-    ensures failed { OnErr result (Rises (F.faults f.old) (F.faults f.new)) }
+    ensures first { IfOk result (λ found. ForSome (F.told folder.old).files (λ image. IsSearched image last found)) }
+    ensures stays { Stays (F.told folder.old) (F.told folder.new) }
+    ensures later { F.faults folder.old ≤ F.faults folder.new }
+    ensures failed { OnErr result (Rises (F.faults folder.old) (F.faults folder.new)) }
 {
     let end = last.min(LAST_EXTERNAL) + 1;
-    match least_free(f, end, LAST_EXTERNAL + 1)? {
+    match least_free(folder, end, LAST_EXTERNAL + 1)? {
         Some(number) => Ok(Some(number)),
-        None => least_free(f, 1, end),
+        None => least_free(folder, 1, end),
     }
 }
 
 // The least free number from one on and below another.
-pub(crate) fn least_free<F: Folder>(f: &mut F, low: u32, end: u32) -> Result<Option<u32>, Failed>
+pub(crate) fn least_free<F: Folder>(
+    folder: &mut F,
+    low: u32,
+    end: u32,
+) -> Result<Option<u32>, Failed>
     ensures within { IfOk result (λ found. ForSome found (λ n. (low ≤ n) × (n < end))) }
-    ensures least { IfOk result (λ found. ForSome (F.told f.old).files (λ image. IsLeastExternal image low end found)) }
-    ensures stays { Stays (F.told f.old) (F.told f.new) }
-    ensures later { F.faults f.old ≤ F.faults f.new }
-    ensures failed { OnErr result (Rises (F.faults f.old) (F.faults f.new)) }
+    ensures least { IfOk result (λ found. ForSome (F.told folder.old).files (λ image. IsLeastExternal image low end found)) }
+    ensures stays { Stays (F.told folder.old) (F.told folder.new) }
+    ensures later { F.faults folder.old ≤ F.faults folder.new }
+    ensures failed { OnErr result (Rises (F.faults folder.old) (F.faults folder.new)) }
 {
     for number in low..end {
-        if f.length(FileId::External(number))?.is_none() {
+        if folder.length(FileId::External(number))?.is_none() {
             return Ok(Some(number));
         }
     }
@@ -89,15 +93,15 @@ pub(crate) fn least_free<F: Folder>(f: &mut F, low: u32, end: u32) -> Result<Opt
 }
 
 // Makes the file of a number.
-fn make<F: Folder>(f: &mut F, number: u32) -> Result<(), Failed>
-    requires { ForSome (F.told f.old).files HasWholeIndex }
-    ensures steps { OnOk result (Applies (F.told f.old) (F.told f.new) (making number)) }
-    ensures prefix { AppliesPrefix (F.told f.old) (F.told f.new) (making number) }
-    ensures later { F.faults f.old ≤ F.faults f.new }
-    ensures failed { OnErr result (Rises (F.faults f.old) (F.faults f.new)) }
+fn make<F: Folder>(folder: &mut F, number: u32) -> Result<(), Failed>
+    requires { ForSome (F.told folder.old).files HasWholeIndex }
+    ensures steps { OnOk result (Applies (F.told folder.old) (F.told folder.new) (making number)) }
+    ensures prefix { AppliesPrefix (F.told folder.old) (F.told folder.new) (making number) }
+    ensures later { F.faults folder.old ≤ F.faults folder.new }
+    ensures failed { OnErr result (Rises (F.faults folder.old) (F.faults folder.new)) }
 {
-    f.set_len(FileId::External(number), 0)?;
-    write_word(f, FileId::Index, IndexHead::LAST_FILE, number)
+    folder.set_len(FileId::External(number), 0)?;
+    write_word(folder, FileId::Index, IndexHead::LAST_FILE, number)
 }
 
 // The address of a number.

@@ -67,26 +67,26 @@ impl Draws {
 
 impl Turn {
     /// The key of the iteration, at the start of the buffer: `k`, and its number in decimal.
-    pub fn key<'a>(&self, room: &'a mut [u8; 4]) -> &'a [u8]
+    pub fn key<'a>(&self, buffer: &'a mut [u8; 4]) -> &'a [u8]
         requires { self.now.key_number < 1000 }
         ensures { result.now ≡ generated_key self.now.key_number }
     {
-        let mut buffer = Buffer::new();
-        let digits = buffer.format(self.key_number).as_bytes();
-        let end = put(room, 0, b"k");
-        let end = put(room, end, digits);
-        &room[..end]
+        let mut numerals = Buffer::new();
+        let digits = numerals.format(self.key_number).as_bytes();
+        let end = put(buffer, 0, b"k");
+        let end = put(buffer, end, digits);
+        &buffer[..end]
     }
 }
 
 // Puts bytes after what is in front, and tells where they end.
-fn put(room: &mut [u8], at: usize, bytes: &[u8]) -> usize
-    requires { at + length bytes.now ≤ length room.old }
+fn put(buffer: &mut [u8], at: usize, bytes: &[u8]) -> usize
+    requires { at + length bytes.now ≤ length buffer.old }
     ensures within { result ≡ at + length bytes.now }
-    ensures bytes { take result room.new ≡ take at room.old ++ bytes.now }
-    ensures length { length room.new ≡ length room.old }
+    ensures bytes { take result buffer.new ≡ take at buffer.old ++ bytes.now }
+    ensures length { length buffer.new ≡ length buffer.old }
 {
     let end = at + bytes.len();
-    room[at..end].copy_from_slice(bytes);
+    buffer[at..end].copy_from_slice(bytes);
     end
 }

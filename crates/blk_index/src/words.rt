@@ -61,28 +61,28 @@ pub fn bucket<F: Folder>(f: &mut F, number: u16) -> Result<u32, Fault>
 /// 4 calls read the whole table.
 ///
 /// Too few bytes are corruption. `Device` comes only where the folder failed in this call.
-pub fn buckets<F: Folder>(f: &mut F, first: u16, out: &mut [u32]) -> Result<(), Fault>
+pub fn buckets<F: Folder>(folder: &mut F, first: u16, out: &mut [u32]) -> Result<(), Fault>
     requires few { length out.old ≤ buckets_of_piece }
     requires inside { first + length out.old ≤ table_length }
-    ensures words { OnOk result (ForSome (F.told f.old).files (λ image. AreBuckets image first out.new)) }
-    ensures checked { OnOk result (ForSome (F.told f.old).files (λ image. HasRange image index (place_of_bucket first) (4 * length out.old) ⊎ (length out.old ≡ 0))) }
-    ensures stays { Stays (F.told f.old) (F.told f.new) }
+    ensures words { OnOk result (ForSome (F.told folder.old).files (λ image. AreBuckets image first out.new)) }
+    ensures checked { OnOk result (ForSome (F.told folder.old).files (λ image. HasRange image index (place_of_bucket first) (4 * length out.old) ⊎ (length out.old ≡ 0))) }
+    ensures stays { Stays (F.told folder.old) (F.told folder.new) }
 
     // Too few bytes, which an observable folder gives only where the index is too short.
-    ensures short { IfDamaged result (IsShort (F.told f.old) FileId.Index (place_of_bucket first) (4 * length out.old)) }
-    ensures untold { ForSome (F.told f.old).files HasWholeIndex → IfDamaged result (λ _. (F.told f.old).files ≡ None) }
+    ensures short { IfDamaged result (IsShort (F.told folder.old) FileId.Index (place_of_bucket first) (4 * length out.old)) }
+    ensures untold { ForSome (F.told folder.old).files HasWholeIndex → IfDamaged result (λ _. (F.told folder.old).files ≡ None) }
 
-    ensures later { F.faults f.old ≤ F.faults f.new }
-    ensures device { IfDevice result (Rises (F.faults f.old) (F.faults f.new)) }
+    ensures later { F.faults folder.old ≤ F.faults folder.new }
+    ensures device { IfDevice result (Rises (F.faults folder.old) (F.faults folder.new)) }
 {
     let mut window = [0u8; PIECE];
     let bytes = &mut window[..4 * out.len()];
-    read_piece(f, first, bytes, out)
+    read_piece(folder, first, bytes, out)
 }
 
 // Reads the words of neighbouring buckets by way of their bytes.
 fn read_piece<F: Folder>(
-    f: &mut F,
+    folder: &mut F,
     first: u16,
     bytes: &mut [u8],
     out: &mut [u32],
@@ -90,16 +90,16 @@ fn read_piece<F: Folder>(
     requires few { length out.old ≤ buckets_of_piece }
     requires inside { first + length out.old ≤ table_length }
     requires size { length bytes.old ≡ 4 * length out.old }
-    ensures words { OnOk result (ForSome (F.told f.old).files (λ image. AreBuckets image first out.new)) }
-    ensures checked { OnOk result (ForSome (F.told f.old).files (λ image. HasRange image index (place_of_bucket first) (4 * length out.old) ⊎ (length out.old ≡ 0))) }
-    ensures stays { Stays (F.told f.old) (F.told f.new) }
-    ensures short { IfDamaged result (IsShort (F.told f.old) FileId.Index (place_of_bucket first) (4 * length out.old)) }
-    ensures untold { ForSome (F.told f.old).files HasWholeIndex → IfDamaged result (λ _. (F.told f.old).files ≡ None) }
-    ensures later { F.faults f.old ≤ F.faults f.new }
-    ensures device { IfDevice result (Rises (F.faults f.old) (F.faults f.new)) }
+    ensures words { OnOk result (ForSome (F.told folder.old).files (λ image. AreBuckets image first out.new)) }
+    ensures checked { OnOk result (ForSome (F.told folder.old).files (λ image. HasRange image index (place_of_bucket first) (4 * length out.old) ⊎ (length out.old ≡ 0))) }
+    ensures stays { Stays (F.told folder.old) (F.told folder.new) }
+    ensures short { IfDamaged result (IsShort (F.told folder.old) FileId.Index (place_of_bucket first) (4 * length out.old)) }
+    ensures untold { ForSome (F.told folder.old).files HasWholeIndex → IfDamaged result (λ _. (F.told folder.old).files ≡ None) }
+    ensures later { F.faults folder.old ≤ F.faults folder.new }
+    ensures device { IfDevice result (Rises (F.faults folder.old) (F.faults folder.new)) }
 {
     let at = IndexHead::TABLE + 4 * u64::from(first);
-    read_exact(f, FileId::Index, at, bytes)?;
+    read_exact(folder, FileId::Index, at, bytes)?;
     LittleEndian::read_u32_into(bytes, out);
     Ok(())
 }

@@ -22,7 +22,7 @@ use Rattle.blk_scan.specs.Scans.{IsScanOf, dropped_by_told, kept_as_told}
 use Rattle.blk_scan.specs.declared.scan.Scan.{Scan}
 use Rattle.spec_run.specs.Script.{totals_line}
 use Rattle.blk_inspect.specs.Findings.{dropped_line_told, findings_text, finished_text, question_text, scan_text}
-use Rattle.blk_inspect.specs.Inspecting.{IsFinishedDamage, IsReadDamage}
+use Rattle.blk_inspect.specs.Inspecting.{IsFinishedDamage, IsInspectReadDamage}
 use Rattle.blk_inspect.specs.Texts.{dropped_line, kept_line, number_of_reason, unfinished_line, verdict_text}
 use Rattle.blk_inspect.specs.declared.findings.Findings.{Findings}
 use Rattle.blk_inspect.specs.declared.findings.Findings.TheVariants as findings
@@ -46,12 +46,12 @@ pub finished_shown : (found : Findings) (asked : Question) (image : Image) → (
 finished_shown found asked image finished is = is ∙ is_false (unfinished image) (λ e. finished ((unfinished_agrees image).0 e)) unfinished_line (finished_text asked image)
 
 -- a failed check of what is read by the block files that agree with it has its cause
-pub reading_cause : {A : Type 0} (r : Result A ScanFault) (files : BlockFiles) (a b c : Told) → b ≡ a → c ≡ b → ForSome b.files (Agrees files) → IfScanDamaged r (IsReadDamage files c) → IfScanDamaged r (IsFinishedDamage a)
+pub reading_cause : {A : Type 0} (r : Result A ScanFault) (files : BlockFiles) (a b c : Told) → b ≡ a → c ≡ b → ForSome b.files (Agrees files) → IfScanDamaged r (IsInspectReadDamage files c) → IfScanDamaged r (IsFinishedDamage a)
 reading_cause r files a b c before after agrees cause =
-    weaker r (IsReadDamage files c) (IsFinishedDamage a)
-    (λ damage is. by_cause damage (subst (λ (t : Told). IsReadDamage files t damage) (after ∙ before) is)) cause
+    weaker r (IsInspectReadDamage files c) (IsFinishedDamage a)
+    (λ damage is. by_cause damage (subst (λ (t : Told). IsInspectReadDamage files t damage) (after ∙ before) is)) cause
   where
-    by_cause : (damage : Damage) → IsReadDamage files a damage → IsFinishedDamage a damage
+    by_cause : (damage : Damage) → IsInspectReadDamage files a damage → IsFinishedDamage a damage
     by_cause damage (inl head) = inl head
     by_cause damage (inr scan) = inr (inr (record {
       files = files;

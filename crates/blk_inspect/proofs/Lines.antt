@@ -31,12 +31,12 @@ then_said r old mid new a b first =
     on_ok_weaker r (λ is. put_whole old new (a ++ b) (put_more old mid new (a ++ b) b b [] (put_more old old mid (a ++ b) (a ++ b) a b (not_yet old (a ++ b)) refl first) (sym (append-nil b)) is))
 
 -- one text, and then a prefix of another
-pub then_front : (old mid new : Option (List ℕ)) (a b : List ℕ) → mid ≡ option_map (λ (w : List ℕ). w ++ a) old → Appends mid new b → Appends old new (a ++ b)
-then_front old mid new a b first part = put_partly old mid new (a ++ b) b b [] (put_more old old mid (a ++ b) (a ++ b) a b (not_yet old (a ++ b)) refl first) (sym (append-nil b)) part
+pub then_prefix : (old mid new : Option (List ℕ)) (a b : List ℕ) → mid ≡ option_map (λ (w : List ℕ). w ++ a) old → Appends mid new b → Appends old new (a ++ b)
+then_prefix old mid new a b first part = put_partly old mid new (a ++ b) b b [] (put_more old old mid (a ++ b) (a ++ b) a b (not_yet old (a ++ b)) refl first) (sym (append-nil b)) part
 
 -- a prefix of the first of two texts
-pub first_front : (old new : Option (List ℕ)) (a b : List ℕ) → Appends old new a → Appends old new (a ++ b)
-first_front old new a b part = put_partly old old new (a ++ b) (a ++ b) a b (not_yet old (a ++ b)) refl part
+pub first_prefix : (old new : Option (List ℕ)) (a b : List ℕ) → Appends old new a → Appends old new (a ++ b)
+first_prefix old new a b part = put_partly old old new (a ++ b) (a ++ b) a b (not_yet old (a ++ b)) refl part
 
 -- the lines from one on
 pub lines_cut : {X : Type 0} (f : X → List ℕ) (xs : List X) (i : ℕ) (d : X) → i < length xs → flat_map f (drop i xs) ≡ f (get_or xs i d) ++ flat_map f (drop (i + 1) xs)

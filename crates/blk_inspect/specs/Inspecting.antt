@@ -82,16 +82,16 @@ IfInspectSink (Err Memory) P = Unit {0}
 -- The causes of failed checks, which hold for an opaque folder too.
 
 -- the header of the index or of a block file was read, and its bytes are too few
-abbrev pub IsHeadDamage : Told → Damage → Type 0
-IsHeadDamage told damage = IsShort told names.Index 0 header_length damage ⊎ ((n : ℕ) × IsShort told (names.Block n) 0 block_fields_length damage)
+abbrev pub IsFileHeadDamage : Told → Damage → Type 0
+IsFileHeadDamage told damage = IsShort told names.Index 0 header_length damage ⊎ ((n : ℕ) × IsShort told (names.Block n) 0 block_fields_length damage)
 
 -- so it was, or a scan found corruption
-abbrev pub IsReadDamage : BlockFiles → Told → Damage → Type 0
-IsReadDamage files told damage = IsHeadDamage told damage ⊎ IsScanDamage files told damage
+abbrev pub IsInspectReadDamage : BlockFiles → Told → Damage → Type 0
+IsInspectReadDamage files told damage = IsFileHeadDamage told damage ⊎ IsScanDamage files told damage
 
 -- a header was read with too few bytes, or the block files couldn't be loaded, or a scan by them found corruption
 abbrev pub IsFinishedDamage : Told → Damage → Type 0
-IsFinishedDamage told damage = IsHeadDamage told damage ⊎ IsBlocksDamage told damage
+IsFinishedDamage told damage = IsFileHeadDamage told damage ⊎ IsBlocksDamage told damage
 
 -- a check of the index failed, or it was so with a finished folder
 abbrev pub IsInspectDamage : Told → Damage → Type 0

@@ -9,7 +9,7 @@ ghost use Rattle.blk_record.specs.Views.{entry_window};
 ghost use Rattle.blk_disk.specs.Tables.{Agrees};
 ghost use Rattle.blk_audit.specs.Faults.{IfScanDamaged, IfScanDevice, IsRecordDamage};
 ghost use Rattle.blk_inspect.specs.Findings.{findings_text, word_said};
-ghost use Rattle.blk_inspect.specs.Inspecting.{IsHeadDamage};
+ghost use Rattle.blk_inspect.specs.Inspecting.{IsFileHeadDamage};
 ghost use Rattle.blk_inspect.specs.Texts as text;
 ghost use Rattle.blk_inspect.specs.Texts.{file_text, index_text, record_text};
 
@@ -29,16 +29,16 @@ const FIELDS: usize = 80;
 const STATE: usize = EntryView::STATE as usize;
 
 /// Reads the words of the index, by one folder call.
-pub(crate) fn read_index<F: Folder>(alloc: Global, f: &mut F) -> Result<Findings, ScanFault>
-    ensures found { IfOk result (λ findings. ForSome (F.told f.old).files (λ image. findings_text findings ≡ index_text image)) }
-    ensures stays { Stays (F.told f.old) (F.told f.new) }
-    ensures damaged { IfScanDamaged result (IsHeadDamage (F.told f.new)) }
-    ensures untold { ForSome (F.told f.old).files HasWholeIndex → IfScanDamaged result (λ _. (F.told f.old).files ≡ None) }
-    ensures later { F.faults f.old ≤ F.faults f.new }
-    ensures device { IfScanDevice result (Rises (F.faults f.old) (F.faults f.new)) }
+pub(crate) fn read_index<F: Folder>(alloc: Global, folder: &mut F) -> Result<Findings, ScanFault>
+    ensures found { IfOk result (λ findings. ForSome (F.told folder.old).files (λ image. findings_text findings ≡ index_text image)) }
+    ensures stays { Stays (F.told folder.old) (F.told folder.new) }
+    ensures damaged { IfScanDamaged result (IsFileHeadDamage (F.told folder.new)) }
+    ensures untold { ForSome (F.told folder.old).files HasWholeIndex → IfScanDamaged result (λ _. (F.told folder.old).files ≡ None) }
+    ensures later { F.faults folder.old ≤ F.faults folder.new }
+    ensures device { IfScanDevice result (Rises (F.faults folder.old) (F.faults folder.new)) }
 {
     let mut window = [0u8; IndexHead::LEN];
-    read_exact(f, FileId::Index, 0, &mut window)?;
+    read_exact(folder, FileId::Index, 0, &mut window)?;
     let words = index_words(alloc, &IndexHead::new(&window))?;
     Ok(Findings::Words(words))
 }
@@ -80,22 +80,22 @@ fn named(name: &'static str, word: u32) -> NamedWord
 /// Reads the words of a block file, by one folder call, where it is linked.
 pub(crate) fn read_file<F: Folder>(
     alloc: Global,
-    f: &mut F,
+    folder: &mut F,
     files: &BlockFiles,
     file: u8,
 ) -> Result<Findings, ScanFault>
-    ensures found { IfOk result (λ findings. ForSome (F.told f.old).files (λ image. Agrees files.now image → findings_text findings ≡ file_text file image)) }
-    ensures stays { Stays (F.told f.old) (F.told f.new) }
-    ensures damaged { IfScanDamaged result (IsHeadDamage (F.told f.new)) }
-    ensures untold { ForSome (F.told f.old).files (Agrees files.now) → IfScanDamaged result (λ _. (F.told f.old).files ≡ None) }
-    ensures later { F.faults f.old ≤ F.faults f.new }
-    ensures device { IfScanDevice result (Rises (F.faults f.old) (F.faults f.new)) }
+    ensures found { IfOk result (λ findings. ForSome (F.told folder.old).files (λ image. Agrees files.now image → findings_text findings ≡ file_text file image)) }
+    ensures stays { Stays (F.told folder.old) (F.told folder.new) }
+    ensures damaged { IfScanDamaged result (IsFileHeadDamage (F.told folder.new)) }
+    ensures untold { ForSome (F.told folder.old).files (Agrees files.now) → IfScanDamaged result (λ _. (F.told folder.old).files ≡ None) }
+    ensures later { F.faults folder.old ≤ F.faults folder.new }
+    ensures device { IfScanDevice result (Rises (F.faults folder.old) (F.faults folder.new)) }
 {
     if files.max_entries(file).is_none() {
         return Ok(Findings::Nothing);
     }
     let mut window = [0u8; FIELDS];
-    read_exact(f, FileId::Block(file), 0, &mut window)?;
+    read_exact(folder, FileId::Block(file), 0, &mut window)?;
     let words = file_words(alloc, &BlockHead::new(&window))?;
     Ok(Findings::Words(words))
 }
@@ -131,22 +131,22 @@ fn file_words(alloc: Global, head: &BlockHead<'_>) -> Result<Vec<NamedWord>, NoM
 /// Reads the words of the record that a word names, by one folder call, where it names one that is there.
 pub(crate) fn read_record<F: Folder>(
     alloc: Global,
-    f: &mut F,
+    folder: &mut F,
     files: &BlockFiles,
     word: u32,
 ) -> Result<Findings, ScanFault>
-    ensures found { IfOk result (λ findings. ForSome (F.told f.old).files (λ image. Agrees files.now image → findings_text findings ≡ record_text word image)) }
-    ensures stays { Stays (F.told f.old) (F.told f.new) }
-    ensures damaged { IfScanDamaged result (IsRecordDamage files.now (F.told f.new)) }
-    ensures untold { ForSome (F.told f.old).files (Agrees files.now) → IfScanDamaged result (λ _. (F.told f.old).files ≡ None) }
-    ensures later { F.faults f.old ≤ F.faults f.new }
-    ensures device { IfScanDevice result (Rises (F.faults f.old) (F.faults f.new)) }
+    ensures found { IfOk result (λ findings. ForSome (F.told folder.old).files (λ image. Agrees files.now image → findings_text findings ≡ record_text word image)) }
+    ensures stays { Stays (F.told folder.old) (F.told folder.new) }
+    ensures damaged { IfScanDamaged result (IsRecordDamage files.now (F.told folder.new)) }
+    ensures untold { ForSome (F.told folder.old).files (Agrees files.now) → IfScanDamaged result (λ _. (F.told folder.old).files ≡ None) }
+    ensures later { F.faults folder.old ≤ F.faults folder.new }
+    ensures device { IfScanDevice result (Rises (F.faults folder.old) (F.faults folder.new)) }
 {
     let Some(entry) = files.entry(word) else {
         return Ok(Findings::Nothing);
     };
     let mut window = [0u8; EntryView::SIZE];
-    files.read_block(f, entry, 0, &mut window)?;
+    files.read_block(folder, entry, 0, &mut window)?;
     let words = record_words(alloc, &EntryView::new(&window))?;
     Ok(Findings::Words(words))
 }

@@ -25,17 +25,17 @@ use std::alloc::Global;
 /// Reads the nodes of the LRU list, as it is once its operation in flight is completed.
 pub(crate) fn read_list<F: Folder>(
     alloc: Global,
-    f: &mut F,
+    folder: &mut F,
     files: &BlockFiles,
 ) -> Result<Findings, ScanFault>
-    ensures found { IfOk result (λ findings. ForSome (F.told f.old).files (λ image. Agrees files.now image → findings_text findings ≡ list_text image)) }
-    ensures stays { Stays (F.told f.old) (F.told f.new) }
-    ensures damaged { IfScanDamaged result (IsListsDamage files.now (F.told f.new)) }
-    ensures untold { ForSome (F.told f.old).files (IsOpen files.now) → IfScanDamaged result (λ _. (F.told f.old).files ≡ None) }
-    ensures later { F.faults f.old ≤ F.faults f.new }
-    ensures device { IfScanDevice result (Rises (F.faults f.old) (F.faults f.new)) }
+    ensures found { IfOk result (λ findings. ForSome (F.told folder.old).files (λ image. Agrees files.now image → findings_text findings ≡ list_text image)) }
+    ensures stays { Stays (F.told folder.old) (F.told folder.new) }
+    ensures damaged { IfScanDamaged result (IsListsDamage files.now (F.told folder.new)) }
+    ensures untold { ForSome (F.told folder.old).files (IsOpen files.now) → IfScanDamaged result (λ _. (F.told folder.old).files ≡ None) }
+    ensures later { F.faults folder.old ≤ F.faults folder.new }
+    ensures device { IfScanDevice result (Rises (F.faults folder.old) (F.faults folder.new)) }
 {
-    let lists = read_lists(alloc, f, files)?;
+    let lists = read_lists(alloc, folder, files)?;
     let rows = node_rows(alloc, &lists)?;
     Ok(Findings::Nodes(rows))
 }
@@ -68,19 +68,25 @@ fn add_node(rows: &mut Vec<NodeRow>, node: Option<WalkedNode>) -> Result<(), NoM
 /// Reads the records of the chain of a bucket.
 pub(crate) fn read_chain<F: Folder>(
     alloc: Global,
-    f: &mut F,
+    folder: &mut F,
     files: &BlockFiles,
     bucket: u16,
 ) -> Result<Findings, ScanFault>
-    ensures found { IfOk result (λ findings. ForSome (F.told f.old).files (λ image. Agrees files.now image → findings_text findings ≡ chain_text bucket image)) }
-    ensures stays { Stays (F.told f.old) (F.told f.new) }
-    ensures damaged { IfScanDamaged result (IsListsDamage files.now (F.told f.new)) }
-    ensures untold { ForSome (F.told f.old).files (IsOpen files.now) → IfScanDamaged result (λ _. (F.told f.old).files ≡ None) }
-    ensures later { F.faults f.old ≤ F.faults f.new }
-    ensures device { IfScanDevice result (Rises (F.faults f.old) (F.faults f.new)) }
+    ensures found { IfOk result (λ findings. ForSome (F.told folder.old).files (λ image. Agrees files.now image → findings_text findings ≡ chain_text bucket image)) }
+    ensures stays { Stays (F.told folder.old) (F.told folder.new) }
+    ensures damaged { IfScanDamaged result (IsListsDamage files.now (F.told folder.new)) }
+    ensures untold { ForSome (F.told folder.old).files (IsOpen files.now) → IfScanDamaged result (λ _. (F.told folder.old).files ≡ None) }
+    ensures later { F.faults folder.old ≤ F.faults folder.new }
+    ensures device { IfScanDevice result (Rises (F.faults folder.old) (F.faults folder.new)) }
 {
-    let lists = read_lists(alloc, f, files)?;
-    let rows = record_rows(alloc, f, files, &lists, records_of(&lists.reached, bucket))?;
+    let lists = read_lists(alloc, folder, files)?;
+    let rows = record_rows(
+        alloc,
+        folder,
+        files,
+        &lists,
+        records_of(&lists.reached, bucket),
+    )?;
     Ok(Findings::Records(rows))
 }
 
@@ -111,22 +117,22 @@ fn begin_of(ends: &[u32], bucket: usize) -> usize
 // The rows of some reached records.
 fn record_rows<F: Folder>(
     alloc: Global,
-    f: &mut F,
+    folder: &mut F,
     files: &BlockFiles,
     lists: &Lists,
     entries: &[Addr],
 ) -> Result<Vec<RecordRow>, ScanFault>
     requires stand { RecordsStand files.now entries.now }
-    ensures rows { IfOk result (λ rows. ForSome (F.told f.old).files (λ image. AreListsOf image lists.now → rows.items ≡ map (record_row_at image) entries.now)) }
-    ensures stays { Stays (F.told f.old) (F.told f.new) }
-    ensures damaged { IfScanDamaged result (IsRecordDamage files.now (F.told f.new)) }
-    ensures untold { ForSome (F.told f.old).files (Agrees files.now) → IfScanDamaged result (λ _. (F.told f.old).files ≡ None) }
-    ensures later { F.faults f.old ≤ F.faults f.new }
-    ensures device { IfScanDevice result (Rises (F.faults f.old) (F.faults f.new)) }
+    ensures rows { IfOk result (λ rows. ForSome (F.told folder.old).files (λ image. AreListsOf image lists.now → rows.items ≡ map (record_row_at image) entries.now)) }
+    ensures stays { Stays (F.told folder.old) (F.told folder.new) }
+    ensures damaged { IfScanDamaged result (IsRecordDamage files.now (F.told folder.new)) }
+    ensures untold { ForSome (F.told folder.old).files (Agrees files.now) → IfScanDamaged result (λ _. (F.told folder.old).files ≡ None) }
+    ensures later { F.faults folder.old ≤ F.faults folder.new }
+    ensures device { IfScanDevice result (Rises (F.faults folder.old) (F.faults folder.new)) }
 {
     let mut rows = Vec::new(alloc);
     for entry in entries {
-        let said = lists.record_at(f, files, *entry)?;
+        let said = lists.record_at(folder, files, *entry)?;
         add_record(&mut rows, entry.word(), said.words.hash)?;
     }
     Ok(rows)

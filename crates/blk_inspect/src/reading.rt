@@ -9,7 +9,7 @@ ghost use Rattle.blk_disk.specs.Open.{IsOpen};
 ghost use Rattle.blk_audit.specs.Faults.{IfScanDamaged, IfScanDevice};
 ghost use Rattle.spec_run.specs.Opening.{IsUsable};
 ghost use Rattle.blk_inspect.specs.Findings.{findings_text, finished_text, question_text};
-ghost use Rattle.blk_inspect.specs.Inspecting.{IsDamagedFirst, IsFinishedDamage, IsInspectDamage, IsReadDamage};
+ghost use Rattle.blk_inspect.specs.Inspecting.{IsDamagedFirst, IsFinishedDamage, IsInspectDamage, IsInspectReadDamage};
 ghost use Rattle.blk_inspect.specs.Texts.{address_text, part_text, verdict_text};
 
 use crate::findings::Findings;
@@ -41,87 +41,87 @@ pub(crate) enum Question {
 /// no other failed check. `Device` where the folder failed in this call, and `Memory` when out of memory.
 pub(crate) fn find<F: Folder>(
     alloc: Global,
-    f: &mut F,
+    folder: &mut F,
     question: &Question,
 ) -> Result<Findings, ScanFault>
-    ensures found { IfOk result (λ findings. ForSome (F.told f.old).files (λ image. findings_text findings ≡ question_text question.now image)) }
-    ensures checked { IfOk result (λ _. ForSome (F.told f.old).files IsUsable) }
-    ensures stays { Stays (F.told f.old) (F.told f.new) }
+    ensures found { IfOk result (λ findings. ForSome (F.told folder.old).files (λ image. findings_text findings ≡ question_text question.now image)) }
+    ensures checked { IfOk result (λ _. ForSome (F.told folder.old).files IsUsable) }
+    ensures stays { Stays (F.told folder.old) (F.told folder.new) }
 
     // An observable folder reports corruption only where a check of its headers fails: the first that does.
-    ensures damaged { IfScanDamaged result (λ damage. ForSome (F.told f.old).files (IsDamagedFirst damage)) }
+    ensures damaged { IfScanDamaged result (λ damage. ForSome (F.told folder.old).files (IsDamagedFirst damage)) }
 
     // The cause of a failed check, which holds for an opaque folder too.
-    ensures cause { IfScanDamaged result (IsInspectDamage (F.told f.old)) }
+    ensures cause { IfScanDamaged result (IsInspectDamage (F.told folder.old)) }
 
-    ensures later { F.faults f.old ≤ F.faults f.new }
-    ensures device { IfScanDevice result (Rises (F.faults f.old) (F.faults f.new)) }
+    ensures later { F.faults folder.old ≤ F.faults folder.new }
+    ensures device { IfScanDevice result (Rises (F.faults folder.old) (F.faults folder.new)) }
 {
-    match look(f)? {
+    match look(folder)? {
         Start::Unfinished => Ok(Findings::Unfinished),
-        Start::Finished => find_finished(alloc, f, question),
+        Start::Finished => find_finished(alloc, folder, question),
     }
 }
 
 // Checks the block files of a folder whose index is finished, and reads what is asked of it.
 fn find_finished<F: Folder>(
     alloc: Global,
-    f: &mut F,
+    folder: &mut F,
     question: &Question,
 ) -> Result<Findings, ScanFault>
-    ensures found { IfOk result (λ findings. ForSome (F.told f.old).files (λ image. HasWholeIndex image → findings_text findings ≡ finished_text question.now image)) }
-    ensures checked { IfOk result (λ _. ForSome (F.told f.old).files (λ image. first_block_damage image ≡ None)) }
-    ensures stays { Stays (F.told f.old) (F.told f.new) }
-    ensures damaged { IfScanDamaged result (λ damage. ForSome (F.told f.old).files (λ image. HasWholeIndex image → first_block_damage image ≡ Some (damage_of damage))) }
-    ensures cause { IfScanDamaged result (IsFinishedDamage (F.told f.old)) }
-    ensures later { F.faults f.old ≤ F.faults f.new }
-    ensures device { IfScanDevice result (Rises (F.faults f.old) (F.faults f.new)) }
+    ensures found { IfOk result (λ findings. ForSome (F.told folder.old).files (λ image. HasWholeIndex image → findings_text findings ≡ finished_text question.now image)) }
+    ensures checked { IfOk result (λ _. ForSome (F.told folder.old).files (λ image. first_block_damage image ≡ None)) }
+    ensures stays { Stays (F.told folder.old) (F.told folder.new) }
+    ensures damaged { IfScanDamaged result (λ damage. ForSome (F.told folder.old).files (λ image. HasWholeIndex image → first_block_damage image ≡ Some (damage_of damage))) }
+    ensures cause { IfScanDamaged result (IsFinishedDamage (F.told folder.old)) }
+    ensures later { F.faults folder.old ≤ F.faults folder.new }
+    ensures device { IfScanDevice result (Rises (F.faults folder.old) (F.faults folder.new)) }
 {
-    let files = BlockFiles::load(f)?;
-    read(alloc, f, &files, question)
+    let files = BlockFiles::load(folder)?;
+    read(alloc, folder, &files, question)
 }
 
 // Reads what is asked of a folder by its block files.
 fn read<F: Folder>(
     alloc: Global,
-    f: &mut F,
+    folder: &mut F,
     files: &BlockFiles,
     question: &Question,
 ) -> Result<Findings, ScanFault>
-    ensures found { IfOk result (λ findings. ForSome (F.told f.old).files (λ image. IsOpen files.now image → findings_text findings ≡ finished_text question.now image)) }
-    ensures stays { Stays (F.told f.old) (F.told f.new) }
-    ensures damaged { IfScanDamaged result (IsReadDamage files.now (F.told f.new)) }
-    ensures untold { ForSome (F.told f.old).files (IsOpen files.now) → IfScanDamaged result (λ _. (F.told f.old).files ≡ None) }
-    ensures later { F.faults f.old ≤ F.faults f.new }
-    ensures device { IfScanDevice result (Rises (F.faults f.old) (F.faults f.new)) }
+    ensures found { IfOk result (λ findings. ForSome (F.told folder.old).files (λ image. IsOpen files.now image → findings_text findings ≡ finished_text question.now image)) }
+    ensures stays { Stays (F.told folder.old) (F.told folder.new) }
+    ensures damaged { IfScanDamaged result (IsInspectReadDamage files.now (F.told folder.new)) }
+    ensures untold { ForSome (F.told folder.old).files (IsOpen files.now) → IfScanDamaged result (λ _. (F.told folder.old).files ≡ None) }
+    ensures later { F.faults folder.old ≤ F.faults folder.new }
+    ensures device { IfScanDevice result (Rises (F.faults folder.old) (F.faults folder.new)) }
 {
     match question {
-        Question::OfPart(part) => read_part(alloc, f, files, part),
-        Question::Verdict => read_verdict(alloc, f, files),
+        Question::OfPart(part) => read_part(alloc, folder, files, part),
+        Question::Verdict => read_verdict(alloc, folder, files),
     }
 }
 
 // Reads a part of a folder.
 fn read_part<F: Folder>(
     alloc: Global,
-    f: &mut F,
+    folder: &mut F,
     files: &BlockFiles,
     part: &Part,
 ) -> Result<Findings, ScanFault>
-    ensures found { IfOk result (λ findings. ForSome (F.told f.old).files (λ image. IsOpen files.now image → findings_text findings ≡ part_text part.now image)) }
-    ensures stays { Stays (F.told f.old) (F.told f.new) }
-    ensures damaged { IfScanDamaged result (IsReadDamage files.now (F.told f.new)) }
-    ensures untold { ForSome (F.told f.old).files (IsOpen files.now) → IfScanDamaged result (λ _. (F.told f.old).files ≡ None) }
-    ensures later { F.faults f.old ≤ F.faults f.new }
-    ensures device { IfScanDevice result (Rises (F.faults f.old) (F.faults f.new)) }
+    ensures found { IfOk result (λ findings. ForSome (F.told folder.old).files (λ image. IsOpen files.now image → findings_text findings ≡ part_text part.now image)) }
+    ensures stays { Stays (F.told folder.old) (F.told folder.new) }
+    ensures damaged { IfScanDamaged result (IsInspectReadDamage files.now (F.told folder.new)) }
+    ensures untold { ForSome (F.told folder.old).files (IsOpen files.now) → IfScanDamaged result (λ _. (F.told folder.old).files ≡ None) }
+    ensures later { F.faults folder.old ≤ F.faults folder.new }
+    ensures device { IfScanDevice result (Rises (F.faults folder.old) (F.faults folder.new)) }
 {
     match *part {
-        Part::Index => read_index(alloc, f),
-        Part::File(n) => read_file(alloc, f, files, n),
+        Part::Index => read_index(alloc, folder),
+        Part::File(n) => read_file(alloc, folder, files, n),
         Part::Address(word) => Ok(place_of(word)),
-        Part::List => read_list(alloc, f, files),
-        Part::Chain(bucket) => read_chain(alloc, f, files, bucket),
-        Part::Entry(word) => read_record(alloc, f, files, word),
+        Part::List => read_list(alloc, folder, files),
+        Part::Chain(bucket) => read_chain(alloc, folder, files, bucket),
+        Part::Entry(word) => read_record(alloc, folder, files, word),
     }
 }
 
@@ -139,16 +139,16 @@ fn place_of(word: u32) -> Findings
 // Reads what a folder holds.
 fn read_verdict<F: Folder>(
     alloc: Global,
-    f: &mut F,
+    folder: &mut F,
     files: &BlockFiles,
 ) -> Result<Findings, ScanFault>
-    ensures found { IfOk result (λ findings. ForSome (F.told f.old).files (λ image. IsOpen files.now image → findings_text findings ≡ verdict_text image)) }
-    ensures stays { Stays (F.told f.old) (F.told f.new) }
-    ensures damaged { IfScanDamaged result (IsReadDamage files.now (F.told f.new)) }
-    ensures untold { ForSome (F.told f.old).files (IsOpen files.now) → IfScanDamaged result (λ _. (F.told f.old).files ≡ None) }
-    ensures later { F.faults f.old ≤ F.faults f.new }
-    ensures device { IfScanDevice result (Rises (F.faults f.old) (F.faults f.new)) }
+    ensures found { IfOk result (λ findings. ForSome (F.told folder.old).files (λ image. IsOpen files.now image → findings_text findings ≡ verdict_text image)) }
+    ensures stays { Stays (F.told folder.old) (F.told folder.new) }
+    ensures damaged { IfScanDamaged result (IsInspectReadDamage files.now (F.told folder.new)) }
+    ensures untold { ForSome (F.told folder.old).files (IsOpen files.now) → IfScanDamaged result (λ _. (F.told folder.old).files ≡ None) }
+    ensures later { F.faults folder.old ≤ F.faults folder.new }
+    ensures device { IfScanDevice result (Rises (F.faults folder.old) (F.faults folder.new)) }
 {
-    let scan = scan_files(alloc, f, files)?;
+    let scan = scan_files(alloc, folder, files)?;
     Ok(Findings::Verdict(scan))
 }

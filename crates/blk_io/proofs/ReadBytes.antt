@@ -12,9 +12,9 @@ front_is zero place bytes old many = refl
 front_is (suc n) place bytes old many = range-is (suc n) place bytes (omega (arith, many))
 
 -- bytes of a file that were moved into the front of a buffer
-pub gives_front : (image : Image) (file : File) (place : ℕ) (bytes old new : List ℕ) (n : ℕ) → bytes_of image file ≡ bytes → n ≡ min (length old) (length bytes - place) → take n new ≡ take n (drop place bytes) → drop n new ≡ drop n old
+pub gives_prefix : (image : Image) (file : File) (place : ℕ) (bytes old new : List ℕ) (n : ℕ) → bytes_of image file ≡ bytes → n ≡ min (length old) (length bytes - place) → take n new ≡ take n (drop place bytes) → drop n new ≡ drop n old
     → GivesBytes image file place old new n
-gives_front image file place bytes old new n is many front rest = record {
+gives_prefix image file place bytes old new n is many front rest = record {
   many = many ∙ ap (λ (l : List ℕ). min (length old) (length l - place)) (sym is);
   front = front ∙ sym (front_is n place bytes old many) ∙ ap (λ (l : List ℕ). range_at (content l) place n) (sym is);
   rest = rest;

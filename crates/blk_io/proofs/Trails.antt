@@ -5,7 +5,7 @@ use Rattle.blk_io.specs.declared.mem_files.MemFile.{MemFile}
 use Rattle.spec_image.specs.Image.{File, Image, AreBytes, with_file}
 use Rattle.spec_image.specs.Steps.{TrailStep, after, image_at}
 use Rattle.spec_image.specs.Told.{Told, Trail, Along, Applies, longer}
-use Rattle.spec_image.proofs.Runs.{along_front}
+use Rattle.spec_image.proofs.Runs.{along_prefix}
 use Rattle.std.proofs.lemmas.Bool.Decides.{nat_tests}
 use Rattle.blk_io.specs.Files.{image_of}
 use Rattle.std.proofs.lemmas.List.{append-nil, take_at, take_all, take_more, take-append-drop}
@@ -81,7 +81,7 @@ more_along image s w before along p = subst AreBytes (sym (image_at-append image
     by_test true e =
         let past : length s ≤ p = grind (arith, nat_tests) in
         subst (λ (l : List TrailStep). AreBytes (after (take (p - length s) w) (after l image))) (sym (take_all p s past))
-        (along_front AreBytes (take (p - length s) w) (drop (p - length s) w) (after s image) (subst (Along AreBytes (after s image)) (sym (take-append-drop (p - length s) w)) along))
+        (along_prefix AreBytes (take (p - length s) w) (drop (p - length s) w) (after s image) (subst (Along AreBytes (after s image)) (sym (take-append-drop (p - length s) w)) along))
     by_test false e =
         let none : 0 ≡ p - length s = grind (arith, nat_tests) in
         subst (λ (n : ℕ). AreBytes (after (take n w) (image_at image s p))) none (before p)

@@ -5,7 +5,7 @@ use Rattle.std.proofs.lemmas.List.{take_all, take_at, length-take-le}
 use Rattle.spec_image.specs.Image.{File}
 use Rattle.spec_image.specs.Steps.{TrailStep, Word, SetLength, Delete, Note, before_words, words}
 use Rattle.spec_image.proofs.Cuts.{words-split}
-use Rattle.blk_io.specs.Trail.{front_in, words_in}
+use Rattle.blk_io.specs.Trail.{prefix_in, words_in}
 
 -- the first of the steps is a write
 abbrev IsWordFirst : List TrailStep → Type 0
@@ -58,8 +58,8 @@ pub words_in-some : (at n : ℕ) → words_in at (suc n) ≡ (at % 4 + suc n + 3
 words_in-some at n = ap (λ (t : Bool). if t then 0 else (at % 4 + suc n + 3) / 4) (not_zero n)
 
 -- the front with some words
-front_in-some : (at n w : ℕ) → front_in at n (suc w) ≡ min n (4 * (at / 4 + suc w) - at)
-front_in-some at n w = ap (λ (t : Bool). if t then 0 else min n (4 * (at / 4 + suc w) - at)) (not_zero w)
+prefix_in-some : (at n w : ℕ) → prefix_in at n (suc w) ≡ min n (4 * (at / 4 + suc w) - at)
+prefix_in-some at n w = ap (λ (t : Bool). if t then 0 else min n (4 * (at / 4 + suc w) - at)) (not_zero w)
 
 -- the number of the words of a write
 pub length-words : (f : File) (at : ℕ) (bs : List ℕ) → length (words f at bs) ≡ words_in at (length bs)
@@ -103,10 +103,10 @@ whole_words at w = by_end (end_of at (suc w)) refl
     by_end (suc n) e = words_in-some at n ∙ full at (suc n) w e
 
 -- the front of a write that has its first words has these words
-pub take-words : (f : File) (at w : ℕ) (bs : List ℕ) → words f at (take (front_in at (length bs) w) bs) ≡ take w (words f at bs)
+pub take-words : (f : File) (at w : ℕ) (bs : List ℕ) → words f at (take (prefix_in at (length bs) w) bs) ≡ take w (words f at bs)
 unfolding words
 take-words f at zero bs = refl
-take-words f at (suc w) bs = ap (λ (m : ℕ). words f at (take m bs)) (front_in-some at (length bs) w) ∙ by_test (nat_le (length bs) (end_of at (suc w))) refl
+take-words f at (suc w) bs = ap (λ (m : ℕ). words f at (take m bs)) (prefix_in-some at (length bs) w) ∙ by_test (nat_le (length bs) (end_of at (suc w))) refl
   where
     by_test : (t : Bool) → nat_le (length bs) (end_of at (suc w)) ≡ t → words f at (take (min (length bs) (end_of at (suc w))) bs) ≡ take (suc w) (words f at bs)
     by_test true e =

@@ -34,8 +34,8 @@ pub record IsShort (told : Told) (file : FileId) (place count : ℕ) (damage : D
   pub many : ForSome told.files (λ image. damage.found ≡ min count (length_of image (file_of file) - place))
 
 -- the same of a read at the front of a file, where so many bytes were given
-abbrev pub IsShortFront : File → (count given : ℕ) → Damage → Type 0
-IsShortFront file count given damage = (given < count) × (damage_of damage ≡ record { file = file; at = 0; found = given })
+abbrev pub IsShortAtStart : File → (count given : ℕ) → Damage → Type 0
+IsShortAtStart file count given damage = (given < count) × (damage_of damage ≡ record { file = file; at = 0; found = given })
 
 -- a failed check is that of a word at a place of a file
 pub record IsOfWord (file : FileId) (place found : ℕ) (damage : Damage) : Type 0 where

@@ -20,7 +20,7 @@ pub record IsPlaceOf (files : List MemFile) (file : File) (i : ℕ) : Type 0 whe
   pub none_before : image_of (take i files) file ≡ None
 
 -- a file takes the place of the next one
-pub record TakesPlace (file : File) (after next new : Option File) : Type 0 where
+pub record IsFileBetween (file : File) (after next new : Option File) : Type 0 where
   pub is : new ≡ Some file
   pub follows : IsAfter after file
   pub before : ForSome next (IsBefore file)
@@ -32,4 +32,4 @@ pub record KeepsPlace (file : File) (after next new : Option File) : Type 0 wher
 
 -- the nearer of a file and the next one so far
 abbrev pub IsNearer : File → Option File → Option File → Option File → Type 0
-IsNearer file after next new = TakesPlace file after next new ⊎ KeepsPlace file after next new
+IsNearer file after next new = IsFileBetween file after next new ⊎ KeepsPlace file after next new

@@ -8,7 +8,7 @@ use Rattle.spec_image.specs.Steps.{TrailStep, after}
 use Rattle.spec_image.specs.Image.{File, Image, AreBytes, with_file}
 use Rattle.spec_image.specs.Told.{Told, Trail, AgreesWithTrail, TellsBytes}
 use Rattle.blk_io.specs.Calls.{counts_in}
-use Rattle.blk_io.specs.Counts.{Counts}
+use Rattle.blk_io.specs.Counts.{CallCounts}
 use Rattle.blk_io.specs.Trail.{told_of, kept_steps, IsTrailOf}
 
 -- the files at the start, the files now, and the write trace
@@ -16,7 +16,7 @@ abbrev pub mem_told : MemFolder → Told
 mem_told m = told_of m.start.items m.files.items (kept_steps m.trail)
 
 -- the counts of the calls on it, and the calls that are to fail
-abbrev pub mem_counts : MemFolder → Counts
+abbrev pub mem_counts : MemFolder → CallCounts
 mem_counts m = counts_in m.calls
 
 -- these files are there at the start, and no step was made

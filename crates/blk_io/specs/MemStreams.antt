@@ -5,7 +5,7 @@ use Rattle.blk_io.specs.declared.mem_streams.MemSink.{MemSink}
 use Rattle.blk_io.specs.declared.mem_streams.ListClock.{ListClock}
 use Rattle.blk_io.specs.Calls.{counts_in}
 use Rattle.blk_io.specs.Clock.{readings_from}
-use Rattle.blk_io.specs.Counts.{Counts}
+use Rattle.blk_io.specs.Counts.{CallCounts}
 use Rattle.blk_io.specs.Streams.{Readings}
 
 -- the bytes that are left of a source
@@ -13,7 +13,7 @@ abbrev pub source_left : MemSource → List ℕ
 source_left source = drop source.at source.bytes.items
 
 -- the counts of its calls, and the calls that are to fail
-abbrev pub source_counts : MemSource → Counts
+abbrev pub source_counts : MemSource → CallCounts
 source_counts source = counts_in source.calls
 
 -- the bytes that were written to a sink
@@ -21,7 +21,7 @@ abbrev pub sink_written : MemSink → List ℕ
 sink_written sink = sink.bytes.items
 
 -- the counts of its calls, and the calls that are to fail
-abbrev pub sink_counts : MemSink → Counts
+abbrev pub sink_counts : MemSink → CallCounts
 sink_counts sink = counts_in sink.puts
 
 -- the readings to come of a clock, and the one that is repeated after them

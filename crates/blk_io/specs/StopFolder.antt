@@ -2,7 +2,7 @@
 use Rattle.std.specs.Prelude.{◌≡◌, ℕ, ◌<◌, ◌+◌, Bool, true}
 use Rattle.blk_io.specs.declared.stop.StopFolder.{StopFolder}
 use Rattle.spec_image.specs.Told.{Told, AgreesWithTrail, TellsBytes}
-use Rattle.blk_io.specs.Counts.{Counts, CountsCall}
+use Rattle.blk_io.specs.Counts.{CallCounts, CountsCall}
 use Rattle.blk_io.specs.MemFolder.{mem_told, mem_counts, mem_agrees, mem_are_bytes}
 
 -- what the folder inside tells
@@ -10,7 +10,7 @@ abbrev pub stop_told : StopFolder → Told
 stop_told s = mem_told s.inner
 
 -- the counts of the folder inside, on which only those calls are made that are passed on
-abbrev pub stop_counts : StopFolder → Counts
+abbrev pub stop_counts : StopFolder → CallCounts
 stop_counts s = mem_counts s.inner
 
 -- how many steps may still pass
@@ -28,7 +28,7 @@ pub stop_are_bytes : (s : StopFolder) → TellsBytes (stop_told s)
 stop_are_bytes s = mem_are_bytes s.inner
 
 -- a call failed, and only its failure was counted
-pub record IsStopped (old new : StopFolder) (failed : Bool) : Type 0 where
+pub record IsFolderStopped (old new : StopFolder) (failed : Bool) : Type 0 where
   pub fails : failed ≡ true
   pub told : stop_told new ≡ stop_told old
   pub counts : stop_counts new ≡ stop_counts old
@@ -36,5 +36,5 @@ pub record IsStopped (old new : StopFolder) (failed : Bool) : Type 0 where
 
 -- with no step left the call fails and changes nothing; otherwise it is counted inside, and this is the cause of a failure there
 pub record PassesOn (old new : StopFolder) (failed cause : Bool) : Type 0 where
-  pub stopped : steps_left old ≡ 0 → IsStopped old new failed
+  pub stopped : steps_left old ≡ 0 → IsFolderStopped old new failed
   pub passed : 0 < steps_left old → CountsCall (stop_counts old) (stop_counts new) failed cause

@@ -47,8 +47,8 @@ abbrev pub AreBytesAlong : List MemFile → Option (List TrailStep) → Type 0
 AreBytesAlong start steps = ForSome steps (λ s. (p : ℕ) → AreBytes (image_at (image_of start) s p))
 
 -- how many of the n bytes of a write at a place its first words have
-abbrev pub front_in : ℕ → ℕ → ℕ → ℕ
-front_in at n words = if words == 0 then 0 else min n (4 * (at / 4 + words) - at)
+abbrev pub prefix_in : ℕ → ℕ → ℕ → ℕ
+prefix_in at n words = if words == 0 then 0 else min n (4 * (at / 4 + words) - at)
 
 -- how many words a write of n bytes at a place has
 abbrev pub words_in : ℕ → ℕ → ℕ

@@ -5,7 +5,7 @@ ghost use Rattle.spec_image.specs.Image.{File};
 ghost use Rattle.spec_image.specs.Steps.{after, image_at, words};
 ghost use Rattle.blk_io.specs.FileNames.{file_of};
 ghost use Rattle.blk_io.specs.Files.{image_of};
-ghost use Rattle.blk_io.specs.Trail.{kept_calls, kept_steps, steps_of_call, steps_of, front_in};
+ghost use Rattle.blk_io.specs.Trail.{kept_calls, kept_steps, steps_of_call, steps_of, prefix_in};
 
 use crate::FileId;
 use crate::mem_files::{MemFile, remove, resize, write_over};
@@ -72,7 +72,7 @@ pub(crate) fn keep_write(
 
 // How many bytes the first words of a write have.
 fn front_len(at: u64, length: usize, words: u64) -> usize
-    ensures { result ≡ front_in at length words }
+    ensures { result ≡ prefix_in at length words }
 {
     if words == 0 {
         return 0;

@@ -64,26 +64,31 @@ fn counted<T>(answer: Result<T, Failed>, faults: &mut u64) -> Result<T, Failed>
 }
 
 // The length of a file, 0 where there is none.
-fn length<F: Folder>(f: &mut F, file: FileId) -> Result<u64, Failed>
-    ensures length { IfOk result (λ n. ForSome (F.told f.old).files (λ image. length_of image (file_of file) ≡ n)) }
-    ensures stays { Stays (F.told f.old) (F.told f.new) }
+fn length<F: Folder>(folder: &mut F, file: FileId) -> Result<u64, Failed>
+    ensures length { IfOk result (λ n. ForSome (F.told folder.old).files (λ image. length_of image (file_of file) ≡ n)) }
+    ensures stays { Stays (F.told folder.old) (F.told folder.new) }
 {
-    match f.length(file)? {
+    match folder.length(file)? {
         Some(n) => Ok(n),
         None => Ok(0),
     }
 }
 
 // Writes bytes of a file, where it has them.
-fn write_inside<F: Folder>(f: &mut F, file: FileId, at: u64, bytes: &[u8]) -> Result<(), Failed>
-    ensures steps { OnOk result (Applies (F.told f.old) (F.told f.new) (words (file_of file) at bytes.now)) }
-    ensures prefix { AppliesPrefix (F.told f.old) (F.told f.new) (words (file_of file) at bytes.now) }
+fn write_inside<F: Folder>(
+    folder: &mut F,
+    file: FileId,
+    at: u64,
+    bytes: &[u8],
+) -> Result<(), Failed>
+    ensures steps { OnOk result (Applies (F.told folder.old) (F.told folder.new) (words (file_of file) at bytes.now)) }
+    ensures prefix { AppliesPrefix (F.told folder.old) (F.told folder.new) (words (file_of file) at bytes.now) }
 {
-    let n = length(f, file)?;
+    let n = length(folder, file)?;
     if at > n || bytes.len() as u64 > n - at {
         return Err(Failed);
     }
-    f.write_at(file, at, bytes)
+    folder.write_at(file, at, bytes)
 }
 
 impl<F: Folder> Folder for SilentFolder<F> {

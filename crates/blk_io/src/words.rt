@@ -12,15 +12,20 @@ ghost use Rattle.blk_io.specs.Neighbours.{AreSideBySide, run_from};
 use crate::{Damage, Failed, Fault, FileId, Folder};
 
 /// Writes a word, its low byte first. `Failed` comes where the folder failed; the word may then be written.
-pub fn write_word<F: Folder>(f: &mut F, file: FileId, at: u64, value: u32) -> Result<(), Failed>
+pub fn write_word<F: Folder>(
+    folder: &mut F,
+    file: FileId,
+    at: u64,
+    value: u32,
+) -> Result<(), Failed>
     requires aligned { at % 4 ≡ 0 }
-    requires inside { ForSome (F.told f.old).files (λ image. HasRange image (file_of file) at 4) }
-    ensures steps { OnOk result (Applies (F.told f.old) (F.told f.new) (word_step (file_of file) at value)) }
-    ensures prefix { AppliesPrefix (F.told f.old) (F.told f.new) (word_step (file_of file) at value) }
-    ensures later { F.faults f.old ≤ F.faults f.new }
-    ensures failed { OnErr result (Rises (F.faults f.old) (F.faults f.new)) }
+    requires inside { ForSome (F.told folder.old).files (λ image. HasRange image (file_of file) at 4) }
+    ensures steps { OnOk result (Applies (F.told folder.old) (F.told folder.new) (word_step (file_of file) at value)) }
+    ensures prefix { AppliesPrefix (F.told folder.old) (F.told folder.new) (word_step (file_of file) at value) }
+    ensures later { F.faults folder.old ≤ F.faults folder.new }
+    ensures failed { OnErr result (Rises (F.faults folder.old) (F.faults folder.new)) }
 {
-    f.write_at(file, at, &value.to_le_bytes())
+    folder.write_at(file, at, &value.to_le_bytes())
 }
 
 // The most words that go by one call.
@@ -29,18 +34,22 @@ const MOST_TOGETHER: usize = 8;
 /// Writes these words in turn, each at its place. Words that lie side by side, each after the one before, go by one
 /// call, eight of them at the most. `Failed` comes where the folder failed; some of the words may then be written, from
 /// the first on.
-pub fn write_words<F: Folder>(f: &mut F, file: FileId, words: &[(u64, u32)]) -> Result<(), Failed>
+pub fn write_words<F: Folder>(
+    folder: &mut F,
+    file: FileId,
+    words: &[(u64, u32)],
+) -> Result<(), Failed>
     requires aligned { All (λ w. w.0 % 4 ≡ 0) words.now }
-    requires inside { ForSome (F.told f.old).files (λ image. All (λ w. HasRange image (file_of file) w.0 4) words.now) }
-    ensures steps { OnOk result (Applies (F.told f.old) (F.told f.new) (word_steps (file_of file) words.now)) }
-    ensures prefix { AppliesPrefix (F.told f.old) (F.told f.new) (word_steps (file_of file) words.now) }
-    ensures later { F.faults f.old ≤ F.faults f.new }
-    ensures failed { OnErr result (Rises (F.faults f.old) (F.faults f.new)) }
+    requires inside { ForSome (F.told folder.old).files (λ image. All (λ w. HasRange image (file_of file) w.0 4) words.now) }
+    ensures steps { OnOk result (Applies (F.told folder.old) (F.told folder.new) (word_steps (file_of file) words.now)) }
+    ensures prefix { AppliesPrefix (F.told folder.old) (F.told folder.new) (word_steps (file_of file) words.now) }
+    ensures later { F.faults folder.old ≤ F.faults folder.new }
+    ensures failed { OnErr result (Rises (F.faults folder.old) (F.faults folder.new)) }
 {
     let mut start = 0;
     while start < words.len() {
         let run = front_run(&words[start..]);
-        write_together(f, file, run)?;
+        write_together(folder, file, run)?;
         start += run.len();
     }
     Ok(())
@@ -66,19 +75,23 @@ fn front_run(words: &[(u64, u32)]) -> &[(u64, u32)]
 }
 
 // Writes words that lie side by side, by one call.
-fn write_together<F: Folder>(f: &mut F, file: FileId, words: &[(u64, u32)]) -> Result<(), Failed>
+fn write_together<F: Folder>(
+    folder: &mut F,
+    file: FileId,
+    words: &[(u64, u32)],
+) -> Result<(), Failed>
     requires some { 0 < length words.now }
     requires few { length words.now ≤ 8 }
     requires side_by_side { AreSideBySide words.now }
     requires aligned { All (λ w. w.0 % 4 ≡ 0) words.now }
-    requires inside { ForSome (F.told f.old).files (λ image. All (λ w. HasRange image (file_of file) w.0 4) words.now) }
-    ensures steps { OnOk result (Applies (F.told f.old) (F.told f.new) (word_steps (file_of file) words.now)) }
-    ensures prefix { AppliesPrefix (F.told f.old) (F.told f.new) (word_steps (file_of file) words.now) }
-    ensures later { F.faults f.old ≤ F.faults f.new }
-    ensures failed { OnErr result (Rises (F.faults f.old) (F.faults f.new)) }
+    requires inside { ForSome (F.told folder.old).files (λ image. All (λ w. HasRange image (file_of file) w.0 4) words.now) }
+    ensures steps { OnOk result (Applies (F.told folder.old) (F.told folder.new) (word_steps (file_of file) words.now)) }
+    ensures prefix { AppliesPrefix (F.told folder.old) (F.told folder.new) (word_steps (file_of file) words.now) }
+    ensures later { F.faults folder.old ≤ F.faults folder.new }
+    ensures failed { OnErr result (Rises (F.faults folder.old) (F.faults folder.new)) }
 {
     let bytes = bytes_of_all(words);
-    f.write_at(file, words[0].0, bytes[..words.len()].as_flattened())
+    folder.write_at(file, words[0].0, bytes[..words.len()].as_flattened())
 }
 
 // The bytes of each of these words, its low byte first.
@@ -96,20 +109,20 @@ fn bytes_of_all(words: &[(u64, u32)]) -> [[u8; 4]; MOST_TOGETHER]
 /// Writes neighbouring words from a place on, by one call. `Failed` comes where the folder failed; some of
 /// the words may then be written, from the first on.
 pub fn write_run<F: Folder, const N: usize>(
-    f: &mut F,
+    folder: &mut F,
     file: FileId,
     at: u64,
     words: &[u32; N],
 ) -> Result<(), Failed>
     requires aligned { at % 4 ≡ 0 }
-    requires inside { ForSome (F.told f.old).files (λ image. HasRange image (file_of file) at (4 * length words.now)) }
-    ensures steps { OnOk result (Applies (F.told f.old) (F.told f.new) (word_steps (file_of file) (run_from at words.now))) }
-    ensures prefix { AppliesPrefix (F.told f.old) (F.told f.new) (word_steps (file_of file) (run_from at words.now)) }
-    ensures later { F.faults f.old ≤ F.faults f.new }
-    ensures failed { OnErr result (Rises (F.faults f.old) (F.faults f.new)) }
+    requires inside { ForSome (F.told folder.old).files (λ image. HasRange image (file_of file) at (4 * length words.now)) }
+    ensures steps { OnOk result (Applies (F.told folder.old) (F.told folder.new) (word_steps (file_of file) (run_from at words.now))) }
+    ensures prefix { AppliesPrefix (F.told folder.old) (F.told folder.new) (word_steps (file_of file) (run_from at words.now)) }
+    ensures later { F.faults folder.old ≤ F.faults folder.new }
+    ensures failed { OnErr result (Rises (F.faults folder.old) (F.faults folder.new)) }
 {
     let bytes = bytes_of(words);
-    f.write_at(file, at, bytes.as_flattened())
+    folder.write_at(file, at, bytes.as_flattened())
 }
 
 // The bytes of each word, its low byte first.
@@ -127,16 +140,21 @@ fn bytes_of<const N: usize>(words: &[u32; N]) -> [[u8; 4]; N]
 ///
 /// Too few bytes are corruption: the error has the place of the read, and finds how many bytes there were. `Device`
 /// comes where the folder failed.
-pub fn read_exact<F: Folder>(f: &mut F, file: FileId, at: u64, out: &mut [u8]) -> Result<(), Fault>
+pub fn read_exact<F: Folder>(
+    folder: &mut F,
+    file: FileId,
+    at: u64,
+    out: &mut [u8],
+) -> Result<(), Fault>
     requires { length out.old < 2 ^ 32 }
-    ensures bytes { OnOk result (ForSome (F.told f.old).files (λ image. out.new ≡ range_at (byte image (file_of file)) at (length out.old))) }
-    ensures inside { OnOk result (ForSome (F.told f.old).files (λ image. HasRange image (file_of file) at (length out.old) ⊎ (length out.old ≡ 0))) }
-    ensures short { IfDamaged result (IsShort (F.told f.old) file at (length out.old)) }
-    ensures stays { Stays (F.told f.old) (F.told f.new) }
-    ensures later { F.faults f.old ≤ F.faults f.new }
-    ensures device { IfDevice result (Rises (F.faults f.old) (F.faults f.new)) }
+    ensures bytes { OnOk result (ForSome (F.told folder.old).files (λ image. out.new ≡ range_at (byte image (file_of file)) at (length out.old))) }
+    ensures inside { OnOk result (ForSome (F.told folder.old).files (λ image. HasRange image (file_of file) at (length out.old) ⊎ (length out.old ≡ 0))) }
+    ensures short { IfDamaged result (IsShort (F.told folder.old) file at (length out.old)) }
+    ensures stays { Stays (F.told folder.old) (F.told folder.new) }
+    ensures later { F.faults folder.old ≤ F.faults folder.new }
+    ensures device { IfDevice result (Rises (F.faults folder.old) (F.faults folder.new)) }
 {
-    let n = f.read_at(file, at, out)?;
+    let n = folder.read_at(file, at, out)?;
     if n < out.len() {
         let found = n as u32;
         return Err(Fault::Damaged(Damage { file, at, found }));
@@ -145,15 +163,15 @@ pub fn read_exact<F: Folder>(f: &mut F, file: FileId, at: u64, out: &mut [u8]) -
 }
 
 /// Reads the word at a place, its low byte first. Too few bytes are corruption. `Device` comes where the folder failed.
-pub fn read_word<F: Folder>(f: &mut F, file: FileId, at: u64) -> Result<u32, Fault>
-    ensures word { IfOk result (λ w. ForSome (F.told f.old).files (λ image. w ≡ word image (file_of file) at)) }
-    ensures inside { OnOk result (ForSome (F.told f.old).files (λ image. HasRange image (file_of file) at 4)) }
-    ensures short { IfDamaged result (IsShort (F.told f.old) file at 4) }
-    ensures stays { Stays (F.told f.old) (F.told f.new) }
-    ensures later { F.faults f.old ≤ F.faults f.new }
-    ensures device { IfDevice result (Rises (F.faults f.old) (F.faults f.new)) }
+pub fn read_word<F: Folder>(folder: &mut F, file: FileId, at: u64) -> Result<u32, Fault>
+    ensures word { IfOk result (λ w. ForSome (F.told folder.old).files (λ image. w ≡ word image (file_of file) at)) }
+    ensures inside { OnOk result (ForSome (F.told folder.old).files (λ image. HasRange image (file_of file) at 4)) }
+    ensures short { IfDamaged result (IsShort (F.told folder.old) file at 4) }
+    ensures stays { Stays (F.told folder.old) (F.told folder.new) }
+    ensures later { F.faults folder.old ≤ F.faults folder.new }
+    ensures device { IfDevice result (Rises (F.faults folder.old) (F.faults folder.new)) }
 {
     let mut word = [0u8; 4];
-    read_exact(f, file, at, &mut word)?;
+    read_exact(folder, file, at, &mut word)?;
     Ok(u32::from_le_bytes(word))
 }

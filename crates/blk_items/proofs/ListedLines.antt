@@ -19,7 +19,7 @@ use Rattle.law_folder.proofs.commands.Opening.{in-append, nodes-append}
 use Rattle.law_folder.proofs.lists.Walks.{walk_list}
 use Rattle.law_state.specs.Keeping.{Keeps}
 use Rattle.blk_script.specs.Reply.{row_line}
-use Rattle.blk_items.specs.RoomPrinting.{Prints, PrintsInPart}
+use Rattle.blk_items.specs.RoomPrinting.{PrintsUnlessFailed, PrintsInPart}
 use Rattle.blk_lru.specs.Lists.{IsListAtRest, IsListed, first_node_of}
 use Rattle.blk_object.specs.ListedParts.{LoadsAt}
 use Rattle.blk_items.specs.ItemRows.{lines_of}
@@ -65,7 +65,7 @@ pub record IsListedTo (state : State) (layout : Layout) (next : Option ℕ) (tur
   pub split : state.uses ≡ passed ++ left
   pub next_is : next ≡ first_node_of (nodes_of layout left)
   pub many : length passed ≡ turn
-  pub printed : Prints failed_before failed old new (lines_of state passed)
+  pub printed : PrintsUnlessFailed failed_before failed old new (lines_of state passed)
 
 -- nothing yet
 pub list-begun : (state : State) (layout : Layout) (image : Image) → Keeps state layout [] image → (next : Option ℕ) (failed : Bool) (old : Option (List ℕ)) → (IsListAtRest image → next ≡ first_node_of (walked image)) → IsListedTo state layout next 0 failed failed old old
@@ -85,11 +85,11 @@ listed-part state layout next turn before failed old mid new w same =
     (part-on before failed old mid new (lines_of state w.passed) (lines_of state w.left) w.printed (part-none failed mid new (lines_of state w.left) same))
 
 -- all of them are, where nothing is left
-all-printed : (state : State) (layout : Layout) (next : Option ℕ) (turn : ℕ) (before failed : Bool) (old new : Option (List ℕ)) (w : IsListedTo state layout next turn before failed old new) → w.left ≡ [] → Prints before failed old new (flat_map row_line (rows state))
+all-printed : (state : State) (layout : Layout) (next : Option ℕ) (turn : ℕ) (before failed : Bool) (old new : Option (List ℕ)) (w : IsListedTo state layout next turn before failed old new) → w.left ≡ [] → PrintsUnlessFailed before failed old new (flat_map row_line (rows state))
 all-printed state layout next turn before failed old new w none =
-    subst (Prints before failed old new) (ap (lines_of state) (sym (append-nil w.passed) ∙ ap (λ (l : List Item). w.passed ++ l) (sym none) ∙ sym w.split) ∙ all-lines state) w.printed
+    subst (PrintsUnlessFailed before failed old new) (ap (lines_of state) (sym (append-nil w.passed) ∙ ap (λ (l : List Item). w.passed ++ l) (sym none) ∙ sym w.split) ∙ all-lines state) w.printed
 
-pub list-ended : (state : State) (layout : Layout) (turn : ℕ) (before failed : Bool) (old new : Option (List ℕ)) → IsListedTo state layout None turn before failed old new → Prints before failed old new (flat_map row_line (rows state))
+pub list-ended : (state : State) (layout : Layout) (turn : ℕ) (before failed : Bool) (old new : Option (List ℕ)) → IsListedTo state layout None turn before failed old new → PrintsUnlessFailed before failed old new (flat_map row_line (rows state))
 list-ended state layout turn before failed old new w = all-printed state layout None turn before failed old new w (nothing w.left w.next_is) where
   nothing : (left : List Item) → None ≡ first_node_of (nodes_of layout left) → left ≡ []
   nothing [] is = refl
@@ -97,7 +97,7 @@ list-ended state layout turn before failed old new w = all-printed state layout 
 
 -- and after as many iterations as there are nodes at most
 pub turns-ended : (state : State) (layout : Layout) (next : Option ℕ) (turn : ℕ) (before failed : Bool) (old new : Option (List ℕ)) (image : Image) → Keeps state layout [] image → 131072 ≤ turn
-    → IsListedTo state layout next turn before failed old new → Prints before failed old new (flat_map row_line (rows state))
+    → IsListedTo state layout next turn before failed old new → PrintsUnlessFailed before failed old new (flat_map row_line (rows state))
 turns-ended state layout next turn before failed old new image k end w = all-printed state layout next turn before failed old new w (go w.left refl) where
   go : (left : List Item) → w.left ≡ left → w.left ≡ []
   go [] is = is
@@ -163,7 +163,7 @@ module _ (state : State) (layout : Layout) (image : Image) (k : Keeps state layo
   pub node-listed : IsListed node image
   node-listed = listed-amid layout state.uses w.passed it.behind it.item node image (list-at-rest state layout image k) whole-is it.place
 
-  module _ (after : Bool) (new : Option (List ℕ)) (prints : Prints failed after mid new (row_line (row_of_loaded placed.loaded))) where
+  module _ (after : Bool) (new : Option (List ℕ)) (prints : PrintsUnlessFailed failed after mid new (row_line (row_of_loaded placed.loaded))) where
     -- its line is printed
     line-printed : IsListedTo state layout (first_node_of (nodes_of layout it.behind)) (turn + 1) before after old new
     line-printed = record {
@@ -172,7 +172,7 @@ module _ (state : State) (layout : Layout) (image : Image) (k : Keeps state layo
       split = whole-is ∙ sym (append_assoc w.passed (it.item ∷ []) it.behind);
       next_is = refl;
       many = let one = length-append w.passed (it.item ∷ []) in let many = w.many in omega (arith, one, many);
-      printed = subst (Prints before after old new) (sym (more-lines state w.passed it.item (row_of_loaded placed.loaded) placed.row))
+      printed = subst (PrintsUnlessFailed before after old new) (sym (more-lines state w.passed it.item (row_of_loaded placed.loaded) placed.row))
           (printed-on before failed after old mid new (lines_of state w.passed) (row_line (row_of_loaded placed.loaded)) w.printed prints);
     }
 

@@ -12,7 +12,7 @@ use Rattle.blk_entry.specs.declared.keys.Head.{Head}
 use Rattle.blk_entry.specs.Keys.{IsPiece, IsRecordHead, key_at}
 use Rattle.blk_object.specs.Owning.{LoadsWith}
 use Rattle.blk_object.proofs.OwnedCharges.{HaveLengths, streams-length}
-use Rattle.blk_items.specs.ItemRows.{IsToldBy}
+use Rattle.blk_items.specs.ItemRows.{IsItemToldBy}
 use Rattle.blk_items.proofs.GroupsOut.{key-read, kind-read}
 
 -- the sizes of a record are the lengths of its streams
@@ -23,7 +23,7 @@ size-of e streams lengths (suc (suc zero)) below = sym lengths.third
 size-of e streams lengths (suc (suc (suc n))) below = absurd (omega (arith, below))
 
 pub told-by : (image : Image) (entry : ℕ) (head : Head) (loaded : Loaded) (old new : List ℕ) (len : ℕ) → IsRecordHead image entry head → LoadsWith entry loaded image → 32796 ≤ length old → ((stored : List ℕ) → key_at image entry ≡ Some stored → IsPiece stored 0 old new len)
-    → IsToldBy loaded (take len new) head
+    → IsItemToldBy loaded (take len new) head
 told-by image entry head loaded old new len is lies room piece = record {
   kind = kind-read image entry head loaded is lies;
   key = key-read image entry loaded old new len lies room piece;

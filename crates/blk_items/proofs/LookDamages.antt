@@ -16,10 +16,10 @@ use Rattle.blk_chain.proofs.Heads.{names-parts}
 use Rattle.blk_stream.specs.Streams.{size_place, size_word, stream_bytes}
 use Rattle.blk_object.specs.FailedChecks.{EndsTooSoon, IsFailedCheck}
 use Rattle.blk_object.proofs.DamageChecks.{head-checked, node-word-checked, search-checked}
-use Rattle.blk_items.specs.Looking.{IsEntryDamage, IsLookDamage}
+use Rattle.blk_items.specs.Looking.{IsEntryDamage, IsLookUpDamage}
 
 -- the search for a live object
-pub look-checked : (files : BlockFiles) (told : Told) (key : List ℕ) (damage : Damage) → IsLookDamage files told key damage → IsFailedCheck files told damage
+pub look-checked : (files : BlockFiles) (told : Told) (key : List ℕ) (damage : Damage) → IsLookUpDamage files told key damage → IsFailedCheck files told damage
 look-checked files told key damage (inl search) = search-checked files told key false damage search
 look-checked files told key damage (inr wrong) = go wrong.wrong
   where

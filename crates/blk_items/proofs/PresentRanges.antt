@@ -31,7 +31,7 @@ use Rattle.blk_sparse.proofs.MapsRead.{part-read}
 use Rattle.blk_sparse.proofs.ParentsRead.{streams-there}
 use Rattle.blk_sparse.proofs.PresentParts.{sparse-empty, sparse-first, sparse-less, sparse-whole}
 use Rattle.blk_sparse.proofs.ReadParts.{bytes-front, bytes-nowhere}
-use Rattle.blk_sparse.proofs.FrontRuns.{bytes-of-part-few}
+use Rattle.blk_sparse.proofs.PrefixRuns.{bytes-of-part-few}
 use Rattle.blk_items.specs.declared.present_printing.PresentRange.{PresentRange}
 use Rattle.blk_items.specs.declared.range_printing.StreamRange.{StreamRange}
 use Rattle.blk_items.specs.PresentPrinting.{HasPresent}

@@ -15,7 +15,7 @@ use Rattle.blk_script.specs.Spelling.{data_text, number_text}
 use Rattle.blk_script.proofs.Printed.{data_text-nil, data_text-some, encode_lower-append, encode_lower-nil, line-first}
 use Rattle.blk_items.specs.declared.range_printing.StreamRange.{StreamRange}
 use Rattle.blk_items.specs.RangePrinting.{HasBytes}
-use Rattle.blk_items.specs.RoomPrinting.{Prints, PrintsInPart}
+use Rattle.blk_items.specs.RoomPrinting.{PrintsUnlessFailed, PrintsInPart}
 use Rattle.blk_items.proofs.RoomTexts.{appends-longer, none-printed, part-none, part-on, printed-on}
 
 -- ---- texts
@@ -87,26 +87,26 @@ not-short files range image p old new n long piece fewer =
 -- what was printed before a piece, and with it
 module _ (files : BlockFiles) (range : StreamRange) (image : Image) (p : HasBytes files range image) where
   -- nothing yet
-  pub none-yet : (failed : Bool) (old : Option (List ℕ)) → Prints failed failed old old (encode_lower (take 0 p.bytes))
-  none-yet failed old = subst (Prints failed failed old old) (sym encode_lower-nil) (none-printed failed old)
+  pub none-yet : (failed : Bool) (old : Option (List ℕ)) → PrintsUnlessFailed failed failed old old (encode_lower (take 0 p.bytes))
+  none-yet failed old = subst (PrintsUnlessFailed failed failed old old) (sym encode_lower-nil) (none-printed failed old)
 
   cut-at : (done next : ℕ) → take (done + next) p.bytes ≡ take done p.bytes ++ take next (drop done p.bytes)
   cut-at done next =
       sym (take-append-drop done (take (done + next) p.bytes)) ∙ ap (λ (l : List ℕ). l ++ drop done (take (done + next) p.bytes)) (take-take done (done + next) p.bytes (omega arith))
       ∙ ap (λ (l : List ℕ). take done p.bytes ++ l) (drop-take done next p.bytes)
 
-  pub one-more : (before between failed : Bool) (w0 w1 w2 : Option (List ℕ)) (done next : ℕ) → Prints before between w0 w1 (encode_lower (take done p.bytes)) → Prints between failed w1 w2 (encode_lower (take next (drop done p.bytes)))
-      → Prints before failed w0 w2 (encode_lower (take (done + next) p.bytes))
+  pub one-more : (before between failed : Bool) (w0 w1 w2 : Option (List ℕ)) (done next : ℕ) → PrintsUnlessFailed before between w0 w1 (encode_lower (take done p.bytes)) → PrintsUnlessFailed between failed w1 w2 (encode_lower (take next (drop done p.bytes)))
+      → PrintsUnlessFailed before failed w0 w2 (encode_lower (take (done + next) p.bytes))
   one-more before between failed w0 w1 w2 done next first second =
-      subst (Prints before failed w0 w2) (sym (ap encode_lower (cut-at done next) ∙ encode_lower-append (take done p.bytes) (take next (drop done p.bytes))))
+      subst (PrintsUnlessFailed before failed w0 w2) (sym (ap encode_lower (cut-at done next) ∙ encode_lower-append (take done p.bytes) (take next (drop done p.bytes))))
       (printed-on before between failed w0 w1 w2 (encode_lower (take done p.bytes)) (encode_lower (take next (drop done p.bytes))) first second)
 
   -- all of them
-  pub all-printed : (before failed : Bool) (old new : Option (List ℕ)) (done : ℕ) → range.count ≤ done → Prints before failed old new (encode_lower (take done p.bytes)) → Prints before failed old new (encode_lower p.bytes)
-  all-printed before failed old new done all printed = subst (λ (l : List ℕ). Prints before failed old new (encode_lower l)) (take_all done p.bytes (let long = p.long in omega (arith, all, long))) printed
+  pub all-printed : (before failed : Bool) (old new : Option (List ℕ)) (done : ℕ) → range.count ≤ done → PrintsUnlessFailed before failed old new (encode_lower (take done p.bytes)) → PrintsUnlessFailed before failed old new (encode_lower p.bytes)
+  all-printed before failed old new done all printed = subst (λ (l : List ℕ). PrintsUnlessFailed before failed old new (encode_lower l)) (take_all done p.bytes (let long = p.long in omega (arith, all, long))) printed
 
   -- a prefix of them
-  pub some-printed : (before failed : Bool) (old between new : Option (List ℕ)) (done : ℕ) → Prints before failed old between (encode_lower (take done p.bytes)) → new ≡ between → PrintsInPart before old new (encode_lower p.bytes)
+  pub some-printed : (before failed : Bool) (old between new : Option (List ℕ)) (done : ℕ) → PrintsUnlessFailed before failed old between (encode_lower (take done p.bytes)) → new ≡ between → PrintsInPart before old new (encode_lower p.bytes)
   some-printed before failed old between new done printed same =
       subst (PrintsInPart before old new) (sym (encode_lower-append (take done p.bytes) (drop done p.bytes)) ∙ ap encode_lower (take-append-drop done p.bytes))
       (part-on before failed old between new (encode_lower (take done p.bytes)) (encode_lower (drop done p.bytes)) printed (part-none failed between new (encode_lower (drop done p.bytes)) same))
@@ -126,13 +126,13 @@ module _ (files : BlockFiles) (range : StreamRange) (image : Image) (p : HasByte
   line-is = data-line p.bytes ∙ ap (λ (n : ℕ). (codes "data " ++ (number_text n ++ codes " ")) ++ (data_text p.bytes ++ 10 ∷ [])) p.long
 
   -- the front, the data and the end
-  pub line-printed : (f0 f1 f2 f3 : Bool) (w0 w1 w2 w3 : Option (List ℕ)) → Prints f0 f1 w0 w1 (codes "data " ++ (number_text range.count ++ codes " ")) → Prints f1 f2 w1 w2 (data_text p.bytes) → Prints f2 f3 w2 w3 (10 ∷ []) → Prints f0 f3 w0 w3 (reply_text (gave p.bytes))
+  pub line-printed : (f0 f1 f2 f3 : Bool) (w0 w1 w2 w3 : Option (List ℕ)) → PrintsUnlessFailed f0 f1 w0 w1 (codes "data " ++ (number_text range.count ++ codes " ")) → PrintsUnlessFailed f1 f2 w1 w2 (data_text p.bytes) → PrintsUnlessFailed f2 f3 w2 w3 (10 ∷ []) → PrintsUnlessFailed f0 f3 w0 w3 (reply_text (gave p.bytes))
   line-printed f0 f1 f2 f3 w0 w1 w2 w3 front middle last =
-      subst (Prints f0 f3 w0 w3) (sym line-is)
+      subst (PrintsUnlessFailed f0 f3 w0 w3) (sym line-is)
       (printed-on f0 f1 f3 w0 w1 w3 (codes "data " ++ (number_text range.count ++ codes " ")) (data_text p.bytes ++ 10 ∷ []) front
       (printed-on f1 f2 f3 w1 w2 w3 (data_text p.bytes) (10 ∷ []) middle last))
 
-  pub line-in-part : (f0 f1 : Bool) (w0 w1 w2 : Option (List ℕ)) → Prints f0 f1 w0 w1 (codes "data " ++ (number_text range.count ++ codes " ")) → PrintsInPart f1 w1 w2 (data_text p.bytes) → PrintsInPart f0 w0 w2 (reply_text (gave p.bytes))
+  pub line-in-part : (f0 f1 : Bool) (w0 w1 w2 : Option (List ℕ)) → PrintsUnlessFailed f0 f1 w0 w1 (codes "data " ++ (number_text range.count ++ codes " ")) → PrintsInPart f1 w1 w2 (data_text p.bytes) → PrintsInPart f0 w0 w2 (reply_text (gave p.bytes))
   line-in-part f0 f1 w0 w1 w2 front middle =
       subst (PrintsInPart f0 w0 w2) (sym line-is)
       (part-on f0 f1 w0 w1 w2 (codes "data " ++ (number_text range.count ++ codes " ")) (data_text p.bytes ++ 10 ∷ []) front
@@ -152,23 +152,23 @@ module _ (files : BlockFiles) (first second : StreamRange) (image : Image) (p : 
       ∙ ap (λ (l : List ℕ). (codes "data " ++ (number_text (first.count + second.count) ++ codes " ")) ++ (l ++ 10 ∷ [])) (data_text-some (p.bytes ++ q.bytes) (let long = together in omega (arith, long, some)) ∙ encode_lower-append p.bytes q.bytes)
       ∙ ap (λ (l : List ℕ). (codes "data " ++ (number_text (first.count + second.count) ++ codes " ")) ++ l) (append_assoc (encode_lower p.bytes) (encode_lower q.bytes) (10 ∷ []))
 
-  pub both-printed : (f0 f1 f2 f3 f4 : Bool) (w0 w1 w2 w3 w4 : Option (List ℕ)) → Prints f0 f1 w0 w1 (codes "data " ++ (number_text (first.count + second.count) ++ codes " ")) → Prints f1 f2 w1 w2 (encode_lower p.bytes) → Prints f2 f3 w2 w3 (encode_lower q.bytes) → Prints f3 f4 w3 w4 (10 ∷ [])
-      → Prints f0 f4 w0 w4 (reply_text (gave (p.bytes ++ q.bytes)))
+  pub both-printed : (f0 f1 f2 f3 f4 : Bool) (w0 w1 w2 w3 w4 : Option (List ℕ)) → PrintsUnlessFailed f0 f1 w0 w1 (codes "data " ++ (number_text (first.count + second.count) ++ codes " ")) → PrintsUnlessFailed f1 f2 w1 w2 (encode_lower p.bytes) → PrintsUnlessFailed f2 f3 w2 w3 (encode_lower q.bytes) → PrintsUnlessFailed f3 f4 w3 w4 (10 ∷ [])
+      → PrintsUnlessFailed f0 f4 w0 w4 (reply_text (gave (p.bytes ++ q.bytes)))
   both-printed f0 f1 f2 f3 f4 w0 w1 w2 w3 w4 front one two last =
-      subst (Prints f0 f4 w0 w4) (sym both-line)
+      subst (PrintsUnlessFailed f0 f4 w0 w4) (sym both-line)
       (printed-on f0 f1 f4 w0 w1 w4 (codes "data " ++ (number_text (first.count + second.count) ++ codes " ")) (encode_lower p.bytes ++ (encode_lower q.bytes ++ 10 ∷ [])) front
       (printed-on f1 f2 f4 w1 w2 w4 (encode_lower p.bytes) (encode_lower q.bytes ++ 10 ∷ []) one
       (printed-on f2 f3 f4 w2 w3 w4 (encode_lower q.bytes) (10 ∷ []) two last)))
 
   -- where the bytes of the first are printed in part
-  pub first-in-part : (f0 f1 : Bool) (w0 w1 w2 : Option (List ℕ)) → Prints f0 f1 w0 w1 (codes "data " ++ (number_text (first.count + second.count) ++ codes " ")) → PrintsInPart f1 w1 w2 (encode_lower p.bytes) → PrintsInPart f0 w0 w2 (reply_text (gave (p.bytes ++ q.bytes)))
+  pub first-in-part : (f0 f1 : Bool) (w0 w1 w2 : Option (List ℕ)) → PrintsUnlessFailed f0 f1 w0 w1 (codes "data " ++ (number_text (first.count + second.count) ++ codes " ")) → PrintsInPart f1 w1 w2 (encode_lower p.bytes) → PrintsInPart f0 w0 w2 (reply_text (gave (p.bytes ++ q.bytes)))
   first-in-part f0 f1 w0 w1 w2 front one =
       subst (PrintsInPart f0 w0 w2) (sym both-line)
       (part-on f0 f1 w0 w1 w2 (codes "data " ++ (number_text (first.count + second.count) ++ codes " ")) (encode_lower p.bytes ++ (encode_lower q.bytes ++ 10 ∷ [])) front
       (record { silent = one.silent; front = appends-longer w1 w2 (encode_lower p.bytes) (encode_lower q.bytes ++ 10 ∷ []) one.front }))
 
   -- where those of the second are
-  pub second-in-part : (f0 f1 f2 : Bool) (w0 w1 w2 w3 : Option (List ℕ)) → Prints f0 f1 w0 w1 (codes "data " ++ (number_text (first.count + second.count) ++ codes " ")) → Prints f1 f2 w1 w2 (encode_lower p.bytes) → PrintsInPart f2 w2 w3 (encode_lower q.bytes) → PrintsInPart f0 w0 w3 (reply_text (gave (p.bytes ++ q.bytes)))
+  pub second-in-part : (f0 f1 f2 : Bool) (w0 w1 w2 w3 : Option (List ℕ)) → PrintsUnlessFailed f0 f1 w0 w1 (codes "data " ++ (number_text (first.count + second.count) ++ codes " ")) → PrintsUnlessFailed f1 f2 w1 w2 (encode_lower p.bytes) → PrintsInPart f2 w2 w3 (encode_lower q.bytes) → PrintsInPart f0 w0 w3 (reply_text (gave (p.bytes ++ q.bytes)))
   second-in-part f0 f1 f2 w0 w1 w2 w3 front one two =
       subst (PrintsInPart f0 w0 w3) (sym both-line)
       (part-on f0 f1 w0 w1 w3 (codes "data " ++ (number_text (first.count + second.count) ++ codes " ")) (encode_lower p.bytes ++ (encode_lower q.bytes ++ 10 ∷ [])) front

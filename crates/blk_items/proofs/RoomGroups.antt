@@ -127,15 +127,15 @@ last-next enough state covered front item behind valid is wants =
     let are : evicted_until enough state covered ≡ group_for item front ∷ more.0 = ap (shortest (λ groups. enough (without groups state)) []) (first-back state covered front item behind is) ∙ more.1 in
     are ∙ ap (λ (groups : List Group). group_for item front ∷ groups) (sym (others-go state valid covered (group_for item front) [] (loose-for (is_pinned state covered) item front is.unpinned, tt) enough more.0 are))
 
-front-loose : (stays : Item → Bool) (first others : List Group) → AllByRecursion (IsLoose stays) (first ++ others) → AllByRecursion (IsLoose stays) first
-front-loose stays [] others all = tt
-front-loose stays (group ∷ first) others all = (all.0, front-loose stays first others all.1)
+prefix-loose : (stays : Item → Bool) (first others : List Group) → AllByRecursion (IsLoose stays) (first ++ others) → AllByRecursion (IsLoose stays) first
+prefix-loose stays [] others all = tt
+prefix-loose stays (group ∷ first) others all = (all.0, prefix-loose stays first others all.1)
 
 pub others-next : TheOthersGoFromWhatIsLeft
 others-next enough state covered [] others valid are = ap (λ (s : State). evicted_until enough s covered) (without-none state) ∙ are
 others-next enough state covered (group ∷ first) others valid are =
     others-go state valid covered group first
-    (front-loose (is_pinned state covered) (group ∷ first) others (subst (λ groups. AllByRecursion (IsLoose (is_pinned state covered)) groups) are (evicted_are_loose enough state covered)))
+    (prefix-loose (is_pinned state covered) (group ∷ first) others (subst (λ groups. AllByRecursion (IsLoose (is_pinned state covered)) groups) are (evicted_are_loose enough state covered)))
     enough others are
 
 -- ---- pins

@@ -8,7 +8,7 @@ use Rattle.spec_folder.specs.ListImages.{HasListAtRest, walked}
 use Rattle.spec_folder.specs.View.{list_of}
 use Rattle.law_folder.proofs.lists.Walks.{walk_list}
 use Rattle.blk_lru.specs.Lists.{IsListAtRest, IsListed, first_node_of}
-use Rattle.blk_items.specs.ListPlaces.{AreInFront, IsPlaceInList}
+use Rattle.blk_items.specs.ListPlaces.{AreInPrefix, IsPlaceInList}
 
 -- what begins with a node
 begins : (nodes : List ℕ) (node : ℕ) → ◌≡◌ {A = Option ℕ} (Some node) (first_node_of nodes) → (rest : List ℕ) × (nodes ≡ node ∷ rest)
@@ -45,6 +45,6 @@ place-listed behind node image is place =
     }
 
 -- at the end of the list all nodes are in front
-pub at-end : (front : List ℕ) (behind : Option ℕ) (image : Image) → behind ≡ None → AreInFront front behind image → (walked image ≡ front) × IsListAtRest image
+pub at-end : (front : List ℕ) (behind : Option ℕ) (image : Image) → behind ≡ None → AreInPrefix front behind image → (walked image ≡ front) × IsListAtRest image
 at-end front behind image is place =
     (rest-walked (front ++ place.rest) image place.list ∙ ap (λ (ws : List ℕ). front ++ ws) (ends place.rest (sym is ∙ place.next)) ∙ append-nil front, rests (front ++ place.rest) image place.list)

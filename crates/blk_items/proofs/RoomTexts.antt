@@ -2,7 +2,7 @@
 use Rattle.std.proofs.Common.{◌≡◌, ℕ, Bool, true, false, List, [], ◌++◌, Option, Some, None, refl, sym, ap, subst, ◌∙◌, append_assoc, append-nil, arith}
 use Rattle.std.specs.Option.{option_map}
 use Rattle.blk_io.specs.Streams.{Appends}
-use Rattle.blk_items.specs.RoomPrinting.{FailsWhereItRose, FaultsGoOn, NothingIsPrinted, Prints, PrintsGoOn, PrintsInPart}
+use Rattle.blk_items.specs.RoomPrinting.{FailsWhereItRose, FaultsGoOn, NothingIsPrinted, PrintsUnlessFailed, PrintsGoOn, PrintsInPart}
 
 -- nothing is at the end
 pub none-behind : (old : Option (List ℕ)) → old ≡ option_map (λ (w : List ℕ). w ++ []) old
@@ -20,7 +20,7 @@ twice : (a b : List ℕ) (old between new : Option (List ℕ)) → between ≡ o
 twice a b None between new first second = second ∙ ap (option_map (λ (w : List ℕ). w ++ b)) first
 twice a b (Some w) between new first second = second ∙ ap (option_map (λ (v : List ℕ). v ++ b)) first ∙ ap Some (append_assoc w a b)
 
-module _ (before between failed : Bool) (w0 w1 w2 : Option (List ℕ)) (a b : List ℕ) (one : Prints before between w0 w1 a) (two : Prints between failed w1 w2 b) where
+module _ (before between failed : Bool) (w0 w1 w2 : Option (List ℕ)) (a b : List ℕ) (one : PrintsUnlessFailed before between w0 w1 a) (two : PrintsUnlessFailed between failed w1 w2 b) where
   -- where it had not failed between
   went-on : between ≡ false → Appends w0 w2 (a ++ b)
   went-on e = record {
@@ -47,7 +47,7 @@ module _ (before between failed : Bool) (w0 w1 w2 : Option (List ℕ)) (a b : Li
   not-failed true e f = absurd (let z : true ≡ false = sym ((two.silent e).0) ∙ f in cc)
   not-failed false e f = e
 
-  both : Prints before failed w0 w2 (a ++ b)
+  both : PrintsUnlessFailed before failed w0 w2 (a ++ b)
   both = record {
     silent = λ e. let first = one.silent e in let second = two.silent first.0 in (second.0, second.1 ∙ first.1);
     whole = λ f. twice a b w0 w1 w2 (one.whole (not-failed between refl f)) (two.whole f);
@@ -68,7 +68,7 @@ pub appends-longer : (w0 w1 : Option (List ℕ)) (a b : List ℕ) → Appends w0
 appends-longer w0 w1 a b one = record { front = one.front; rest = one.rest ++ b; split = ap (λ (l : List ℕ). l ++ b) one.split ∙ append_assoc one.front one.rest b; written = one.written }
 
 -- a text was printed, and then a prefix of another one, or nothing where the sink failed
-pub appends-after : (failed_before failed : Bool) (w0 w1 w2 : Option (List ℕ)) (a b : List ℕ) → Prints failed_before failed w0 w1 a → (failed ≡ true → w2 ≡ w1) → Appends w1 w2 b → Appends w0 w2 (a ++ b)
+pub appends-after : (failed_before failed : Bool) (w0 w1 w2 : Option (List ℕ)) (a b : List ℕ) → PrintsUnlessFailed failed_before failed w0 w1 a → (failed ≡ true → w2 ≡ w1) → Appends w1 w2 b → Appends w0 w2 (a ++ b)
 appends-after failed_before failed w0 w1 w2 a b one quiet more = go failed refl where
   went-on : failed ≡ false → Appends w0 w2 (a ++ b)
   went-on e = record {
@@ -94,9 +94,9 @@ pub part-none : (before : Bool) (old new : Option (List ℕ)) (text : List ℕ) 
 part-none before old new text same = record { silent = λ e. same; front = record { front = []; rest = text; split = refl; written = same ∙ none-behind old } }
 
 -- a text was printed
-pub part-whole : (before failed : Bool) (old new : Option (List ℕ)) (text : List ℕ) → Prints before failed old new text → PrintsInPart before old new text
+pub part-whole : (before failed : Bool) (old new : Option (List ℕ)) (text : List ℕ) → PrintsUnlessFailed before failed old new text → PrintsInPart before old new text
 part-whole before failed old new text p = record { silent = λ e. (p.silent e).1; front = p.front }
 
 -- a text was printed, and then a prefix of another
-pub part-on : (before between : Bool) (w0 w1 w2 : Option (List ℕ)) (a b : List ℕ) → Prints before between w0 w1 a → PrintsInPart between w1 w2 b → PrintsInPart before w0 w2 (a ++ b)
+pub part-on : (before between : Bool) (w0 w1 w2 : Option (List ℕ)) (a b : List ℕ) → PrintsUnlessFailed before between w0 w1 a → PrintsInPart between w1 w2 b → PrintsInPart before w0 w2 (a ++ b)
 part-on before between w0 w1 w2 a b one two = record { silent = λ e. two.silent (one.silent e).0 ∙ (one.silent e).1; front = appends-after before between w0 w1 w2 a b one two.silent two.front }

@@ -39,12 +39,12 @@ pub record LiesAsTarget (held : Bool) (state : State) (layout : Layout) (number 
   pub charge : target.charge ≡ charge_of lies.was
 
 -- what holds of each such object of a state that is kept
-abbrev pub ForEachTarget : (held : Bool) → Target → Image → (State → Layout → ℕ → Object → Type 0) → Type 0
-ForEachTarget held target image P = (state : State) (layout : Layout) (number : ℕ) (object : Object) → Keeps state layout [] image → LiesAsTarget held state layout number object target → P state layout number object
+abbrev pub ForEachDoomTarget : (held : Bool) → Target → Image → (State → Layout → ℕ → Object → Type 0) → Type 0
+ForEachDoomTarget held target image P = (state : State) (layout : Layout) (number : ℕ) (object : Object) → Keeps state layout [] image → LiesAsTarget held state layout number object target → P state layout number object
 
 -- and of each with this key
 abbrev pub ForEachWithKey : (held : Bool) → List ℕ → Target → Image → (State → Layout → ℕ → Object → Type 0) → Type 0
-ForEachWithKey held key target image P = ForEachTarget held target image (λ state layout number object. object.key ≡ key → P state layout number object)
+ForEachWithKey held key target image P = ForEachDoomTarget held target image (λ state layout number object. object.key ≡ key → P state layout number object)
 
 -- the live object with a key lies as a target
 pub record IsTargetAt (state : State) (layout : Layout) (key : List ℕ) (target : Target) : Type 0 where
@@ -55,9 +55,9 @@ pub record IsTargetAt (state : State) (layout : Layout) (key : List ℕ) (target
   pub lies : LiesAsTarget (is_named state number) state layout number object target
 
 -- what is found for a key: nothing where no live object has it
-abbrev pub IsTarget : State → Layout → List ℕ → Option Target → Type 0
-IsTarget state layout key None = live_with state key ≡ None
-IsTarget state layout key (Some target) = IsTargetAt state layout key target
+abbrev pub IsDoomTarget : State → Layout → List ℕ → Option Target → Type 0
+IsDoomTarget state layout key None = live_with state key ≡ None
+IsDoomTarget state layout key (Some target) = IsTargetAt state layout key target
 
 -- a live object that a handle names lies at this node with this record
 pub record LiesOpen (state : State) (layout : Layout) (number : ℕ) (object : Object) (node entry : ℕ) : Type 0 where

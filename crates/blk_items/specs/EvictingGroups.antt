@@ -37,8 +37,8 @@ abbrev pub kind_said : ℕ → EntryKind
 kind_said flags = if flags == parent then Parent else if flags == child then Part else Plain
 
 -- these are the bytes of the key of a record
-abbrev pub IsNameOf : (entry : ℕ) → List ℕ → Image → Type 0
-IsNameOf entry name image = key_bytes image entry ≡ name
+abbrev pub IsItemName : (entry : ℕ) → List ℕ → Image → Type 0
+IsItemName entry name image = key_bytes image entry ≡ name
 
 -- the kind of what lies there is told, and its charge, and its key is at the front of some bytes
 pub record IsNamedAs (loaded : Loaded) (named : Named) (bytes : List ℕ) : Type 0 where

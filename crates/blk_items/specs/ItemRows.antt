@@ -23,14 +23,14 @@ abbrev pub lines_of : State → List Item → List ℕ
 lines_of state items = flat_map row_line (filter_map (row_of state) items)
 
 -- an image has a state by a layout with no word unlinked, and may be read by these block files
-pub record HasState (files : BlockFiles) (image : Image) : Type 0 where
+pub record HasKeptState (files : BlockFiles) (image : Image) : Type 0 where
   pub state : State
   pub layout : Layout
   pub kept : Keeps state layout [] image
   pub is_open : IsOpen files image
 
 -- the words of a record and its key or name tell what lies there: its kind, its key, the lengths of its streams, and of a part its name
-pub record IsToldBy (loaded : Loaded) (name : List ℕ) (head : Head) : Type 0 where
+pub record IsItemToldBy (loaded : Loaded) (name : List ℕ) (head : Head) : Type 0 where
   pub kind : kind_said head.flags ≡ kind_of_role loaded.role
   pub key : name ≡ loaded.key
   pub sizes : (i : ℕ) → i < 3 → slice_index head.sizes i ≡ length (stream i loaded.streams)

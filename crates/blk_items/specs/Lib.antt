@@ -1,4 +1,4 @@
-pub mod NameRoom
+pub mod NameBuffer
 pub mod Looking
 pub mod RoomLaws
 pub mod RoomPrinting

@@ -15,14 +15,14 @@ use Rattle.blk_items.specs.declared.list_places.Unpinned.{Unpinned}
 use Rattle.blk_items.specs.RoomLaws.{AreAllPinned, IsLastUnpinned, MayGo}
 
 -- these nodes are in front of a place of the list, where this node is next after it; none is at the end
-pub record AreInFront (front : List ℕ) (behind : Option ℕ) (image : Image) : Type 0 where
+pub record AreInPrefix (front : List ℕ) (behind : Option ℕ) (image : Image) : Type 0 where
   pub rest : List ℕ
   pub list : HasListAtRest (front ++ rest) image
   pub next : behind ≡ first_node_of rest
 
 -- some nodes are in front of it
 abbrev pub IsPlaceInList : Option ℕ → Image → Type 0
-IsPlaceInList behind image = (front : List ℕ) × AreInFront front behind image
+IsPlaceInList behind image = (front : List ℕ) × AreInPrefix front behind image
 
 -- the items from a node on are pinned, where these parts are covered; none is at the end
 pub record IsPinnedFrom (state : State) (layout : Layout) (covered : List Item) (behind : Option ℕ) : Type 0 where

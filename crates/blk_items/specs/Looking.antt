@@ -66,5 +66,5 @@ pub record IsWrongEntry (files : BlockFiles) (told : Told) (damage : Damage) : T
   pub wrong : IsEntryDamage files told entry damage
 
 -- the failed checks of the search for a live object
-abbrev pub IsLookDamage : BlockFiles → Told → List ℕ → Damage → Type 0
-IsLookDamage files told key damage = IsSearchDamage files told key false damage ⊎ IsWrongEntry files told damage
+abbrev pub IsLookUpDamage : BlockFiles → Told → List ℕ → Damage → Type 0
+IsLookUpDamage files told key damage = IsSearchDamage files told key false damage ⊎ IsWrongEntry files told damage

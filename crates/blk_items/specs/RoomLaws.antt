@@ -76,13 +76,13 @@ abbrev pub item_charge : State → Item → ℕ
 item_charge state item = option_map_or (row_charge state) (row_of state item) 0
 
 -- without a group there are fewer items, by those of the group, and fewer bytes, by what these are charged
-pub record IsLessBy (state : State) (group : Group) : Type 0 where
+pub record IsLessByGroup (state : State) (group : Group) : Type 0 where
   pub items_left : items state ≡ items (without (group ∷ []) state) + length (items_of_group group)
   pub bytes_left : total state ≡ total (without (group ∷ []) state) + sum_by (item_charge state) (items_of_group group)
 
 -- so it is of the group of an item that may be evicted
 abbrev pub GroupsAreCountedLess : Type 0
-GroupsAreCountedLess = (state : State) (front : List Item) (item : Item) (behind : List Item) → IsValidState state → MayGo state front item behind → IsLessBy state (group_for item front)
+GroupsAreCountedLess = (state : State) (front : List Item) (item : Item) (behind : List Item) → IsValidState state → MayGo state front item behind → IsLessByGroup state (group_for item front)
 
 -- each object that a handle names lies where it lay
 abbrev pub NamedObjectsStay : State → (old new : Layout) → Type 0

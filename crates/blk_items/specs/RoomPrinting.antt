@@ -5,7 +5,7 @@ use Rattle.spec_image.specs.Told.{Rises}
 use Rattle.blk_io.specs.Streams.{Appends}
 
 -- a text was printed, or a prefix of it where the sink failed; where it failed before, nothing was
-pub record Prints (failed_before failed : Bool) (old new : Option (List ℕ)) (text : List ℕ) : Type 0 where
+pub record PrintsUnlessFailed (failed_before failed : Bool) (old new : Option (List ℕ)) (text : List ℕ) : Type 0 where
   pub silent : failed_before ≡ true → (failed ≡ true) × (new ≡ old)
   pub whole : failed ≡ false → new ≡ option_map (λ (w : List ℕ). w ++ text) old
   pub front : Appends old new text
@@ -21,11 +21,11 @@ FailsWhereItRose failed_before failed before now = failed_before ≡ false → f
 
 -- nothing is printed
 abbrev pub NothingIsPrinted : Type 0
-NothingIsPrinted = (failed : Bool) (old : Option (List ℕ)) → Prints failed failed old old []
+NothingIsPrinted = (failed : Bool) (old : Option (List ℕ)) → PrintsUnlessFailed failed failed old old []
 
 -- and one text after another
 abbrev pub PrintsGoOn : Type 0
-PrintsGoOn = (failed_before failed_between failed : Bool) (old between new : Option (List ℕ)) (first second : List ℕ) → Prints failed_before failed_between old between first → Prints failed_between failed between new second → Prints failed_before failed old new (first ++ second)
+PrintsGoOn = (failed_before failed_between failed : Bool) (old between new : Option (List ℕ)) (first second : List ℕ) → PrintsUnlessFailed failed_before failed_between old between first → PrintsUnlessFailed failed_between failed between new second → PrintsUnlessFailed failed_before failed old new (first ++ second)
 
 -- in all of it it is only found to fail where its faults rose
 abbrev pub FaultsGoOn : Type 0

@@ -10,7 +10,7 @@ ghost use Rattle.blk_object.specs.FailedChecks.{IsFailedCheck};
 ghost use Rattle.blk_object.specs.Freeing.{IsPlaceAmong};
 ghost use Rattle.blk_object.specs.Owning.{LoadsWith};
 ghost use Rattle.blk_object.specs.RemovingObjects.{IsOwnedBy};
-ghost use Rattle.blk_items.specs.EvictingGroups.{IsNameOf, IsNamedAs, kind_said};
+ghost use Rattle.blk_items.specs.EvictingGroups.{IsItemName, IsNamedAs, kind_said};
 
 use blk_addr::Addr;
 use blk_disk::BlockFiles;
@@ -39,31 +39,31 @@ pub(crate) struct Named {
     pub(crate) owned: Owned,
 }
 
-// Reads what an item is and what it has, and its key or name into the front of `room`: three folder calls.
+// Reads what an item is and what it has, and its key or name into the front of `buffer`: three folder calls.
 //
 // A failed check is one of `read_owned` or `key_piece`.
 pub(crate) fn read_name<F: Folder>(
-    f: &mut F,
+    folder: &mut F,
     files: &BlockFiles,
     entry: Addr,
-    room: &mut [u8],
+    buffer: &mut [u8],
 ) -> Result<Named, Fault>
     requires stands { IsTrue (is_record_among files.now entry) }
-    requires room { most_key ≤ length room.old }
-    ensures named { IfOk result (λ named. ForSome (F.told f.old).files (λ image. (loaded : Loaded) → LoadsWith entry loaded image → IsNamedAs loaded named room.new)) }
-    ensures read { IfOk result (λ named. ForSome (F.told f.old).files (IsNameOf entry (take named.len room.new))) }
-    ensures owned { IfOk result (λ named. ForSome (F.told f.old).files (IsOwnedBy entry named.owned)) }
+    requires buffer { most_key ≤ length buffer.old }
+    ensures named { IfOk result (λ named. ForSome (F.told folder.old).files (λ image. (loaded : Loaded) → LoadsWith entry loaded image → IsNamedAs loaded named buffer.new)) }
+    ensures read { IfOk result (λ named. ForSome (F.told folder.old).files (IsItemName entry (take named.len buffer.new))) }
+    ensures owned { IfOk result (λ named. ForSome (F.told folder.old).files (IsOwnedBy entry named.owned)) }
     ensures places { IfOk result (λ named. All (IsPlaceAmong files.now) named.owned.places) }
     ensures light { IfOk result (λ named. named.owned.charge < 2 ^ 34) }
-    ensures within { IfOk result (λ named. named.len ≤ length room.old) }
-    ensures stays { Stays (F.told f.old) (F.told f.new) }
-    ensures damaged { IfDamaged result (IsFailedCheck files.now (F.told f.new)) }
-    ensures untold { ForSome (F.told f.old).files (Agrees files.now) → ForSome (F.told f.old).files (λ image. (loaded : Loaded) × LoadsWith entry loaded image) → IfDamaged result (λ _. (F.told f.old).files ≡ None) }
-    ensures later { F.faults f.old ≤ F.faults f.new }
-    ensures device { IfDevice result (Rises (F.faults f.old) (F.faults f.new)) }
+    ensures within { IfOk result (λ named. named.len ≤ length buffer.old) }
+    ensures stays { Stays (F.told folder.old) (F.told folder.new) }
+    ensures damaged { IfDamaged result (IsFailedCheck files.now (F.told folder.new)) }
+    ensures untold { ForSome (F.told folder.old).files (Agrees files.now) → ForSome (F.told folder.old).files (λ image. (loaded : Loaded) × LoadsWith entry loaded image) → IfDamaged result (λ _. (F.told folder.old).files ≡ None) }
+    ensures later { F.faults folder.old ≤ F.faults folder.new }
+    ensures device { IfDevice result (Rises (F.faults folder.old) (F.faults folder.new)) }
 {
-    let owned = read_owned(f, files, entry)?;
-    let len = key_piece(f, files, entry, 0, room)?;
+    let owned = read_owned(folder, files, entry)?;
+    let len = key_piece(folder, files, entry, 0, buffer)?;
     Ok(Named {
         kind: kind_said(owned.flags),
         len,

@@ -16,8 +16,8 @@ ghost use Rattle.spec_format.specs.Records.{child};
 ghost use Rattle.blk_object.specs.FailedChecks.{IsFailedCheck};
 ghost use Rattle.blk_object.specs.ListedParts.{LoadsAt};
 ghost use Rattle.blk_object.specs.ListWalks.{WalkEnds};
-ghost use Rattle.blk_items.specs.ItemRows.{HasState, IsToldBy};
-ghost use Rattle.blk_items.specs.RoomPrinting.{FailsWhereItRose, Prints, PrintsInPart};
+ghost use Rattle.blk_items.specs.ItemRows.{HasKeptState, IsItemToldBy};
+ghost use Rattle.blk_items.specs.RoomPrinting.{FailsWhereItRose, PrintsUnlessFailed, PrintsInPart};
 
 use crate::evicting_groups::parent_key;
 use crate::item_names::{EntryKind, kind_said};
@@ -37,43 +37,43 @@ use blk_record::{CHILD, EntryView, NodeView};
 /// One folder call finds the first item, and five more are made for each. Nothing is written. After a fault a prefix of
 /// the lines is printed. A list that goes on after 131073 nodes is corruption, of the next of the last one.
 pub fn print_items<F: Folder, K: Sink>(
-    f: &mut F,
+    folder: &mut F,
     files: &BlockFiles,
     name: &mut [u8],
     out: &mut K,
     failed: &mut bool,
 ) -> Result<(), Fault>
-    requires room { most_key ≤ length name.old }
-    ensures printed { OnOk result (ForSome (F.told f.old).files (λ image. (p : HasState files.now image) → Prints failed.old failed.new (K.written out.old) (K.written out.new) (flat_map row_line (rows p.state)))) }
-    ensures part { ForSome (F.told f.old).files (λ image. (p : HasState files.now image) → PrintsInPart failed.old (K.written out.old) (K.written out.new) (flat_map row_line (rows p.state))) }
+    requires buffer { most_key ≤ length name.old }
+    ensures printed { OnOk result (ForSome (F.told folder.old).files (λ image. (p : HasKeptState files.now image) → PrintsUnlessFailed failed.old failed.new (K.written out.old) (K.written out.new) (flat_map row_line (rows p.state)))) }
+    ensures part { ForSome (F.told folder.old).files (λ image. (p : HasKeptState files.now image) → PrintsInPart failed.old (K.written out.old) (K.written out.new) (flat_map row_line (rows p.state))) }
 
     // On every folder it is done only where the list ends.
-    ensures ends { OnOk result (ForSome (F.told f.old).files (WalkEnds files.now NodeView.NEXT None)) }
+    ensures ends { OnOk result (ForSome (F.told folder.old).files (WalkEnds files.now NodeView.NEXT None)) }
 
     ensures failed { FailsWhereItRose failed.old failed.new (K.faults out.old) (K.faults out.new) }
-    ensures stays { Stays (F.told f.old) (F.told f.new) }
-    ensures damaged { IfDamaged result (IsFailedCheck files.now (F.told f.new)) }
-    ensures untold { ForSome (F.told f.old).files (HasState files.now) → IfDamaged result (λ _. (F.told f.old).files ≡ None) }
-    ensures later { F.faults f.old ≤ F.faults f.new }
+    ensures stays { Stays (F.told folder.old) (F.told folder.new) }
+    ensures damaged { IfDamaged result (IsFailedCheck files.now (F.told folder.new)) }
+    ensures untold { ForSome (F.told folder.old).files (HasKeptState files.now) → IfDamaged result (λ _. (F.told folder.old).files ≡ None) }
+    ensures later { F.faults folder.old ≤ F.faults folder.new }
     ensures later_out { K.faults out.old ≤ K.faults out.new }
-    ensures device { IfDevice result (Rises (F.faults f.old) (F.faults f.new)) }
+    ensures device { IfDevice result (Rises (F.faults folder.old) (F.faults folder.new)) }
 {
     let mut last = None;
-    let mut next = first(f, files)?;
+    let mut next = first(folder, files)?;
     for _ in 0..MOST_NODES + 1 {
         let Some(node) = next else {
             return Ok(());
         };
-        print_row(f, files, name, node, out, failed)?;
+        print_row(folder, files, name, node, out, failed)?;
         last = Some(node);
-        next = after(f, files, node)?;
+        next = after(folder, files, node)?;
     }
     end_walk(last, NodeView::NEXT, next)
 }
 
 // Prints the row of an item, by its record and its key or name, which is read into `name`.
 fn print_row<F: Folder, K: Sink>(
-    f: &mut F,
+    folder: &mut F,
     files: &BlockFiles,
     name: &mut [u8],
     node: Addr,
@@ -81,20 +81,20 @@ fn print_row<F: Folder, K: Sink>(
     failed: &mut bool,
 ) -> Result<(), Fault>
     requires stands { IsTrue (is_node_among files.now node) }
-    requires room { most_key ≤ length name.old }
-    ensures printed { OnOk result (ForSome (F.told f.old).files (λ image. (loaded : Loaded) → LoadsAt node loaded image → Prints failed.old failed.new (K.written out.old) (K.written out.new) (row_line (row_of_loaded loaded)))) }
+    requires buffer { most_key ≤ length name.old }
+    ensures printed { OnOk result (ForSome (F.told folder.old).files (λ image. (loaded : Loaded) → LoadsAt node loaded image → PrintsUnlessFailed failed.old failed.new (K.written out.old) (K.written out.new) (row_line (row_of_loaded loaded)))) }
     ensures unprinted { OnErr result (K.written out.new ≡ K.written out.old) }
     ensures failed { FailsWhereItRose failed.old failed.new (K.faults out.old) (K.faults out.new) }
-    ensures stays { Stays (F.told f.old) (F.told f.new) }
-    ensures damaged { IfDamaged result (IsFailedCheck files.now (F.told f.new)) }
-    ensures untold { ForSome (F.told f.old).files (Agrees files.now) → ForSome (F.told f.old).files (λ image. (loaded : Loaded) × LoadsAt node loaded image) → IfDamaged result (λ _. (F.told f.old).files ≡ None) }
-    ensures later { F.faults f.old ≤ F.faults f.new }
+    ensures stays { Stays (F.told folder.old) (F.told folder.new) }
+    ensures damaged { IfDamaged result (IsFailedCheck files.now (F.told folder.new)) }
+    ensures untold { ForSome (F.told folder.old).files (Agrees files.now) → ForSome (F.told folder.old).files (λ image. (loaded : Loaded) × LoadsAt node loaded image) → IfDamaged result (λ _. (F.told folder.old).files ≡ None) }
+    ensures later { F.faults folder.old ≤ F.faults folder.new }
     ensures later_out { K.faults out.old ≤ K.faults out.new }
-    ensures device { IfDevice result (Rises (F.faults f.old) (F.faults f.new)) }
+    ensures device { IfDevice result (Rises (F.faults folder.old) (F.faults folder.new)) }
 {
-    let entry = entry_named(f, files, node)?;
-    let head = read_head(f, files, entry)?;
-    let len = key_piece(f, files, entry, 0, name)?;
+    let entry = entry_named(folder, files, node)?;
+    let head = read_head(folder, files, entry)?;
+    let len = key_piece(folder, files, entry, 0, name)?;
     say_row(out, failed, entry, &name[..len], &head)
 }
 
@@ -108,11 +108,11 @@ fn say_row<K: Sink>(
     head: &Head,
 ) -> Result<(), Fault>
     requires kind { kind_of entry ≡ blocks_256 }
-    ensures printed { OnOk result ((loaded : Loaded) → IsToldBy loaded name.now head.now → Prints failed.old failed.new (K.written out.old) (K.written out.new) (row_line (row_of_loaded loaded))) }
+    ensures printed { OnOk result ((loaded : Loaded) → IsItemToldBy loaded name.now head.now → PrintsUnlessFailed failed.old failed.new (K.written out.old) (K.written out.new) (row_line (row_of_loaded loaded))) }
     ensures unprinted { OnErr result (K.written out.new ≡ K.written out.old) }
     ensures failed { FailsWhereItRose failed.old failed.new (K.faults out.old) (K.faults out.new) }
     ensures damaged { IfDamaged result (λ damage. IsWordOf entry EntryView.FLAGS child damage × (read_name name.now ≡ None)) }
-    ensures untold { IfDamaged result (λ _. (loaded : Loaded) → IsToldBy loaded name.now head.now → ⊥) }
+    ensures untold { IfDamaged result (λ _. (loaded : Loaded) → IsItemToldBy loaded name.now head.now → ⊥) }
     ensures later { K.faults out.old ≤ K.faults out.new }
     ensures never { IfDevice result ⊥ }
 {

@@ -8,7 +8,7 @@ ghost use Rattle.blk_disk.specs.Open.{IsOpen};
 ghost use Rattle.blk_disk.specs.Tables.{Agrees, is_node_among};
 ghost use Rattle.blk_object.specs.FailedChecks.{IsFailedCheck};
 ghost use Rattle.blk_object.specs.ListWalks.{GoesTo};
-ghost use Rattle.blk_items.specs.ListPlaces.{AreInFront, IsPlaceInList};
+ghost use Rattle.blk_items.specs.ListPlaces.{AreInPrefix, IsPlaceInList};
 
 use blk_addr::Addr;
 use blk_disk::BlockFiles;
@@ -26,22 +26,22 @@ pub struct Unpinned {
 
 /// The node in front of one in the LRU list, or the last one, by one folder call. Nothing is written.
 pub fn in_front<F: Folder>(
-    f: &mut F,
+    folder: &mut F,
     files: &BlockFiles,
     behind: &Option<Addr>,
 ) -> Result<Option<Addr>, Fault>
     requires stands { IfSome behind.now (λ node. IsTrue (is_node_among files.now node)) }
-    ensures node { IfOk result (λ node. ForSome (F.told f.old).files (λ image. Agrees files.now image → (front : List ℕ) → AreInFront front behind.now image → node ≡ last_node_of front)) }
-    ensures word { IfOk result (λ found. ForSome (F.told f.old).files (λ image. GoesTo NodeView.PREV image behind.now found)) }
+    ensures node { IfOk result (λ node. ForSome (F.told folder.old).files (λ image. Agrees files.now image → (front : List ℕ) → AreInPrefix front behind.now image → node ≡ last_node_of front)) }
+    ensures word { IfOk result (λ found. ForSome (F.told folder.old).files (λ image. GoesTo NodeView.PREV image behind.now found)) }
     ensures stands { IfOk result (λ node. IfSome node (λ n. IsTrue (is_node_among files.now n))) }
-    ensures stays { Stays (F.told f.old) (F.told f.new) }
-    ensures damaged { IfDamaged result (IsFailedCheck files.now (F.told f.new)) }
-    ensures untold { ForSome (F.told f.old).files (IsOpen files.now) → ForSome (F.told f.old).files (IsPlaceInList behind.now) → IfDamaged result (λ _. (F.told f.old).files ≡ None) }
-    ensures later { F.faults f.old ≤ F.faults f.new }
-    ensures device { IfDevice result (Rises (F.faults f.old) (F.faults f.new)) }
+    ensures stays { Stays (F.told folder.old) (F.told folder.new) }
+    ensures damaged { IfDamaged result (IsFailedCheck files.now (F.told folder.new)) }
+    ensures untold { ForSome (F.told folder.old).files (IsOpen files.now) → ForSome (F.told folder.old).files (IsPlaceInList behind.now) → IfDamaged result (λ _. (F.told folder.old).files ≡ None) }
+    ensures later { F.faults folder.old ≤ F.faults folder.new }
+    ensures device { IfDevice result (Rises (F.faults folder.old) (F.faults folder.new)) }
 {
     match *behind {
-        Some(node) => before(f, files, node),
-        None => last(f, files),
+        Some(node) => before(folder, files, node),
+        None => last(folder, files),
     }
 }

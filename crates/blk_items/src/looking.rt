@@ -14,7 +14,7 @@ ghost use Rattle.blk_entry.specs.Keys.{IsHeadDamage};
 ghost use Rattle.law_state.specs.Keeping.{KeepsUncounted};
 ghost use Rattle.blk_object.specs.Owning.{LoadsWith};
 ghost use Rattle.blk_items.specs.EvictingGroups.{kind_said};
-ghost use Rattle.blk_items.specs.Looking.{IsEntryDamage, IsLive, IsLookDamage, KeepsSomeState, charge_at};
+ghost use Rattle.blk_items.specs.Looking.{IsEntryDamage, IsLive, IsLookUpDamage, KeepsSomeState, charge_at};
 
 use crate::item_names::{EntryKind, kind_said};
 use blk_addr::Addr;
@@ -45,23 +45,23 @@ pub(crate) struct Said {
 ///
 /// A failed check is one of `find`, or of the record that is found.
 pub fn find_live<F: Folder>(
-    f: &mut F,
+    folder: &mut F,
     files: &BlockFiles,
     key: &[u8],
 ) -> Result<Option<Live>, Fault>
-    ensures live { IfOk result (λ answer. ForSome (F.told f.old).files (λ image. (state : State) (layout : Layout) (unlinked : List ℕ) → KeepsUncounted state layout unlinked image → IsLive state layout key.now answer)) }
+    ensures live { IfOk result (λ answer. ForSome (F.told folder.old).files (λ image. (state : State) (layout : Layout) (unlinked : List ℕ) → KeepsUncounted state layout unlinked image → IsLive state layout key.now answer)) }
     ensures names { IfOk result (λ answer. IfSome answer (λ live. IsTrue (is_record_among files.now live.entry))) }
     ensures stands { IfOk result (λ answer. IfSome answer (λ live. IsTrue (is_node_among files.now live.node))) }
-    ensures stays { Stays (F.told f.old) (F.told f.new) }
-    ensures damaged { IfDamaged result (IsLookDamage files.now (F.told f.old) key.now) }
-    ensures untold { ForSome (F.told f.old).files (IsOpen files.now) → ForSome (F.told f.old).files KeepsSomeState → IfDamaged result (λ _. (F.told f.old).files ≡ None) }
-    ensures later { F.faults f.old ≤ F.faults f.new }
-    ensures device { IfDevice result (Rises (F.faults f.old) (F.faults f.new)) }
+    ensures stays { Stays (F.told folder.old) (F.told folder.new) }
+    ensures damaged { IfDamaged result (IsLookUpDamage files.now (F.told folder.old) key.now) }
+    ensures untold { ForSome (F.told folder.old).files (IsOpen files.now) → ForSome (F.told folder.old).files KeepsSomeState → IfDamaged result (λ _. (F.told folder.old).files ≡ None) }
+    ensures later { F.faults folder.old ≤ F.faults folder.new }
+    ensures device { IfDevice result (Rises (F.faults folder.old) (F.faults folder.new)) }
 {
-    let Some(found) = find(f, files, key, false)? else {
+    let Some(found) = find(folder, files, key, false)? else {
         return Ok(None);
     };
-    let said = read_said(f, files, found.entry)?;
+    let said = read_said(folder, files, found.entry)?;
     Ok(Some(Live {
         entry: found.entry,
         node: said.node,
@@ -71,23 +71,23 @@ pub fn find_live<F: Folder>(
 
 // Reads what the record of an object says, by one folder call.
 pub(crate) fn read_said<F: Folder>(
-    f: &mut F,
+    folder: &mut F,
     files: &BlockFiles,
     entry: Addr,
 ) -> Result<Said, Fault>
     requires kind { kind_of entry ≡ blocks_256 }
     requires stands { IsTrue (stands_among files.now entry) }
-    ensures node { IfOk result (λ said. ForSome (F.told f.old).files (λ image. said.node ≡ (entry_at image entry).rankings_node)) }
-    ensures kind { IfOk result (λ said. ForSome (F.told f.old).files (λ image. said.kind ≡ kind_said (entry_at image entry).flags)) }
-    ensures charge { IfOk result (λ said. ForSome (F.told f.old).files (λ image. said.charge ≡ charge_at image entry)) }
+    ensures node { IfOk result (λ said. ForSome (F.told folder.old).files (λ image. said.node ≡ (entry_at image entry).rankings_node)) }
+    ensures kind { IfOk result (λ said. ForSome (F.told folder.old).files (λ image. said.kind ≡ kind_said (entry_at image entry).flags)) }
+    ensures charge { IfOk result (λ said. ForSome (F.told folder.old).files (λ image. said.charge ≡ charge_at image entry)) }
     ensures stands { IfOk result (λ said. IsTrue (is_node_among files.now said.node)) }
-    ensures stays { Stays (F.told f.old) (F.told f.new) }
-    ensures damaged { IfDamaged result (IsEntryDamage files.now (F.told f.old) entry) }
-    ensures untold { ForSome (F.told f.old).files (Agrees files.now) → ForSome (F.told f.old).files (λ image. (loaded : Loaded) × LoadsWith entry loaded image) → ForSome (F.told f.old).files (λ image. is_node_among files.now (entry_at image entry).rankings_node ≡ true) → IfDamaged result (λ _. (F.told f.old).files ≡ None) }
-    ensures later { F.faults f.old ≤ F.faults f.new }
-    ensures device { IfDevice result (Rises (F.faults f.old) (F.faults f.new)) }
+    ensures stays { Stays (F.told folder.old) (F.told folder.new) }
+    ensures damaged { IfDamaged result (IsEntryDamage files.now (F.told folder.old) entry) }
+    ensures untold { ForSome (F.told folder.old).files (Agrees files.now) → ForSome (F.told folder.old).files (λ image. (loaded : Loaded) × LoadsWith entry loaded image) → ForSome (F.told folder.old).files (λ image. is_node_among files.now (entry_at image entry).rankings_node ≡ true) → IfDamaged result (λ _. (F.told folder.old).files ≡ None) }
+    ensures later { F.faults folder.old ≤ F.faults folder.new }
+    ensures device { IfDevice result (Rises (F.faults folder.old) (F.faults folder.new)) }
 {
-    let head = read_head(f, files, entry)?;
+    let head = read_head(folder, files, entry)?;
     let Some(node) = files.node(head.node) else {
         return Err(record_damage(entry, EntryView::NODE, head.node));
     };
@@ -101,15 +101,15 @@ pub(crate) fn read_said<F: Folder>(
 /// Reads what the object of a record is charged as a main item, by one folder call.
 ///
 /// A failed check is one of `read_head`.
-pub fn read_charge<F: Folder>(f: &mut F, files: &BlockFiles, entry: Addr) -> Result<u64, Fault>
+pub fn read_charge<F: Folder>(folder: &mut F, files: &BlockFiles, entry: Addr) -> Result<u64, Fault>
     requires names { IsTrue (is_record_among files.now entry) }
-    ensures charge { IfOk result (λ charge. ForSome (F.told f.old).files (λ image. charge ≡ charge_at image entry)) }
-    ensures stays { Stays (F.told f.old) (F.told f.new) }
-    ensures damaged { IfDamaged result (IsHeadDamage (F.told f.old) entry) }
-    ensures untold { ForSome (F.told f.old).files (Agrees files.now) → ForSome (F.told f.old).files (λ image. (loaded : Loaded) × LoadsWith entry loaded image) → IfDamaged result (λ _. (F.told f.old).files ≡ None) }
-    ensures later { F.faults f.old ≤ F.faults f.new }
-    ensures device { IfDevice result (Rises (F.faults f.old) (F.faults f.new)) }
+    ensures charge { IfOk result (λ charge. ForSome (F.told folder.old).files (λ image. charge ≡ charge_at image entry)) }
+    ensures stays { Stays (F.told folder.old) (F.told folder.new) }
+    ensures damaged { IfDamaged result (IsHeadDamage (F.told folder.old) entry) }
+    ensures untold { ForSome (F.told folder.old).files (Agrees files.now) → ForSome (F.told folder.old).files (λ image. (loaded : Loaded) × LoadsWith entry loaded image) → IfDamaged result (λ _. (F.told folder.old).files ≡ None) }
+    ensures later { F.faults folder.old ≤ F.faults folder.new }
+    ensures device { IfDevice result (Rises (F.faults folder.old) (F.faults folder.new)) }
 {
-    let head = read_head(f, files, entry)?;
+    let head = read_head(folder, files, entry)?;
     Ok(charge_of_head(&head))
 }

@@ -14,7 +14,7 @@ ghost use Rattle.blk_script.specs.Reply.{reply_text};
 ghost use Rattle.blk_object.specs.FailedChecks.{IsFailedCheck};
 ghost use Rattle.blk_sparse.specs.Finding.{ArePartsFound};
 ghost use Rattle.blk_items.specs.PresentPrinting.{HasPresent};
-ghost use Rattle.blk_items.specs.RoomPrinting.{FailsWhereItRose, Prints, PrintsInPart};
+ghost use Rattle.blk_items.specs.RoomPrinting.{FailsWhereItRose, PrintsUnlessFailed, PrintsInPart};
 
 use crate::range_printing::{StreamRange, print_range, print_ranges};
 use blk_addr::Addr;
@@ -39,7 +39,7 @@ pub struct PresentRange {
 /// are made after the longest key in `name`, and two are made for each 4096 bytes. Nothing is written. Where there is no
 /// such part nothing more is printed. After a fault a prefix of the line is printed.
 pub fn print_present<F: Folder, K: Sink>(
-    f: &mut F,
+    folder: &mut F,
     files: &BlockFiles,
     name: &mut [u8],
     out: &mut K,
@@ -50,35 +50,35 @@ pub fn print_present<F: Folder, K: Sink>(
     requires name { longest_key + longest_name ≤ length name.old }
     requires few { range.now.count ≤ part_size }
     requires inside { range.now.offset + range.now.count ≤ largest_offset }
-    requires is_open { ForSome (F.told f.old).files (IsOpen files.now) }
-    ensures printed { OnOk result (ForSome (F.told f.old).files (λ image. (p : HasPresent range.now image) → Prints failed.old failed.new (K.written out.old) (K.written out.new) (reply_text (gave (sparse_bytes p.object range.now.offset range.now.count))))) }
-    ensures part { ForSome (F.told f.old).files (λ image. (p : HasPresent range.now image) → PrintsInPart failed.old (K.written out.old) (K.written out.new) (reply_text (gave (sparse_bytes p.object range.now.offset range.now.count)))) }
+    requires is_open { ForSome (F.told folder.old).files (IsOpen files.now) }
+    ensures printed { OnOk result (ForSome (F.told folder.old).files (λ image. (p : HasPresent range.now image) → PrintsUnlessFailed failed.old failed.new (K.written out.old) (K.written out.new) (reply_text (gave (sparse_bytes p.object range.now.offset range.now.count))))) }
+    ensures part { ForSome (F.told folder.old).files (λ image. (p : HasPresent range.now image) → PrintsInPart failed.old (K.written out.old) (K.written out.new) (reply_text (gave (sparse_bytes p.object range.now.offset range.now.count)))) }
     ensures failed { FailsWhereItRose failed.old failed.new (K.faults out.old) (K.faults out.new) }
-    ensures stays { Stays (F.told f.old) (F.told f.new) }
+    ensures stays { Stays (F.told folder.old) (F.told folder.new) }
 
     // Corruption is a check that fails on what is read here. An observable folder, with such an object, gives none.
-    ensures damaged { IfDamaged result (IsFailedCheck files.now (F.told f.new)) }
-    ensures untold { ForSome (F.told f.old).files (HasPresent range.now) → IfDamaged result (λ _. (F.told f.old).files ≡ None) }
-    ensures later { F.faults f.old ≤ F.faults f.new }
+    ensures damaged { IfDamaged result (IsFailedCheck files.now (F.told folder.new)) }
+    ensures untold { ForSome (F.told folder.old).files (HasPresent range.now) → IfDamaged result (λ _. (F.told folder.old).files ≡ None) }
+    ensures later { F.faults folder.old ≤ F.faults folder.new }
     ensures later_out { K.faults out.old ≤ K.faults out.new }
-    ensures device { IfDevice result (Rises (F.faults f.old) (F.faults f.new)) }
+    ensures device { IfDevice result (Rises (F.faults folder.old) (F.faults folder.new)) }
 {
     if range.count == 0 {
-        return print_range(f, files, out, failed, &stream_range(range.entry, 0, 0));
+        return print_range(folder, files, out, failed, &stream_range(range.entry, 0, 0));
     }
-    let signature = read_signature(f, files, range.entry)?;
+    let signature = read_signature(folder, files, range.entry)?;
     let parent = Parent {
         entry: range.entry,
         node: range.node,
         signature,
     };
-    let parts = find_parts(f, files, &parent, name, range.offset, range.count)?;
-    print_parts(f, files, out, failed, range, &parts)
+    let parts = find_parts(folder, files, &parent, name, range.offset, range.count)?;
+    print_parts(folder, files, out, failed, range, &parts)
 }
 
 // Prints the line of some bytes of an object by the parts that have them, which were found.
 fn print_parts<F: Folder, K: Sink>(
-    f: &mut F,
+    folder: &mut F,
     files: &BlockFiles,
     out: &mut K,
     failed: &mut bool,
@@ -92,16 +92,16 @@ fn print_parts<F: Folder, K: Sink>(
     requires first_stands { IfSome parts.now.first (λ entry. IsTrue (stands_among files.now entry)) }
     requires second_kind { IfSome parts.now.second (λ entry. kind_of entry ≡ blocks_256) }
     requires second_stands { IfSome parts.now.second (λ entry. IsTrue (stands_among files.now entry)) }
-    requires is_open { ForSome (F.told f.old).files (IsOpen files.now) }
-    ensures printed { OnOk result (ForSome (F.told f.old).files (λ image. (p : HasPresent range.now image) → ArePartsFound p.layout p.object range.now.offset range.now.count parts.now → Prints failed.old failed.new (K.written out.old) (K.written out.new) (reply_text (gave (sparse_bytes p.object range.now.offset range.now.count))))) }
-    ensures part { ForSome (F.told f.old).files (λ image. (p : HasPresent range.now image) → ArePartsFound p.layout p.object range.now.offset range.now.count parts.now → PrintsInPart failed.old (K.written out.old) (K.written out.new) (reply_text (gave (sparse_bytes p.object range.now.offset range.now.count)))) }
+    requires is_open { ForSome (F.told folder.old).files (IsOpen files.now) }
+    ensures printed { OnOk result (ForSome (F.told folder.old).files (λ image. (p : HasPresent range.now image) → ArePartsFound p.layout p.object range.now.offset range.now.count parts.now → PrintsUnlessFailed failed.old failed.new (K.written out.old) (K.written out.new) (reply_text (gave (sparse_bytes p.object range.now.offset range.now.count))))) }
+    ensures part { ForSome (F.told folder.old).files (λ image. (p : HasPresent range.now image) → ArePartsFound p.layout p.object range.now.offset range.now.count parts.now → PrintsInPart failed.old (K.written out.old) (K.written out.new) (reply_text (gave (sparse_bytes p.object range.now.offset range.now.count)))) }
     ensures failed { FailsWhereItRose failed.old failed.new (K.faults out.old) (K.faults out.new) }
-    ensures stays { Stays (F.told f.old) (F.told f.new) }
-    ensures damaged { IfDamaged result (IsFailedCheck files.now (F.told f.new)) }
-    ensures untold { ForSome (F.told f.old).files (λ image. (p : HasPresent range.now image) × ArePartsFound p.layout p.object range.now.offset range.now.count parts.now) → IfDamaged result (λ _. (F.told f.old).files ≡ None) }
-    ensures later { F.faults f.old ≤ F.faults f.new }
+    ensures stays { Stays (F.told folder.old) (F.told folder.new) }
+    ensures damaged { IfDamaged result (IsFailedCheck files.now (F.told folder.new)) }
+    ensures untold { ForSome (F.told folder.old).files (λ image. (p : HasPresent range.now image) × ArePartsFound p.layout p.object range.now.offset range.now.count parts.now) → IfDamaged result (λ _. (F.told folder.old).files ≡ None) }
+    ensures later { F.faults folder.old ≤ F.faults folder.new }
     ensures later_out { K.faults out.old ≤ K.faults out.new }
-    ensures device { IfDevice result (Rises (F.faults f.old) (F.faults f.new)) }
+    ensures device { IfDevice result (Rises (F.faults folder.old) (F.faults folder.new)) }
 {
     let (_, place) = child_of(range.offset);
     let Some(first) = parts.first else {
@@ -110,13 +110,13 @@ fn print_parts<F: Folder, K: Sink>(
     let cut = u64::from(PART_SIZE - place).min(range.count);
     let one = stream_range(first, u64::from(place), cut);
     if cut == range.count {
-        return print_range(f, files, out, failed, &one);
+        return print_range(folder, files, out, failed, &one);
     }
     let Some(second) = parts.second else {
         return Ok(());
     };
     let two = stream_range(second, 0, range.count - cut);
-    print_ranges(f, files, out, failed, &one, &two)
+    print_ranges(folder, files, out, failed, &one, &two)
 }
 
 // So many bytes of the data of a part from a place on.

@@ -10,7 +10,7 @@ ghost use Rattle.blk_script.specs.Reply.{reply_text};
 ghost use Rattle.blk_script.specs.Spelling.{data_text, number_text};
 ghost use Rattle.blk_object.specs.FailedChecks.{IsFailedCheck};
 ghost use Rattle.blk_items.specs.RangePrinting.{HasBytes};
-ghost use Rattle.blk_items.specs.RoomPrinting.{FailsWhereItRose, Prints, PrintsInPart};
+ghost use Rattle.blk_items.specs.RoomPrinting.{FailsWhereItRose, PrintsUnlessFailed, PrintsInPart};
 
 use blk_addr::Addr;
 use blk_disk::BlockFiles;
@@ -37,7 +37,7 @@ pub struct StreamRange {
 /// Two folder calls are made for each 4096 bytes. Nothing is written. After a fault a prefix of the line is printed. A
 /// failed check is one of `read`, or that the stream has become shorter.
 pub fn print_range<F: Folder, K: Sink>(
-    f: &mut F,
+    folder: &mut F,
     files: &BlockFiles,
     out: &mut K,
     failed: &mut bool,
@@ -46,18 +46,18 @@ pub fn print_range<F: Folder, K: Sink>(
     requires names { IsTrue (is_record_among files.now range.now.entry) }
     requires stream { range.now.stream < 3 }
     requires fits { range.now.offset + range.now.count < 2 ^ 64 }
-    ensures printed { OnOk result (ForSome (F.told f.old).files (λ image. (p : HasBytes files.now range.now image) → Prints failed.old failed.new (K.written out.old) (K.written out.new) (reply_text (gave p.bytes)))) }
-    ensures part { ForSome (F.told f.old).files (λ image. (p : HasBytes files.now range.now image) → PrintsInPart failed.old (K.written out.old) (K.written out.new) (reply_text (gave p.bytes))) }
+    ensures printed { OnOk result (ForSome (F.told folder.old).files (λ image. (p : HasBytes files.now range.now image) → PrintsUnlessFailed failed.old failed.new (K.written out.old) (K.written out.new) (reply_text (gave p.bytes)))) }
+    ensures part { ForSome (F.told folder.old).files (λ image. (p : HasBytes files.now range.now image) → PrintsInPart failed.old (K.written out.old) (K.written out.new) (reply_text (gave p.bytes))) }
     ensures failed { FailsWhereItRose failed.old failed.new (K.faults out.old) (K.faults out.new) }
-    ensures stays { Stays (F.told f.old) (F.told f.new) }
-    ensures damaged { IfDamaged result (IsFailedCheck files.now (F.told f.new)) }
-    ensures untold { ForSome (F.told f.old).files (HasBytes files.now range.now) → IfDamaged result (λ _. (F.told f.old).files ≡ None) }
-    ensures later { F.faults f.old ≤ F.faults f.new }
+    ensures stays { Stays (F.told folder.old) (F.told folder.new) }
+    ensures damaged { IfDamaged result (IsFailedCheck files.now (F.told folder.new)) }
+    ensures untold { ForSome (F.told folder.old).files (HasBytes files.now range.now) → IfDamaged result (λ _. (F.told folder.old).files ≡ None) }
+    ensures later { F.faults folder.old ≤ F.faults folder.new }
     ensures later_out { K.faults out.old ≤ K.faults out.new }
-    ensures device { IfDevice result (Rises (F.faults f.old) (F.faults f.new)) }
+    ensures device { IfDevice result (Rises (F.faults folder.old) (F.faults folder.new)) }
 {
     say_front(out, failed, range.count);
-    print_data(f, files, out, failed, range)?;
+    print_data(folder, files, out, failed, range)?;
     say_text(out, failed, b"\n");
     Ok(())
 }
@@ -67,7 +67,7 @@ pub fn print_range<F: Folder, K: Sink>(
 /// Two folder calls are made for each 4096 bytes of either. Nothing is written. After a fault a prefix of the line is
 /// printed. A failed check is one of `read`, or that a stream has become shorter.
 pub(crate) fn print_ranges<F: Folder, K: Sink>(
-    f: &mut F,
+    folder: &mut F,
     files: &BlockFiles,
     out: &mut K,
     failed: &mut bool,
@@ -82,26 +82,26 @@ pub(crate) fn print_ranges<F: Folder, K: Sink>(
     requires second_stream { second.now.stream < 3 }
     requires first_fits { first.now.offset + first.now.count < 2 ^ 64 }
     requires second_fits { second.now.offset + second.now.count < 2 ^ 64 }
-    ensures printed { OnOk result (ForSome (F.told f.old).files (λ image. (p : HasBytes files.now first.now image) (q : HasBytes files.now second.now image) → Prints failed.old failed.new (K.written out.old) (K.written out.new) (reply_text (gave (p.bytes ++ q.bytes))))) }
-    ensures part { ForSome (F.told f.old).files (λ image. (p : HasBytes files.now first.now image) (q : HasBytes files.now second.now image) → PrintsInPart failed.old (K.written out.old) (K.written out.new) (reply_text (gave (p.bytes ++ q.bytes)))) }
+    ensures printed { OnOk result (ForSome (F.told folder.old).files (λ image. (p : HasBytes files.now first.now image) (q : HasBytes files.now second.now image) → PrintsUnlessFailed failed.old failed.new (K.written out.old) (K.written out.new) (reply_text (gave (p.bytes ++ q.bytes))))) }
+    ensures part { ForSome (F.told folder.old).files (λ image. (p : HasBytes files.now first.now image) (q : HasBytes files.now second.now image) → PrintsInPart failed.old (K.written out.old) (K.written out.new) (reply_text (gave (p.bytes ++ q.bytes)))) }
     ensures failed { FailsWhereItRose failed.old failed.new (K.faults out.old) (K.faults out.new) }
-    ensures stays { Stays (F.told f.old) (F.told f.new) }
-    ensures damaged { IfDamaged result (IsFailedCheck files.now (F.told f.new)) }
-    ensures untold { ForSome (F.told f.old).files (HasBytes files.now first.now) → ForSome (F.told f.old).files (HasBytes files.now second.now) → IfDamaged result (λ _. (F.told f.old).files ≡ None) }
-    ensures later { F.faults f.old ≤ F.faults f.new }
+    ensures stays { Stays (F.told folder.old) (F.told folder.new) }
+    ensures damaged { IfDamaged result (IsFailedCheck files.now (F.told folder.new)) }
+    ensures untold { ForSome (F.told folder.old).files (HasBytes files.now first.now) → ForSome (F.told folder.old).files (HasBytes files.now second.now) → IfDamaged result (λ _. (F.told folder.old).files ≡ None) }
+    ensures later { F.faults folder.old ≤ F.faults folder.new }
     ensures later_out { K.faults out.old ≤ K.faults out.new }
-    ensures device { IfDevice result (Rises (F.faults f.old) (F.faults f.new)) }
+    ensures device { IfDevice result (Rises (F.faults folder.old) (F.faults folder.new)) }
 {
     say_front(out, failed, first.count + second.count);
-    print_pieces(f, files, out, failed, first)?;
-    print_pieces(f, files, out, failed, second)?;
+    print_pieces(folder, files, out, failed, first)?;
+    print_pieces(folder, files, out, failed, second)?;
     say_text(out, failed, b"\n");
     Ok(())
 }
 
 // Prints bytes of a stream, `-` where there are none.
 fn print_data<F: Folder, K: Sink>(
-    f: &mut F,
+    folder: &mut F,
     files: &BlockFiles,
     out: &mut K,
     failed: &mut bool,
@@ -110,26 +110,26 @@ fn print_data<F: Folder, K: Sink>(
     requires names { IsTrue (is_record_among files.now range.now.entry) }
     requires stream { range.now.stream < 3 }
     requires fits { range.now.offset + range.now.count < 2 ^ 64 }
-    ensures printed { OnOk result (ForSome (F.told f.old).files (λ image. (p : HasBytes files.now range.now image) → Prints failed.old failed.new (K.written out.old) (K.written out.new) (data_text p.bytes))) }
-    ensures part { ForSome (F.told f.old).files (λ image. (p : HasBytes files.now range.now image) → PrintsInPart failed.old (K.written out.old) (K.written out.new) (data_text p.bytes)) }
+    ensures printed { OnOk result (ForSome (F.told folder.old).files (λ image. (p : HasBytes files.now range.now image) → PrintsUnlessFailed failed.old failed.new (K.written out.old) (K.written out.new) (data_text p.bytes))) }
+    ensures part { ForSome (F.told folder.old).files (λ image. (p : HasBytes files.now range.now image) → PrintsInPart failed.old (K.written out.old) (K.written out.new) (data_text p.bytes)) }
     ensures failed { FailsWhereItRose failed.old failed.new (K.faults out.old) (K.faults out.new) }
-    ensures stays { Stays (F.told f.old) (F.told f.new) }
-    ensures damaged { IfDamaged result (IsFailedCheck files.now (F.told f.new)) }
-    ensures untold { ForSome (F.told f.old).files (HasBytes files.now range.now) → IfDamaged result (λ _. (F.told f.old).files ≡ None) }
-    ensures later { F.faults f.old ≤ F.faults f.new }
+    ensures stays { Stays (F.told folder.old) (F.told folder.new) }
+    ensures damaged { IfDamaged result (IsFailedCheck files.now (F.told folder.new)) }
+    ensures untold { ForSome (F.told folder.old).files (HasBytes files.now range.now) → IfDamaged result (λ _. (F.told folder.old).files ≡ None) }
+    ensures later { F.faults folder.old ≤ F.faults folder.new }
     ensures later_out { K.faults out.old ≤ K.faults out.new }
-    ensures device { IfDevice result (Rises (F.faults f.old) (F.faults f.new)) }
+    ensures device { IfDevice result (Rises (F.faults folder.old) (F.faults folder.new)) }
 {
     if range.count == 0 {
         say_text(out, failed, b"-");
         return Ok(());
     }
-    print_pieces(f, files, out, failed, range)
+    print_pieces(folder, files, out, failed, range)
 }
 
 // Prints bytes of a stream, piece by piece.
 fn print_pieces<F: Folder, K: Sink>(
-    f: &mut F,
+    folder: &mut F,
     files: &BlockFiles,
     out: &mut K,
     failed: &mut bool,
@@ -138,15 +138,15 @@ fn print_pieces<F: Folder, K: Sink>(
     requires names { IsTrue (is_record_among files.now range.now.entry) }
     requires stream { range.now.stream < 3 }
     requires fits { range.now.offset + range.now.count < 2 ^ 64 }
-    ensures printed { OnOk result (ForSome (F.told f.old).files (λ image. (p : HasBytes files.now range.now image) → Prints failed.old failed.new (K.written out.old) (K.written out.new) (encode_lower p.bytes))) }
-    ensures part { ForSome (F.told f.old).files (λ image. (p : HasBytes files.now range.now image) → PrintsInPart failed.old (K.written out.old) (K.written out.new) (encode_lower p.bytes)) }
+    ensures printed { OnOk result (ForSome (F.told folder.old).files (λ image. (p : HasBytes files.now range.now image) → PrintsUnlessFailed failed.old failed.new (K.written out.old) (K.written out.new) (encode_lower p.bytes))) }
+    ensures part { ForSome (F.told folder.old).files (λ image. (p : HasBytes files.now range.now image) → PrintsInPart failed.old (K.written out.old) (K.written out.new) (encode_lower p.bytes)) }
     ensures failed { FailsWhereItRose failed.old failed.new (K.faults out.old) (K.faults out.new) }
-    ensures stays { Stays (F.told f.old) (F.told f.new) }
-    ensures damaged { IfDamaged result (IsFailedCheck files.now (F.told f.new)) }
-    ensures untold { ForSome (F.told f.old).files (HasBytes files.now range.now) → IfDamaged result (λ _. (F.told f.old).files ≡ None) }
-    ensures later { F.faults f.old ≤ F.faults f.new }
+    ensures stays { Stays (F.told folder.old) (F.told folder.new) }
+    ensures damaged { IfDamaged result (IsFailedCheck files.now (F.told folder.new)) }
+    ensures untold { ForSome (F.told folder.old).files (HasBytes files.now range.now) → IfDamaged result (λ _. (F.told folder.old).files ≡ None) }
+    ensures later { F.faults folder.old ≤ F.faults folder.new }
     ensures later_out { K.faults out.old ≤ K.faults out.new }
-    ensures device { IfDevice result (Rises (F.faults f.old) (F.faults f.new)) }
+    ensures device { IfDevice result (Rises (F.faults folder.old) (F.faults folder.new)) }
 {
     let mut done = 0;
     while done < range.count {
@@ -157,7 +157,7 @@ fn print_pieces<F: Folder, K: Sink>(
             offset: range.offset + done,
             count: next,
         };
-        print_piece(f, files, out, failed, &piece)?;
+        print_piece(folder, files, out, failed, &piece)?;
         done += next;
     }
     Ok(())
@@ -165,7 +165,7 @@ fn print_pieces<F: Folder, K: Sink>(
 
 // Prints a few bytes of a stream. A failed check is one of the read, or that the stream has become shorter.
 fn print_piece<F: Folder, K: Sink>(
-    f: &mut F,
+    folder: &mut F,
     files: &BlockFiles,
     out: &mut K,
     failed: &mut bool,
@@ -174,24 +174,24 @@ fn print_piece<F: Folder, K: Sink>(
     requires few { range.now.count ≤ 4096 }
     requires names { IsTrue (is_record_among files.now range.now.entry) }
     requires stream { range.now.stream < 3 }
-    ensures printed { OnOk result (ForSome (F.told f.old).files (λ image. (p : HasBytes files.now range.now image) → Prints failed.old failed.new (K.written out.old) (K.written out.new) (encode_lower p.bytes))) }
+    ensures printed { OnOk result (ForSome (F.told folder.old).files (λ image. (p : HasBytes files.now range.now image) → PrintsUnlessFailed failed.old failed.new (K.written out.old) (K.written out.new) (encode_lower p.bytes))) }
     ensures unprinted { OnErr result (K.written out.new ≡ K.written out.old) }
     ensures failed { FailsWhereItRose failed.old failed.new (K.faults out.old) (K.faults out.new) }
-    ensures stays { Stays (F.told f.old) (F.told f.new) }
-    ensures damaged { IfDamaged result (IsFailedCheck files.now (F.told f.new)) }
-    ensures untold { ForSome (F.told f.old).files (HasBytes files.now range.now) → IfDamaged result (λ _. (F.told f.old).files ≡ None) }
-    ensures later { F.faults f.old ≤ F.faults f.new }
+    ensures stays { Stays (F.told folder.old) (F.told folder.new) }
+    ensures damaged { IfDamaged result (IsFailedCheck files.now (F.told folder.new)) }
+    ensures untold { ForSome (F.told folder.old).files (HasBytes files.now range.now) → IfDamaged result (λ _. (F.told folder.old).files ≡ None) }
+    ensures later { F.faults folder.old ≤ F.faults folder.new }
     ensures later_out { K.faults out.old ≤ K.faults out.new }
-    ensures device { IfDevice result (Rises (F.faults f.old) (F.faults f.new)) }
+    ensures device { IfDevice result (Rises (F.faults folder.old) (F.faults folder.new)) }
 {
     let mut buffer = [0u8; PIECE as usize];
     let piece = &mut buffer[..range.count as usize];
-    print_through(f, files, out, failed, range, piece)
+    print_through(folder, files, out, failed, range, piece)
 }
 
 // Reads bytes of a stream into the whole of `piece`, and prints them.
 fn print_through<F: Folder, K: Sink>(
-    f: &mut F,
+    folder: &mut F,
     files: &BlockFiles,
     out: &mut K,
     failed: &mut bool,
@@ -202,17 +202,24 @@ fn print_through<F: Folder, K: Sink>(
     requires long { length piece.old ≡ range.now.count }
     requires names { IsTrue (is_record_among files.now range.now.entry) }
     requires stream { range.now.stream < 3 }
-    ensures printed { OnOk result (ForSome (F.told f.old).files (λ image. (p : HasBytes files.now range.now image) → Prints failed.old failed.new (K.written out.old) (K.written out.new) (encode_lower p.bytes))) }
+    ensures printed { OnOk result (ForSome (F.told folder.old).files (λ image. (p : HasBytes files.now range.now image) → PrintsUnlessFailed failed.old failed.new (K.written out.old) (K.written out.new) (encode_lower p.bytes))) }
     ensures unprinted { OnErr result (K.written out.new ≡ K.written out.old) }
     ensures failed { FailsWhereItRose failed.old failed.new (K.faults out.old) (K.faults out.new) }
-    ensures stays { Stays (F.told f.old) (F.told f.new) }
-    ensures damaged { IfDamaged result (IsFailedCheck files.now (F.told f.new)) }
-    ensures untold { ForSome (F.told f.old).files (HasBytes files.now range.now) → IfDamaged result (λ _. (F.told f.old).files ≡ None) }
-    ensures later { F.faults f.old ≤ F.faults f.new }
+    ensures stays { Stays (F.told folder.old) (F.told folder.new) }
+    ensures damaged { IfDamaged result (IsFailedCheck files.now (F.told folder.new)) }
+    ensures untold { ForSome (F.told folder.old).files (HasBytes files.now range.now) → IfDamaged result (λ _. (F.told folder.old).files ≡ None) }
+    ensures later { F.faults folder.old ≤ F.faults folder.new }
     ensures later_out { K.faults out.old ≤ K.faults out.new }
-    ensures device { IfDevice result (Rises (F.faults f.old) (F.faults f.new)) }
+    ensures device { IfDevice result (Rises (F.faults folder.old) (F.faults folder.new)) }
 {
-    let number = read(f, files, range.entry, range.stream, range.offset, piece)?;
+    let number = read(
+        folder,
+        files,
+        range.entry,
+        range.stream,
+        range.offset,
+        piece,
+    )?;
     if number < piece.len() {
         return Err(record_damage(
             range.entry,
@@ -227,7 +234,7 @@ fn print_through<F: Folder, K: Sink>(
 // Prints the front of a line of data, unless the sink failed before: the word, the number of bytes, and a space after
 // each.
 fn say_front<K: Sink>(out: &mut K, failed: &mut bool, number: u64)
-    ensures prints { Prints failed.old failed.new (K.written out.old) (K.written out.new) (codes "data " ++ (number_text number ++ codes " ")) }
+    ensures prints { PrintsUnlessFailed failed.old failed.new (K.written out.old) (K.written out.new) (codes "data " ++ (number_text number ++ codes " ")) }
     ensures failed { FailsWhereItRose failed.old failed.new (K.faults out.old) (K.faults out.new) }
     ensures later { K.faults out.old ≤ K.faults out.new }
 {
@@ -238,7 +245,7 @@ fn say_front<K: Sink>(out: &mut K, failed: &mut bool, number: u64)
 
 // Prints a number in decimal, unless the sink failed before.
 fn say_digits<K: Sink>(out: &mut K, failed: &mut bool, number: u64)
-    ensures prints { Prints failed.old failed.new (K.written out.old) (K.written out.new) (number_text number) }
+    ensures prints { PrintsUnlessFailed failed.old failed.new (K.written out.old) (K.written out.new) (number_text number) }
     ensures failed { FailsWhereItRose failed.old failed.new (K.faults out.old) (K.faults out.new) }
     ensures later { K.faults out.old ≤ K.faults out.new }
 {
@@ -250,7 +257,7 @@ fn say_digits<K: Sink>(out: &mut K, failed: &mut bool, number: u64)
 
 // Prints two hexadecimal digits for each byte, unless the sink failed before.
 fn say_bytes<K: Sink>(out: &mut K, failed: &mut bool, bytes: &[u8])
-    ensures prints { Prints failed.old failed.new (K.written out.old) (K.written out.new) (encode_lower bytes.now) }
+    ensures prints { PrintsUnlessFailed failed.old failed.new (K.written out.old) (K.written out.new) (encode_lower bytes.now) }
     ensures failed { FailsWhereItRose failed.old failed.new (K.faults out.old) (K.faults out.new) }
     ensures later { K.faults out.old ≤ K.faults out.new }
 {
@@ -262,7 +269,7 @@ fn say_bytes<K: Sink>(out: &mut K, failed: &mut bool, bytes: &[u8])
 
 // Prints a text, unless the sink failed before.
 fn say_text<K: Sink>(out: &mut K, failed: &mut bool, text: &[u8])
-    ensures prints { Prints failed.old failed.new (K.written out.old) (K.written out.new) text.now }
+    ensures prints { PrintsUnlessFailed failed.old failed.new (K.written out.old) (K.written out.new) text.now }
     ensures failed { FailsWhereItRose failed.old failed.new (K.faults out.old) (K.faults out.new) }
     ensures later { K.faults out.old ≤ K.faults out.new }
 {

@@ -3,7 +3,7 @@ ghost use Rattle.std.specs.Prelude.{◌≤◌, map};
 ghost use Rattle.blk_model.specs.Items.{main, part};
 ghost use Rattle.blk_script.specs.Reply.{evicted_line};
 ghost use Rattle.blk_script.specs.Spelling.{field_text, line};
-ghost use Rattle.blk_items.specs.RoomPrinting.{FailsWhereItRose, Prints};
+ghost use Rattle.blk_items.specs.RoomPrinting.{FailsWhereItRose, PrintsUnlessFailed};
 
 use blk_io::Sink;
 use blk_script::Field::{self, Key, Number, Word};
@@ -11,7 +11,7 @@ use blk_script::print_fields;
 
 /// Prints that a main item was evicted, unless the sink failed before.
 pub(crate) fn say_evicted<K: Sink>(out: &mut K, failed: &mut bool, key: &[u8])
-    ensures prints { Prints failed.old failed.new (K.written out.old) (K.written out.new) (evicted_line (main key.now)) }
+    ensures prints { PrintsUnlessFailed failed.old failed.new (K.written out.old) (K.written out.new) (evicted_line (main key.now)) }
     ensures failed { FailsWhereItRose failed.old failed.new (K.faults out.old) (K.faults out.new) }
     ensures later { K.faults out.old ≤ K.faults out.new }
 {
@@ -20,7 +20,7 @@ pub(crate) fn say_evicted<K: Sink>(out: &mut K, failed: &mut bool, key: &[u8])
 
 /// Prints that a part was evicted, unless the sink failed before.
 pub(crate) fn say_evicted_part<K: Sink>(out: &mut K, failed: &mut bool, key: &[u8], number: u64)
-    ensures prints { Prints failed.old failed.new (K.written out.old) (K.written out.new) (evicted_line (part key.now number)) }
+    ensures prints { PrintsUnlessFailed failed.old failed.new (K.written out.old) (K.written out.new) (evicted_line (part key.now number)) }
     ensures failed { FailsWhereItRose failed.old failed.new (K.faults out.old) (K.faults out.new) }
     ensures later { K.faults out.old ≤ K.faults out.new }
 {
@@ -33,7 +33,7 @@ pub(crate) fn say_evicted_part<K: Sink>(out: &mut K, failed: &mut bool, key: &[u
 
 /// Prints a line, unless the sink failed before.
 pub(crate) fn say<K: Sink>(out: &mut K, failed: &mut bool, fields: &[Field])
-    ensures prints { Prints failed.old failed.new (K.written out.old) (K.written out.new) (line (map field_text fields.now)) }
+    ensures prints { PrintsUnlessFailed failed.old failed.new (K.written out.old) (K.written out.new) (line (map field_text fields.now)) }
     ensures failed { FailsWhereItRose failed.old failed.new (K.faults out.old) (K.faults out.new) }
     ensures later { K.faults out.old ≤ K.faults out.new }
 {

@@ -130,17 +130,22 @@ pub fn touch<F: Folder>(f: &mut F, files: &BlockFiles, node: Addr, moment: u64) 
 }
 
 // Sets the two times of a node to a moment.
-fn set_times<F: Folder>(f: &mut F, files: &BlockFiles, node: Addr, moment: u64) -> Result<(), Fault>
+fn set_times<F: Folder>(
+    folder: &mut F,
+    files: &BlockFiles,
+    node: Addr,
+    moment: u64,
+) -> Result<(), Fault>
     requires stands { is_node_among files.now node ≡ true }
-    requires is_open { ForSome (F.told f.old).files (IsOpen files.now) }
-    ensures checked { OnOk result (ForSome (F.told f.old).files (λ image. (list_of image).checks node ≡ true)) }
-    ensures steps { OnOk result (ForSome (F.told f.old).files (λ from. Applies (F.told f.old) (F.told f.new) (sealed_steps from node (times_of moment)))) }
-    ensures prefix { MakesPartOf (F.told f.old) (F.told f.new) (λ from. sealed_steps from node (times_of moment)) }
-    ensures is_open { ForSome (F.told f.new).files (IsOpen files.now) }
-    ensures damaged { IfDamaged result (IsWrongNode files.now (F.told f.new)) }
-    ensures untold { ForSome (F.told f.old).files (λ image. (list_of image).checks node ≡ true) → IfDamaged result (λ _. (F.told f.old).files ≡ None) }
-    ensures later { F.faults f.old ≤ F.faults f.new }
-    ensures device { IfDevice result (Rises (F.faults f.old) (F.faults f.new)) }
+    requires is_open { ForSome (F.told folder.old).files (IsOpen files.now) }
+    ensures checked { OnOk result (ForSome (F.told folder.old).files (λ image. (list_of image).checks node ≡ true)) }
+    ensures steps { OnOk result (ForSome (F.told folder.old).files (λ from. Applies (F.told folder.old) (F.told folder.new) (sealed_steps from node (times_of moment)))) }
+    ensures prefix { MakesPartOf (F.told folder.old) (F.told folder.new) (λ from. sealed_steps from node (times_of moment)) }
+    ensures is_open { ForSome (F.told folder.new).files (IsOpen files.now) }
+    ensures damaged { IfDamaged result (IsWrongNode files.now (F.told folder.new)) }
+    ensures untold { ForSome (F.told folder.old).files (λ image. (list_of image).checks node ≡ true) → IfDamaged result (λ _. (F.told folder.old).files ≡ None) }
+    ensures later { F.faults folder.old ≤ F.faults folder.new }
+    ensures device { IfDevice result (Rises (F.faults folder.old) (F.faults folder.new)) }
 {
     let low = (moment % WORD_VALUES) as u32;
     let high = (moment / WORD_VALUES) as u32;
@@ -150,70 +155,74 @@ fn set_times<F: Folder>(f: &mut F, files: &BlockFiles, node: Addr, moment: u64) 
         (NodeView::LAST_MODIFIED, low),
         (NodeView::LAST_MODIFIED + 4, high),
     ];
-    files.update_sealed(f, node, &times)
+    files.update_sealed(folder, node, &times)
 }
 
 // Moves a listed node to the front of the list, where it isn't there already.
-fn move_front<F: Folder>(f: &mut F, files: &BlockFiles, node: Addr) -> Result<(), Fault>
+fn move_front<F: Folder>(folder: &mut F, files: &BlockFiles, node: Addr) -> Result<(), Fault>
     requires stands { IsTrue (is_node_among files.now node) }
-    requires is_open { ForSome (F.told f.old).files (IsOpen files.now) }
-    ensures checked { OnOk result (ForSome (F.told f.old).files (λ from. CanBeMade from (touch_writes node (list_of from)))) }
-    ensures linked { OnOk result (ForSome (F.told f.old).files (λ from. (list_of from).head ≢ node → HasGoodLinks (list_of from) node)) }
-    ensures steps { OnOk result (ForSome (F.told f.old).files (λ from. Applies (F.told f.old) (F.told f.new) (steps_of_writes (touch_writes node (list_of from)) from))) }
-    ensures prefix { MakesPartOf (F.told f.old) (F.told f.new) (λ from. steps_of_writes (touch_writes node (list_of from)) from) }
-    ensures is_open { ForSome (F.told f.new).files (IsOpen files.now) }
-    ensures damaged { IfDamaged result (IsTouchDamage node files.now (F.told f.old) (F.told f.new)) }
-    ensures untold { ForSome (F.told f.old).files (IsListed node) → IfDamaged result (λ _. (F.told f.old).files ≡ None) }
-    ensures later { F.faults f.old ≤ F.faults f.new }
-    ensures device { IfDevice result (Rises (F.faults f.old) (F.faults f.new)) }
+    requires is_open { ForSome (F.told folder.old).files (IsOpen files.now) }
+    ensures checked { OnOk result (ForSome (F.told folder.old).files (λ from. CanBeMade from (touch_writes node (list_of from)))) }
+    ensures linked { OnOk result (ForSome (F.told folder.old).files (λ from. (list_of from).head ≢ node → HasGoodLinks (list_of from) node)) }
+    ensures steps { OnOk result (ForSome (F.told folder.old).files (λ from. Applies (F.told folder.old) (F.told folder.new) (steps_of_writes (touch_writes node (list_of from)) from))) }
+    ensures prefix { MakesPartOf (F.told folder.old) (F.told folder.new) (λ from. steps_of_writes (touch_writes node (list_of from)) from) }
+    ensures is_open { ForSome (F.told folder.new).files (IsOpen files.now) }
+    ensures damaged { IfDamaged result (IsTouchDamage node files.now (F.told folder.old) (F.told folder.new)) }
+    ensures untold { ForSome (F.told folder.old).files (IsListed node) → IfDamaged result (λ _. (F.told folder.old).files ≡ None) }
+    ensures later { F.faults folder.old ≤ F.faults folder.new }
+    ensures device { IfDevice result (Rises (F.faults folder.old) (F.faults folder.new)) }
 {
-    let head = first(f, files)?;
+    let head = first(folder, files)?;
     if head == Some(node) {
         return Ok(());
     }
-    move_behind(f, files, node, head)
+    move_behind(folder, files, node, head)
 }
 
 // Moves a listed node to the front of the list, where another node is the first one.
 fn move_behind<F: Folder>(
-    f: &mut F,
+    folder: &mut F,
     files: &BlockFiles,
     node: Addr,
     head: Option<Addr>,
 ) -> Result<(), Fault>
     requires stands { IsTrue (is_node_among files.now node) }
     requires first { IfSome head (λ n. IsTrue (is_node_among files.now n)) }
-    requires is_open { ForSome (F.told f.old).files (IsOpen files.now) }
-    requires head { ForSome (F.told f.old).files (λ image. word_or_zero head ≡ (list_of image).head) }
-    ensures checked { OnOk result (ForSome (F.told f.old).files (λ from. CanBeMade from (writes_of move node (list_of from)))) }
-    ensures linked { OnOk result (ForSome (F.told f.old).files (λ from. HasGoodLinks (list_of from) node)) }
-    ensures steps { OnOk result (ForSome (F.told f.old).files (λ from. Applies (F.told f.old) (F.told f.new) (operation_steps move node from))) }
-    ensures prefix { MakesPartOf (F.told f.old) (F.told f.new) (λ from. operation_steps move node from) }
-    ensures is_open { ForSome (F.told f.new).files (IsOpen files.now) }
-    ensures damaged { IfDamaged result (IsRemovalDamage node files.now (F.told f.old) (F.told f.new)) }
-    ensures untold { ForSome (F.told f.old).files (IsListed node) → IfDamaged result (λ _. (F.told f.old).files ≡ None) }
-    ensures later { F.faults f.old ≤ F.faults f.new }
-    ensures device { IfDevice result (Rises (F.faults f.old) (F.faults f.new)) }
+    requires is_open { ForSome (F.told folder.old).files (IsOpen files.now) }
+    requires head { ForSome (F.told folder.old).files (λ image. word_or_zero head ≡ (list_of image).head) }
+    ensures checked { OnOk result (ForSome (F.told folder.old).files (λ from. CanBeMade from (writes_of move node (list_of from)))) }
+    ensures linked { OnOk result (ForSome (F.told folder.old).files (λ from. HasGoodLinks (list_of from) node)) }
+    ensures steps { OnOk result (ForSome (F.told folder.old).files (λ from. Applies (F.told folder.old) (F.told folder.new) (operation_steps move node from))) }
+    ensures prefix { MakesPartOf (F.told folder.old) (F.told folder.new) (λ from. operation_steps move node from) }
+    ensures is_open { ForSome (F.told folder.new).files (IsOpen files.now) }
+    ensures damaged { IfDamaged result (IsRemovalDamage node files.now (F.told folder.old) (F.told folder.new)) }
+    ensures untold { ForSome (F.told folder.old).files (IsListed node) → IfDamaged result (λ _. (F.told folder.old).files ≡ None) }
+    ensures later { F.faults folder.old ≤ F.faults folder.new }
+    ensures device { IfDevice result (Rises (F.faults folder.old) (F.faults folder.new)) }
 {
-    let neighbours = neighbours(f, files, node)?;
+    let neighbours = neighbours(folder, files, node)?;
     let neighbours = Some(neighbours);
     let plan = plan_of(node, &Operation::Move { neighbours, head });
-    perform(f, files, &plan)
+    perform(folder, files, &plan)
 }
 
 // The nodes that the links of one name, by two folder calls.
-fn neighbours<F: Folder>(f: &mut F, files: &BlockFiles, node: Addr) -> Result<Neighbours, Fault>
+fn neighbours<F: Folder>(
+    folder: &mut F,
+    files: &BlockFiles,
+    node: Addr,
+) -> Result<Neighbours, Fault>
     requires stands { IsTrue (is_node_among files.now node) }
-    requires agrees { ForSome (F.told f.old).files (Agrees files.now) }
-    ensures words { IfOk result (λ neighbours. ForSome (F.told f.old).files (λ image. AreBeside ((list_of image).next node) ((list_of image).prev node) (Some neighbours))) }
+    requires agrees { ForSome (F.told folder.old).files (Agrees files.now) }
+    ensures words { IfOk result (λ neighbours. ForSome (F.told folder.old).files (λ image. AreBeside ((list_of image).next node) ((list_of image).prev node) (Some neighbours))) }
     ensures stand { IfOk result (StandBeside files.now) }
-    ensures stays { Stays (F.told f.old) (F.told f.new) }
-    ensures damaged { IfDamaged result (IsNeighbourDamage node files.now (F.told f.old) (F.told f.new)) }
-    ensures untold { ForSome (F.told f.old).files (IsListed node) → IfDamaged result (λ _. (F.told f.old).files ≡ None) }
-    ensures later { F.faults f.old ≤ F.faults f.new }
-    ensures device { IfDevice result (Rises (F.faults f.old) (F.faults f.new)) }
+    ensures stays { Stays (F.told folder.old) (F.told folder.new) }
+    ensures damaged { IfDamaged result (IsNeighbourDamage node files.now (F.told folder.old) (F.told folder.new)) }
+    ensures untold { ForSome (F.told folder.old).files (IsListed node) → IfDamaged result (λ _. (F.told folder.old).files ≡ None) }
+    ensures later { F.faults folder.old ≤ F.faults folder.new }
+    ensures device { IfDevice result (Rises (F.faults folder.old) (F.faults folder.new)) }
 {
-    let next = link(f, files, node, NodeView::NEXT)?;
-    let prev = link(f, files, node, NodeView::PREV)?;
+    let next = link(folder, files, node, NodeView::NEXT)?;
+    let prev = link(folder, files, node, NodeView::PREV)?;
     Ok(Neighbours { next, prev })
 }

@@ -72,25 +72,25 @@ pub fn complete<F: Folder>(f: &mut F, files: &BlockFiles) -> Result<(), Fault>
 /// What completing would write, in order: what is left of the operation in flight, or the end of its transaction where it doesn't count.
 ///
 /// It is nothing where no operation is in flight. Nothing is written, and at most 6 folder calls are made.
-pub fn pending<F: Folder>(f: &mut F, files: &BlockFiles) -> Result<Plan, Fault>
+pub fn pending<F: Folder>(folder: &mut F, files: &BlockFiles) -> Result<Plan, Fault>
     ensures words { IfOk result (λ plan. AllWriteWords (map meant plan.items)) }
-    ensures plan { IfOk result (λ plan. ForSome (F.told f.old).files (λ image. Agrees files.now image → map meant plan.items ≡ completion_writes (list_of image))) }
+    ensures plan { IfOk result (λ plan. ForSome (F.told folder.old).files (λ image. Agrees files.now image → map meant plan.items ≡ completion_writes (list_of image))) }
     ensures stand { IfOk result (λ plan. AreOf (λ n. is_node_among files.now n ≡ true) (map meant plan.items)) }
-    ensures checked { OnOk result (ForSome (F.told f.old).files (HasFlight files.now)) }
-    ensures stays { Stays (F.told f.old) (F.told f.new) }
+    ensures checked { OnOk result (ForSome (F.told folder.old).files (HasFlight files.now)) }
+    ensures stays { Stays (F.told folder.old) (F.told folder.new) }
 
     // Too few bytes, which an observable folder gives only where its index is too short or the block files don't agree with it.
-    ensures damaged { IfDamaged result (IsPendingDamage files.now (F.told f.new)) }
-    ensures untold { ForSome (F.told f.old).files (IsOpen files.now) → IfDamaged result (λ _. (F.told f.old).files ≡ None) }
+    ensures damaged { IfDamaged result (IsPendingDamage files.now (F.told folder.new)) }
+    ensures untold { ForSome (F.told folder.old).files (IsOpen files.now) → IfDamaged result (λ _. (F.told folder.old).files ≡ None) }
 
-    ensures later { F.faults f.old ≤ F.faults f.new }
-    ensures device { IfDevice result (Rises (F.faults f.old) (F.faults f.new)) }
+    ensures later { F.faults folder.old ≤ F.faults folder.new }
+    ensures device { IfDevice result (Rises (F.faults folder.old) (F.faults folder.new)) }
 {
-    let transaction = word(f, TRANSACTION)?;
+    let transaction = word(folder, TRANSACTION)?;
     if transaction == 0 {
         return Ok(ArrayVec::new());
     }
-    let Some(found) = in_flight(f, files, transaction)? else {
+    let Some(found) = in_flight(folder, files, transaction)? else {
         return Ok(ending());
     };
     Ok(pending_of(found.node, &found.operation))
@@ -98,67 +98,67 @@ pub fn pending<F: Folder>(f: &mut F, files: &BlockFiles) -> Result<Plan, Fault>
 
 // The operation in flight, where this is the transaction word and it counts.
 fn in_flight<F: Folder>(
-    f: &mut F,
+    folder: &mut F,
     files: &BlockFiles,
     transaction: u32,
 ) -> Result<Option<InFlight>, Fault>
-    requires transaction { ForSome (F.told f.old).files (λ image. (list_among files.now image).transaction ≡ transaction) }
-    ensures found { IfOk result (λ found. ForSome (F.told f.old).files (λ image. FindsInFlight (list_among files.now image) found)) }
+    requires transaction { ForSome (F.told folder.old).files (λ image. (list_among files.now image).transaction ≡ transaction) }
+    ensures found { IfOk result (λ found. ForSome (F.told folder.old).files (λ image. FindsInFlight (list_among files.now image) found)) }
     ensures stand { IfOk result (λ found. IfSome found (AreNodes files.now)) }
-    ensures checked { OnOk result (ForSome (F.told f.old).files (HasNodeInFlight files.now)) }
-    ensures stays { Stays (F.told f.old) (F.told f.new) }
-    ensures damaged { IfDamaged result (IsPendingDamage files.now (F.told f.new)) }
-    ensures untold { ForSome (F.told f.old).files (IsOpen files.now) → IfDamaged result (λ _. (F.told f.old).files ≡ None) }
-    ensures later { F.faults f.old ≤ F.faults f.new }
-    ensures device { IfDevice result (Rises (F.faults f.old) (F.faults f.new)) }
+    ensures checked { OnOk result (ForSome (F.told folder.old).files (HasNodeInFlight files.now)) }
+    ensures stays { Stays (F.told folder.old) (F.told folder.new) }
+    ensures damaged { IfDamaged result (IsPendingDamage files.now (F.told folder.new)) }
+    ensures untold { ForSome (F.told folder.old).files (IsOpen files.now) → IfDamaged result (λ _. (F.told folder.old).files ≡ None) }
+    ensures later { F.faults folder.old ≤ F.faults folder.new }
+    ensures device { IfDevice result (Rises (F.faults folder.old) (F.faults folder.new)) }
 {
-    let Some(links) = checked(f, files, transaction)? else {
+    let Some(links) = checked(folder, files, transaction)? else {
         return Ok(None);
     };
-    let code = word(f, OPERATION)?;
-    counting(f, files, code, &links)
+    let code = word(folder, OPERATION)?;
+    counting(folder, files, code, &links)
 }
 
 // The operation in flight of a node with these links, where this is the operation word and it counts.
 fn counting<F: Folder>(
-    f: &mut F,
+    folder: &mut F,
     files: &BlockFiles,
     code: u32,
     links: &Links,
 ) -> Result<Option<InFlight>, Fault>
     requires stands { is_node_among files.now links.now.node ≡ true }
-    requires links { ForSome (F.told f.old).files (λ image. AreLinksOf (list_among files.now image) (list_among files.now image).transaction links.now) }
-    requires operation { ForSome (F.told f.old).files (λ image. (list_among files.now image).operation ≡ code) }
-    ensures found { IfOk result (λ found. ForSome (F.told f.old).files (λ image. FindsInFlight (list_among files.now image) found)) }
+    requires links { ForSome (F.told folder.old).files (λ image. AreLinksOf (list_among files.now image) (list_among files.now image).transaction links.now) }
+    requires operation { ForSome (F.told folder.old).files (λ image. (list_among files.now image).operation ≡ code) }
+    ensures found { IfOk result (λ found. ForSome (F.told folder.old).files (λ image. FindsInFlight (list_among files.now image) found)) }
     ensures stand { IfOk result (λ found. IfSome found (AreNodes files.now)) }
-    ensures checked { OnOk result (ForSome (F.told f.old).files (HasOperands files.now)) }
-    ensures stays { Stays (F.told f.old) (F.told f.new) }
-    ensures damaged { IfDamaged result (IsPendingDamage files.now (F.told f.new)) }
-    ensures untold { ForSome (F.told f.old).files (IsOpen files.now) → IfDamaged result (λ _. (F.told f.old).files ≡ None) }
-    ensures later { F.faults f.old ≤ F.faults f.new }
-    ensures device { IfDevice result (Rises (F.faults f.old) (F.faults f.new)) }
+    ensures checked { OnOk result (ForSome (F.told folder.old).files (HasOperands files.now)) }
+    ensures stays { Stays (F.told folder.old) (F.told folder.new) }
+    ensures damaged { IfDamaged result (IsPendingDamage files.now (F.told folder.new)) }
+    ensures untold { ForSome (F.told folder.old).files (IsOpen files.now) → IfDamaged result (λ _. (F.told folder.old).files ≡ None) }
+    ensures later { F.faults folder.old ≤ F.faults folder.new }
+    ensures device { IfDevice result (Rises (F.faults folder.old) (F.faults folder.new)) }
 {
     let node = links.node;
     match code {
         INSERT => {
-            let Usable::Counts(head) = usable_head(f, files)? else {
+            let Usable::Counts(head) = usable_head(folder, files)? else {
                 return Ok(None);
             };
             let operation = Operation::Insert { head };
             Ok(Some(InFlight { node, operation }))
         }
         REMOVE => {
-            let Usable::Counts(neighbours) = usable_links(f, files, links)? else {
+            let Usable::Counts(neighbours) = usable_links(folder, files, links)? else {
                 return Ok(None);
             };
             let operation = Operation::Remove { neighbours };
             Ok(Some(InFlight { node, operation }))
         }
         MOVE => {
-            let Usable::Counts(head) = usable_head(f, files)? else {
+            let Usable::Counts(head) = usable_head(folder, files)? else {
                 return Ok(None);
             };
-            let Usable::Counts(neighbours) = usable_links(f, files, links)? else {
+            let Usable::Counts(neighbours) = usable_links(folder, files, links)? else {
                 return Ok(None);
             };
             let operation = Operation::Move { neighbours, head };
@@ -169,21 +169,21 @@ fn counting<F: Folder>(
 }
 
 // The first node or none, where the head is 0 or names a node that checks.
-fn usable_head<F: Folder>(f: &mut F, files: &BlockFiles) -> Result<Usable<Option<Addr>>, Fault>
-    ensures found { IfOk result (λ found. ForSome (F.told f.old).files (λ image. FindsHead (list_among files.now image) found)) }
+fn usable_head<F: Folder>(folder: &mut F, files: &BlockFiles) -> Result<Usable<Option<Addr>>, Fault>
+    ensures found { IfOk result (λ found. ForSome (F.told folder.old).files (λ image. FindsHead (list_among files.now image) found)) }
     ensures stand { IfOk result (FoundHeadStands files.now) }
-    ensures checked { OnOk result (ForSome (F.told f.old).files (HasHead files.now)) }
-    ensures stays { Stays (F.told f.old) (F.told f.new) }
-    ensures damaged { IfDamaged result (IsPendingDamage files.now (F.told f.new)) }
-    ensures untold { ForSome (F.told f.old).files (IsOpen files.now) → IfDamaged result (λ _. (F.told f.old).files ≡ None) }
-    ensures later { F.faults f.old ≤ F.faults f.new }
-    ensures device { IfDevice result (Rises (F.faults f.old) (F.faults f.new)) }
+    ensures checked { OnOk result (ForSome (F.told folder.old).files (HasHead files.now)) }
+    ensures stays { Stays (F.told folder.old) (F.told folder.new) }
+    ensures damaged { IfDamaged result (IsPendingDamage files.now (F.told folder.new)) }
+    ensures untold { ForSome (F.told folder.old).files (IsOpen files.now) → IfDamaged result (λ _. (F.told folder.old).files ≡ None) }
+    ensures later { F.faults folder.old ≤ F.faults folder.new }
+    ensures device { IfDevice result (Rises (F.faults folder.old) (F.faults folder.new)) }
 {
-    let head = word(f, HEAD)?;
+    let head = word(folder, HEAD)?;
     if head == 0 {
         return Ok(Usable::Counts(None));
     }
-    let Some(links) = checked(f, files, head)? else {
+    let Some(links) = checked(folder, files, head)? else {
         return Ok(Usable::Fails);
     };
     Ok(Usable::Counts(Some(links.node)))
@@ -191,28 +191,28 @@ fn usable_head<F: Folder>(f: &mut F, files: &BlockFiles) -> Result<Usable<Option
 
 // The nodes beside one that has these links or none, where its next is 0 or both links name nodes that check.
 fn usable_links<F: Folder>(
-    f: &mut F,
+    folder: &mut F,
     files: &BlockFiles,
     links: &Links,
 ) -> Result<Usable<Option<Neighbours>>, Fault>
     requires stands { is_node_among files.now links.now.node ≡ true }
-    requires links { ForSome (F.told f.old).files (λ image. AreLinksOf (list_among files.now image) (list_among files.now image).transaction links.now) }
-    ensures found { IfOk result (λ found. ForSome (F.told f.old).files (λ image. FindsNeighbours (list_among files.now image) (list_among files.now image).transaction found)) }
+    requires links { ForSome (F.told folder.old).files (λ image. AreLinksOf (list_among files.now image) (list_among files.now image).transaction links.now) }
+    ensures found { IfOk result (λ found. ForSome (F.told folder.old).files (λ image. FindsNeighbours (list_among files.now image) (list_among files.now image).transaction found)) }
     ensures stand { IfOk result (FoundNeighboursStand files.now) }
-    ensures checked { OnOk result (ForSome (F.told f.old).files (λ image. HasNeighbours files.now image (list_among files.now image).transaction)) }
-    ensures stays { Stays (F.told f.old) (F.told f.new) }
-    ensures damaged { IfDamaged result (IsShortNode files.now (F.told f.new)) }
-    ensures untold { ForSome (F.told f.old).files (Agrees files.now) → IfDamaged result (λ _. (F.told f.old).files ≡ None) }
-    ensures later { F.faults f.old ≤ F.faults f.new }
-    ensures device { IfDevice result (Rises (F.faults f.old) (F.faults f.new)) }
+    ensures checked { OnOk result (ForSome (F.told folder.old).files (λ image. HasNeighbours files.now image (list_among files.now image).transaction)) }
+    ensures stays { Stays (F.told folder.old) (F.told folder.new) }
+    ensures damaged { IfDamaged result (IsShortNode files.now (F.told folder.new)) }
+    ensures untold { ForSome (F.told folder.old).files (Agrees files.now) → IfDamaged result (λ _. (F.told folder.old).files ≡ None) }
+    ensures later { F.faults folder.old ≤ F.faults folder.new }
+    ensures device { IfDevice result (Rises (F.faults folder.old) (F.faults folder.new)) }
 {
     if links.next == 0 {
         return Ok(Usable::Counts(None));
     }
-    let Some(next) = checked(f, files, links.next)? else {
+    let Some(next) = checked(folder, files, links.next)? else {
         return Ok(Usable::Fails);
     };
-    let Some(prev) = checked(f, files, links.prev)? else {
+    let Some(prev) = checked(folder, files, links.prev)? else {
         return Ok(Usable::Fails);
     };
     let (next, prev) = (next.node, prev.node);

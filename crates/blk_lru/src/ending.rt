@@ -28,55 +28,67 @@ use blk_record::NodeView;
 /// A word is written only where it differs. No operation is in flight meanwhile, and the list need not be whole. A node
 /// that is to be written and doesn't check is corruption, and so are too few bytes. This takes at most 7 folder calls,
 /// and 2 where nothing differs.
-pub fn end_at<F: Folder>(f: &mut F, files: &BlockFiles, last: Option<Addr>) -> Result<(), Fault>
+pub fn end_at<F: Folder>(
+    folder: &mut F,
+    files: &BlockFiles,
+    last: Option<Addr>,
+) -> Result<(), Fault>
     requires stands { IfSome last (λ node. is_node_among files.now node ≡ true) }
-    requires is_open { ForSome (F.told f.old).files (IsOpen files.now) }
-    ensures checked { OnOk result (ForSome (F.told f.old).files (λ from. CanBeMade from (ending_writes (list_of from) last))) }
-    ensures sealed { OnOk result (ForSome (F.told f.old).files (λ from. ForSome (F.told f.new).files (Seals from (ending_writes (list_of from) last)))) }
-    ensures steps { OnOk result (ForSome (F.told f.old).files (λ from. Applies (F.told f.old) (F.told f.new) (steps_of_writes (ending_writes (list_of from) last) from))) }
-    ensures prefix { MakesPartOf (F.told f.old) (F.told f.new) (λ from. steps_of_writes (ending_writes (list_of from) last) from) }
-    ensures is_open { ForSome (F.told f.new).files (IsOpen files.now) }
+    requires is_open { ForSome (F.told folder.old).files (IsOpen files.now) }
+    ensures checked { OnOk result (ForSome (F.told folder.old).files (λ from. CanBeMade from (ending_writes (list_of from) last))) }
+    ensures sealed { OnOk result (ForSome (F.told folder.old).files (λ from. ForSome (F.told folder.new).files (Seals from (ending_writes (list_of from) last)))) }
+    ensures steps { OnOk result (ForSome (F.told folder.old).files (λ from. Applies (F.told folder.old) (F.told folder.new) (steps_of_writes (ending_writes (list_of from) last) from))) }
+    ensures prefix { MakesPartOf (F.told folder.old) (F.told folder.new) (λ from. steps_of_writes (ending_writes (list_of from) last) from) }
+    ensures is_open { ForSome (F.told folder.new).files (IsOpen files.now) }
 
     // An observable folder reports corruption only where the node is to be written and doesn't check.
-    ensures damaged { IfDamaged result (IsEndDamage last files.now (F.told f.old) (F.told f.new)) }
-    ensures untold { ForSome (F.told f.old).files (λ from. CanBeMade from (ending_writes (list_of from) last)) → IfDamaged result (λ _. (F.told f.old).files ≡ None) }
+    ensures damaged { IfDamaged result (IsEndDamage last files.now (F.told folder.old) (F.told folder.new)) }
+    ensures untold { ForSome (F.told folder.old).files (λ from. CanBeMade from (ending_writes (list_of from) last)) → IfDamaged result (λ _. (F.told folder.old).files ≡ None) }
 
-    ensures later { F.faults f.old ≤ F.faults f.new }
-    ensures device { IfDevice result (Rises (F.faults f.old) (F.faults f.new)) }
+    ensures later { F.faults folder.old ≤ F.faults folder.new }
+    ensures device { IfDevice result (Rises (F.faults folder.old) (F.faults folder.new)) }
 {
-    let plan = ending_of(f, files, last)?;
-    perform(f, files, &plan)
+    let plan = ending_of(folder, files, last)?;
+    perform(folder, files, &plan)
 }
 
 // What makes a node the last of the list, or the list empty, by two folder calls.
-fn ending_of<F: Folder>(f: &mut F, files: &BlockFiles, last: Option<Addr>) -> Result<Plan, Fault>
+fn ending_of<F: Folder>(
+    folder: &mut F,
+    files: &BlockFiles,
+    last: Option<Addr>,
+) -> Result<Plan, Fault>
     requires stands { IfSome last (λ node. is_node_among files.now node ≡ true) }
-    ensures plan { IfOk result (λ plan. ForSome (F.told f.old).files (λ image. Agrees files.now image → map meant plan.items ≡ ending_writes (list_of image) last)) }
+    ensures plan { IfOk result (λ plan. ForSome (F.told folder.old).files (λ image. Agrees files.now image → map meant plan.items ≡ ending_writes (list_of image) last)) }
     ensures stand { IfOk result (λ plan. AreOf (λ n. is_node_among files.now n ≡ true) (map meant plan.items)) }
     ensures words { IfOk result (λ plan. AllWriteWords (map meant plan.items)) }
-    ensures stays { Stays (F.told f.old) (F.told f.new) }
-    ensures damaged { IfDamaged result (IsEndReadDamage last (F.told f.old)) }
-    ensures untold { ForSome (F.told f.old).files (IsOpen files.now) → IfDamaged result (λ _. (F.told f.old).files ≡ None) }
-    ensures later { F.faults f.old ≤ F.faults f.new }
-    ensures device { IfDevice result (Rises (F.faults f.old) (F.faults f.new)) }
+    ensures stays { Stays (F.told folder.old) (F.told folder.new) }
+    ensures damaged { IfDamaged result (IsEndReadDamage last (F.told folder.old)) }
+    ensures untold { ForSome (F.told folder.old).files (IsOpen files.now) → IfDamaged result (λ _. (F.told folder.old).files ≡ None) }
+    ensures later { F.faults folder.old ≤ F.faults folder.new }
+    ensures device { IfDevice result (Rises (F.faults folder.old) (F.faults folder.new)) }
 {
-    let front = front_word(f, files, last)?;
-    let tail = word(f, TAIL)?;
+    let front = front_word(folder, files, last)?;
+    let tail = word(folder, TAIL)?;
     Ok(end_plan(&last, front, tail))
 }
 
 // The next of a node, or the head of the list where there is none.
-fn front_word<F: Folder>(f: &mut F, files: &BlockFiles, last: Option<Addr>) -> Result<u32, Fault>
+fn front_word<F: Folder>(
+    folder: &mut F,
+    files: &BlockFiles,
+    last: Option<Addr>,
+) -> Result<u32, Fault>
     requires stands { IfSome last (λ node. is_node_among files.now node ≡ true) }
-    ensures word { IfOk result (λ front. ForSome (F.told f.old).files (λ image. Agrees files.now image → front ≡ front_of (list_of image) last)) }
-    ensures stays { Stays (F.told f.old) (F.told f.new) }
-    ensures damaged { IfDamaged result (IsFrontDamage last (F.told f.old)) }
-    ensures untold { ForSome (F.told f.old).files (IsOpen files.now) → IfDamaged result (λ _. (F.told f.old).files ≡ None) }
-    ensures later { F.faults f.old ≤ F.faults f.new }
-    ensures device { IfDevice result (Rises (F.faults f.old) (F.faults f.new)) }
+    ensures word { IfOk result (λ front. ForSome (F.told folder.old).files (λ image. Agrees files.now image → front ≡ front_of (list_of image) last)) }
+    ensures stays { Stays (F.told folder.old) (F.told folder.new) }
+    ensures damaged { IfDamaged result (IsFrontDamage last (F.told folder.old)) }
+    ensures untold { ForSome (F.told folder.old).files (IsOpen files.now) → IfDamaged result (λ _. (F.told folder.old).files ≡ None) }
+    ensures later { F.faults folder.old ≤ F.faults folder.new }
+    ensures device { IfDevice result (Rises (F.faults folder.old) (F.faults folder.new)) }
 {
     match last {
-        Some(node) => link_word(f, files, node, NodeView::NEXT),
-        None => word(f, HEAD),
+        Some(node) => link_word(folder, files, node, NodeView::NEXT),
+        None => word(folder, HEAD),
     }
 }

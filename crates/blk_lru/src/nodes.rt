@@ -27,24 +27,24 @@ pub(crate) struct Links {
 
 // The node that a link of a node names, by one folder call.
 pub(crate) fn link<F: Folder>(
-    f: &mut F,
+    folder: &mut F,
     files: &BlockFiles,
     node: Addr,
     at: u32,
 ) -> Result<Addr, Fault>
     requires stands { IsTrue (is_node_among files.now node) }
     requires place { IsLinkPlace at }
-    ensures word { IfOk result (λ found. ForSome (F.told f.old).files (λ image. found ≡ link_at image node at)) }
+    ensures word { IfOk result (λ found. ForSome (F.told folder.old).files (λ image. found ≡ link_at image node at)) }
     ensures stands { IfOk result (λ found. IsTrue (is_node_among files.now found)) }
-    ensures checked { OnOk result (ForSome (F.told f.old).files (λ image. HasRange image (block (file_selector node)) (place node + at) 4)) }
-    ensures stays { Stays (F.told f.old) (F.told f.new) }
-    ensures damaged { IfDamaged result (IsNodeLinkDamage node at files.now (F.told f.old)) }
-    ensures untold { ForSome (F.told f.old).files (Agrees files.now) → ForSome (F.told f.old).files (λ image. is_node_among files.now (link_at image node at) ≡ true) → IfDamaged result (λ _. (F.told f.old).files ≡ None) }
-    ensures later { F.faults f.old ≤ F.faults f.new }
-    ensures device { IfDevice result (Rises (F.faults f.old) (F.faults f.new)) }
+    ensures checked { OnOk result (ForSome (F.told folder.old).files (λ image. HasRange image (block (file_selector node)) (place node + at) 4)) }
+    ensures stays { Stays (F.told folder.old) (F.told folder.new) }
+    ensures damaged { IfDamaged result (IsNodeLinkDamage node at files.now (F.told folder.old)) }
+    ensures untold { ForSome (F.told folder.old).files (Agrees files.now) → ForSome (F.told folder.old).files (λ image. is_node_among files.now (link_at image node at) ≡ true) → IfDamaged result (λ _. (F.told folder.old).files ≡ None) }
+    ensures later { F.faults folder.old ≤ F.faults folder.new }
+    ensures device { IfDevice result (Rises (F.faults folder.old) (F.faults folder.new)) }
 {
     let mut bytes = [0u8; 4];
-    files.read_block(f, node, at, &mut bytes)?;
+    files.read_block(folder, node, at, &mut bytes)?;
     let found = u32::from_le_bytes(bytes);
     let Some(other) = files.node(found) else {
         let file = file_of(node);
@@ -58,45 +58,45 @@ pub(crate) fn link<F: Folder>(
 
 // The word of a link of a node, which need not name a node, by one folder call.
 pub(crate) fn link_word<F: Folder>(
-    f: &mut F,
+    folder: &mut F,
     files: &BlockFiles,
     node: Addr,
     at: u32,
 ) -> Result<u32, Fault>
     requires stands { is_node_among files.now node ≡ true }
     requires place { IsLinkPlace at }
-    ensures word { IfOk result (λ found. ForSome (F.told f.old).files (λ image. found ≡ link_at image node at)) }
-    ensures stays { Stays (F.told f.old) (F.told f.new) }
-    ensures damaged { IfDamaged result (IsShort (F.told f.old) (names.Block (file_selector node)) (place node + at) 4) }
-    ensures untold { ForSome (F.told f.old).files (Agrees files.now) → IfDamaged result (λ _. (F.told f.old).files ≡ None) }
-    ensures later { F.faults f.old ≤ F.faults f.new }
-    ensures device { IfDevice result (Rises (F.faults f.old) (F.faults f.new)) }
+    ensures word { IfOk result (λ found. ForSome (F.told folder.old).files (λ image. found ≡ link_at image node at)) }
+    ensures stays { Stays (F.told folder.old) (F.told folder.new) }
+    ensures damaged { IfDamaged result (IsShort (F.told folder.old) (names.Block (file_selector node)) (place node + at) 4) }
+    ensures untold { ForSome (F.told folder.old).files (Agrees files.now) → IfDamaged result (λ _. (F.told folder.old).files ≡ None) }
+    ensures later { F.faults folder.old ≤ F.faults folder.new }
+    ensures device { IfDevice result (Rises (F.faults folder.old) (F.faults folder.new)) }
 {
     let mut bytes = [0u8; 4];
-    files.read_block(f, node, at, &mut bytes)?;
+    files.read_block(folder, node, at, &mut bytes)?;
     Ok(u32::from_le_bytes(bytes))
 }
 
 // The node that a word names and its links, where it is there and checks, by at most one folder call.
 pub(crate) fn checked<F: Folder>(
-    f: &mut F,
+    folder: &mut F,
     files: &BlockFiles,
     word: u32,
 ) -> Result<Option<Links>, Fault>
-    ensures found { IfOk result (λ found. ForSome (F.told f.old).files (λ image. FindsNode (list_among files.now image) word found)) }
+    ensures found { IfOk result (λ found. ForSome (F.told folder.old).files (λ image. FindsNode (list_among files.now image) word found)) }
     ensures stands { IfOk result (λ found. IfSome found (λ links. is_node_among files.now links.node ≡ true)) }
-    ensures checked { OnOk result (ForSome (F.told f.old).files (λ image. HasNode files.now image word)) }
-    ensures stays { Stays (F.told f.old) (F.told f.new) }
-    ensures damaged { IfDamaged result (IsShortNode files.now (F.told f.new)) }
-    ensures untold { ForSome (F.told f.old).files (Agrees files.now) → IfDamaged result (λ _. (F.told f.old).files ≡ None) }
-    ensures later { F.faults f.old ≤ F.faults f.new }
-    ensures device { IfDevice result (Rises (F.faults f.old) (F.faults f.new)) }
+    ensures checked { OnOk result (ForSome (F.told folder.old).files (λ image. HasNode files.now image word)) }
+    ensures stays { Stays (F.told folder.old) (F.told folder.new) }
+    ensures damaged { IfDamaged result (IsShortNode files.now (F.told folder.new)) }
+    ensures untold { ForSome (F.told folder.old).files (Agrees files.now) → IfDamaged result (λ _. (F.told folder.old).files ≡ None) }
+    ensures later { F.faults folder.old ≤ F.faults folder.new }
+    ensures device { IfDevice result (Rises (F.faults folder.old) (F.faults folder.new)) }
 {
     let Some(node) = files.node(word) else {
         return Ok(None);
     };
     let mut window = [0u8; NodeView::SIZE];
-    files.read_block(f, node, 0, &mut window)?;
+    files.read_block(folder, node, 0, &mut window)?;
     Ok(links_in(node, &window))
 }
 

@@ -124,22 +124,22 @@ fn unless_same(node: Addr, other: Addr) -> Option<Addr>
 
 // The node that a word of the index names, or none where the word is 0.
 pub(crate) fn end_of_list<F: Folder>(
-    f: &mut F,
+    folder: &mut F,
     files: &BlockFiles,
     at: u64,
 ) -> Result<Option<Addr>, Fault>
     requires aligned { at % 4 ≡ 0 }
     requires inside { at < header_length }
-    ensures node { IfOk result (λ node. ForSome (F.told f.old).files (λ image. node ≡ (if image_word image index at == 0 then None else Some (image_word image index at)))) }
+    ensures node { IfOk result (λ node. ForSome (F.told folder.old).files (λ image. node ≡ (if image_word image index at == 0 then None else Some (image_word image index at)))) }
     ensures stands { IfOk result (λ node. IfSome node (λ n. IsTrue (is_node_among files.now n))) }
-    ensures checked { OnOk result (ForSome (F.told f.old).files (λ image. HasRange image index at 4)) }
-    ensures stays { Stays (F.told f.old) (F.told f.new) }
-    ensures damaged { IfDamaged result (IsNodeWordDamage files.now (F.told f.old) names.Index at) }
-    ensures untold { ForSome (F.told f.old).files HasWholeIndex → ForSome (F.told f.old).files (λ image. IsNodeOrNone files.now (image_word image index at)) → IfDamaged result (λ _. (F.told f.old).files ≡ None) }
-    ensures later { F.faults f.old ≤ F.faults f.new }
-    ensures device { IfDevice result (Rises (F.faults f.old) (F.faults f.new)) }
+    ensures checked { OnOk result (ForSome (F.told folder.old).files (λ image. HasRange image index at 4)) }
+    ensures stays { Stays (F.told folder.old) (F.told folder.new) }
+    ensures damaged { IfDamaged result (IsNodeWordDamage files.now (F.told folder.old) names.Index at) }
+    ensures untold { ForSome (F.told folder.old).files HasWholeIndex → ForSome (F.told folder.old).files (λ image. IsNodeOrNone files.now (image_word image index at)) → IfDamaged result (λ _. (F.told folder.old).files ≡ None) }
+    ensures later { F.faults folder.old ≤ F.faults folder.new }
+    ensures device { IfDevice result (Rises (F.faults folder.old) (F.faults folder.new)) }
 {
-    let found = word(f, at)?;
+    let found = word(folder, at)?;
     if found == 0 {
         return Ok(None);
     }

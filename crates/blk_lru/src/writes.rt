@@ -47,54 +47,54 @@ pub enum Write {
 
 // Makes writes in turn, whose nodes are valid. Each node is checked before it is written.
 pub(crate) fn perform<F: Folder>(
-    f: &mut F,
+    folder: &mut F,
     files: &BlockFiles,
     writes: &[Write],
 ) -> Result<(), Fault>
     requires stand { AreOf (λ n. is_node_among files.now n ≡ true) (map meant writes.now) }
     requires words { AllWriteWords (map meant writes.now) }
-    requires is_open { ForSome (F.told f.old).files (IsOpen files.now) }
-    ensures checked { OnOk result (ForSome (F.told f.old).files (λ image. CanBeMade image (map meant writes.now))) }
-    ensures steps { OnOk result (ForSome (F.told f.old).files (λ from. Applies (F.told f.old) (F.told f.new) (steps_of_writes (map meant writes.now) from))) }
-    ensures prefix { MakesPartOf (F.told f.old) (F.told f.new) (λ from. steps_of_writes (map meant writes.now) from) }
-    ensures is_open { ForSome (F.told f.new).files (IsOpen files.now) }
-    ensures damaged { IfDamaged result (IsWrongNode files.now (F.told f.new)) }
-    ensures untold { ForSome (F.told f.old).files (λ image. CanBeMade image (map meant writes.now)) → IfDamaged result (λ _. (F.told f.old).files ≡ None) }
-    ensures later { F.faults f.old ≤ F.faults f.new }
-    ensures device { IfDevice result (Rises (F.faults f.old) (F.faults f.new)) }
+    requires is_open { ForSome (F.told folder.old).files (IsOpen files.now) }
+    ensures checked { OnOk result (ForSome (F.told folder.old).files (λ image. CanBeMade image (map meant writes.now))) }
+    ensures steps { OnOk result (ForSome (F.told folder.old).files (λ from. Applies (F.told folder.old) (F.told folder.new) (steps_of_writes (map meant writes.now) from))) }
+    ensures prefix { MakesPartOf (F.told folder.old) (F.told folder.new) (λ from. steps_of_writes (map meant writes.now) from) }
+    ensures is_open { ForSome (F.told folder.new).files (IsOpen files.now) }
+    ensures damaged { IfDamaged result (IsWrongNode files.now (F.told folder.new)) }
+    ensures untold { ForSome (F.told folder.old).files (λ image. CanBeMade image (map meant writes.now)) → IfDamaged result (λ _. (F.told folder.old).files ≡ None) }
+    ensures later { F.faults folder.old ≤ F.faults folder.new }
+    ensures device { IfDevice result (Rises (F.faults folder.old) (F.faults folder.new)) }
 {
     for write in writes {
-        write_one(f, files, *write)?;
+        write_one(folder, files, *write)?;
     }
     Ok(())
 }
 
 // Makes a write, by one folder call for a word of the index and four for a link.
 #[tactic(auto, unfolding(spec_folder::specs::ListSteps::write_steps))]
-fn write_one<F: Folder>(f: &mut F, files: &BlockFiles, write: Write) -> Result<(), Fault>
+fn write_one<F: Folder>(folder: &mut F, files: &BlockFiles, write: Write) -> Result<(), Fault>
     requires stand { AreOf (λ n. is_node_among files.now n ≡ true) (meant write ∷ []) }
-    requires is_open { ForSome (F.told f.old).files (IsOpen files.now) }
-    ensures checked { OnOk result (ForSome (F.told f.old).files (λ image. AreOf (λ n. (list_of image).checks n ≡ true) (meant write ∷ []))) }
-    ensures steps { OnOk result (ForSome (F.told f.old).files (λ from. Applies (F.told f.old) (F.told f.new) (write_steps (meant write) from))) }
-    ensures prefix { MakesPartOf (F.told f.old) (F.told f.new) (λ from. write_steps (meant write) from) }
-    ensures damaged { IfDamaged result (IsWrongNode files.now (F.told f.new)) }
-    ensures untold { ForSome (F.told f.old).files (λ image. AreOf (λ n. (list_of image).checks n ≡ true) (meant write ∷ [])) → IfDamaged result (λ _. (F.told f.old).files ≡ None) }
-    ensures later { F.faults f.old ≤ F.faults f.new }
-    ensures device { IfDevice result (Rises (F.faults f.old) (F.faults f.new)) }
+    requires is_open { ForSome (F.told folder.old).files (IsOpen files.now) }
+    ensures checked { OnOk result (ForSome (F.told folder.old).files (λ image. AreOf (λ n. (list_of image).checks n ≡ true) (meant write ∷ []))) }
+    ensures steps { OnOk result (ForSome (F.told folder.old).files (λ from. Applies (F.told folder.old) (F.told folder.new) (write_steps (meant write) from))) }
+    ensures prefix { MakesPartOf (F.told folder.old) (F.told folder.new) (λ from. write_steps (meant write) from) }
+    ensures damaged { IfDamaged result (IsWrongNode files.now (F.told folder.new)) }
+    ensures untold { ForSome (F.told folder.old).files (λ image. AreOf (λ n. (list_of image).checks n ≡ true) (meant write ∷ [])) → IfDamaged result (λ _. (F.told folder.old).files ≡ None) }
+    ensures later { F.faults folder.old ≤ F.faults folder.new }
+    ensures device { IfDevice result (Rises (F.faults folder.old) (F.faults folder.new)) }
 {
     match write {
-        Write::Next(node, word) => set_link(f, files, node, NodeView::NEXT, word),
-        Write::Prev(node, word) => set_link(f, files, node, NodeView::PREV, word),
-        Write::Head(word) => set_index(f, HEAD, word),
-        Write::Tail(word) => set_index(f, TAIL, word),
-        Write::Transaction(word) => set_index(f, TRANSACTION, word),
-        Write::Operation(word) => set_index(f, OPERATION, word),
+        Write::Next(node, word) => set_link(folder, files, node, NodeView::NEXT, word),
+        Write::Prev(node, word) => set_link(folder, files, node, NodeView::PREV, word),
+        Write::Head(word) => set_index(folder, HEAD, word),
+        Write::Tail(word) => set_index(folder, TAIL, word),
+        Write::Transaction(word) => set_index(folder, TRANSACTION, word),
+        Write::Operation(word) => set_index(folder, OPERATION, word),
     }
 }
 
 // Writes a link of a node, and seals the node again.
 fn set_link<F: Folder>(
-    f: &mut F,
+    folder: &mut F,
     files: &BlockFiles,
     node: Addr,
     at: u32,
@@ -102,31 +102,31 @@ fn set_link<F: Folder>(
 ) -> Result<(), Fault>
     requires place { IsLinkPlace at }
     requires stands { is_node_among files.now node ≡ true }
-    requires agrees { ForSome (F.told f.old).files (Agrees files.now) }
-    ensures checked { OnOk result (ForSome (F.told f.old).files (λ image. (list_of image).checks node ≡ true)) }
-    ensures steps { OnOk result (ForSome (F.told f.old).files (λ from. Applies (F.told f.old) (F.told f.new) (sealed_steps from node ((at, word) ∷ [])))) }
-    ensures prefix { MakesPartOf (F.told f.old) (F.told f.new) (λ from. sealed_steps from node ((at, word) ∷ [])) }
-    ensures damaged { IfDamaged result (IsWrongNode files.now (F.told f.new)) }
-    ensures untold { ForSome (F.told f.old).files (λ image. (list_of image).checks node ≡ true) → IfDamaged result (λ _. (F.told f.old).files ≡ None) }
-    ensures later { F.faults f.old ≤ F.faults f.new }
-    ensures device { IfDevice result (Rises (F.faults f.old) (F.faults f.new)) }
+    requires agrees { ForSome (F.told folder.old).files (Agrees files.now) }
+    ensures checked { OnOk result (ForSome (F.told folder.old).files (λ image. (list_of image).checks node ≡ true)) }
+    ensures steps { OnOk result (ForSome (F.told folder.old).files (λ from. Applies (F.told folder.old) (F.told folder.new) (sealed_steps from node ((at, word) ∷ [])))) }
+    ensures prefix { MakesPartOf (F.told folder.old) (F.told folder.new) (λ from. sealed_steps from node ((at, word) ∷ [])) }
+    ensures damaged { IfDamaged result (IsWrongNode files.now (F.told folder.new)) }
+    ensures untold { ForSome (F.told folder.old).files (λ image. (list_of image).checks node ≡ true) → IfDamaged result (λ _. (F.told folder.old).files ≡ None) }
+    ensures later { F.faults folder.old ≤ F.faults folder.new }
+    ensures device { IfDevice result (Rises (F.faults folder.old) (F.faults folder.new)) }
 {
-    files.update_sealed(f, node, &[(at, word)])
+    files.update_sealed(folder, node, &[(at, word)])
 }
 
 // Writes a word of the index.
-fn set_index<F: Folder>(f: &mut F, at: u64, word: u32) -> Result<(), Fault>
+fn set_index<F: Folder>(folder: &mut F, at: u64, word: u32) -> Result<(), Fault>
     requires aligned { at % 4 ≡ 0 }
     requires inside { at < header_length }
-    requires complete { ForSome (F.told f.old).files HasWholeIndex }
-    ensures steps { OnOk result (Applies (F.told f.old) (F.told f.new) (word_step index at word)) }
-    ensures prefix { AppliesPrefix (F.told f.old) (F.told f.new) (word_step index at word) }
+    requires complete { ForSome (F.told folder.old).files HasWholeIndex }
+    ensures steps { OnOk result (Applies (F.told folder.old) (F.told folder.new) (word_step index at word)) }
+    ensures prefix { AppliesPrefix (F.told folder.old) (F.told folder.new) (word_step index at word) }
     ensures damaged { IfDamaged result (λ _. ⊥) }
-    ensures silent { (F.told f.old).files ≡ None → (F.told f.new).files ≡ None }
-    ensures later { F.faults f.old ≤ F.faults f.new }
-    ensures device { IfDevice result (Rises (F.faults f.old) (F.faults f.new)) }
+    ensures silent { (F.told folder.old).files ≡ None → (F.told folder.new).files ≡ None }
+    ensures later { F.faults folder.old ≤ F.faults folder.new }
+    ensures device { IfDevice result (Rises (F.faults folder.old) (F.faults folder.new)) }
 {
-    set_word(f, at, word)?;
+    set_word(folder, at, word)?;
     Ok(())
 }
 

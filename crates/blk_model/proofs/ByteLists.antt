@@ -18,15 +18,15 @@ zeros_are n = All-replicate IsByte n 0 (omega arith)
 pub joined_are : (a b : List ℕ) → IsBytes a → IsBytes b → IsBytes (a ++ b)
 joined_are a b = All-append IsByte a b
 
-pub front_are : (n : ℕ) (a : List ℕ) → IsBytes a → IsBytes (take n a)
-front_are n a = All-take IsByte n a
+pub prefix_are : (n : ℕ) (a : List ℕ) → IsBytes a → IsBytes (take n a)
+prefix_are n a = All-take IsByte n a
 
 pub rest_are : (n : ℕ) (a : List ℕ) → IsBytes a → IsBytes (drop n a)
 rest_are n a = All-drop IsByte n a
 
 pub overwritten_and_cut_are : (old : List ℕ) (place : ℕ) (new : List ℕ) → IsBytes old → IsBytes new → IsBytes (overwritten_and_cut old place new)
 overwritten_and_cut_are old place new was is =
-    joined_are (take place old ++ replicate (place - length old) 0) new (joined_are (take place old) _ (front_are place old was) (zeros_are (place - length old))) is
+    joined_are (take place old ++ replicate (place - length old) 0) new (joined_are (take place old) _ (prefix_are place old was) (zeros_are (place - length old))) is
 
 pub overwritten_are : (old : List ℕ) (place : ℕ) (new : List ℕ) → IsBytes old → IsBytes new → IsBytes (overwritten old place new)
 overwritten_are old place new was is =

@@ -22,7 +22,7 @@ use Rattle.blk_model.proofs.States.{named_object, none_of}
 use Rattle.blk_model.proofs.Each.{any_has}
 use Rattle.blk_model.proofs.Steps.{none_comes, room_for_is_loose}
 use Rattle.blk_model.proofs.Evicted.{IsLoose, kept_parts, kept_part_at, left_slot_has, map_at, named_stays}
-use Rattle.blk_model.proofs.UseList.{after_steps-append, outs, without_uses}
+use Rattle.blk_model.proofs.LruList.{after_steps-append, outs, without_uses}
 use Rattle.blk_model.proofs.StopRests.{picked_before, owner_key}
 use Rattle.blk_model.proofs.Leads.{is_close, step_leads}
 use Rattle.blk_model.proofs.Chosen.{Owner, owner_of, picked_chooses, settled_chooses, stays_through}
@@ -219,9 +219,9 @@ fronts_dooms P to_total state = tt
 
 -- What a command uses stays, or nobody has it.
 
-loose_front : (stays : Item → Bool) (first others : List Group) → AllByRecursion (IsLoose stays) (first ++ others) → AllByRecursion (IsLoose stays) first
-loose_front stays [] others all = tt
-loose_front stays (group ∷ first) others all = (all.0, loose_front stays first others all.1)
+loose_prefix : (stays : Item → Bool) (first others : List Group) → AllByRecursion (IsLoose stays) (first ++ others) → AllByRecursion (IsLoose stays) first
+loose_prefix stays [] others all = tt
+loose_prefix stays (group ∷ first) others all = (all.0, loose_prefix stays first others all.1)
 
 -- a part goes for itself, or with its main item
 loose_part : (stays : Item → Bool) (groups : List Group) (key : List ℕ) (n : ℕ) → AllByRecursion (IsLoose stays) groups → is_out groups (main key) ≡ false → stays (part key n) ≡ true → is_out groups (part key n) ≡ false
@@ -266,10 +266,10 @@ module _ (state : State) (valid : IsValidState state) (moment : ℕ) (first othe
 
   -- where nothing is evicted
   none_out : first ++ others ≡ [] → (list : List Item) → AllByRecursion (StaysOrNobody state first) list
-  none_out none list = subst (λ (gs : List Group). AllByRecursion (StaysOrNobody state gs) list) (sym (front-none first others none)) (all list) where
-    front-none : (first others : List Group) → first ++ others ≡ [] → first ≡ []
-    front-none [] others e = refl
-    front-none (g ∷ first) others e = cc
+  none_out none list = subst (λ (gs : List Group). AllByRecursion (StaysOrNobody state gs) list) (sym (prefix-none first others none)) (all list) where
+    prefix-none : (first others : List Group) → first ++ others ≡ [] → first ≡ []
+    prefix-none [] others e = refl
+    prefix-none (g ∷ first) others e = cc
 
     all : (list : List Item) → AllByRecursion (StaysOrNobody state []) list
     all [] = tt
@@ -283,7 +283,7 @@ module _ (state : State) (valid : IsValidState state) (moment : ℕ) (first othe
   uses_stay (to_write handle stream offset cut bytes) passed groups =
       let request = to_write handle stream offset cut bytes in
       let p = none_comes (refusals moment request state) passed in
-      let loose = loose_front (is_pinned state []) first others (subst (AllByRecursion (IsLoose (is_pinned state []))) groups (room_for_is_loose moment request state)) in
+      let loose = loose_prefix (is_pinned state []) first others (subst (AllByRecursion (IsLoose (is_pinned state []))) groups (room_for_is_loose moment request state)) in
       go (object_of state handle).live refl loose p.0 where
         go : (b : Bool) → (object_of state handle).live ≡ b → AllByRecursion (IsLoose (is_pinned state [])) first → names_none state handle ≡ false → AllByRecursion (StaysOrNobody state first) (cond b (main (object_of state handle).key ∷ []) [])
         go true live loose bound = (inl (handle_stays [] handle loose bound live), tt)
@@ -292,7 +292,7 @@ module _ (state : State) (valid : IsValidState state) (moment : ℕ) (first othe
       let request = to_sparse_write handle offset bytes in
       let p = none_comes (refusals moment request state) passed in
       let covers = covered request state in
-      let loose = loose_front (is_pinned state covers) first others (subst (AllByRecursion (IsLoose (is_pinned state covers))) groups (room_for_is_loose moment request state)) in
+      let loose = loose_prefix (is_pinned state covers) first others (subst (AllByRecursion (IsLoose (is_pinned state covers))) groups (room_for_is_loose moment request state)) in
       let live : (object_of state handle).live ≡ true = not-false _ p.1.1.1.0 in
       let stays = handle_stays covers handle loose p.0 live in
       (inl stays, parts_stay (is_pinned state covers) (object_of state handle).key (covered_parts offset (length bytes)) loose stays (λ n h. covers-part (object_of state handle).key (covered_parts offset (length bytes)) n h))

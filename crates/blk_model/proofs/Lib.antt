@@ -16,7 +16,7 @@ pub mod Written
 pub mod Steps
 pub mod PartValues
 pub mod SparseWritten
-pub mod UseList
+pub mod LruList
 pub mod Opened
 pub mod Rests
 pub mod Memory

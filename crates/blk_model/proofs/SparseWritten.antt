@@ -18,7 +18,7 @@ use Rattle.blk_model.specs.Sparse.{empty_part, part_after, piece_for, parts_afte
 use Rattle.blk_model.specs.Sizes.{largest_offset, part_count, part_size, signatures}
 use Rattle.blk_model.specs.Effects.{existing_parts, made_sparse, object_of, sparse_after, sparse_used, sparse_written, used_all, used_sparse, with_slot}
 use Rattle.blk_model.specs.Refusals.{has_one_stream, is_doomed, is_plain, names_none}
-use Rattle.blk_model.proofs.ByteLists.{front_are, rest_are}
+use Rattle.blk_model.proofs.ByteLists.{prefix_are, rest_are}
 use Rattle.blk_model.proofs.Same.{one_item, same_bytes}
 use Rattle.blk_model.proofs.Times.{times-used_all}
 use Rattle.blk_model.proofs.Each.{any_has}
@@ -95,7 +95,7 @@ unfolding parts_after
 parts_after_are [] offset bytes parts is_bytes small rising all = (rising, all)
 parts_after_are (n ∷ ns) offset bytes parts is_bytes small rising all =
     parts_after_are ns offset bytes _ is_bytes small.1 (T_true _ (is_sorted-put nat_cmp nat_cmp_total n _ parts (passes _ rising)))
-    (All_put n _ parts small.0.0 (part_after_is _ (offset - n * part_size) (piece_for n offset bytes) (front_are (part_size - (offset - n * part_size)) _ (rest_are (n * part_size - offset) bytes is_bytes)) (found_is n parts all) (short_piece n offset bytes small.0.1)) all)
+    (All_put n _ parts small.0.0 (part_after_is _ (offset - n * part_size) (piece_for n offset bytes) (prefix_are (part_size - (offset - n * part_size)) _ (rest_are (n * part_size - offset) bytes is_bytes)) (found_is n parts all) (short_piece n offset bytes small.0.1)) all)
 
 is_some_put : (same : Bool) (o : Option PartValue) (v : PartValue) → is_some (cond same (Some v) o) ≡ (same || is_some o)
 is_some_put true o v = refl

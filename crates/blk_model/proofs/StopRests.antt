@@ -17,7 +17,7 @@ use Rattle.blk_model.proofs.Times.{times-cons}
 use Rattle.blk_model.proofs.Owners.{has_item_main}
 use Rattle.blk_model.proofs.Doomed.{contrary}
 use Rattle.blk_model.proofs.Steps.{step_valid}
-use Rattle.blk_model.proofs.UseList.{uses_after_steps}
+use Rattle.blk_model.proofs.LruList.{uses_after_steps}
 use Rattle.blk_model.proofs.Leads.{Leads, LeadsTo, IsFresh, is_close, step_leads}
 use Rattle.blk_model.proofs.Chosen.{Owner, owned_at, owner_of, has_owner, settled_chooses, picked_chooses, stays_through}
 

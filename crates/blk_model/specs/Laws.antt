@@ -19,8 +19,8 @@ abbrev pub StepsKeepStatesValid : Type 0
 StepsKeepStatesValid = (state : State) (moment : ℕ) (request : Request) → IsValidState state → IsRequest request → IsValidState (step state moment request).state
 
 -- the LRU list after the list steps of a command is that of the state after it
-abbrev pub ListStepsLeadToTheUseList : Type 0
-ListStepsLeadToTheUseList = (state : State) (moment : ℕ) (request : Request) → IsValidState state → after_steps (list_steps state moment request) state.uses ≡ (step state moment request).state.uses
+abbrev pub ListStepsLeadToTheLruList : Type 0
+ListStepsLeadToTheLruList = (state : State) (moment : ℕ) (request : Request) → IsValidState state → after_steps (list_steps state moment request) state.uses ≡ (step state moment request).state.uses
 
 -- a cache that finds a valid snapshot opens with a valid state
 abbrev pub OpenedStatesAreValid : Type 0

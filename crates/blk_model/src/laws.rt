@@ -1,7 +1,7 @@
 //! Laws of the model, each the contract of a function that does nothing.
 ghost use Rattle.blk_model.specs.Request.{IsRequest, request_of};
 ghost use Rattle.blk_model.specs.Items.{IsBytes};
-ghost use Rattle.blk_model.specs.Laws.{StepsKeepStatesValid, ListStepsLeadToTheUseList, OpenedStatesAreValid, WhatIsFoundIsAtRest, RestsAreHoldings, StopsLeaveHoldings, StopsMayLeaveWhatWas, StopsMayLeaveWhatIs, RefusalsChangeNothing, RefusalsAreTheFirst, NoneIsRefusedForMemory, TotalsAreSums};
+ghost use Rattle.blk_model.specs.Laws.{StepsKeepStatesValid, ListStepsLeadToTheLruList, OpenedStatesAreValid, WhatIsFoundIsAtRest, RestsAreHoldings, StopsLeaveHoldings, StopsMayLeaveWhatWas, StopsMayLeaveWhatIs, RefusalsChangeNothing, RefusalsAreTheFirst, NoneIsRefusedForMemory, TotalsAreSums};
 ghost use Rattle.blk_model.specs.EvictionLaws.{EvictionsMayStop, EvictionsComeFirst, RestsOfCommandsAreOfThem};
 
 use crate::Command;
@@ -39,8 +39,8 @@ pub fn steps_keep_states_valid()
 {}
 
 /// The LRU list after the list steps of a command is that of the state after it.
-pub fn list_steps_lead_to_the_use_list()
-    ensures { ListStepsLeadToTheUseList }
+pub fn list_steps_lead_to_the_lru_list()
+    ensures { ListStepsLeadToTheLruList }
 {}
 
 /// A cache that finds a valid snapshot opens with a valid state, and that snapshot is the durable contents of it.

@@ -18,7 +18,7 @@ use Rattle.spec_format.specs.Headers.{num_bytes_of, num_entries_of, sizes_of}
 use Rattle.law_folder.specs.IndexWrites.{IsIndexWord}
 use Rattle.law_state.specs.Changes.{KeepsWith}
 use Rattle.law_state.proofs.Counters.{counter-keeps, counters-count}
-use Rattle.blk_object.specs.Counters.{AreCountedLess, AreCountedMore, AreCountersWritten, AreCounters, LessIsCounted, MoreIsCounted, charges}
+use Rattle.blk_object.specs.Counters.{AreCountedLess, AreCountedMore, AreCountersWritten, AreIndexCounters, LessIsCounted, MoreIsCounted, charges}
 use Rattle.blk_object.specs.declared.counters.Counters.{Counters}
 
 -- the words that are written
@@ -111,7 +111,7 @@ pub below-word : (x : ℕ) → x % 2 ^ 32 < 2 ^ 32
 below-word x = omega arith
 
 -- the counters that were read are written less
-pub counted-less : (counters : Counters) (charge : ℕ) (from image : Image) → AreCounters counters from → AreBytes from → charge < 2 ^ 32
+pub counted-less : (counters : Counters) (charge : ℕ) (from image : Image) → AreIndexCounters counters from → AreBytes from → charge < 2 ^ 32
     → AreCountersWritten ((counters.entries + (2 ^ 32 - 1)) % 2 ^ 32) ((counters.bytes + (2 ^ 32 - charge)) % 2 ^ 32) ((counters.size + (2 ^ 32 - 1)) % 2 ^ 32) from image → AreCountedLess charge from image
 counted-less counters charge from image are bytes c set =
     let e : counters.entries < 2 ^ 32 = subst (λ (x : ℕ). x < 2 ^ 32) (sym are.entries) (word-small from Index 8 bytes) in
@@ -150,7 +150,7 @@ more-words : (x w n : ℕ) → x ≡ w → (x + n % 2 ^ 32) % 2 ^ 32 ≡ (w + n)
 more-words x w n is = omega (arith, is)
 
 -- the counters that were read are written more
-pub counted-more : (counters : Counters) (entries charge : ℕ) (from image : Image) → AreCounters counters from
+pub counted-more : (counters : Counters) (entries charge : ℕ) (from image : Image) → AreIndexCounters counters from
     → AreCountersWritten ((counters.entries + entries % 2 ^ 32) % 2 ^ 32) ((counters.bytes + charge % 2 ^ 32) % 2 ^ 32) ((counters.size + entries % 2 ^ 32) % 2 ^ 32) from image → AreCountedMore entries charge from image
 counted-more counters entries charge from image are set = record {
   first = set.first;

@@ -30,7 +30,7 @@ use Rattle.blk_disk.specs.Damages.{IsFailedRecord, IsNodeWordDamage}
 use Rattle.blk_disk.specs.Tables.{all_files, stands_among}
 use Rattle.blk_alloc.specs.Allocating.{IsKindFull, IsRefusal}
 use Rattle.blk_alloc.specs.Extending.{KeepsStanding}
-use Rattle.blk_alloc.specs.Fitting.{IsMiscount, IsSearchDamage as IsBlockSearchDamage, IsShortSearch}
+use Rattle.blk_alloc.specs.Fitting.{IsMiscount, IsFittingDamage as IsBlockSearchDamage, IsShortSearch}
 use Rattle.blk_alloc.specs.Owning.{IsCause}
 use Rattle.blk_alloc.proofs.Members.{member_all}
 use Rattle.blk_external.specs.Making.{AreNumbersUsedUp, last_file_place}

@@ -103,8 +103,8 @@ all-freed [] others from between image is rest_of = subst (λ (i : Image). Remov
 all-freed (w ∷ words) others from between image r rest_of = (r.0, (r.1.0, all-freed words others r.0 between image r.1.1 rest_of))
 
 -- of words that may be freed a prefix may be, and the others once it is
-pub front-may : (words others : List ℕ) (from : Image) → AreFreeable (words ++ others) from → AreFreeable words from
-front-may words others from a = record { state = a.state; layout = a.layout; keep = a.keep; chains = a.chains; others = others ++ a.others; kept = subst (λ (ws : List ℕ). KeepsPartlyOut a.state a.layout a.keep a.chains ws from) (append_assoc words others a.others) a.kept }
+pub prefix-may : (words others : List ℕ) (from : Image) → AreFreeable (words ++ others) from → AreFreeable words from
+prefix-may words others from a = record { state = a.state; layout = a.layout; keep = a.keep; chains = a.chains; others = others ++ a.others; kept = subst (λ (ws : List ℕ). KeepsPartlyOut a.state a.layout a.keep a.chains ws from) (append_assoc words others a.others) a.kept }
 
 pub all-may : (words others : List ℕ) (from image : Image) → Removes words from image → AreFreeable (words ++ others) from → AreFreeable others image
 all-may words others from image r a = record {

@@ -13,7 +13,7 @@ use Rattle.spec_image.specs.Told.{Passes, Told}
 use Rattle.spec_image.proofs.Runs.{passes_none, passes_then, passes_weaker, some_inj}
 use Rattle.blk_stream.proofs.Joined.{IsTold, told_then}
 use Rattle.blk_object.specs.Freeing.{AreFreeable, AreGoing, IsNextGoing, Removes, words_at}
-use Rattle.blk_object.proofs.FreedPlaces.{all-freed, all-may, front-may, none-going}
+use Rattle.blk_object.proofs.FreedPlaces.{all-freed, all-may, prefix-may, none-going}
 
 -- a call that leaves the length of the index, and what is kept of the block files, leaves the folder open
 pub still-open : (files : BlockFiles) (a b : Told) (P : Image → Image → Type 0) → ((from image : Image) → P from image → length_of image Index ≡ length_of from Index) → ForSome a.files (λ from. ForSome b.files (P from)) → (a.files ≡ None → b.files ≡ None)
@@ -60,7 +60,7 @@ module _ (a t n : Told) (words done next left : List ℕ) (has : HasFreed a t wo
   next-may may now there = by a.files refl where
     by : (o : Option Image) → a.files ≡ o → AreFreeable next now
     by None none = absurd (let z : None ≡ Some now = sym (has.silent none) ∙ there in cc)
-    by (Some from) here = front-may next left now (has.ends from here (may from here) now there).1
+    by (Some from) here = prefix-may next left now (has.ends from here (may from here) now there).1
 
   module _ (from : Image) (there : a.files ≡ Some from) (may : AreFreeable words from) where
     mid : IsTold t (AreGoing words from)
@@ -80,11 +80,11 @@ module _ (a t n : Told) (words done next left : List ℕ) (has : HasFreed a t wo
     }
 
     pub next-passes : StopsNext next t n → Passes a n (AreGoing words from)
-    next-passes stops = passes_then (has.passes from there may) (passes_weaker (stops mid.image mid.is (front-may next left mid.image so-far.1)) going going)
+    next-passes stops = passes_then (has.passes from there may) (passes_weaker (stops mid.image mid.is (prefix-may next left mid.image so-far.1)) going going)
 
     next-ends : FreesNext next t n → ForSome n.files (λ now. Removes (done ++ next) from now × AreFreeable left now)
     next-ends freed now at =
-        let one = freed mid.image mid.is (front-may next left mid.image so-far.1) now at in
+        let one = freed mid.image mid.is (prefix-may next left mid.image so-far.1) now at in
         (all-freed done next from mid.image now so-far.0 one, all-may next left mid.image now one so-far.1)
 
   pub next-freed : FreesNext next t n → StopsNext next t n → (t.files ≡ None → n.files ≡ None) → (n.files ≡ None → t.files ≡ None) → HasFreed a n words (done ++ next) left

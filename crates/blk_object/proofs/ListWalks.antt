@@ -14,7 +14,7 @@ use Rattle.blk_lru.proofs.NodeWords.{node_kind}
 use Rattle.blk_chain.specs.Finding.{last_passed}
 use Rattle.blk_chain.proofs.Searches.{last-on}
 use Rattle.blk_object.specs.FailedChecks.{FailsLong, IsFailedCheck}
-use Rattle.blk_object.specs.ListWalks.{Follows, GoesTo, HasPassedNodes, IsWordBehind, WalkEnds}
+use Rattle.blk_object.specs.ListWalks.{FollowsList, GoesTo, HasPassedNodes, IsWordBehind, WalkEnds}
 
 -- what is a node is no external file
 pub block-kind : (w : ℕ) → kind_of w ≡ rankings → kind_of w ≢ external
@@ -29,7 +29,7 @@ nodes-kinds files (Some n) stands = node_kind files n stands
 pub none-passed : (files : BlockFiles) (at : ℕ) (from : Option ℕ) (image : Image) → HasPassedNodes files at from from 0 image
 none-passed files at from image = record { nodes = []; many = refl; last = refl; follows = tt }
 
-follows-on : (files : BlockFiles) (at : ℕ) (image : Image) (from : Option ℕ) (nodes : List ℕ) (node : ℕ) → Follows files at image from nodes → GoesTo at image (last_passed from nodes) (Some node) → is_node_among files node ≡ true → Follows files at image from (nodes ++ node ∷ [])
+follows-on : (files : BlockFiles) (at : ℕ) (image : Image) (from : Option ℕ) (nodes : List ℕ) (node : ℕ) → FollowsList files at image from nodes → GoesTo at image (last_passed from nodes) (Some node) → is_node_among files node ≡ true → FollowsList files at image from (nodes ++ node ∷ [])
 follows-on files at image from [] node follows goes stands = (goes, (stands, tt))
 follows-on files at image from (w ∷ nodes) node follows goes stands = (follows.0, (follows.1.0, follows-on files at image (Some w) nodes node follows.1.1 goes stands))
 

@@ -25,7 +25,7 @@ use Rattle.law_state.proofs.NewEntries.{entries-kept, inserts-find, links-find}
 use Rattle.blk_object.proofs.KeptLists.{inserts-done, new-can-be}
 use Rattle.blk_object.proofs.KeptMarks.{come-in-front, in-front}
 use Rattle.blk_object.proofs.KeptNewEntries.{new-can-be-linked}
-use Rattle.blk_object.specs.Making.{CanBeListed, FindsUntilListed, IsListed}
+use Rattle.blk_object.specs.Making.{CanBeListed, FindsUntilListed, IsEntryListed}
 use Rattle.blk_object.proofs.MakingTaken.{none-before, told-mid}
 
 -- what is among the records is one that is there
@@ -90,7 +90,7 @@ module _ (a b : Told) (files : BlockFiles) (entry node : ℕ) where
             passes_then (inserting-finds from there c)
             (passes_weaker (come-in-front entry b d (told-at (λ i. Commits 1 b d (λ image. image ≡ i) (IsLinkedInFront i entry)) b.files mid.0 mid.1 (commits mid.0 mid.1 can)) mid.0 mid.1) each each)
 
-        pub listing-listed : ForSome b.files (λ mid. CanBeLinked entry mid → ForSome d.files (IsLinkedInFront mid entry)) → ForSome a.files (λ from. ForSome d.files (IsListed entry node from))
+        pub listing-listed : ForSome b.files (λ mid. CanBeLinked entry mid → ForSome d.files (IsLinkedInFront mid entry)) → ForSome a.files (λ from. ForSome d.files (IsEntryListed entry node from))
         listing-listed linked from there image now state layout unlinked handle key loaded q re rn =
             let c : CanBeListed entry node from = record { state = state; layout = layout; unlinked = unlinked; handle = handle; key = key; loaded = loaded; is = q; record_is = re; node_is = rn } in
             let mid = inserted-mid from there in

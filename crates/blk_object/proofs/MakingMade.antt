@@ -27,8 +27,8 @@ use Rattle.law_state.proofs.NewEntries.{one-more}
 use Rattle.blk_object.specs.declared.making.Made.{Made}
 use Rattle.blk_object.specs.declared.counters.Counters.{Counters}
 use Rattle.blk_object.specs.declared.making_places.Places.{Places}
-use Rattle.blk_object.specs.Making.{CanBeListed, CanHaveNew, FindsUntilListed, FindsWhileMade, HasNewObjects, HasRoomForNew, IsEntryOfKept, IsListed, IsToBeListed, LeavesRoom, Takes, new_loaded, words_of_places}
-use Rattle.blk_object.specs.Counters.{AreCounters, AreCountersWritten}
+use Rattle.blk_object.specs.Making.{CanBeListed, CanHaveNew, FindsUntilListed, FindsWhileMade, HasNewObjects, HasRoomForNew, IsEntryOfKept, IsEntryListed, IsToBeListed, LeavesRoom, Takes, new_loaded, words_of_places}
+use Rattle.blk_object.specs.Counters.{AreIndexCounters, AreCountersWritten}
 use Rattle.blk_object.proofs.MakingRoom.{uses-few}
 use Rattle.blk_object.proofs.MakingTaken.{none-before, told-mid}
 
@@ -116,7 +116,7 @@ module _ (a d : Told) (key : List ℕ) (mark : ℕ) (take : ForSome a.files (λ 
         pub named-of : (from : Image) → a.files ≡ Some from → HasRoomForNew key mark from → (named : Image) × (h.files ≡ Some named)
         named-of from there r = told-mid a h from there (listing-made from there r)
 
-        module _ (listed : ForSome e.files (λ late. ForSome h.files (IsListed places.entry places.node late))) where
+        module _ (listed : ForSome e.files (λ late. ForSome h.files (IsEntryListed places.entry places.node late))) where
           -- each state is kept with the object
           kept-named : (from named : Image) → a.files ≡ Some from → h.files ≡ Some named → HasRoomForNew key mark from → (state : State) (layout : Layout) (handle : ℕ) → Keeps state layout [] from → CanHaveNew state handle key
               → KeepsUncounted (created handle key state) (with_new layout key (new_loaded places mark key)) [] named
@@ -139,7 +139,7 @@ module _ (a d : Told) (key : List ℕ) (mark : ℕ) (take : ForSome a.files (λ 
                 (now.0, now.1 ∙ sym before.1 ∙ (passes_end first named.0 named.1 state layout handle k can).1) in
                 passes_then first (passes_weaker (count named.0 named.1) finds finds)
 
-            module _ (counters : Counters) (read : ForSome a.files (AreCounters counters)) (charge : ℕ) (long : charge ≡ length key)
+            module _ (counters : Counters) (read : ForSome a.files (AreIndexCounters counters)) (charge : ℕ) (long : charge ≡ length key)
                 (counted : ForSome h.files (λ named. ForSome i.files (AreCountersWritten ((counters.entries + 1) % 4294967296) ((counters.bytes + charge) % 4294967296) ((counters.size + 1) % 4294967296) named))) where
               one-counted : (n uses : ℕ) → n ≡ uses → uses < 131072 → (n + 1) % 4294967296 ≡ uses + 1
               one-counted n uses is few = omega (arith, is, few)

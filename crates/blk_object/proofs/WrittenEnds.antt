@@ -47,9 +47,9 @@ stream-again os (suc zero) new less = refl
 stream-again os (suc (suc zero)) new less = refl
 stream-again os (suc (suc (suc n))) new less = absurd (omega (arith, less))
 
-front-distinct : (xs ys : List ℕ) → Distinct (xs ++ ys) → Distinct xs
-front-distinct [] ys once = tt
-front-distinct (x ∷ xs) ys once = ((or_parts (is_among xs x) (is_among ys x) (sym (is_among-append xs ys x) ∙ once.0)).0, front-distinct xs ys once.1)
+prefix-distinct : (xs ys : List ℕ) → Distinct (xs ++ ys) → Distinct xs
+prefix-distinct [] ys once = tt
+prefix-distinct (x ∷ xs) ys once = ((or_parts (is_among xs x) (is_among ys x) (sym (is_among-append xs ys x) ∙ once.0)).0, prefix-distinct xs ys once.1)
 
 -- a state is kept, with a dirty object, of which a stream may be written
 pub record IsKeptUnsettled (state : State) (layout : Layout) (unlinked : List ℕ) (number : ℕ) (object : Object) (was : Loaded) (i offset : ℕ) (cut : Bool) (bytes : List ℕ) (image : Image) : Type 0 where
@@ -87,7 +87,7 @@ module _ (state : State) (layout : Layout) (unlinked : List ℕ) (number : ℕ) 
     live-risen live =
         let place : node ≡ layout.place (main object.key) = objects.node-live state layout unlinked from t.kept number object t.here was t.lies live in
         let among : is_among (order state layout) node ≡ true = subst (λ (n : ℕ). is_among (order state layout) n ≡ true) (sym place) (is_among-node layout state.uses (main object.key) (main-listed state t.kept.valid number object true t.here live)) in
-        let all = charged-there layout.at node was now (order state layout) t.lies among (front-distinct (order state layout) (doomed_nodes layout t.kept.numbers) t.kept.owners.once) in
+        let all = charged-there layout.at node was now (order state layout) t.lies among (prefix-distinct (order state layout) (doomed_nodes layout t.kept.numbers) t.kept.owners.once) in
         let one = charge-written was now i new few three key streams in
         let old = ap length its-stream in
         let last = ap length after-stream in

@@ -14,7 +14,7 @@ use Rattle.spec_format.proofs.SealedRecords.{length-record, seal_last}
 use Rattle.spec_folder.specs.Entries.{is_key_length, longest_key_with, most_stream_bytes, stored_stream, stored_streams, stream}
 use Rattle.spec_folder.specs.View.{RecordFields, entry_at, fields_of, key_place_at, store_of}
 use Rattle.law_folder.proofs.claims.BlockBytes.{room_is}
-use Rattle.law_folder.proofs.updates.Fronts.{AreSmall, entry_checks-by, entry_checks-front, small-range, small-take}
+use Rattle.law_folder.proofs.updates.Prefixes.{AreSmall, entry_checks-by, entry_checks-prefix, small-range, small-take}
 use Rattle.law_folder.proofs.updates.Updates.{entry-here, entry-seal}
 use Rattle.blk_stream.specs.Changing.{record_word as word_print, stream_words}
 use Rattle.blk_stream.specs.Loading.{stored_streams_with}
@@ -36,7 +36,7 @@ shown-checks image w bytes kind good =
     let small : AreSmall (take 92 (record_at image w)) = small-take 92 (record_at image w) (small-range (record_size w) (place w) (byte image (Block (file_selector w))) (bytes (Block (file_selector w)))) in
     let seal : word_at (byte image (Block (file_selector w))) (place w + 92) ≡ word_at (content (record_at image w)) 92 = sym (record_word image w 92 (omega (arith, s, seal_last (kind_of w)))) in
     entry_checks-by (entry_at image w) (entry_in (content (record_at image w)) 0) seal (entry-here image w kind)
-    ∙ entry_checks-front (record_at image w) small (omega (arith, s, length-record w image))
+    ∙ entry_checks-prefix (record_at image w) small (omega (arith, s, length-record w image))
     ∙ subst (λ (n : ℕ). checks n (record_at image w) ≡ true) s good
 
 -- ---- where its words lie

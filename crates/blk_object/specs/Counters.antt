@@ -12,7 +12,7 @@ use Rattle.blk_object.specs.declared.counters.Counters.{Counters}
 use Rattle.law_state.specs.Keeping.{CountsItems, Keeps, KeepsUncounted}
 
 -- the counters of the index are these
-pub record AreCounters (counters : Counters) (image : Image) : Type 0 where
+pub record AreIndexCounters (counters : Counters) (image : Image) : Type 0 where
   pub entries : counters.entries ≡ num_entries_of (byte image Index)
   pub bytes : counters.bytes ≡ num_bytes_of (byte image Index)
   pub size : counters.size ≡ sizes_of (byte image Index) 0

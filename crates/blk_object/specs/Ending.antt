@@ -39,6 +39,6 @@ pub record FreesAll {A : Type 0} (old new : Told) (entry : ℕ) (result : Result
   pub stops : ForSome old.files (λ from. (loaded : Loaded) → LiesFreeable entry loaded from → Passes old new (AreGoing (words_of loaded) from))
 
 -- What is asked of an end: where the object is doomed something lies there with its record that may be freed, and else its node checks
-abbrev pub MayEnd : (doomed : Bool) (entry node : ℕ) → Image → Type 0
-MayEnd true entry node image = HasFreeable entry image
-MayEnd false entry node image = (list_of image).checks node ≡ true
+abbrev pub MayEndObject : (doomed : Bool) (entry node : ℕ) → Image → Type 0
+MayEndObject true entry node image = HasFreeable entry image
+MayEndObject false entry node image = (list_of image).checks node ≡ true

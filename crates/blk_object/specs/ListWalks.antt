@@ -26,16 +26,16 @@ GoesTo at image None next = word_or_zero next ≡ end_word at (list_of image)
 GoesTo at image (Some node) next = next ≡ (if link_at image node at == node then None else Some (link_at image node at))
 
 -- a walk passes these nodes, one after the other, each of which is there
-abbrev pub Follows : BlockFiles → (at : ℕ) → Image → (from : Option ℕ) → List ℕ → Type 0
-Follows files at image from [] = Unit {0}
-Follows files at image from (node ∷ nodes) = GoesTo at image from (Some node) × ((is_node_among files node ≡ true) × Follows files at image (Some node) nodes)
+abbrev pub FollowsList : BlockFiles → (at : ℕ) → Image → (from : Option ℕ) → List ℕ → Type 0
+FollowsList files at image from [] = Unit {0}
+FollowsList files at image from (node ∷ nodes) = GoesTo at image from (Some node) × ((is_node_among files node ≡ true) × FollowsList files at image (Some node) nodes)
 
 -- a walk that began after a node, or at the end of the list, has passed so many nodes, the last of which is `before`
 pub record HasPassedNodes (files : BlockFiles) (at : ℕ) (from before : Option ℕ) (count : ℕ) (image : Image) : Type 0 where
   pub nodes : List ℕ
   pub many : length nodes ≡ count
   pub last : last_passed from nodes ≡ before
-  pub follows : Follows files at image from nodes
+  pub follows : FollowsList files at image from nodes
 
 -- and it goes on nowhere
 pub record WalkEnds (files : BlockFiles) (at : ℕ) (from : Option ℕ) (image : Image) : Type 0 where

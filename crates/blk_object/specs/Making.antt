@@ -109,8 +109,8 @@ FindsUntilListed entry node from image =
     → Finds (rest state) image
 
 -- and in the end the state with the object is kept
-abbrev pub IsListed : (entry node : ℕ) → Image → Image → Type 0
-IsListed entry node from image =
+abbrev pub IsEntryListed : (entry node : ℕ) → Image → Image → Type 0
+IsEntryListed entry node from image =
     (state : State) (layout : Layout) (unlinked : List ℕ) (handle : ℕ) (key : List ℕ) (loaded : Loaded) → IsToBeListed state layout unlinked handle key loaded from → loaded.contents ≡ entry → loaded.node ≡ node
     → KeepsUncounted (created handle key state) (with_new layout key loaded) unlinked image
 

@@ -7,7 +7,7 @@ ghost use Rattle.blk_io.specs.Faults.{IfDamaged, IfDevice};
 ghost use Rattle.blk_disk.specs.Open.{IsOpen};
 ghost use Rattle.law_folder.specs.IndexWrites.{IsIndexWord};
 ghost use Rattle.law_state.specs.Changes.{KeepsWith};
-ghost use Rattle.blk_object.specs.Counters.{AreCountedLess, AreCountedMore, AreCounters, AreCountersWritten};
+ghost use Rattle.blk_object.specs.Counters.{AreCountedLess, AreCountedMore, AreIndexCounters, AreCountersWritten};
 ghost use Rattle.blk_object.specs.FailedChecks.{IsFailedCheck, ReadsTooFew};
 ghost use Rattle.blk_object.specs.RemovingNext.{KeepsOut};
 ghost use Rattle.blk_object.specs.Writing.{IsRiseCounted};
@@ -29,17 +29,17 @@ pub(crate) struct Counters {
 }
 
 /// Reads the counters of the index.
-pub(crate) fn read_counters<F: Folder>(f: &mut F) -> Result<Counters, Fault>
-    ensures read { IfOk result (λ counters. ForSome (F.told f.old).files (AreCounters counters)) }
-    ensures stays { Stays (F.told f.old) (F.told f.new) }
-    ensures damaged { IfDamaged result (ReadsTooFew (F.told f.new)) }
-    ensures untold { ForSome (F.told f.old).files HasWholeIndex → IfDamaged result (λ _. (F.told f.old).files ≡ None) }
-    ensures later { F.faults f.old ≤ F.faults f.new }
-    ensures device { IfDevice result (Rises (F.faults f.old) (F.faults f.new)) }
+pub(crate) fn read_counters<F: Folder>(folder: &mut F) -> Result<Counters, Fault>
+    ensures read { IfOk result (λ counters. ForSome (F.told folder.old).files (AreIndexCounters counters)) }
+    ensures stays { Stays (F.told folder.old) (F.told folder.new) }
+    ensures damaged { IfDamaged result (ReadsTooFew (F.told folder.new)) }
+    ensures untold { ForSome (F.told folder.old).files HasWholeIndex → IfDamaged result (λ _. (F.told folder.old).files ≡ None) }
+    ensures later { F.faults folder.old ≤ F.faults folder.new }
+    ensures device { IfDevice result (Rises (F.faults folder.old) (F.faults folder.new)) }
 {
-    let entries = word(f, IndexHead::NUM_ENTRIES)?;
-    let bytes = word(f, IndexHead::NUM_BYTES)?;
-    let size = word(f, IndexHead::SIZES)?;
+    let entries = word(folder, IndexHead::NUM_ENTRIES)?;
+    let bytes = word(folder, IndexHead::NUM_BYTES)?;
+    let size = word(folder, IndexHead::SIZES)?;
     Ok(Counters {
         entries,
         bytes,
@@ -49,135 +49,135 @@ pub(crate) fn read_counters<F: Folder>(f: &mut F) -> Result<Counters, Fault>
 
 /// Writes the counters for one entry more, with its charge, by two folder calls.
 pub(crate) fn count_entry<F: Folder>(
-    f: &mut F,
+    folder: &mut F,
     files: &BlockFiles,
     counters: &Counters,
     charge: u32,
 ) -> Result<(), Failed>
-    requires is_open { ForSome (F.told f.old).files (IsOpen files.now) }
-    ensures written { OnOk result (ForSome (F.told f.old).files (λ from. ForSome (F.told f.new).files (AreCountersWritten ((counters.now.entries + 1) % 2 ^ 32) ((counters.now.bytes + charge) % 2 ^ 32) ((counters.now.size + 1) % 2 ^ 32) from))) }
-    ensures stops { ForSome (F.told f.old).files (λ from. Passes (F.told f.old) (F.told f.new) (KeepsWith [] [] from)) }
-    ensures is_open { ForSome (F.told f.new).files (IsOpen files.now) }
-    ensures silent { (F.told f.old).files ≡ None → (F.told f.new).files ≡ None }
-    ensures later { F.faults f.old ≤ F.faults f.new }
-    ensures failed { OnErr result (Rises (F.faults f.old) (F.faults f.new)) }
+    requires is_open { ForSome (F.told folder.old).files (IsOpen files.now) }
+    ensures written { OnOk result (ForSome (F.told folder.old).files (λ from. ForSome (F.told folder.new).files (AreCountersWritten ((counters.now.entries + 1) % 2 ^ 32) ((counters.now.bytes + charge) % 2 ^ 32) ((counters.now.size + 1) % 2 ^ 32) from))) }
+    ensures stops { ForSome (F.told folder.old).files (λ from. Passes (F.told folder.old) (F.told folder.new) (KeepsWith [] [] from)) }
+    ensures is_open { ForSome (F.told folder.new).files (IsOpen files.now) }
+    ensures silent { (F.told folder.old).files ≡ None → (F.told folder.new).files ≡ None }
+    ensures later { F.faults folder.old ≤ F.faults folder.new }
+    ensures failed { OnErr result (Rises (F.faults folder.old) (F.faults folder.new)) }
 {
     let entries = counters.entries.wrapping_add(1);
     let bytes = counters.bytes.wrapping_add(charge);
     let size = counters.size.wrapping_add(1);
-    set_counters(f, files, entries, bytes, size)
+    set_counters(folder, files, entries, bytes, size)
 }
 
 /// Counts one entry less, with a charge, in the counters of the index, which are words: three folder calls read them,
 /// and two write them.
-pub fn count_less<F: Folder>(f: &mut F, files: &BlockFiles, charge: u64) -> Result<(), Fault>
-    requires is_open { ForSome (F.told f.old).files (IsOpen files.now) }
-    ensures counted { OnOk result (ForSome (F.told f.old).files (λ from. ForSome (F.told f.new).files (AreCountedLess (charge % 2 ^ 32) from))) }
-    ensures stops { ForSome (F.told f.old).files (λ from. Passes (F.told f.old) (F.told f.new) (KeepsWith [] [] from)) }
-    ensures stops_out { ForSome (F.told f.old).files (λ from. Passes (F.told f.old) (F.told f.new) (KeepsOut from)) }
-    ensures is_open { ForSome (F.told f.new).files (IsOpen files.now) }
-    ensures damaged { IfDamaged result (IsFailedCheck files.now (F.told f.new)) }
-    ensures untold { IfDamaged result (λ _. (F.told f.old).files ≡ None) }
-    ensures silent { (F.told f.old).files ≡ None → (F.told f.new).files ≡ None }
-    ensures later { F.faults f.old ≤ F.faults f.new }
-    ensures device { IfDevice result (Rises (F.faults f.old) (F.faults f.new)) }
+pub fn count_less<F: Folder>(folder: &mut F, files: &BlockFiles, charge: u64) -> Result<(), Fault>
+    requires is_open { ForSome (F.told folder.old).files (IsOpen files.now) }
+    ensures counted { OnOk result (ForSome (F.told folder.old).files (λ from. ForSome (F.told folder.new).files (AreCountedLess (charge % 2 ^ 32) from))) }
+    ensures stops { ForSome (F.told folder.old).files (λ from. Passes (F.told folder.old) (F.told folder.new) (KeepsWith [] [] from)) }
+    ensures stops_out { ForSome (F.told folder.old).files (λ from. Passes (F.told folder.old) (F.told folder.new) (KeepsOut from)) }
+    ensures is_open { ForSome (F.told folder.new).files (IsOpen files.now) }
+    ensures damaged { IfDamaged result (IsFailedCheck files.now (F.told folder.new)) }
+    ensures untold { IfDamaged result (λ _. (F.told folder.old).files ≡ None) }
+    ensures silent { (F.told folder.old).files ≡ None → (F.told folder.new).files ≡ None }
+    ensures later { F.faults folder.old ≤ F.faults folder.new }
+    ensures device { IfDevice result (Rises (F.faults folder.old) (F.faults folder.new)) }
 {
-    let counters = read_counters(f)?;
+    let counters = read_counters(folder)?;
     let entries = counters.entries.wrapping_sub(1);
     let bytes = counters.bytes.wrapping_sub((charge % WORD_VALUES) as u32);
     let size = counters.size.wrapping_sub(1);
-    set_counters(f, files, entries, bytes, size)?;
+    set_counters(folder, files, entries, bytes, size)?;
     Ok(())
 }
 
 /// Counts so many entries more in the counters of the index, and a charge more, as words: three folder calls read them,
 /// and two write them.
 pub fn count_more<F: Folder>(
-    f: &mut F,
+    folder: &mut F,
     files: &BlockFiles,
     entries: u64,
     charge: u64,
 ) -> Result<(), Fault>
-    requires is_open { ForSome (F.told f.old).files (IsOpen files.now) }
-    ensures counted { OnOk result (ForSome (F.told f.old).files (λ from. ForSome (F.told f.new).files (AreCountedMore entries charge from))) }
-    ensures stops { ForSome (F.told f.old).files (λ from. Passes (F.told f.old) (F.told f.new) (KeepsWith [] [] from)) }
-    ensures is_open { ForSome (F.told f.new).files (IsOpen files.now) }
-    ensures damaged { IfDamaged result (IsFailedCheck files.now (F.told f.new)) }
-    ensures untold { IfDamaged result (λ _. (F.told f.old).files ≡ None) }
-    ensures silent { (F.told f.old).files ≡ None → (F.told f.new).files ≡ None }
-    ensures later { F.faults f.old ≤ F.faults f.new }
-    ensures device { IfDevice result (Rises (F.faults f.old) (F.faults f.new)) }
+    requires is_open { ForSome (F.told folder.old).files (IsOpen files.now) }
+    ensures counted { OnOk result (ForSome (F.told folder.old).files (λ from. ForSome (F.told folder.new).files (AreCountedMore entries charge from))) }
+    ensures stops { ForSome (F.told folder.old).files (λ from. Passes (F.told folder.old) (F.told folder.new) (KeepsWith [] [] from)) }
+    ensures is_open { ForSome (F.told folder.new).files (IsOpen files.now) }
+    ensures damaged { IfDamaged result (IsFailedCheck files.now (F.told folder.new)) }
+    ensures untold { IfDamaged result (λ _. (F.told folder.old).files ≡ None) }
+    ensures silent { (F.told folder.old).files ≡ None → (F.told folder.new).files ≡ None }
+    ensures later { F.faults folder.old ≤ F.faults folder.new }
+    ensures device { IfDevice result (Rises (F.faults folder.old) (F.faults folder.new)) }
 {
-    let counters = read_counters(f)?;
+    let counters = read_counters(folder)?;
     let more = (entries % WORD_VALUES) as u32;
     let risen = counters.entries.wrapping_add(more);
     let bytes = counters.bytes.wrapping_add((charge % WORD_VALUES) as u32);
     let size = counters.size.wrapping_add(more);
-    set_counters(f, files, risen, bytes, size)?;
+    set_counters(folder, files, risen, bytes, size)?;
     Ok(())
 }
 
 /// Counts the bytes of the items less by one number and more by another, as a word: one folder call reads it, and one
 /// writes it.
 pub fn count_rise<F: Folder>(
-    f: &mut F,
+    folder: &mut F,
     files: &BlockFiles,
     less: u64,
     more: u64,
 ) -> Result<(), Fault>
-    requires is_open { ForSome (F.told f.old).files (IsOpen files.now) }
-    ensures counted { OnOk result (ForSome (F.told f.old).files (λ from. ForSome (F.told f.new).files (IsRiseCounted less more from))) }
-    ensures stops { ForSome (F.told f.old).files (λ from. Passes (F.told f.old) (F.told f.new) (KeepsWith [] [] from)) }
-    ensures is_open { ForSome (F.told f.new).files (IsOpen files.now) }
-    ensures damaged { IfDamaged result (IsFailedCheck files.now (F.told f.new)) }
-    ensures untold { IfDamaged result (λ _. (F.told f.old).files ≡ None) }
-    ensures silent { (F.told f.old).files ≡ None → (F.told f.new).files ≡ None }
-    ensures later { F.faults f.old ≤ F.faults f.new }
-    ensures device { IfDevice result (Rises (F.faults f.old) (F.faults f.new)) }
+    requires is_open { ForSome (F.told folder.old).files (IsOpen files.now) }
+    ensures counted { OnOk result (ForSome (F.told folder.old).files (λ from. ForSome (F.told folder.new).files (IsRiseCounted less more from))) }
+    ensures stops { ForSome (F.told folder.old).files (λ from. Passes (F.told folder.old) (F.told folder.new) (KeepsWith [] [] from)) }
+    ensures is_open { ForSome (F.told folder.new).files (IsOpen files.now) }
+    ensures damaged { IfDamaged result (IsFailedCheck files.now (F.told folder.new)) }
+    ensures untold { IfDamaged result (λ _. (F.told folder.old).files ≡ None) }
+    ensures silent { (F.told folder.old).files ≡ None → (F.told folder.new).files ≡ None }
+    ensures later { F.faults folder.old ≤ F.faults folder.new }
+    ensures device { IfDevice result (Rises (F.faults folder.old) (F.faults folder.new)) }
 {
-    let bytes = word(f, IndexHead::NUM_BYTES)?;
+    let bytes = word(folder, IndexHead::NUM_BYTES)?;
     let fewer = bytes.wrapping_sub((less % WORD_VALUES) as u32);
     let risen = fewer.wrapping_add((more % WORD_VALUES) as u32);
-    set_bytes(f, files, risen)?;
+    set_bytes(folder, files, risen)?;
     Ok(())
 }
 
 // Writes the bytes that the index counts, by one folder call.
-fn set_bytes<F: Folder>(f: &mut F, files: &BlockFiles, bytes: u32) -> Result<(), Failed>
-    requires is_open { ForSome (F.told f.old).files (IsOpen files.now) }
-    ensures written { OnOk result (ForSome (F.told f.old).files (λ from. ForSome (F.told f.new).files (IsIndexWord 12 bytes from))) }
-    ensures stops { ForSome (F.told f.old).files (λ from. Passes (F.told f.old) (F.told f.new) (KeepsWith [] [] from)) }
-    ensures is_open { ForSome (F.told f.new).files (IsOpen files.now) }
-    ensures silent { (F.told f.old).files ≡ None → (F.told f.new).files ≡ None }
-    ensures later { F.faults f.old ≤ F.faults f.new }
-    ensures failed { OnErr result (Rises (F.faults f.old) (F.faults f.new)) }
+fn set_bytes<F: Folder>(folder: &mut F, files: &BlockFiles, bytes: u32) -> Result<(), Failed>
+    requires is_open { ForSome (F.told folder.old).files (IsOpen files.now) }
+    ensures written { OnOk result (ForSome (F.told folder.old).files (λ from. ForSome (F.told folder.new).files (IsIndexWord 12 bytes from))) }
+    ensures stops { ForSome (F.told folder.old).files (λ from. Passes (F.told folder.old) (F.told folder.new) (KeepsWith [] [] from)) }
+    ensures is_open { ForSome (F.told folder.new).files (IsOpen files.now) }
+    ensures silent { (F.told folder.old).files ≡ None → (F.told folder.new).files ≡ None }
+    ensures later { F.faults folder.old ≤ F.faults folder.new }
+    ensures failed { OnErr result (Rises (F.faults folder.old) (F.faults folder.new)) }
 {
     // The block files are asked for by the contract alone: what they say of the folder is known once they are named.
     let _files = files;
-    write_words(f, FileId::Index, &[(IndexHead::NUM_BYTES, bytes)])
+    write_words(folder, FileId::Index, &[(IndexHead::NUM_BYTES, bytes)])
 }
 
 // Writes the counters of the index, by two folder calls: the first two lie side by side.
 fn set_counters<F: Folder>(
-    f: &mut F,
+    folder: &mut F,
     files: &BlockFiles,
     entries: u32,
     bytes: u32,
     size: u32,
 ) -> Result<(), Failed>
-    requires is_open { ForSome (F.told f.old).files (IsOpen files.now) }
-    ensures written { OnOk result (ForSome (F.told f.old).files (λ from. ForSome (F.told f.new).files (AreCountersWritten entries bytes size from))) }
-    ensures stops { ForSome (F.told f.old).files (λ from. Passes (F.told f.old) (F.told f.new) (KeepsWith [] [] from)) }
-    ensures stops_out { ForSome (F.told f.old).files (λ from. Passes (F.told f.old) (F.told f.new) (KeepsOut from)) }
-    ensures is_open { ForSome (F.told f.new).files (IsOpen files.now) }
-    ensures silent { (F.told f.old).files ≡ None → (F.told f.new).files ≡ None }
-    ensures later { F.faults f.old ≤ F.faults f.new }
-    ensures failed { OnErr result (Rises (F.faults f.old) (F.faults f.new)) }
+    requires is_open { ForSome (F.told folder.old).files (IsOpen files.now) }
+    ensures written { OnOk result (ForSome (F.told folder.old).files (λ from. ForSome (F.told folder.new).files (AreCountersWritten entries bytes size from))) }
+    ensures stops { ForSome (F.told folder.old).files (λ from. Passes (F.told folder.old) (F.told folder.new) (KeepsWith [] [] from)) }
+    ensures stops_out { ForSome (F.told folder.old).files (λ from. Passes (F.told folder.old) (F.told folder.new) (KeepsOut from)) }
+    ensures is_open { ForSome (F.told folder.new).files (IsOpen files.now) }
+    ensures silent { (F.told folder.old).files ≡ None → (F.told folder.new).files ≡ None }
+    ensures later { F.faults folder.old ≤ F.faults folder.new }
+    ensures failed { OnErr result (Rises (F.faults folder.old) (F.faults folder.new)) }
 {
     // The block files are asked for by the contract alone: what they say of the folder is known once they are named.
     let _files = files;
     write_words(
-        f,
+        folder,
         FileId::Index,
         &[
             (IndexHead::NUM_ENTRIES, entries),

@@ -30,30 +30,30 @@ const DOOMED: u32 = 2;
 /// sealed update: one folder call reads it, and three write.
 ///
 /// A failed check is a record that has too few bytes or doesn't check, and nothing is written then.
-pub fn doom_record<F: Folder>(f: &mut F, files: &BlockFiles, entry: Addr) -> Result<(), Fault>
+pub fn doom_record<F: Folder>(folder: &mut F, files: &BlockFiles, entry: Addr) -> Result<(), Fault>
     requires kind { kind_of entry ≡ blocks_256 }
     requires stands { IsTrue (stands_among files.now entry) }
-    requires is_open { ForSome (F.told f.old).files (IsOpen files.now) }
+    requires is_open { ForSome (F.told folder.old).files (IsOpen files.now) }
 
     // Where it loads yet, by itself, it loads as a doomed object in the end: so the state with it doomed is kept, with its words in it.
-    ensures doomed { OnOk result (ForSome (F.told f.old).files (λ from. ForEachOut entry from (λ state layout number object loaded chains unlinked. ForSome (F.told f.new).files (IsDoomedOut state layout number object loaded chains unlinked from)))) }
+    ensures doomed { OnOk result (ForSome (F.told folder.old).files (λ from. ForEachOut entry from (λ state layout number object loaded chains unlinked. ForSome (F.told folder.new).files (IsDoomedOut state layout number object loaded chains unlinked from)))) }
 
     // At each word the durable contents with it doomed are recovered.
-    ensures stops { ForSome (F.told f.old).files (λ from. ForEachOut entry from (λ state layout number object loaded chains unlinked. Passes (F.told f.old) (F.told f.new) (Finds (rest (doomed number state (Some object)))))) }
+    ensures stops { ForSome (F.told folder.old).files (λ from. ForEachOut entry from (λ state layout number object loaded chains unlinked. Passes (F.told folder.old) (F.told folder.new) (Finds (rest (doomed number state (Some object)))))) }
 
-    ensures is_open { ForSome (F.told f.new).files (IsOpen files.now) }
+    ensures is_open { ForSome (F.told folder.new).files (IsOpen files.now) }
 
     // Corruption is a check that fails on what is read here; nothing is written after it.
-    ensures damaged { IfDamaged result (IsFailedCheck files.now (F.told f.new)) }
+    ensures damaged { IfDamaged result (IsFailedCheck files.now (F.told folder.new)) }
 
     // An observable folder, with such an object, reports no corruption.
-    ensures untold { ForSome (F.told f.old).files (λ from. ForEachOut entry from (λ state layout number object loaded chains unlinked. IfDamaged result (λ _. (F.told f.old).files ≡ None))) }
+    ensures untold { ForSome (F.told folder.old).files (λ from. ForEachOut entry from (λ state layout number object loaded chains unlinked. IfDamaged result (λ _. (F.told folder.old).files ≡ None))) }
 
-    ensures silent { (F.told f.old).files ≡ None → (F.told f.new).files ≡ None }
-    ensures later { F.faults f.old ≤ F.faults f.new }
-    ensures device { IfDevice result (Rises (F.faults f.old) (F.faults f.new)) }
+    ensures silent { (F.told folder.old).files ≡ None → (F.told folder.new).files ≡ None }
+    ensures later { F.faults folder.old ≤ F.faults folder.new }
+    ensures device { IfDevice result (Rises (F.faults folder.old) (F.faults folder.new)) }
 {
-    files.update_sealed(f, entry, &[(EntryView::STATE, DOOMED)])
+    files.update_sealed(folder, entry, &[(EntryView::STATE, DOOMED)])
 }
 
 /// Dooms a live object without parts that a handle names: its main item is taken out of the LRU list and of its chain,
@@ -63,7 +63,7 @@ pub fn doom_record<F: Folder>(f: &mut F, files: &BlockFiles, entry: Addr) -> Res
 /// Its record is in its chain after the record before, or is the first; and it names this node. This takes as many
 /// folder calls as `take_out`, four for the record, and five for the counters.
 pub fn doom_plain<F: Folder>(
-    f: &mut F,
+    folder: &mut F,
     files: &BlockFiles,
     found: &Found,
     node: Addr,
@@ -74,36 +74,36 @@ pub fn doom_plain<F: Folder>(
     requires stands { IsTrue (stands_among files.now found.now.entry) }
     requires kind_before { IfSome found.now.before (λ before. kind_of before ≡ blocks_256) }
     requires stands_before { IfSome found.now.before (λ before. IsTrue (stands_among files.now before)) }
-    requires is_open { ForSome (F.told f.old).files (IsOpen files.now) }
+    requires is_open { ForSome (F.told folder.old).files (IsOpen files.now) }
 
     // Where all items are counted, and this is its charge, the state with it doomed is kept and counted in the end, with the same words unlinked.
-    ensures doomed { OnOk result (ForSome (F.told f.old).files (λ from. ForEachHeld node found.now.entry found.now.before from (λ state layout unlinked number object loaded. CountsItems from state layout → charge ≡ charge_of loaded → ForSome (F.told f.new).files (Keeps (doomed number state (Some object)) (layout_held layout number object loaded) unlinked)))) }
+    ensures doomed { OnOk result (ForSome (F.told folder.old).files (λ from. ForEachHeld node found.now.entry found.now.before from (λ state layout unlinked number object loaded. CountsItems from state layout → charge ≡ charge_of loaded → ForSome (F.told folder.new).files (Keeps (doomed number state (Some object)) (layout_held layout number object loaded) unlinked)))) }
 
     // At each word the old durable contents are recovered, or those with it doomed.
-    ensures stops { ForSome (F.told f.old).files (λ from. ForEachHeld node found.now.entry found.now.before from (λ state layout unlinked number object loaded. Passes (F.told f.old) (F.told f.new) (FindsEither state (doomed number state (Some object))))) }
+    ensures stops { ForSome (F.told folder.old).files (λ from. ForEachHeld node found.now.entry found.now.before from (λ state layout unlinked number object loaded. Passes (F.told folder.old) (F.told folder.new) (FindsEither state (doomed number state (Some object))))) }
 
     // The session is the same then.
-    ensures session { OnOk result (ForSome (F.told f.old).files (λ from. ForEachHeld node found.now.entry found.now.before from (λ state layout unlinked number object loaded. ForSome (F.told f.new).files (SameSession from)))) }
+    ensures session { OnOk result (ForSome (F.told folder.old).files (λ from. ForEachHeld node found.now.entry found.now.before from (λ state layout unlinked number object loaded. ForSome (F.told folder.new).files (SameSession from)))) }
 
-    ensures is_open { ForSome (F.told f.new).files (IsOpen files.now) }
+    ensures is_open { ForSome (F.told folder.new).files (IsOpen files.now) }
 
     // Corruption is a check that fails on what is read here; nothing is written after it.
-    ensures damaged { IfDamaged result (IsFailedCheck files.now (F.told f.new)) }
+    ensures damaged { IfDamaged result (IsFailedCheck files.now (F.told folder.new)) }
 
     // An observable folder, with such an object, reports no corruption.
-    ensures untold { ForSome (F.told f.old).files (λ from. ForEachHeld node found.now.entry found.now.before from (λ state layout unlinked number object loaded. IfDamaged result (λ _. (F.told f.old).files ≡ None))) }
+    ensures untold { ForSome (F.told folder.old).files (λ from. ForEachHeld node found.now.entry found.now.before from (λ state layout unlinked number object loaded. IfDamaged result (λ _. (F.told folder.old).files ≡ None))) }
 
-    ensures silent { (F.told f.old).files ≡ None → (F.told f.new).files ≡ None }
-    ensures later { F.faults f.old ≤ F.faults f.new }
-    ensures device { IfDevice result (Rises (F.faults f.old) (F.faults f.new)) }
+    ensures silent { (F.told folder.old).files ≡ None → (F.told folder.new).files ≡ None }
+    ensures later { F.faults folder.old ≤ F.faults folder.new }
+    ensures device { IfDevice result (Rises (F.faults folder.old) (F.faults folder.new)) }
 {
-    hold_out(f, files, found, node)?;
-    count_less(f, files, charge)
+    hold_out(folder, files, found, node)?;
+    count_less(folder, files, charge)
 }
 
 // Takes the main item of an object without parts out, and gives its record the state of a doomed one.
 fn hold_out<F: Folder>(
-    f: &mut F,
+    folder: &mut F,
     files: &BlockFiles,
     found: &Found,
     node: Addr,
@@ -113,16 +113,16 @@ fn hold_out<F: Folder>(
     requires stands { IsTrue (stands_among files.now found.now.entry) }
     requires kind_before { IfSome found.now.before (λ before. kind_of before ≡ blocks_256) }
     requires stands_before { IfSome found.now.before (λ before. IsTrue (stands_among files.now before)) }
-    requires is_open { ForSome (F.told f.old).files (IsOpen files.now) }
-    ensures held { OnOk result (ForSome (F.told f.old).files (λ from. ForEachHeld node found.now.entry found.now.before from (λ state layout unlinked number object loaded. ForSome (F.told f.new).files (IsDoomedUncounted state layout unlinked number object loaded from)))) }
-    ensures stops { ForSome (F.told f.old).files (λ from. ForEachHeld node found.now.entry found.now.before from (λ state layout unlinked number object loaded. Passes (F.told f.old) (F.told f.new) (FindsEither state (doomed number state (Some object))))) }
-    ensures is_open { ForSome (F.told f.new).files (IsOpen files.now) }
-    ensures damaged { IfDamaged result (IsFailedCheck files.now (F.told f.new)) }
-    ensures untold { ForSome (F.told f.old).files (λ from. ForEachHeld node found.now.entry found.now.before from (λ state layout unlinked number object loaded. IfDamaged result (λ _. (F.told f.old).files ≡ None))) }
-    ensures silent { (F.told f.old).files ≡ None → (F.told f.new).files ≡ None }
-    ensures later { F.faults f.old ≤ F.faults f.new }
-    ensures device { IfDevice result (Rises (F.faults f.old) (F.faults f.new)) }
+    requires is_open { ForSome (F.told folder.old).files (IsOpen files.now) }
+    ensures held { OnOk result (ForSome (F.told folder.old).files (λ from. ForEachHeld node found.now.entry found.now.before from (λ state layout unlinked number object loaded. ForSome (F.told folder.new).files (IsDoomedUncounted state layout unlinked number object loaded from)))) }
+    ensures stops { ForSome (F.told folder.old).files (λ from. ForEachHeld node found.now.entry found.now.before from (λ state layout unlinked number object loaded. Passes (F.told folder.old) (F.told folder.new) (FindsEither state (doomed number state (Some object))))) }
+    ensures is_open { ForSome (F.told folder.new).files (IsOpen files.now) }
+    ensures damaged { IfDamaged result (IsFailedCheck files.now (F.told folder.new)) }
+    ensures untold { ForSome (F.told folder.old).files (λ from. ForEachHeld node found.now.entry found.now.before from (λ state layout unlinked number object loaded. IfDamaged result (λ _. (F.told folder.old).files ≡ None))) }
+    ensures silent { (F.told folder.old).files ≡ None → (F.told folder.new).files ≡ None }
+    ensures later { F.faults folder.old ≤ F.faults folder.new }
+    ensures device { IfDevice result (Rises (F.faults folder.old) (F.faults folder.new)) }
 {
-    take_out(f, files, found, node)?;
-    doom_record(f, files, found.entry)
+    take_out(folder, files, found, node)?;
+    doom_record(folder, files, found.entry)
 }

@@ -8,10 +8,10 @@ ghost use Rattle.blk_io.specs.Faults.{IfDamaged, IfDevice};
 ghost use Rattle.blk_disk.specs.Damages.{IsFailedRecord};
 ghost use Rattle.blk_disk.specs.Open.{IsOpen};
 ghost use Rattle.blk_disk.specs.Tables.{is_node_among, is_record_among};
-ghost use Rattle.blk_object.specs.Ending.{Cleans, FreesAll, HasFreeable, MayEnd};
+ghost use Rattle.blk_object.specs.Ending.{Cleans, FreesAll, HasFreeable, MayEndObject};
 ghost use Rattle.blk_object.specs.FailedChecks.{IsFailedCheck};
 
-use crate::marking::set_mark;
+use crate::marking::set_dirty_word;
 use crate::owning::{free_owned, read_owned};
 use blk_addr::Addr;
 use blk_disk::BlockFiles;
@@ -23,60 +23,60 @@ use blk_io::{Fault, Folder};
 /// Of a doomed one a folder call reads its places, and each of at most six places takes seven at most. Of another that
 /// was changed one call reads its node, and two make the word 0; of one that wasn't nothing is read or written.
 pub fn end_object<F: Folder>(
-    f: &mut F,
+    folder: &mut F,
     files: &BlockFiles,
     object: &OpenObject,
 ) -> Result<(), Fault>
     requires names { IsTrue (is_record_among files.now object.now.entry) }
     requires stands { IsTrue (is_node_among files.now object.now.node) }
-    requires is_open { ForSome (F.told f.old).files (IsOpen files.now) }
-    ensures cleans { object.now.doomed ≡ false → Cleans files.now (F.told f.old) (F.told f.new) object.now result }
-    ensures frees { object.now.doomed ≡ true → FreesAll (F.told f.old) (F.told f.new) object.now.entry result }
-    ensures is_open { ForSome (F.told f.new).files (IsOpen files.now) }
-    ensures damaged { IfDamaged result (IsFailedCheck files.now (F.told f.new)) }
-    ensures untold { ForSome (F.told f.old).files (MayEnd object.now.doomed object.now.entry object.now.node) → IfDamaged result (λ _. (F.told f.old).files ≡ None) }
-    ensures silent { (F.told f.old).files ≡ None → (F.told f.new).files ≡ None }
-    ensures later { F.faults f.old ≤ F.faults f.new }
-    ensures device { IfDevice result (Rises (F.faults f.old) (F.faults f.new)) }
+    requires is_open { ForSome (F.told folder.old).files (IsOpen files.now) }
+    ensures cleans { object.now.doomed ≡ false → Cleans files.now (F.told folder.old) (F.told folder.new) object.now result }
+    ensures frees { object.now.doomed ≡ true → FreesAll (F.told folder.old) (F.told folder.new) object.now.entry result }
+    ensures is_open { ForSome (F.told folder.new).files (IsOpen files.now) }
+    ensures damaged { IfDamaged result (IsFailedCheck files.now (F.told folder.new)) }
+    ensures untold { ForSome (F.told folder.old).files (MayEndObject object.now.doomed object.now.entry object.now.node) → IfDamaged result (λ _. (F.told folder.old).files ≡ None) }
+    ensures silent { (F.told folder.old).files ≡ None → (F.told folder.new).files ≡ None }
+    ensures later { F.faults folder.old ≤ F.faults folder.new }
+    ensures device { IfDevice result (Rises (F.faults folder.old) (F.faults folder.new)) }
 {
     if object.doomed {
-        free_entry(f, files, object.entry)
+        free_entry(folder, files, object.entry)
     } else {
-        clean(f, files, object)
+        clean(folder, files, object)
     }
 }
 
 // Frees all places of what lies there with a record.
-fn free_entry<F: Folder>(f: &mut F, files: &BlockFiles, entry: Addr) -> Result<(), Fault>
+fn free_entry<F: Folder>(folder: &mut F, files: &BlockFiles, entry: Addr) -> Result<(), Fault>
     requires names { IsTrue (is_record_among files.now entry) }
-    requires is_open { ForSome (F.told f.old).files (IsOpen files.now) }
-    ensures frees { FreesAll (F.told f.old) (F.told f.new) entry result }
-    ensures is_open { ForSome (F.told f.new).files (IsOpen files.now) }
-    ensures damaged { IfDamaged result (IsFailedCheck files.now (F.told f.new)) }
-    ensures untold { ForSome (F.told f.old).files (HasFreeable entry) → IfDamaged result (λ _. (F.told f.old).files ≡ None) }
-    ensures silent { (F.told f.old).files ≡ None → (F.told f.new).files ≡ None }
-    ensures later { F.faults f.old ≤ F.faults f.new }
-    ensures device { IfDevice result (Rises (F.faults f.old) (F.faults f.new)) }
+    requires is_open { ForSome (F.told folder.old).files (IsOpen files.now) }
+    ensures frees { FreesAll (F.told folder.old) (F.told folder.new) entry result }
+    ensures is_open { ForSome (F.told folder.new).files (IsOpen files.now) }
+    ensures damaged { IfDamaged result (IsFailedCheck files.now (F.told folder.new)) }
+    ensures untold { ForSome (F.told folder.old).files (HasFreeable entry) → IfDamaged result (λ _. (F.told folder.old).files ≡ None) }
+    ensures silent { (F.told folder.old).files ≡ None → (F.told folder.new).files ≡ None }
+    ensures later { F.faults folder.old ≤ F.faults folder.new }
+    ensures device { IfDevice result (Rises (F.faults folder.old) (F.faults folder.new)) }
 {
-    let owned = read_owned(f, files, entry)?;
-    free_owned(f, files, &owned)
+    let owned = read_owned(folder, files, entry)?;
+    free_owned(folder, files, &owned)
 }
 
 // Makes the dirty word of an object 0 where it isn't so.
-fn clean<F: Folder>(f: &mut F, files: &BlockFiles, object: &OpenObject) -> Result<(), Fault>
+fn clean<F: Folder>(folder: &mut F, files: &BlockFiles, object: &OpenObject) -> Result<(), Fault>
     requires stands { IsTrue (is_node_among files.now object.now.node) }
-    requires is_open { ForSome (F.told f.old).files (IsOpen files.now) }
-    ensures cleans { Cleans files.now (F.told f.old) (F.told f.new) object.now result }
-    ensures is_open { ForSome (F.told f.new).files (IsOpen files.now) }
-    ensures damaged { IfDamaged result (IsFailedRecord (F.told f.old) object.now.node (record_size object.now.node)) }
-    ensures cause { IfDamaged result (IsFailedCheck files.now (F.told f.new)) }
-    ensures untold { ForSome (F.told f.old).files (λ image. (list_of image).checks object.now.node ≡ true) → IfDamaged result (λ _. (F.told f.old).files ≡ None) }
-    ensures silent { (F.told f.old).files ≡ None → (F.told f.new).files ≡ None }
-    ensures later { F.faults f.old ≤ F.faults f.new }
-    ensures device { IfDevice result (Rises (F.faults f.old) (F.faults f.new)) }
+    requires is_open { ForSome (F.told folder.old).files (IsOpen files.now) }
+    ensures cleans { Cleans files.now (F.told folder.old) (F.told folder.new) object.now result }
+    ensures is_open { ForSome (F.told folder.new).files (IsOpen files.now) }
+    ensures damaged { IfDamaged result (IsFailedRecord (F.told folder.old) object.now.node (record_size object.now.node)) }
+    ensures cause { IfDamaged result (IsFailedCheck files.now (F.told folder.new)) }
+    ensures untold { ForSome (F.told folder.old).files (λ image. (list_of image).checks object.now.node ≡ true) → IfDamaged result (λ _. (F.told folder.old).files ≡ None) }
+    ensures silent { (F.told folder.old).files ≡ None → (F.told folder.new).files ≡ None }
+    ensures later { F.faults folder.old ≤ F.faults folder.new }
+    ensures device { IfDevice result (Rises (F.faults folder.old) (F.faults folder.new)) }
 {
     if object.dirty {
-        set_mark(f, files, object.node, 0)
+        set_dirty_word(folder, files, object.node, 0)
     } else {
         Ok(())
     }

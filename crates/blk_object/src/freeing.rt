@@ -21,73 +21,77 @@ use blk_io::{Failed, Fault, Folder};
 /// For each place of blocks this takes seven folder calls at most, and for each external file one. A failed check is
 /// one of a block file's header.
 pub fn free_places<F: Folder>(
-    f: &mut F,
+    folder: &mut F,
     files: &BlockFiles,
     places: &[Option<Addr>],
 ) -> Result<(), Fault>
     requires stand { All (IsPlaceAmong files.now) places.now }
-    requires is_open { ForSome (F.told f.old).files (IsOpen files.now) }
+    requires is_open { ForSome (F.told folder.old).files (IsOpen files.now) }
 
     // Places that are nobody's are freed. At each word those of a prefix are, and the next one is on its way.
-    ensures freed { OnOk result (ForSome (F.told f.old).files (λ from. AreFreeable (words_at places.now) from → ForSome (F.told f.new).files (Removes (words_at places.now) from))) }
-    ensures stops { ForSome (F.told f.old).files (λ from. AreFreeable (words_at places.now) from → Passes (F.told f.old) (F.told f.new) (AreGoing (words_at places.now) from)) }
+    ensures freed { OnOk result (ForSome (F.told folder.old).files (λ from. AreFreeable (words_at places.now) from → ForSome (F.told folder.new).files (Removes (words_at places.now) from))) }
+    ensures stops { ForSome (F.told folder.old).files (λ from. AreFreeable (words_at places.now) from → Passes (F.told folder.old) (F.told folder.new) (AreGoing (words_at places.now) from)) }
 
-    ensures is_open { ForSome (F.told f.new).files (IsOpen files.now) }
+    ensures is_open { ForSome (F.told folder.new).files (IsOpen files.now) }
 
     // Corruption is a check that fails on what is read here; nothing is written after it.
-    ensures damaged { IfDamaged result (IsFailedCheck files.now (F.told f.new)) }
+    ensures damaged { IfDamaged result (IsFailedCheck files.now (F.told folder.new)) }
 
     // An observable folder reports corruption only for a place that is somebody's.
-    ensures untold { ForSome (F.told f.old).files (AreFreeable (words_at places.now)) → IfDamaged result (λ _. (F.told f.old).files ≡ None) }
+    ensures untold { ForSome (F.told folder.old).files (AreFreeable (words_at places.now)) → IfDamaged result (λ _. (F.told folder.old).files ≡ None) }
 
-    ensures silent { (F.told f.old).files ≡ None → (F.told f.new).files ≡ None }
-    ensures later { F.faults f.old ≤ F.faults f.new }
-    ensures device { IfDevice result (Rises (F.faults f.old) (F.faults f.new)) }
+    ensures silent { (F.told folder.old).files ≡ None → (F.told folder.new).files ≡ None }
+    ensures later { F.faults folder.old ≤ F.faults folder.new }
+    ensures device { IfDevice result (Rises (F.faults folder.old) (F.faults folder.new)) }
 {
     for place in places {
-        free_if_any(f, files, *place)?;
+        free_if_any(folder, files, *place)?;
     }
     Ok(())
 }
 
 // Frees a place, where there is one.
-fn free_if_any<F: Folder>(f: &mut F, files: &BlockFiles, place: Option<Addr>) -> Result<(), Fault>
+fn free_if_any<F: Folder>(
+    folder: &mut F,
+    files: &BlockFiles,
+    place: Option<Addr>,
+) -> Result<(), Fault>
     requires stands { IsPlaceAmong files.now place }
-    requires is_open { ForSome (F.told f.old).files (IsOpen files.now) }
-    ensures freed { OnOk result (ForSome (F.told f.old).files (λ from. AreFreeable (words_at (place ∷ [])) from → ForSome (F.told f.new).files (Removes (words_at (place ∷ [])) from))) }
-    ensures stops { ForSome (F.told f.old).files (λ from. AreFreeable (words_at (place ∷ [])) from → Passes (F.told f.old) (F.told f.new) (AreGoing (words_at (place ∷ [])) from)) }
-    ensures is_open { ForSome (F.told f.new).files (IsOpen files.now) }
-    ensures damaged { IfDamaged result (IsFailedCheck files.now (F.told f.new)) }
-    ensures untold { ForSome (F.told f.old).files (AreFreeable (words_at (place ∷ []))) → IfDamaged result (λ _. (F.told f.old).files ≡ None) }
-    ensures silent { (F.told f.old).files ≡ None → (F.told f.new).files ≡ None }
-    ensures back { (F.told f.new).files ≡ None → (F.told f.old).files ≡ None }
-    ensures later { F.faults f.old ≤ F.faults f.new }
-    ensures device { IfDevice result (Rises (F.faults f.old) (F.faults f.new)) }
+    requires is_open { ForSome (F.told folder.old).files (IsOpen files.now) }
+    ensures freed { OnOk result (ForSome (F.told folder.old).files (λ from. AreFreeable (words_at (place ∷ [])) from → ForSome (F.told folder.new).files (Removes (words_at (place ∷ [])) from))) }
+    ensures stops { ForSome (F.told folder.old).files (λ from. AreFreeable (words_at (place ∷ [])) from → Passes (F.told folder.old) (F.told folder.new) (AreGoing (words_at (place ∷ [])) from)) }
+    ensures is_open { ForSome (F.told folder.new).files (IsOpen files.now) }
+    ensures damaged { IfDamaged result (IsFailedCheck files.now (F.told folder.new)) }
+    ensures untold { ForSome (F.told folder.old).files (AreFreeable (words_at (place ∷ []))) → IfDamaged result (λ _. (F.told folder.old).files ≡ None) }
+    ensures silent { (F.told folder.old).files ≡ None → (F.told folder.new).files ≡ None }
+    ensures back { (F.told folder.new).files ≡ None → (F.told folder.old).files ≡ None }
+    ensures later { F.faults folder.old ≤ F.faults folder.new }
+    ensures device { IfDevice result (Rises (F.faults folder.old) (F.faults folder.new)) }
 {
     match place {
-        Some(addr) => free_place(f, files, addr),
+        Some(addr) => free_place(folder, files, addr),
         None => Ok(()),
     }
 }
 
 // Frees a place: its blocks, or its file.
-fn free_place<F: Folder>(f: &mut F, files: &BlockFiles, place: Addr) -> Result<(), Fault>
+fn free_place<F: Folder>(folder: &mut F, files: &BlockFiles, place: Addr) -> Result<(), Fault>
     requires stands { IsPlaceAmong files.now (Some place) }
-    requires is_open { ForSome (F.told f.old).files (IsOpen files.now) }
-    ensures freed { OnOk result (ForSome (F.told f.old).files (λ from. IsWellFormed from → stands_in from place ≡ true → ForSome (F.told f.new).files (RemovesPlace place from))) }
-    ensures stops { ForSome (F.told f.old).files (λ from. Passes (F.told f.old) (F.told f.new) (IsPlaceGoing place from)) }
-    ensures is_open { ForSome (F.told f.new).files (IsOpen files.now) }
-    ensures damaged { IfDamaged result (IsFailedCheck files.now (F.told f.new)) }
-    ensures untold { ForSome (F.told f.old).files (MayBeFreed place) → IfDamaged result (λ _. (F.told f.old).files ≡ None) }
-    ensures silent { (F.told f.old).files ≡ None → (F.told f.new).files ≡ None }
-    ensures later { F.faults f.old ≤ F.faults f.new }
-    ensures device { IfDevice result (Rises (F.faults f.old) (F.faults f.new)) }
+    requires is_open { ForSome (F.told folder.old).files (IsOpen files.now) }
+    ensures freed { OnOk result (ForSome (F.told folder.old).files (λ from. IsWellFormed from → stands_in from place ≡ true → ForSome (F.told folder.new).files (RemovesPlace place from))) }
+    ensures stops { ForSome (F.told folder.old).files (λ from. Passes (F.told folder.old) (F.told folder.new) (IsPlaceGoing place from)) }
+    ensures is_open { ForSome (F.told folder.new).files (IsOpen files.now) }
+    ensures damaged { IfDamaged result (IsFailedCheck files.now (F.told folder.new)) }
+    ensures untold { ForSome (F.told folder.old).files (MayBeFreed place) → IfDamaged result (λ _. (F.told folder.old).files ≡ None) }
+    ensures silent { (F.told folder.old).files ≡ None → (F.told folder.new).files ≡ None }
+    ensures later { F.faults folder.old ≤ F.faults folder.new }
+    ensures device { IfDevice result (Rises (F.faults folder.old) (F.faults folder.new)) }
 {
     if is_external(place) {
-        delete_file(f, files, place)?;
+        delete_file(folder, files, place)?;
         Ok(())
     } else {
-        free(f, files, place)
+        free(folder, files, place)
     }
 }
 
@@ -99,17 +103,17 @@ pub(crate) fn is_external(place: Addr) -> bool
 }
 
 // Removes an external file.
-fn delete_file<F: Folder>(f: &mut F, files: &BlockFiles, place: Addr) -> Result<(), Failed>
+fn delete_file<F: Folder>(folder: &mut F, files: &BlockFiles, place: Addr) -> Result<(), Failed>
     requires kind { kind_of place ≡ external }
-    requires is_open { ForSome (F.told f.old).files (IsOpen files.now) }
-    ensures freed { OnOk result (ForSome (F.told f.old).files (λ from. IsWellFormed from → stands_in from place ≡ true → ForSome (F.told f.new).files (RemovesPlace place from))) }
-    ensures stops { ForSome (F.told f.old).files (λ from. Passes (F.told f.old) (F.told f.new) (IsPlaceGoing place from)) }
-    ensures is_open { ForSome (F.told f.new).files (IsOpen files.now) }
-    ensures silent { (F.told f.old).files ≡ None → (F.told f.new).files ≡ None }
-    ensures later { F.faults f.old ≤ F.faults f.new }
-    ensures failed { OnErr result (Rises (F.faults f.old) (F.faults f.new)) }
+    requires is_open { ForSome (F.told folder.old).files (IsOpen files.now) }
+    ensures freed { OnOk result (ForSome (F.told folder.old).files (λ from. IsWellFormed from → stands_in from place ≡ true → ForSome (F.told folder.new).files (RemovesPlace place from))) }
+    ensures stops { ForSome (F.told folder.old).files (λ from. Passes (F.told folder.old) (F.told folder.new) (IsPlaceGoing place from)) }
+    ensures is_open { ForSome (F.told folder.new).files (IsOpen files.now) }
+    ensures silent { (F.told folder.old).files ≡ None → (F.told folder.new).files ≡ None }
+    ensures later { F.faults folder.old ≤ F.faults folder.new }
+    ensures failed { OnErr result (Rises (F.faults folder.old) (F.faults folder.new)) }
 {
     // The block files are asked for by the contract alone: what they say of the folder is known once they are named.
     let _files = files;
-    delete(f, place)
+    delete(folder, place)
 }

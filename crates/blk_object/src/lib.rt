@@ -43,7 +43,7 @@ pub use list_walks::{end_walk, node_damage};
 pub use listed_parts::{ListedPart, entry_named, next_part};
 pub use making::{Made, creates_can_have_new, make_entry};
 pub use making_places::{Places, check_index, take_places};
-pub use marking::set_mark;
+pub use marking::set_dirty_word;
 pub use owning::{Owned, charge_of_head, free_owned, read_owned};
 pub use owning_laws::entries_of_states_load;
 pub use removing::take_out;

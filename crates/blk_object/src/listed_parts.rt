@@ -36,54 +36,54 @@ pub struct ListedPart {
 /// The first part of a key in the LRU list, from its front on, or after the node of an item; `None` where there is none.
 ///
 /// Nothing is changed. This takes three folder calls for each item, and two more for a part, of which the name is read
-/// into `room`. A walk that goes on after 131073 nodes is corruption, of the next of the last one.
+/// into `buffer`. A walk that goes on after 131073 nodes is corruption, of the next of the last one.
 pub fn next_part<F: Folder>(
-    f: &mut F,
+    folder: &mut F,
     files: &BlockFiles,
     key: &[u8],
     from: Option<Addr>,
-    room: &mut [u8],
+    buffer: &mut [u8],
 ) -> Result<Option<ListedPart>, Fault>
     requires from { IfSome from (λ node. IsTrue (is_node_among files.now node)) }
-    requires room { most_key ≤ length room.old }
-    requires is_open { ForSome (F.told f.old).files (IsOpen files.now) }
+    requires buffer { most_key ≤ length buffer.old }
+    requires is_open { ForSome (F.told folder.old).files (IsOpen files.now) }
 
     // Where some items are out, or none, it is the first part of the key among the others, or after that one; and there is none exactly where none is found.
-    ensures part { IfOk result (λ found. ForSome (F.told f.old).files (λ image. ForEachSearch from image (λ layout items. IsFoundPart layout key.now items found))) }
+    ensures part { IfOk result (λ found. ForSome (F.told folder.old).files (λ image. ForEachSearch from image (λ layout items. IsFoundPart layout key.now items found))) }
     ensures there { IfOk result (λ found. IfSome found (IsPartThere files.now)) }
 
     // On every folder none is found only where the list ends.
-    ensures ends { IfOk result (λ found. found ≡ None → ForSome (F.told f.old).files (WalkEnds files.now NodeView.NEXT from)) }
+    ensures ends { IfOk result (λ found. found ≡ None → ForSome (F.told folder.old).files (WalkEnds files.now NodeView.NEXT from)) }
 
     // On every folder its record has the name of that part.
-    ensures named { IfOk result (λ found. IfSome found (λ part. ForSome (F.told f.old).files (SaysPart part.entry key.now part.number))) }
+    ensures named { IfOk result (λ found. IfSome found (λ part. ForSome (F.told folder.old).files (SaysPart part.entry key.now part.number))) }
 
     // And its node names that record.
-    ensures contents { IfOk result (λ found. IfSome found (λ part. ForSome (F.told f.old).files (λ image. part.entry ≡ (node_at image part.node).contents))) }
+    ensures contents { IfOk result (λ found. IfSome found (λ part. ForSome (F.told folder.old).files (λ image. part.entry ≡ (node_at image part.node).contents))) }
 
-    ensures stays { Stays (F.told f.old) (F.told f.new) }
+    ensures stays { Stays (F.told folder.old) (F.told folder.new) }
 
     // Corruption is a check that fails on what is read here; nothing is written after it.
-    ensures damaged { IfDamaged result (IsFailedCheck files.now (F.told f.new)) }
+    ensures damaged { IfDamaged result (IsFailedCheck files.now (F.told folder.new)) }
 
     // An observable folder, in which a state is so, reports no corruption.
-    ensures untold { ForSome (F.told f.old).files (λ image. ForEachSearch from image (λ layout items. IfDamaged result (λ _. (F.told f.old).files ≡ None))) }
+    ensures untold { ForSome (F.told folder.old).files (λ image. ForEachSearch from image (λ layout items. IfDamaged result (λ _. (F.told folder.old).files ≡ None))) }
 
-    ensures later { F.faults f.old ≤ F.faults f.new }
-    ensures device { IfDevice result (Rises (F.faults f.old) (F.faults f.new)) }
+    ensures later { F.faults folder.old ≤ F.faults folder.new }
+    ensures device { IfDevice result (Rises (F.faults folder.old) (F.faults folder.new)) }
 {
     let mut last = from;
-    let mut next = node_behind(f, files, from)?;
+    let mut next = node_behind(folder, files, from)?;
     for _ in 0..MOST_NODES + 1 {
         let Some(node) = next else {
             return Ok(None);
         };
-        let found = part_at(f, files, key, node, room)?;
+        let found = part_at(folder, files, key, node, buffer)?;
         if found.is_some() {
             return Ok(found);
         }
         last = Some(node);
-        next = after(f, files, node)?;
+        next = after(folder, files, node)?;
     }
     end_walk(last, NodeView::NEXT, next)?;
     Ok(None)
@@ -91,49 +91,49 @@ pub fn next_part<F: Folder>(
 
 // The first node of the list, or the one after a node.
 fn node_behind<F: Folder>(
-    f: &mut F,
+    folder: &mut F,
     files: &BlockFiles,
     from: Option<Addr>,
 ) -> Result<Option<Addr>, Fault>
     requires from { IfSome from (λ node. IsTrue (is_node_among files.now node)) }
-    requires is_open { ForSome (F.told f.old).files (IsOpen files.now) }
-    ensures node { IfOk result (λ node. ForSome (F.told f.old).files (λ image. ForEachSearch from image (λ layout items. node ≡ first_node layout items))) }
-    ensures word { IfOk result (λ node. ForSome (F.told f.old).files (λ image. GoesTo NodeView.NEXT image from node)) }
+    requires is_open { ForSome (F.told folder.old).files (IsOpen files.now) }
+    ensures node { IfOk result (λ node. ForSome (F.told folder.old).files (λ image. ForEachSearch from image (λ layout items. node ≡ first_node layout items))) }
+    ensures word { IfOk result (λ node. ForSome (F.told folder.old).files (λ image. GoesTo NodeView.NEXT image from node)) }
     ensures stands { IfOk result (λ node. IfSome node (λ n. IsTrue (is_node_among files.now n))) }
-    ensures stays { Stays (F.told f.old) (F.told f.new) }
-    ensures damaged { IfDamaged result (IsFailedCheck files.now (F.told f.new)) }
-    ensures untold { ForSome (F.told f.old).files (λ image. ForEachSearch from image (λ layout items. IfDamaged result (λ _. (F.told f.old).files ≡ None))) }
-    ensures later { F.faults f.old ≤ F.faults f.new }
-    ensures device { IfDevice result (Rises (F.faults f.old) (F.faults f.new)) }
+    ensures stays { Stays (F.told folder.old) (F.told folder.new) }
+    ensures damaged { IfDamaged result (IsFailedCheck files.now (F.told folder.new)) }
+    ensures untold { ForSome (F.told folder.old).files (λ image. ForEachSearch from image (λ layout items. IfDamaged result (λ _. (F.told folder.old).files ≡ None))) }
+    ensures later { F.faults folder.old ≤ F.faults folder.new }
+    ensures device { IfDevice result (Rises (F.faults folder.old) (F.faults folder.new)) }
 {
     match from {
-        Some(node) => after(f, files, node),
-        None => first(f, files),
+        Some(node) => after(folder, files, node),
+        None => first(folder, files),
     }
 }
 
 // The part of a key at a node, if one lies there.
 fn part_at<F: Folder>(
-    f: &mut F,
+    folder: &mut F,
     files: &BlockFiles,
     key: &[u8],
     node: Addr,
-    room: &mut [u8],
+    buffer: &mut [u8],
 ) -> Result<Option<ListedPart>, Fault>
     requires node { IsTrue (is_node_among files.now node) }
-    requires room { most_key ≤ length room.old }
-    ensures part { IfOk result (λ found. ForSome (F.told f.old).files (λ image. (loaded : Loaded) → LoadsAt node loaded image → found ≡ part_loaded key.now node loaded)) }
+    requires buffer { most_key ≤ length buffer.old }
+    ensures part { IfOk result (λ found. ForSome (F.told folder.old).files (λ image. (loaded : Loaded) → LoadsAt node loaded image → found ≡ part_loaded key.now node loaded)) }
     ensures there { IfOk result (λ found. IfSome found (IsPartThere files.now)) }
-    ensures named { IfOk result (λ found. IfSome found (λ part. ForSome (F.told f.old).files (SaysPart part.entry key.now part.number))) }
-    ensures contents { IfOk result (λ found. IfSome found (λ part. ForSome (F.told f.old).files (λ image. part.entry ≡ (node_at image part.node).contents))) }
-    ensures stays { Stays (F.told f.old) (F.told f.new) }
-    ensures damaged { IfDamaged result (IsFailedCheck files.now (F.told f.new)) }
-    ensures untold { ForSome (F.told f.old).files (Agrees files.now) → ForSome (F.told f.old).files (λ image. (loaded : Loaded) × LoadsAt node loaded image) → IfDamaged result (λ _. (F.told f.old).files ≡ None) }
-    ensures later { F.faults f.old ≤ F.faults f.new }
-    ensures device { IfDevice result (Rises (F.faults f.old) (F.faults f.new)) }
+    ensures named { IfOk result (λ found. IfSome found (λ part. ForSome (F.told folder.old).files (SaysPart part.entry key.now part.number))) }
+    ensures contents { IfOk result (λ found. IfSome found (λ part. ForSome (F.told folder.old).files (λ image. part.entry ≡ (node_at image part.node).contents))) }
+    ensures stays { Stays (F.told folder.old) (F.told folder.new) }
+    ensures damaged { IfDamaged result (IsFailedCheck files.now (F.told folder.new)) }
+    ensures untold { ForSome (F.told folder.old).files (Agrees files.now) → ForSome (F.told folder.old).files (λ image. (loaded : Loaded) × LoadsAt node loaded image) → IfDamaged result (λ _. (F.told folder.old).files ≡ None) }
+    ensures later { F.faults folder.old ≤ F.faults folder.new }
+    ensures device { IfDevice result (Rises (F.faults folder.old) (F.faults folder.new)) }
 {
-    let entry = entry_named(f, files, node)?;
-    match number_of(f, files, key, entry, room)? {
+    let entry = entry_named(folder, files, node)?;
+    match number_of(folder, files, key, entry, buffer)? {
         Some(number) => Ok(Some(ListedPart {
             node,
             entry,
@@ -146,19 +146,19 @@ fn part_at<F: Folder>(
 /// The record that a node names, by one folder call. Nothing is written.
 ///
 /// A failed check is a read that gave too few bytes, or a word that names no record which is there.
-pub fn entry_named<F: Folder>(f: &mut F, files: &BlockFiles, node: Addr) -> Result<Addr, Fault>
+pub fn entry_named<F: Folder>(folder: &mut F, files: &BlockFiles, node: Addr) -> Result<Addr, Fault>
     requires node { IsTrue (is_node_among files.now node) }
-    ensures entry { IfOk result (λ entry. ForSome (F.told f.old).files (λ image. entry ≡ (node_at image node).contents)) }
+    ensures entry { IfOk result (λ entry. ForSome (F.told folder.old).files (λ image. entry ≡ (node_at image node).contents)) }
     ensures kind { IfOk result (λ entry. kind_of entry ≡ blocks_256) }
     ensures stands { IfOk result (λ entry. IsTrue (stands_among files.now entry)) }
-    ensures stays { Stays (F.told f.old) (F.told f.new) }
-    ensures damaged { IfDamaged result (IsFailedCheck files.now (F.told f.new)) }
-    ensures untold { ForSome (F.told f.old).files (Agrees files.now) → ForSome (F.told f.old).files (λ image. (loaded : Loaded) × LoadsAt node loaded image) → IfDamaged result (λ _. (F.told f.old).files ≡ None) }
-    ensures later { F.faults f.old ≤ F.faults f.new }
-    ensures device { IfDevice result (Rises (F.faults f.old) (F.faults f.new)) }
+    ensures stays { Stays (F.told folder.old) (F.told folder.new) }
+    ensures damaged { IfDamaged result (IsFailedCheck files.now (F.told folder.new)) }
+    ensures untold { ForSome (F.told folder.old).files (Agrees files.now) → ForSome (F.told folder.old).files (λ image. (loaded : Loaded) × LoadsAt node loaded image) → IfDamaged result (λ _. (F.told folder.old).files ≡ None) }
+    ensures later { F.faults folder.old ≤ F.faults folder.new }
+    ensures device { IfDevice result (Rises (F.faults folder.old) (F.faults folder.new)) }
 {
     let mut bytes = [0u8; 4];
-    files.read_block(f, node, NodeView::CONTENTS, &mut bytes)?;
+    files.read_block(folder, node, NodeView::CONTENTS, &mut bytes)?;
     let found = u32::from_le_bytes(bytes);
     let Some(entry) = files.entry(found) else {
         return Err(node_damage(node, NodeView::CONTENTS, found));
@@ -168,30 +168,30 @@ pub fn entry_named<F: Folder>(f: &mut F, files: &BlockFiles, node: Addr) -> Resu
 
 // The number of the part of a key that a record is, if it is one.
 fn number_of<F: Folder>(
-    f: &mut F,
+    folder: &mut F,
     files: &BlockFiles,
     key: &[u8],
     entry: Addr,
-    room: &mut [u8],
+    buffer: &mut [u8],
 ) -> Result<Option<u32>, Fault>
     requires kind { kind_of entry ≡ blocks_256 }
     requires stands { IsTrue (stands_among files.now entry) }
-    requires room { most_key ≤ length room.old }
-    ensures number { IfOk result (λ number. ForSome (F.told f.old).files (λ image. (loaded : Loaded) → LoadsWith entry loaded image → number ≡ part_number key.now loaded.role)) }
+    requires buffer { most_key ≤ length buffer.old }
+    ensures number { IfOk result (λ number. ForSome (F.told folder.old).files (λ image. (loaded : Loaded) → LoadsWith entry loaded image → number ≡ part_number key.now loaded.role)) }
     ensures small { IfOk result (λ number. IfSome number (λ n. n < part_count)) }
-    ensures named { IfOk result (λ number. IfSome number (λ n. ForSome (F.told f.old).files (SaysPart entry key.now n))) }
-    ensures stays { Stays (F.told f.old) (F.told f.new) }
-    ensures damaged { IfDamaged result (IsFailedCheck files.now (F.told f.new)) }
-    ensures untold { ForSome (F.told f.old).files (Agrees files.now) → ForSome (F.told f.old).files (λ image. (loaded : Loaded) × LoadsWith entry loaded image) → IfDamaged result (λ _. (F.told f.old).files ≡ None) }
-    ensures later { F.faults f.old ≤ F.faults f.new }
-    ensures device { IfDevice result (Rises (F.faults f.old) (F.faults f.new)) }
+    ensures named { IfOk result (λ number. IfSome number (λ n. ForSome (F.told folder.old).files (SaysPart entry key.now n))) }
+    ensures stays { Stays (F.told folder.old) (F.told folder.new) }
+    ensures damaged { IfDamaged result (IsFailedCheck files.now (F.told folder.new)) }
+    ensures untold { ForSome (F.told folder.old).files (Agrees files.now) → ForSome (F.told folder.old).files (λ image. (loaded : Loaded) × LoadsWith entry loaded image) → IfDamaged result (λ _. (F.told folder.old).files ≡ None) }
+    ensures later { F.faults folder.old ≤ F.faults folder.new }
+    ensures device { IfDevice result (Rises (F.faults folder.old) (F.faults folder.new)) }
 {
-    let head = read_head(f, files, entry)?;
+    let head = read_head(folder, files, entry)?;
     if head.flags != CHILD {
         return Ok(None);
     }
-    let len = key_piece(f, files, entry, 0, room)?;
-    Ok(part_named(&room[..len], key))
+    let len = key_piece(folder, files, entry, 0, buffer)?;
+    Ok(part_named(&buffer[..len], key))
 }
 
 // The number of the part of a key that a name says, if it says one.

@@ -12,7 +12,7 @@ ghost use Rattle.blk_entry.specs.Writing.{FitsKey, HoldsLongKey, LiesApart};
 ghost use Rattle.blk_alloc.specs.Extending.{KeepsStanding};
 ghost use Rattle.law_state.specs.Changes.{StillFinds};
 ghost use Rattle.blk_object.specs.FailedChecks.{IsFailedCheck};
-ghost use Rattle.blk_object.specs.Making.{CanBeListed, CreatesCanHaveNew, FindsUntilListed, FindsWhileMade, HasNewObjects, HasRoomForNew, HasTimes, IsEntryOfKept, IsListed, KeepsTimes, new_entry, words_of_places};
+ghost use Rattle.blk_object.specs.Making.{CanBeListed, CreatesCanHaveNew, FindsUntilListed, FindsWhileMade, HasNewObjects, HasRoomForNew, HasTimes, IsEntryOfKept, IsEntryListed, KeepsTimes, new_entry, words_of_places};
 
 use crate::counters::{count_entry, read_counters};
 use crate::making_places::{Places, take_places};
@@ -46,7 +46,7 @@ pub struct Made {
 /// one that the calls below find, an index that hasn't its length, or blocks that were given twice. A key that lies in
 /// its record takes at most 70 folder calls where no file grows.
 pub fn make_entry<F: Folder>(
-    f: &mut F,
+    folder: &mut F,
     files: &mut BlockFiles,
     key: &[u8],
     mark: u32,
@@ -54,36 +54,36 @@ pub fn make_entry<F: Folder>(
 ) -> Result<Made, Fault>
     requires some { 1 ≤ length key.now }
     requires most { length key.now ≤ longest_key }
-    requires is_open { ForSome (F.told f.old).files (IsOpen files.old) }
+    requires is_open { ForSome (F.told folder.old).files (IsOpen files.old) }
 
     // Each state that was kept, that can have the object, in a session of this number, is kept with it in the end.
-    ensures made { IfOk result (λ made. ForSome (F.told f.old).files (λ from. this_id_of (byte from index) ≡ mark → ForSome (F.told f.new).files (HasNewObjects key.now made from))) }
+    ensures made { IfOk result (λ made. ForSome (F.told folder.old).files (λ from. this_id_of (byte from index) ≡ mark → ForSome (F.told folder.new).files (HasNewObjects key.now made from))) }
 
     // It was made, used and changed at the moment.
-    ensures times { IfOk result (λ made. ForSome (F.told f.new).files (HasTimes made.entry made.node moment)) }
+    ensures times { IfOk result (λ made. ForSome (F.told folder.new).files (HasTimes made.entry made.node moment)) }
 
     // At each word the old durable contents are recovered: the new object is dirty, and so it isn't durable.
-    ensures stops { ForSome (F.told f.old).files (λ from. HasRoomForNew key.now mark from → Passes (F.told f.old) (F.told f.new) (FindsWhileMade key.now from)) }
+    ensures stops { ForSome (F.told folder.old).files (λ from. HasRoomForNew key.now mark from → Passes (F.told folder.old) (F.told folder.new) (FindsWhileMade key.now from)) }
 
     // What was valid still is, and so are the record and the node.
     ensures keeps { KeepsStanding files.old files.new }
     ensures stands { IfOk result (λ made. IsTrue (is_record_among files.new made.entry) × IsTrue (is_node_among files.new made.node)) }
-    ensures is_open { OnOk result (ForSome (F.told f.new).files (IsOpen files.new)) }
+    ensures is_open { OnOk result (ForSome (F.told folder.new).files (IsOpen files.new)) }
 
     // Corruption is a check that fails on what is read here; nothing is written after it.
-    ensures damaged { IfDamaged result (IsFailedCheck files.new (F.told f.new)) }
+    ensures damaged { IfDamaged result (IsFailedCheck files.new (F.told folder.new)) }
 
     // An observable folder that keeps such a state reports no corruption.
-    ensures untold { ForSome (F.told f.old).files (HasRoomForNew key.now mark) → IfDamaged result (λ _. (F.told f.old).files ≡ None) }
-    ensures silent { (F.told f.old).files ≡ None → (F.told f.new).files ≡ None }
-    ensures later { F.faults f.old ≤ F.faults f.new }
-    ensures device { IfDevice result (Rises (F.faults f.old) (F.faults f.new)) }
+    ensures untold { ForSome (F.told folder.old).files (HasRoomForNew key.now mark) → IfDamaged result (λ _. (F.told folder.old).files ≡ None) }
+    ensures silent { (F.told folder.old).files ≡ None → (F.told folder.new).files ≡ None }
+    ensures later { F.faults folder.old ≤ F.faults folder.new }
+    ensures device { IfDevice result (Rises (F.faults folder.old) (F.faults folder.new)) }
 {
-    let counters = read_counters(f)?;
-    let places = take_places(f, files, key.len() as u32)?;
-    write_new(f, files, &places, key, mark, moment)?;
-    list_entry(f, files, places.entry, places.node)?;
-    count_entry(f, files, &counters, key.len() as u32)?;
+    let counters = read_counters(folder)?;
+    let places = take_places(folder, files, key.len() as u32)?;
+    write_new(folder, files, &places, key, mark, moment)?;
+    list_entry(folder, files, places.entry, places.node)?;
+    count_entry(folder, files, &counters, key.len() as u32)?;
     Ok(Made {
         entry: places.entry,
         node: places.node,
@@ -92,7 +92,7 @@ pub fn make_entry<F: Folder>(
 
 // Writes the entry of a new object at its places, in front of the chain of its key.
 fn write_new<F: Folder>(
-    f: &mut F,
+    folder: &mut F,
     files: &BlockFiles,
     places: &Places,
     key: &[u8],
@@ -100,21 +100,21 @@ fn write_new<F: Folder>(
     moment: u64,
 ) -> Result<(), Fault>
     requires fits { FitsKey files.now (new_entry places.now mark 0) key.now }
-    requires holds { ForSome (F.told f.old).files (HoldsLongKey places.now.long_key (length key.now)) }
+    requires holds { ForSome (F.told folder.old).files (HoldsLongKey places.now.long_key (length key.now)) }
     requires apart { LiesApart places.now.entry places.now.long_key }
-    requires is_open { ForSome (F.told f.old).files (IsOpen files.now) }
-    ensures written { OnOk result (ForSome (F.told f.old).files (λ from. ForSome (F.told f.new).files (IsEntryOfKept places.now mark key.now from))) }
-    ensures times { OnOk result (ForSome (F.told f.new).files (HasTimes places.now.entry places.now.node moment)) }
-    ensures stops { ForSome (F.told f.old).files (λ from. Passes (F.told f.old) (F.told f.new) (StillFinds (words_of_places places.now) from)) }
-    ensures is_open { ForSome (F.told f.new).files (IsOpen files.now) }
-    ensures damaged { IfDamaged result (IsFailedCheck files.now (F.told f.new)) }
-    ensures untold { IfDamaged result (λ _. (F.told f.old).files ≡ None) }
-    ensures silent { (F.told f.old).files ≡ None → (F.told f.new).files ≡ None }
-    ensures later { F.faults f.old ≤ F.faults f.new }
-    ensures device { IfDevice result (Rises (F.faults f.old) (F.faults f.new)) }
+    requires is_open { ForSome (F.told folder.old).files (IsOpen files.now) }
+    ensures written { OnOk result (ForSome (F.told folder.old).files (λ from. ForSome (F.told folder.new).files (IsEntryOfKept places.now mark key.now from))) }
+    ensures times { OnOk result (ForSome (F.told folder.new).files (HasTimes places.now.entry places.now.node moment)) }
+    ensures stops { ForSome (F.told folder.old).files (λ from. Passes (F.told folder.old) (F.told folder.new) (StillFinds (words_of_places places.now) from)) }
+    ensures is_open { ForSome (F.told folder.new).files (IsOpen files.now) }
+    ensures damaged { IfDamaged result (IsFailedCheck files.now (F.told folder.new)) }
+    ensures untold { IfDamaged result (λ _. (F.told folder.old).files ≡ None) }
+    ensures silent { (F.told folder.old).files ≡ None → (F.told folder.new).files ≡ None }
+    ensures later { F.faults folder.old ≤ F.faults folder.new }
+    ensures device { IfDevice result (Rises (F.faults folder.old) (F.faults folder.new)) }
 {
     let hash = super_fast_hash(key);
-    let next = bucket(f, (hash % IndexHead::BUCKETS) as u16)?;
+    let next = bucket(folder, (hash % IndexHead::BUCKETS) as u16)?;
     let new = NewEntry {
         entry: places.entry,
         node: places.node,
@@ -123,29 +123,29 @@ fn write_new<F: Folder>(
         dirty: mark,
         next,
     };
-    write_entry(f, files, &new, key, moment)
+    write_entry(folder, files, &new, key, moment)
 }
 
 // Puts the node of an entry that is written in front of the LRU list, and then its record in front of its chain.
 fn list_entry<F: Folder>(
-    f: &mut F,
+    folder: &mut F,
     files: &BlockFiles,
     entry: Addr,
     node: Addr,
 ) -> Result<(), Fault>
     requires stands { IsTrue (is_record_among files.now entry) }
     requires node { IsTrue (is_node_among files.now node) }
-    requires is_open { ForSome (F.told f.old).files (IsOpen files.now) }
-    ensures listed { OnOk result (ForSome (F.told f.old).files (λ from. ForSome (F.told f.new).files (IsListed entry node from))) }
-    ensures times { OnOk result (ForSome (F.told f.old).files (λ from. ForSome (F.told f.new).files (KeepsTimes entry node from))) }
-    ensures stops { ForSome (F.told f.old).files (λ from. CanBeListed entry node from → Passes (F.told f.old) (F.told f.new) (FindsUntilListed entry node from)) }
-    ensures is_open { ForSome (F.told f.new).files (IsOpen files.now) }
-    ensures damaged { IfDamaged result (IsFailedCheck files.now (F.told f.new)) }
-    ensures untold { ForSome (F.told f.old).files (CanBeListed entry node) → IfDamaged result (λ _. (F.told f.old).files ≡ None) }
-    ensures silent { (F.told f.old).files ≡ None → (F.told f.new).files ≡ None }
-    ensures later { F.faults f.old ≤ F.faults f.new }
-    ensures device { IfDevice result (Rises (F.faults f.old) (F.faults f.new)) }
+    requires is_open { ForSome (F.told folder.old).files (IsOpen files.now) }
+    ensures listed { OnOk result (ForSome (F.told folder.old).files (λ from. ForSome (F.told folder.new).files (IsEntryListed entry node from))) }
+    ensures times { OnOk result (ForSome (F.told folder.old).files (λ from. ForSome (F.told folder.new).files (KeepsTimes entry node from))) }
+    ensures stops { ForSome (F.told folder.old).files (λ from. CanBeListed entry node from → Passes (F.told folder.old) (F.told folder.new) (FindsUntilListed entry node from)) }
+    ensures is_open { ForSome (F.told folder.new).files (IsOpen files.now) }
+    ensures damaged { IfDamaged result (IsFailedCheck files.now (F.told folder.new)) }
+    ensures untold { ForSome (F.told folder.old).files (CanBeListed entry node) → IfDamaged result (λ _. (F.told folder.old).files ≡ None) }
+    ensures silent { (F.told folder.old).files ≡ None → (F.told folder.new).files ≡ None }
+    ensures later { F.faults folder.old ≤ F.faults folder.new }
+    ensures device { IfDevice result (Rises (F.faults folder.old) (F.faults folder.new)) }
 {
-    insert_front(f, files, node)?;
-    link_front(f, files, entry)
+    insert_front(folder, files, node)?;
+    link_front(folder, files, entry)
 }

@@ -40,30 +40,30 @@ pub struct Places {
 
 /// Takes places for an entry with a key or a name of so many bytes: nobody had them, and nobody names them yet.
 pub fn take_places<F: Folder>(
-    f: &mut F,
+    folder: &mut F,
     files: &mut BlockFiles,
     key_len: u32,
 ) -> Result<Places, Fault>
     requires most { key_len ≤ longest_name }
-    requires is_open { ForSome (F.told f.old).files (IsOpen files.old) }
+    requires is_open { ForSome (F.told folder.old).files (IsOpen files.old) }
     ensures entry { IfOk result (λ places. (kind_of places.entry ≡ blocks_256) × (block_count places.entry ≡ storage.entry_blocks key_len) × IsTrue (is_address places.entry) × IsTrue (stands_among files.new places.entry)) }
     ensures node { IfOk result (λ places. (kind_of places.node ≡ rankings) × IsTrue (is_address places.node) × IsTrue (stands_among files.new places.node)) }
     ensures long { IfOk result (λ places. IsLongPlace files.new key_len places.long_key) }
-    ensures holds { IfOk result (λ places. ForSome (F.told f.new).files (HoldsLongKey places.long_key key_len)) }
+    ensures holds { IfOk result (λ places. ForSome (F.told folder.new).files (HoldsLongKey places.long_key key_len)) }
     ensures apart { IfOk result (λ places. LiesApart places.entry places.long_key) }
     ensures keeps { KeepsStanding files.old files.new }
-    ensures taken { IfOk result (λ places. ForSome (F.told f.old).files (λ from. LeavesRoom 3 from → ForSome (F.told f.new).files (Takes (words_of_places places) from))) }
-    ensures is_open { OnOk result (ForSome (F.told f.new).files (IsOpen files.new)) }
-    ensures stops { ForSome (F.told f.old).files (λ from. LeavesRoom 3 from → Passes (F.told f.old) (F.told f.new) (StillFinds [] from)) }
-    ensures damaged { IfDamaged result (IsFailedCheck files.new (F.told f.new)) }
-    ensures untold { ForSome (F.told f.old).files (LeavesRoom 3) → IfDamaged result (λ _. (F.told f.old).files ≡ None) }
-    ensures silent { (F.told f.old).files ≡ None → (F.told f.new).files ≡ None }
-    ensures later { F.faults f.old ≤ F.faults f.new }
-    ensures device { IfDevice result (Rises (F.faults f.old) (F.faults f.new)) }
+    ensures taken { IfOk result (λ places. ForSome (F.told folder.old).files (λ from. LeavesRoom 3 from → ForSome (F.told folder.new).files (Takes (words_of_places places) from))) }
+    ensures is_open { OnOk result (ForSome (F.told folder.new).files (IsOpen files.new)) }
+    ensures stops { ForSome (F.told folder.old).files (λ from. LeavesRoom 3 from → Passes (F.told folder.old) (F.told folder.new) (StillFinds [] from)) }
+    ensures damaged { IfDamaged result (IsFailedCheck files.new (F.told folder.new)) }
+    ensures untold { ForSome (F.told folder.old).files (LeavesRoom 3) → IfDamaged result (λ _. (F.told folder.old).files ≡ None) }
+    ensures silent { (F.told folder.old).files ≡ None → (F.told folder.new).files ≡ None }
+    ensures later { F.faults folder.old ≤ F.faults folder.new }
+    ensures device { IfDevice result (Rises (F.faults folder.old) (F.faults folder.new)) }
 {
-    let entry = take_blocks(f, files, Kind::B256, entry_blocks(key_len))?;
-    let node = take_blocks(f, files, Kind::Rankings, 1)?;
-    let long_key = take_long_key(f, files, key_len)?;
+    let entry = take_blocks(folder, files, Kind::B256, entry_blocks(key_len))?;
+    let node = take_blocks(folder, files, Kind::Rankings, 1)?;
+    let long_key = take_long_key(folder, files, key_len)?;
     check_apart(entry, &long_key)?;
     Ok(Places {
         entry,
@@ -74,52 +74,52 @@ pub fn take_places<F: Folder>(
 
 // Takes the storage of a key of so many bytes, where it doesn't lie in its record, for one byte more.
 fn take_long_key<F: Folder>(
-    f: &mut F,
+    folder: &mut F,
     files: &mut BlockFiles,
     key_len: u32,
 ) -> Result<Option<Addr>, Fault>
     requires most { key_len ≤ longest_name }
-    requires is_open { ForSome (F.told f.old).files (IsOpen files.old) }
+    requires is_open { ForSome (F.told folder.old).files (IsOpen files.old) }
     ensures long { IfOk result (IsLongPlace files.new key_len) }
-    ensures holds { IfOk result (λ long_key. ForSome (F.told f.new).files (HoldsLongKey long_key key_len)) }
+    ensures holds { IfOk result (λ long_key. ForSome (F.told folder.new).files (HoldsLongKey long_key key_len)) }
     ensures keeps { KeepsStanding files.old files.new }
-    ensures taken { IfOk result (λ long_key. ForSome (F.told f.old).files (λ from. LeavesRoom 1 from → ForSome (F.told f.new).files (Takes (long_word long_key) from))) }
-    ensures is_open { OnOk result (ForSome (F.told f.new).files (IsOpen files.new)) }
-    ensures stops { ForSome (F.told f.old).files (λ from. LeavesRoom 1 from → Passes (F.told f.old) (F.told f.new) (StillFinds [] from)) }
-    ensures damaged { IfDamaged result (IsFailedCheck files.new (F.told f.new)) }
-    ensures untold { ForSome (F.told f.old).files (LeavesRoom 1) → IfDamaged result (λ _. (F.told f.old).files ≡ None) }
-    ensures silent { (F.told f.old).files ≡ None → (F.told f.new).files ≡ None }
-    ensures later { F.faults f.old ≤ F.faults f.new }
-    ensures device { IfDevice result (Rises (F.faults f.old) (F.faults f.new)) }
+    ensures taken { IfOk result (λ long_key. ForSome (F.told folder.old).files (λ from. LeavesRoom 1 from → ForSome (F.told folder.new).files (Takes (long_word long_key) from))) }
+    ensures is_open { OnOk result (ForSome (F.told folder.new).files (IsOpen files.new)) }
+    ensures stops { ForSome (F.told folder.old).files (λ from. LeavesRoom 1 from → Passes (F.told folder.old) (F.told folder.new) (StillFinds [] from)) }
+    ensures damaged { IfDamaged result (IsFailedCheck files.new (F.told folder.new)) }
+    ensures untold { ForSome (F.told folder.old).files (LeavesRoom 1) → IfDamaged result (λ _. (F.told folder.old).files ≡ None) }
+    ensures silent { (F.told folder.old).files ≡ None → (F.told folder.new).files ≡ None }
+    ensures later { F.faults folder.old ≤ F.faults folder.new }
+    ensures device { IfDevice result (Rises (F.faults folder.old) (F.faults folder.new)) }
 {
     if key_len <= LONGEST_SHORT_KEY {
         return Ok(None);
     }
-    let addr = take_storage(f, files, key_len + 1)?;
+    let addr = take_storage(folder, files, key_len + 1)?;
     Ok(Some(addr))
 }
 
 // Takes blocks or an external file for data of a size.
-fn take_storage<F: Folder>(f: &mut F, files: &mut BlockFiles, size: u32) -> Result<Addr, Fault>
+fn take_storage<F: Folder>(folder: &mut F, files: &mut BlockFiles, size: u32) -> Result<Addr, Fault>
     requires some { 0 < size }
-    requires is_open { ForSome (F.told f.old).files (IsOpen files.old) }
+    requires is_open { ForSome (F.told folder.old).files (IsOpen files.old) }
     ensures stores { IfOk result (λ addr. keys.stores files.new size addr ≡ true) }
-    ensures holds { IfOk result (λ addr. ForSome (F.told f.new).files (λ image. kind_of addr ≡ external → length_of image (external_file (external_number addr)) ≡ size)) }
+    ensures holds { IfOk result (λ addr. ForSome (F.told folder.new).files (λ image. kind_of addr ≡ external → length_of image (external_file (external_number addr)) ≡ size)) }
     ensures keeps { KeepsStanding files.old files.new }
-    ensures taken { IfOk result (λ addr. ForSome (F.told f.old).files (λ from. LeavesRoom 1 from → ForSome (F.told f.new).files (Takes (addr ∷ []) from))) }
-    ensures is_open { OnOk result (ForSome (F.told f.new).files (IsOpen files.new)) }
-    ensures stops { ForSome (F.told f.old).files (λ from. LeavesRoom 1 from → Passes (F.told f.old) (F.told f.new) (StillFinds [] from)) }
-    ensures damaged { IfDamaged result (IsFailedCheck files.new (F.told f.new)) }
-    ensures untold { ForSome (F.told f.old).files (LeavesRoom 1) → IfDamaged result (λ _. (F.told f.old).files ≡ None) }
-    ensures silent { (F.told f.old).files ≡ None → (F.told f.new).files ≡ None }
-    ensures later { F.faults f.old ≤ F.faults f.new }
-    ensures device { IfDevice result (Rises (F.faults f.old) (F.faults f.new)) }
+    ensures taken { IfOk result (λ addr. ForSome (F.told folder.old).files (λ from. LeavesRoom 1 from → ForSome (F.told folder.new).files (Takes (addr ∷ []) from))) }
+    ensures is_open { OnOk result (ForSome (F.told folder.new).files (IsOpen files.new)) }
+    ensures stops { ForSome (F.told folder.old).files (λ from. LeavesRoom 1 from → Passes (F.told folder.old) (F.told folder.new) (StillFinds [] from)) }
+    ensures damaged { IfDamaged result (IsFailedCheck files.new (F.told folder.new)) }
+    ensures untold { ForSome (F.told folder.old).files (LeavesRoom 1) → IfDamaged result (λ _. (F.told folder.old).files ≡ None) }
+    ensures silent { (F.told folder.old).files ≡ None → (F.told folder.new).files ≡ None }
+    ensures later { F.faults folder.old ≤ F.faults folder.new }
+    ensures device { IfDevice result (Rises (F.faults folder.old) (F.faults folder.new)) }
 {
     let kind = kind_for(size);
     if is_external(kind) {
-        return take_file(f, files, size);
+        return take_file(folder, files, size);
     }
-    take_blocks(f, files, kind, blocks_for(size))
+    take_blocks(folder, files, kind, blocks_for(size))
 }
 
 // Whether a kind is that of external files.
@@ -131,7 +131,7 @@ fn is_external(kind: Kind) -> bool
 
 // Takes blocks of a kind, as many as are asked for.
 fn take_blocks<F: Folder>(
-    f: &mut F,
+    folder: &mut F,
     files: &mut BlockFiles,
     kind: Kind,
     count: u32,
@@ -140,57 +140,57 @@ fn take_blocks<F: Folder>(
     requires few { count ≤ group_size }
     requires block_kind { kind_number kind ≢ external }
     requires node { kind_number kind ≡ rankings → count ≡ 1 }
-    requires is_open { ForSome (F.told f.old).files (IsOpen files.old) }
+    requires is_open { ForSome (F.told folder.old).files (IsOpen files.old) }
     ensures kind { IfOk result (λ addr. (kind_of addr ≡ kind_number kind) × (block_count addr ≡ count)) }
     ensures address { IfOk result (λ addr. IsTrue (is_address addr)) }
     ensures stands { IfOk result (λ addr. IsTrue (stands_among files.new addr)) }
     ensures keeps { KeepsStanding files.old files.new }
-    ensures taken { IfOk result (λ addr. ForSome (F.told f.old).files (λ from. LeavesRoom 1 from → ForSome (F.told f.new).files (Takes (addr ∷ []) from))) }
-    ensures is_open { OnOk result (ForSome (F.told f.new).files (IsOpen files.new)) }
-    ensures stops { ForSome (F.told f.old).files (λ from. LeavesRoom 1 from → Passes (F.told f.old) (F.told f.new) (StillFinds [] from)) }
-    ensures damaged { IfDamaged result (IsFailedCheck files.new (F.told f.new)) }
-    ensures untold { ForSome (F.told f.old).files (LeavesRoom 1) → IfDamaged result (λ _. (F.told f.old).files ≡ None) }
-    ensures silent { (F.told f.old).files ≡ None → (F.told f.new).files ≡ None }
-    ensures later { F.faults f.old ≤ F.faults f.new }
-    ensures device { IfDevice result (Rises (F.faults f.old) (F.faults f.new)) }
+    ensures taken { IfOk result (λ addr. ForSome (F.told folder.old).files (λ from. LeavesRoom 1 from → ForSome (F.told folder.new).files (Takes (addr ∷ []) from))) }
+    ensures is_open { OnOk result (ForSome (F.told folder.new).files (IsOpen files.new)) }
+    ensures stops { ForSome (F.told folder.old).files (λ from. LeavesRoom 1 from → Passes (F.told folder.old) (F.told folder.new) (StillFinds [] from)) }
+    ensures damaged { IfDamaged result (IsFailedCheck files.new (F.told folder.new)) }
+    ensures untold { ForSome (F.told folder.old).files (LeavesRoom 1) → IfDamaged result (λ _. (F.told folder.old).files ≡ None) }
+    ensures silent { (F.told folder.old).files ≡ None → (F.told folder.new).files ≡ None }
+    ensures later { F.faults folder.old ≤ F.faults folder.new }
+    ensures device { IfDevice result (Rises (F.faults folder.old) (F.faults folder.new)) }
 {
-    let addr = allocate(f, files, kind, count)?;
-    check_index(f)?;
+    let addr = allocate(folder, files, kind, count)?;
+    check_index(folder)?;
     Ok(addr)
 }
 
 // Makes an external file of so many bytes.
-fn take_file<F: Folder>(f: &mut F, files: &BlockFiles, size: u32) -> Result<Addr, Fault>
-    requires is_open { ForSome (F.told f.old).files (IsOpen files.now) }
+fn take_file<F: Folder>(folder: &mut F, files: &BlockFiles, size: u32) -> Result<Addr, Fault>
+    requires is_open { ForSome (F.told folder.old).files (IsOpen files.now) }
     ensures kind { IfOk result (λ addr. kind_of addr ≡ external) }
     ensures address { IfOk result (λ addr. IsTrue (is_address addr)) }
-    ensures holds { IfOk result (λ addr. ForSome (F.told f.new).files (λ image. length_of image (external_file (external_number addr)) ≡ size)) }
-    ensures taken { IfOk result (λ addr. ForSome (F.told f.old).files (λ from. LeavesRoom 1 from → ForSome (F.told f.new).files (Takes (addr ∷ []) from))) }
-    ensures is_open { OnOk result (ForSome (F.told f.new).files (IsOpen files.now)) }
-    ensures stops { ForSome (F.told f.old).files (λ from. LeavesRoom 1 from → Passes (F.told f.old) (F.told f.new) (StillFinds [] from)) }
-    ensures damaged { IfDamaged result (IsFailedCheck files.now (F.told f.new)) }
-    ensures untold { ForSome (F.told f.old).files (LeavesRoom 1) → IfDamaged result (λ _. (F.told f.old).files ≡ None) }
-    ensures silent { (F.told f.old).files ≡ None → (F.told f.new).files ≡ None }
-    ensures later { F.faults f.old ≤ F.faults f.new }
-    ensures device { IfDevice result (Rises (F.faults f.old) (F.faults f.new)) }
+    ensures holds { IfOk result (λ addr. ForSome (F.told folder.new).files (λ image. length_of image (external_file (external_number addr)) ≡ size)) }
+    ensures taken { IfOk result (λ addr. ForSome (F.told folder.old).files (λ from. LeavesRoom 1 from → ForSome (F.told folder.new).files (Takes (addr ∷ []) from))) }
+    ensures is_open { OnOk result (ForSome (F.told folder.new).files (IsOpen files.now)) }
+    ensures stops { ForSome (F.told folder.old).files (λ from. LeavesRoom 1 from → Passes (F.told folder.old) (F.told folder.new) (StillFinds [] from)) }
+    ensures damaged { IfDamaged result (IsFailedCheck files.now (F.told folder.new)) }
+    ensures untold { ForSome (F.told folder.old).files (LeavesRoom 1) → IfDamaged result (λ _. (F.told folder.old).files ≡ None) }
+    ensures silent { (F.told folder.old).files ≡ None → (F.told folder.new).files ≡ None }
+    ensures later { F.faults folder.old ≤ F.faults folder.new }
+    ensures device { IfDevice result (Rises (F.faults folder.old) (F.faults folder.new)) }
 {
-    let addr = create(f)?;
+    let addr = create(folder)?;
     // That the word is one of an address is known once it is read.
     let _word = addr.word();
-    resize(f, addr, u64::from(size))?;
+    resize(folder, addr, u64::from(size))?;
     Ok(addr)
 }
 
 /// Looks whether the index has its length still: where the maps aren't right, an allocation doesn't promise it.
-pub fn check_index<F: Folder>(f: &mut F) -> Result<(), Fault>
-    ensures whole { OnOk result (ForSome (F.told f.old).files HasWholeIndex) }
-    ensures stays { Stays (F.told f.old) (F.told f.new) }
-    ensures damaged { IfDamaged result (HasOtherLength (F.told f.new)) }
-    ensures untold { ForSome (F.told f.old).files HasWholeIndex → IfDamaged result (λ _. (F.told f.old).files ≡ None) }
-    ensures later { F.faults f.old ≤ F.faults f.new }
-    ensures device { IfDevice result (Rises (F.faults f.old) (F.faults f.new)) }
+pub fn check_index<F: Folder>(folder: &mut F) -> Result<(), Fault>
+    ensures whole { OnOk result (ForSome (F.told folder.old).files HasWholeIndex) }
+    ensures stays { Stays (F.told folder.old) (F.told folder.new) }
+    ensures damaged { IfDamaged result (HasOtherLength (F.told folder.new)) }
+    ensures untold { ForSome (F.told folder.old).files HasWholeIndex → IfDamaged result (λ _. (F.told folder.old).files ≡ None) }
+    ensures later { F.faults folder.old ≤ F.faults folder.new }
+    ensures device { IfDevice result (Rises (F.faults folder.old) (F.faults folder.new)) }
 {
-    let length = f.length(FileId::Index)?.unwrap_or(0);
+    let length = folder.length(FileId::Index)?.unwrap_or(0);
     if length != IndexHead::INDEX_LEN {
         return Err(Fault::Damaged(Damage {
             file: FileId::Index,

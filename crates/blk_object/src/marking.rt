@@ -15,26 +15,26 @@ use blk_io::{Fault, Folder};
 
 /// Makes the dirty word of a node this number, where 0 says that its object is clean: one folder call reads the node,
 /// and two write.
-pub fn set_mark<F: Folder>(
-    f: &mut F,
+pub fn set_dirty_word<F: Folder>(
+    folder: &mut F,
     files: &BlockFiles,
     node: Addr,
     mark: u32,
 ) -> Result<(), Fault>
     requires stands { IsTrue (is_node_among files.now node) }
-    requires is_open { ForSome (F.told f.old).files (IsOpen files.now) }
-    ensures sets { SetsDirty files.now (F.told f.old) (F.told f.new) node mark result }
-    ensures is_open { ForSome (F.told f.new).files (IsOpen files.now) }
+    requires is_open { ForSome (F.told folder.old).files (IsOpen files.now) }
+    ensures sets { SetsDirty files.now (F.told folder.old) (F.told folder.new) node mark result }
+    ensures is_open { ForSome (F.told folder.new).files (IsOpen files.now) }
 
     // Corruption is a check that fails on what is read here; nothing is written after it.
-    ensures damaged { IfDamaged result (IsFailedCheck files.now (F.told f.new)) }
+    ensures damaged { IfDamaged result (IsFailedCheck files.now (F.told folder.new)) }
 
-    ensures later { F.faults f.old ≤ F.faults f.new }
-    ensures device { IfDevice result (Rises (F.faults f.old) (F.faults f.new)) }
+    ensures later { F.faults folder.old ≤ F.faults folder.new }
+    ensures device { IfDevice result (Rises (F.faults folder.old) (F.faults folder.new)) }
 {
     if mark == 0 {
-        set_clean(f, files, node)
+        set_clean(folder, files, node)
     } else {
-        set_dirty(f, files, node, mark)
+        set_dirty(folder, files, node, mark)
     }
 }

@@ -37,29 +37,33 @@ pub struct Owned {
 ///
 /// A failed check is a read that gave too few bytes, a record that doesn't check, or a word of it that is neither 0 nor
 /// an address which is there.
-pub fn read_owned<F: Folder>(f: &mut F, files: &BlockFiles, entry: Addr) -> Result<Owned, Fault>
+pub fn read_owned<F: Folder>(
+    folder: &mut F,
+    files: &BlockFiles,
+    entry: Addr,
+) -> Result<Owned, Fault>
     requires kind { kind_of entry ≡ blocks_256 }
     requires stands { IsTrue (stands_among files.now entry) }
 
     // They are all the address words of what lies there with this record, and each is there.
-    ensures words { IfOk result (λ owned. ForSome (F.told f.old).files (λ image. (loaded : Loaded) → LoadsWith entry loaded image → words_at owned.places ≡ words_of loaded)) }
-    ensures charge { IfOk result (λ owned. ForSome (F.told f.old).files (λ image. (loaded : Loaded) → LoadsWith entry loaded image → owned.charge ≡ charge_of loaded)) }
+    ensures words { IfOk result (λ owned. ForSome (F.told folder.old).files (λ image. (loaded : Loaded) → LoadsWith entry loaded image → words_at owned.places ≡ words_of loaded)) }
+    ensures charge { IfOk result (λ owned. ForSome (F.told folder.old).files (λ image. (loaded : Loaded) → LoadsWith entry loaded image → owned.charge ≡ charge_of loaded)) }
     ensures small { IfOk result (λ owned. owned.charge < 2 ^ 34) }
-    ensures flags { IfOk result (λ owned. ForSome (F.told f.old).files (λ image. owned.flags ≡ (entry_at image entry).flags)) }
+    ensures flags { IfOk result (λ owned. ForSome (F.told folder.old).files (λ image. owned.flags ≡ (entry_at image entry).flags)) }
     ensures there { IfOk result (λ owned. All (IsPlaceAmong files.now) owned.places) }
 
-    ensures stays { Stays (F.told f.old) (F.told f.new) }
+    ensures stays { Stays (F.told folder.old) (F.told folder.new) }
 
     // Corruption is a check that fails on what is read here; nothing is written after it.
-    ensures damaged { IfDamaged result (IsFailedCheck files.now (F.told f.new)) }
+    ensures damaged { IfDamaged result (IsFailedCheck files.now (F.told folder.new)) }
 
     // An observable folder reports corruption only where no entry lies there with this record.
-    ensures untold { ForSome (F.told f.old).files (Agrees files.now) → ForSome (F.told f.old).files (λ image. (loaded : Loaded) × LoadsWith entry loaded image) → IfDamaged result (λ _. (F.told f.old).files ≡ None) }
+    ensures untold { ForSome (F.told folder.old).files (Agrees files.now) → ForSome (F.told folder.old).files (λ image. (loaded : Loaded) × LoadsWith entry loaded image) → IfDamaged result (λ _. (F.told folder.old).files ≡ None) }
 
-    ensures later { F.faults f.old ≤ F.faults f.new }
-    ensures device { IfDevice result (Rises (F.faults f.old) (F.faults f.new)) }
+    ensures later { F.faults folder.old ≤ F.faults folder.new }
+    ensures device { IfDevice result (Rises (F.faults folder.old) (F.faults folder.new)) }
 {
-    let head = read_head(f, files, entry)?;
+    let head = read_head(folder, files, entry)?;
     let node = place_of(files, entry, EntryView::NODE, head.node)?;
     let long_key = place_of(files, entry, EntryView::LONG_KEY, head.long_key)?;
     let first = place_of(files, entry, EntryView::DATA_ADDR, head.addrs[0])?;
@@ -73,27 +77,27 @@ pub fn read_owned<F: Folder>(f: &mut F, files: &BlockFiles, entry: Addr) -> Resu
 }
 
 /// Frees the places of an entry that is gone, in their order.
-pub fn free_owned<F: Folder>(f: &mut F, files: &BlockFiles, owned: &Owned) -> Result<(), Fault>
+pub fn free_owned<F: Folder>(folder: &mut F, files: &BlockFiles, owned: &Owned) -> Result<(), Fault>
     requires stand { All (IsPlaceAmong files.now) owned.now.places }
-    requires is_open { ForSome (F.told f.old).files (IsOpen files.now) }
+    requires is_open { ForSome (F.told folder.old).files (IsOpen files.now) }
 
     // Places that are nobody's are freed. At each word those of a prefix are, and the next one is on its way.
-    ensures freed { OnOk result (ForSome (F.told f.old).files (λ from. AreFreeable (words_at owned.now.places) from → ForSome (F.told f.new).files (Removes (words_at owned.now.places) from))) }
-    ensures stops { ForSome (F.told f.old).files (λ from. AreFreeable (words_at owned.now.places) from → Passes (F.told f.old) (F.told f.new) (AreGoing (words_at owned.now.places) from)) }
+    ensures freed { OnOk result (ForSome (F.told folder.old).files (λ from. AreFreeable (words_at owned.now.places) from → ForSome (F.told folder.new).files (Removes (words_at owned.now.places) from))) }
+    ensures stops { ForSome (F.told folder.old).files (λ from. AreFreeable (words_at owned.now.places) from → Passes (F.told folder.old) (F.told folder.new) (AreGoing (words_at owned.now.places) from)) }
 
-    ensures is_open { ForSome (F.told f.new).files (IsOpen files.now) }
+    ensures is_open { ForSome (F.told folder.new).files (IsOpen files.now) }
 
     // Corruption is a check that fails on what is read here; nothing is written after it.
-    ensures damaged { IfDamaged result (IsFailedCheck files.now (F.told f.new)) }
+    ensures damaged { IfDamaged result (IsFailedCheck files.now (F.told folder.new)) }
 
     // An observable folder reports corruption only for a place that is somebody's.
-    ensures untold { ForSome (F.told f.old).files (AreFreeable (words_at owned.now.places)) → IfDamaged result (λ _. (F.told f.old).files ≡ None) }
+    ensures untold { ForSome (F.told folder.old).files (AreFreeable (words_at owned.now.places)) → IfDamaged result (λ _. (F.told folder.old).files ≡ None) }
 
-    ensures silent { (F.told f.old).files ≡ None → (F.told f.new).files ≡ None }
-    ensures later { F.faults f.old ≤ F.faults f.new }
-    ensures device { IfDevice result (Rises (F.faults f.old) (F.faults f.new)) }
+    ensures silent { (F.told folder.old).files ≡ None → (F.told folder.new).files ≡ None }
+    ensures later { F.faults folder.old ≤ F.faults folder.new }
+    ensures device { IfDevice result (Rises (F.faults folder.old) (F.faults folder.new)) }
 {
-    free_places(f, files, &owned.places)
+    free_places(folder, files, &owned.places)
 }
 
 /// The bytes of the key and the streams of an entry, by the words of its record.

@@ -21,7 +21,7 @@ use blk_lru::remove;
 /// This takes at most 17 folder calls for the list, and then three for the first of a chain, or five for another record.
 /// A failed check is one of the removal from the list or of the unlinking.
 pub fn take_out<F: Folder>(
-    f: &mut F,
+    folder: &mut F,
     files: &BlockFiles,
     found: &Found,
     node: Addr,
@@ -31,27 +31,27 @@ pub fn take_out<F: Folder>(
     requires stands { IsTrue (stands_among files.now found.now.entry) }
     requires kind_before { IfSome found.now.before (λ before. kind_of before ≡ blocks_256) }
     requires stands_before { IfSome found.now.before (λ before. IsTrue (stands_among files.now before)) }
-    requires is_open { ForSome (F.told f.old).files (IsOpen files.now) }
+    requires is_open { ForSome (F.told folder.old).files (IsOpen files.now) }
 
     // An item that may go out is taken out.
-    ensures taken { OnOk result (ForSome (F.told f.old).files (λ from. MayGoOut node found.now.entry found.now.before from → ForSome (F.told f.new).files (IsTakenOut node found.now.entry found.now.before from))) }
+    ensures taken { OnOk result (ForSome (F.told folder.old).files (λ from. MayGoOut node found.now.entry found.now.before from → ForSome (F.told folder.new).files (IsTakenOut node found.now.entry found.now.before from))) }
 
     // At each word a prefix of the writes of the list is made, or the node is out of it and the record is in its chain yet, or out of
     // it.
-    ensures stops { ForSome (F.told f.old).files (λ from. MayGoOut node found.now.entry found.now.before from → Passes (F.told f.old) (F.told f.new) (IsGoingOut node found.now.entry found.now.before from)) }
+    ensures stops { ForSome (F.told folder.old).files (λ from. MayGoOut node found.now.entry found.now.before from → Passes (F.told folder.old) (F.told folder.new) (IsGoingOut node found.now.entry found.now.before from)) }
 
-    ensures is_open { ForSome (F.told f.new).files (IsOpen files.now) }
+    ensures is_open { ForSome (F.told folder.new).files (IsOpen files.now) }
 
     // Corruption is a check that fails on what is read here; nothing is written after it.
-    ensures damaged { IfDamaged result (IsFailedCheck files.now (F.told f.new)) }
+    ensures damaged { IfDamaged result (IsFailedCheck files.now (F.told folder.new)) }
 
     // An observable folder reports corruption only for an item that may not go out.
-    ensures untold { ForSome (F.told f.old).files (MayGoOut node found.now.entry found.now.before) → IfDamaged result (λ _. (F.told f.old).files ≡ None) }
+    ensures untold { ForSome (F.told folder.old).files (MayGoOut node found.now.entry found.now.before) → IfDamaged result (λ _. (F.told folder.old).files ≡ None) }
 
-    ensures silent { (F.told f.old).files ≡ None → (F.told f.new).files ≡ None }
-    ensures later { F.faults f.old ≤ F.faults f.new }
-    ensures device { IfDevice result (Rises (F.faults f.old) (F.faults f.new)) }
+    ensures silent { (F.told folder.old).files ≡ None → (F.told folder.new).files ≡ None }
+    ensures later { F.faults folder.old ≤ F.faults folder.new }
+    ensures device { IfDevice result (Rises (F.faults folder.old) (F.faults folder.new)) }
 {
-    remove(f, files, node)?;
-    unlink(f, files, found)
+    remove(folder, files, node)?;
+    unlink(folder, files, found)
 }

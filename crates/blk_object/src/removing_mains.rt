@@ -27,7 +27,7 @@ use blk_io::{Fault, Folder};
 /// Its record is in its chain after the record before, or is the first; and it names this node. This takes as many
 /// folder calls as `take_out`, and five for the counters.
 pub fn take_main<F: Folder>(
-    f: &mut F,
+    folder: &mut F,
     files: &BlockFiles,
     found: &Found,
     node: Addr,
@@ -38,29 +38,29 @@ pub fn take_main<F: Folder>(
     requires stands { IsTrue (stands_among files.now found.now.entry) }
     requires kind_before { IfSome found.now.before (λ before. kind_of before ≡ blocks_256) }
     requires stands_before { IfSome found.now.before (λ before. IsTrue (stands_among files.now before)) }
-    requires is_open { ForSome (F.told f.old).files (IsOpen files.now) }
+    requires is_open { ForSome (F.told folder.old).files (IsOpen files.now) }
 
     // Where all items are counted, and this is its charge, it is out in the end, and those that are left are counted.
-    ensures out { OnOk result (ForSome (F.told f.old).files (λ from. ForEachMain node found.now.entry found.now.before from (λ state layout unlinked number object was. CountsItems from state layout → charge ≡ charge_of was → ForSome (F.told f.new).files (IsMainOut state layout unlinked object.key was)))) }
+    ensures out { OnOk result (ForSome (F.told folder.old).files (λ from. ForEachMain node found.now.entry found.now.before from (λ state layout unlinked number object was. CountsItems from state layout → charge ≡ charge_of was → ForSome (F.told folder.new).files (IsMainOut state layout unlinked object.key was)))) }
 
     // At each word the old durable contents are recovered, or those with the object doomed.
-    ensures stops { ForSome (F.told f.old).files (λ from. ForEachMain node found.now.entry found.now.before from (λ state layout unlinked number object was. Passes (F.told f.old) (F.told f.new) (FindsEither state (doomed number state (Some object))))) }
+    ensures stops { ForSome (F.told folder.old).files (λ from. ForEachMain node found.now.entry found.now.before from (λ state layout unlinked number object was. Passes (F.told folder.old) (F.told folder.new) (FindsEither state (doomed number state (Some object))))) }
 
     // The session is the same then.
-    ensures session { OnOk result (ForSome (F.told f.old).files (λ from. ForEachMain node found.now.entry found.now.before from (λ state layout unlinked number object was. ForSome (F.told f.new).files (SameSession from)))) }
+    ensures session { OnOk result (ForSome (F.told folder.old).files (λ from. ForEachMain node found.now.entry found.now.before from (λ state layout unlinked number object was. ForSome (F.told folder.new).files (SameSession from)))) }
 
-    ensures is_open { ForSome (F.told f.new).files (IsOpen files.now) }
+    ensures is_open { ForSome (F.told folder.new).files (IsOpen files.now) }
 
     // Corruption is a check that fails on what is read here; nothing is written after it.
-    ensures damaged { IfDamaged result (IsFailedCheck files.now (F.told f.new)) }
+    ensures damaged { IfDamaged result (IsFailedCheck files.now (F.told folder.new)) }
 
     // An observable folder, with such an item, reports no corruption.
-    ensures untold { ForSome (F.told f.old).files (λ from. ForEachMain node found.now.entry found.now.before from (λ state layout unlinked number object was. IfDamaged result (λ _. (F.told f.old).files ≡ None))) }
+    ensures untold { ForSome (F.told folder.old).files (λ from. ForEachMain node found.now.entry found.now.before from (λ state layout unlinked number object was. IfDamaged result (λ _. (F.told folder.old).files ≡ None))) }
 
-    ensures silent { (F.told f.old).files ≡ None → (F.told f.new).files ≡ None }
-    ensures later { F.faults f.old ≤ F.faults f.new }
-    ensures device { IfDevice result (Rises (F.faults f.old) (F.faults f.new)) }
+    ensures silent { (F.told folder.old).files ≡ None → (F.told folder.new).files ≡ None }
+    ensures later { F.faults folder.old ≤ F.faults folder.new }
+    ensures device { IfDevice result (Rises (F.faults folder.old) (F.faults folder.new)) }
 {
-    take_out(f, files, found, node)?;
-    count_less(f, files, charge)
+    take_out(folder, files, found, node)?;
+    count_less(folder, files, charge)
 }

@@ -30,7 +30,7 @@ use blk_io::{Fault, Folder};
 /// Its record is in its chain after the record before, or is the first; and it names this node. This takes at most 23
 /// folder calls until it is out, seven for each of its places, and five for the counters.
 pub fn remove_item<F: Folder>(
-    f: &mut F,
+    folder: &mut F,
     files: &BlockFiles,
     found: &Found,
     node: Addr,
@@ -40,40 +40,40 @@ pub fn remove_item<F: Folder>(
     requires stands { IsTrue (stands_among files.now found.now.entry) }
     requires kind_before { IfSome found.now.before (λ before. kind_of before ≡ blocks_256) }
     requires stands_before { IfSome found.now.before (λ before. IsTrue (stands_among files.now before)) }
-    requires is_open { ForSome (F.told f.old).files (IsOpen files.now) }
+    requires is_open { ForSome (F.told folder.old).files (IsOpen files.now) }
 
     // The charge is that of what lay there with this record.
-    ensures charge { IfOk result (λ charge. ForSome (F.told f.old).files (λ from. (was : Loaded) → LoadsWith found.now.entry was from → charge ≡ charge_of was)) }
+    ensures charge { IfOk result (λ charge. ForSome (F.told folder.old).files (λ from. (was : Loaded) → LoadsWith found.now.entry was from → charge ≡ charge_of was)) }
 
     // Where such an item lies there in a state that is kept and counted, the state without it is so in the end. At each word the old durable contents are recovered, or those without
     // it.
-    ensures removed { OnOk result (ForSome (F.told f.old).files (λ from. ForEachAlone node found.now.entry found.now.before from (λ state after layout unlinked. ForSome (F.told f.new).files (IsRemovedWhole after layout unlinked node found.now.entry)))) }
-    ensures stops { ForSome (F.told f.old).files (λ from. ForEachAlone node found.now.entry found.now.before from (λ state after layout unlinked. Passes (F.told f.old) (F.told f.new) (FindsEither state after))) }
+    ensures removed { OnOk result (ForSome (F.told folder.old).files (λ from. ForEachAlone node found.now.entry found.now.before from (λ state after layout unlinked. ForSome (F.told folder.new).files (IsRemovedWhole after layout unlinked node found.now.entry)))) }
+    ensures stops { ForSome (F.told folder.old).files (λ from. ForEachAlone node found.now.entry found.now.before from (λ state after layout unlinked. Passes (F.told folder.old) (F.told folder.new) (FindsEither state after))) }
 
     // The session is the same then.
-    ensures session { OnOk result (ForSome (F.told f.old).files (λ from. ForEachAlone node found.now.entry found.now.before from (λ state after layout unlinked. ForSome (F.told f.new).files (SameSession from)))) }
+    ensures session { OnOk result (ForSome (F.told folder.old).files (λ from. ForEachAlone node found.now.entry found.now.before from (λ state after layout unlinked. ForSome (F.told folder.new).files (SameSession from)))) }
 
-    ensures is_open { ForSome (F.told f.new).files (IsOpen files.now) }
+    ensures is_open { ForSome (F.told folder.new).files (IsOpen files.now) }
 
     // Corruption is a check that fails on what is read here; nothing is written after it.
-    ensures damaged { IfDamaged result (IsFailedCheck files.now (F.told f.new)) }
+    ensures damaged { IfDamaged result (IsFailedCheck files.now (F.told folder.new)) }
 
     // An observable folder, with such an item in a state that is kept and counted, reports no corruption.
-    ensures untold { ForSome (F.told f.old).files (λ from. ForEachAlone node found.now.entry found.now.before from (λ state after layout unlinked. IfDamaged result (λ _. (F.told f.old).files ≡ None))) }
+    ensures untold { ForSome (F.told folder.old).files (λ from. ForEachAlone node found.now.entry found.now.before from (λ state after layout unlinked. IfDamaged result (λ _. (F.told folder.old).files ≡ None))) }
 
-    ensures silent { (F.told f.old).files ≡ None → (F.told f.new).files ≡ None }
-    ensures later { F.faults f.old ≤ F.faults f.new }
-    ensures device { IfDevice result (Rises (F.faults f.old) (F.faults f.new)) }
+    ensures silent { (F.told folder.old).files ≡ None → (F.told folder.new).files ≡ None }
+    ensures later { F.faults folder.old ≤ F.faults folder.new }
+    ensures device { IfDevice result (Rises (F.faults folder.old) (F.faults folder.new)) }
 {
-    let owned = read_owned(f, files, found.entry)?;
-    remove_read(f, files, found, node, &owned)?;
+    let owned = read_owned(folder, files, found.entry)?;
+    remove_read(folder, files, found, node, &owned)?;
     Ok(owned.charge)
 }
 
 /// Removes an item that goes alone, as `remove_item`, where its places and its charge were read before: one folder call
 /// less.
 pub fn remove_read<F: Folder>(
-    f: &mut F,
+    folder: &mut F,
     files: &BlockFiles,
     found: &Found,
     node: Addr,
@@ -85,35 +85,35 @@ pub fn remove_read<F: Folder>(
     requires kind_before { IfSome found.now.before (λ before. kind_of before ≡ blocks_256) }
     requires stands_before { IfSome found.now.before (λ before. IsTrue (stands_among files.now before)) }
     requires places { All (IsPlaceAmong files.now) owned.now.places }
-    requires is_open { ForSome (F.told f.old).files (IsOpen files.now) }
+    requires is_open { ForSome (F.told folder.old).files (IsOpen files.now) }
 
     // Where these are its places and its charge, and such an item lies there in a state that is kept and counted, the state without it is so in the end. At each word the old durable contents are recovered, or those without
     // it.
-    ensures removed { OnOk result (ForSome (F.told f.old).files (λ from. IsOwnedBy found.now.entry owned.now from → ForEachAlone node found.now.entry found.now.before from (λ state after layout unlinked. ForSome (F.told f.new).files (IsRemovedWhole after layout unlinked node found.now.entry)))) }
-    ensures stops { ForSome (F.told f.old).files (λ from. IsOwnedBy found.now.entry owned.now from → ForEachAlone node found.now.entry found.now.before from (λ state after layout unlinked. Passes (F.told f.old) (F.told f.new) (FindsEither state after))) }
+    ensures removed { OnOk result (ForSome (F.told folder.old).files (λ from. IsOwnedBy found.now.entry owned.now from → ForEachAlone node found.now.entry found.now.before from (λ state after layout unlinked. ForSome (F.told folder.new).files (IsRemovedWhole after layout unlinked node found.now.entry)))) }
+    ensures stops { ForSome (F.told folder.old).files (λ from. IsOwnedBy found.now.entry owned.now from → ForEachAlone node found.now.entry found.now.before from (λ state after layout unlinked. Passes (F.told folder.old) (F.told folder.new) (FindsEither state after))) }
 
     // The session is the same then.
-    ensures session { OnOk result (ForSome (F.told f.old).files (λ from. IsOwnedBy found.now.entry owned.now from → ForEachAlone node found.now.entry found.now.before from (λ state after layout unlinked. ForSome (F.told f.new).files (SameSession from)))) }
+    ensures session { OnOk result (ForSome (F.told folder.old).files (λ from. IsOwnedBy found.now.entry owned.now from → ForEachAlone node found.now.entry found.now.before from (λ state after layout unlinked. ForSome (F.told folder.new).files (SameSession from)))) }
 
-    ensures is_open { ForSome (F.told f.new).files (IsOpen files.now) }
+    ensures is_open { ForSome (F.told folder.new).files (IsOpen files.now) }
 
     // Corruption is a check that fails on what is read here; nothing is written after it.
-    ensures damaged { IfDamaged result (IsFailedCheck files.now (F.told f.new)) }
+    ensures damaged { IfDamaged result (IsFailedCheck files.now (F.told folder.new)) }
 
     // An observable folder, with such an item in a state that is kept and counted, reports no corruption.
-    ensures untold { ForSome (F.told f.old).files (λ from. IsOwnedBy found.now.entry owned.now from → ForEachAlone node found.now.entry found.now.before from (λ state after layout unlinked. IfDamaged result (λ _. (F.told f.old).files ≡ None))) }
+    ensures untold { ForSome (F.told folder.old).files (λ from. IsOwnedBy found.now.entry owned.now from → ForEachAlone node found.now.entry found.now.before from (λ state after layout unlinked. IfDamaged result (λ _. (F.told folder.old).files ≡ None))) }
 
-    ensures silent { (F.told f.old).files ≡ None → (F.told f.new).files ≡ None }
-    ensures later { F.faults f.old ≤ F.faults f.new }
-    ensures device { IfDevice result (Rises (F.faults f.old) (F.faults f.new)) }
+    ensures silent { (F.told folder.old).files ≡ None → (F.told folder.new).files ≡ None }
+    ensures later { F.faults folder.old ≤ F.faults folder.new }
+    ensures device { IfDevice result (Rises (F.faults folder.old) (F.faults folder.new)) }
 {
-    take_read(f, files, found, node, owned)?;
-    count_less(f, files, owned.charge)
+    take_read(folder, files, found, node, owned)?;
+    count_less(folder, files, owned.charge)
 }
 
 // Takes an item out, and frees its places. Its charge is given.
 pub(crate) fn take_away<F: Folder>(
-    f: &mut F,
+    folder: &mut F,
     files: &BlockFiles,
     found: &Found,
     node: Addr,
@@ -123,29 +123,29 @@ pub(crate) fn take_away<F: Folder>(
     requires stands { IsTrue (stands_among files.now found.now.entry) }
     requires kind_before { IfSome found.now.before (λ before. kind_of before ≡ blocks_256) }
     requires stands_before { IfSome found.now.before (λ before. IsTrue (stands_among files.now before)) }
-    requires is_open { ForSome (F.told f.old).files (IsOpen files.now) }
-    ensures charge { IfOk result (λ charge. ForSome (F.told f.old).files (λ from. (was : Loaded) → LoadsWith found.now.entry was from → charge ≡ charge_of was)) }
+    requires is_open { ForSome (F.told folder.old).files (IsOpen files.now) }
+    ensures charge { IfOk result (λ charge. ForSome (F.told folder.old).files (λ from. (was : Loaded) → LoadsWith found.now.entry was from → charge ≡ charge_of was)) }
     ensures small { IfOk result (λ charge. charge < 2 ^ 34) }
-    ensures gone { IfOk result (λ charge. ForSome (F.told f.old).files (λ from. ForEachAlone node found.now.entry found.now.before from (λ state after layout unlinked. ForSome (F.told f.new).files (IsGoneUncounted state after layout unlinked node found.now.entry charge)))) }
-    ensures stops { ForSome (F.told f.old).files (λ from. ForEachAlone node found.now.entry found.now.before from (λ state after layout unlinked. Passes (F.told f.old) (F.told f.new) (FindsEither state after))) }
-    ensures out { IfOk result (λ charge. ForSome (F.told f.old).files (λ from. ForEachNext node found.now.entry found.now.before from (λ state layout keep chains unlinked item. ForSome (F.told f.new).files (IsOutUncounted state layout keep chains unlinked item found.now.entry charge from)))) }
-    ensures going { ForSome (F.told f.old).files (λ from. ForEachNext node found.now.entry found.now.before from (λ state layout keep chains unlinked item. Passes (F.told f.old) (F.told f.new) (IsGoingNext state layout keep chains unlinked item node found.now.entry found.now.before from))) }
-    ensures is_open { ForSome (F.told f.new).files (IsOpen files.now) }
-    ensures damaged { IfDamaged result (IsFailedCheck files.now (F.told f.new)) }
-    ensures untold { ForSome (F.told f.old).files (λ from. ForEachAlone node found.now.entry found.now.before from (λ state after layout unlinked. IfDamaged result (λ _. (F.told f.old).files ≡ None))) }
-    ensures untold_out { ForSome (F.told f.old).files (λ from. ForEachNext node found.now.entry found.now.before from (λ state layout keep chains unlinked item. IfDamaged result (λ _. (F.told f.old).files ≡ None))) }
-    ensures silent { (F.told f.old).files ≡ None → (F.told f.new).files ≡ None }
-    ensures later { F.faults f.old ≤ F.faults f.new }
-    ensures device { IfDevice result (Rises (F.faults f.old) (F.faults f.new)) }
+    ensures gone { IfOk result (λ charge. ForSome (F.told folder.old).files (λ from. ForEachAlone node found.now.entry found.now.before from (λ state after layout unlinked. ForSome (F.told folder.new).files (IsGoneUncounted state after layout unlinked node found.now.entry charge)))) }
+    ensures stops { ForSome (F.told folder.old).files (λ from. ForEachAlone node found.now.entry found.now.before from (λ state after layout unlinked. Passes (F.told folder.old) (F.told folder.new) (FindsEither state after))) }
+    ensures out { IfOk result (λ charge. ForSome (F.told folder.old).files (λ from. ForEachNext node found.now.entry found.now.before from (λ state layout keep chains unlinked item. ForSome (F.told folder.new).files (IsOutUncounted state layout keep chains unlinked item found.now.entry charge from)))) }
+    ensures going { ForSome (F.told folder.old).files (λ from. ForEachNext node found.now.entry found.now.before from (λ state layout keep chains unlinked item. Passes (F.told folder.old) (F.told folder.new) (IsGoingNext state layout keep chains unlinked item node found.now.entry found.now.before from))) }
+    ensures is_open { ForSome (F.told folder.new).files (IsOpen files.now) }
+    ensures damaged { IfDamaged result (IsFailedCheck files.now (F.told folder.new)) }
+    ensures untold { ForSome (F.told folder.old).files (λ from. ForEachAlone node found.now.entry found.now.before from (λ state after layout unlinked. IfDamaged result (λ _. (F.told folder.old).files ≡ None))) }
+    ensures untold_out { ForSome (F.told folder.old).files (λ from. ForEachNext node found.now.entry found.now.before from (λ state layout keep chains unlinked item. IfDamaged result (λ _. (F.told folder.old).files ≡ None))) }
+    ensures silent { (F.told folder.old).files ≡ None → (F.told folder.new).files ≡ None }
+    ensures later { F.faults folder.old ≤ F.faults folder.new }
+    ensures device { IfDevice result (Rises (F.faults folder.old) (F.faults folder.new)) }
 {
-    let read = read_owned(f, files, found.entry)?;
-    take_read(f, files, found, node, &read)?;
+    let read = read_owned(folder, files, found.entry)?;
+    take_read(folder, files, found, node, &read)?;
     Ok(read.charge)
 }
 
 // Takes an item out, and frees its places, which were read before.
 fn take_read<F: Folder>(
-    f: &mut F,
+    folder: &mut F,
     files: &BlockFiles,
     found: &Found,
     node: Addr,
@@ -157,19 +157,19 @@ fn take_read<F: Folder>(
     requires kind_before { IfSome found.now.before (λ before. kind_of before ≡ blocks_256) }
     requires stands_before { IfSome found.now.before (λ before. IsTrue (stands_among files.now before)) }
     requires places { All (IsPlaceAmong files.now) owned.now.places }
-    requires is_open { ForSome (F.told f.old).files (IsOpen files.now) }
-    ensures gone { OnOk result (ForSome (F.told f.old).files (λ from. IsOwnedBy found.now.entry owned.now from → ForEachAlone node found.now.entry found.now.before from (λ state after layout unlinked. ForSome (F.told f.new).files (IsGoneUncounted state after layout unlinked node found.now.entry owned.now.charge)))) }
-    ensures stops { ForSome (F.told f.old).files (λ from. IsOwnedBy found.now.entry owned.now from → ForEachAlone node found.now.entry found.now.before from (λ state after layout unlinked. Passes (F.told f.old) (F.told f.new) (FindsEither state after))) }
-    ensures out { OnOk result (ForSome (F.told f.old).files (λ from. IsOwnedBy found.now.entry owned.now from → ForEachNext node found.now.entry found.now.before from (λ state layout keep chains unlinked item. ForSome (F.told f.new).files (IsOutUncounted state layout keep chains unlinked item found.now.entry owned.now.charge from)))) }
-    ensures going { ForSome (F.told f.old).files (λ from. IsOwnedBy found.now.entry owned.now from → ForEachNext node found.now.entry found.now.before from (λ state layout keep chains unlinked item. Passes (F.told f.old) (F.told f.new) (IsGoingNext state layout keep chains unlinked item node found.now.entry found.now.before from))) }
-    ensures is_open { ForSome (F.told f.new).files (IsOpen files.now) }
-    ensures damaged { IfDamaged result (IsFailedCheck files.now (F.told f.new)) }
-    ensures untold { ForSome (F.told f.old).files (λ from. IsOwnedBy found.now.entry owned.now from → ForEachAlone node found.now.entry found.now.before from (λ state after layout unlinked. IfDamaged result (λ _. (F.told f.old).files ≡ None))) }
-    ensures untold_out { ForSome (F.told f.old).files (λ from. IsOwnedBy found.now.entry owned.now from → ForEachNext node found.now.entry found.now.before from (λ state layout keep chains unlinked item. IfDamaged result (λ _. (F.told f.old).files ≡ None))) }
-    ensures silent { (F.told f.old).files ≡ None → (F.told f.new).files ≡ None }
-    ensures later { F.faults f.old ≤ F.faults f.new }
-    ensures device { IfDevice result (Rises (F.faults f.old) (F.faults f.new)) }
+    requires is_open { ForSome (F.told folder.old).files (IsOpen files.now) }
+    ensures gone { OnOk result (ForSome (F.told folder.old).files (λ from. IsOwnedBy found.now.entry owned.now from → ForEachAlone node found.now.entry found.now.before from (λ state after layout unlinked. ForSome (F.told folder.new).files (IsGoneUncounted state after layout unlinked node found.now.entry owned.now.charge)))) }
+    ensures stops { ForSome (F.told folder.old).files (λ from. IsOwnedBy found.now.entry owned.now from → ForEachAlone node found.now.entry found.now.before from (λ state after layout unlinked. Passes (F.told folder.old) (F.told folder.new) (FindsEither state after))) }
+    ensures out { OnOk result (ForSome (F.told folder.old).files (λ from. IsOwnedBy found.now.entry owned.now from → ForEachNext node found.now.entry found.now.before from (λ state layout keep chains unlinked item. ForSome (F.told folder.new).files (IsOutUncounted state layout keep chains unlinked item found.now.entry owned.now.charge from)))) }
+    ensures going { ForSome (F.told folder.old).files (λ from. IsOwnedBy found.now.entry owned.now from → ForEachNext node found.now.entry found.now.before from (λ state layout keep chains unlinked item. Passes (F.told folder.old) (F.told folder.new) (IsGoingNext state layout keep chains unlinked item node found.now.entry found.now.before from))) }
+    ensures is_open { ForSome (F.told folder.new).files (IsOpen files.now) }
+    ensures damaged { IfDamaged result (IsFailedCheck files.now (F.told folder.new)) }
+    ensures untold { ForSome (F.told folder.old).files (λ from. IsOwnedBy found.now.entry owned.now from → ForEachAlone node found.now.entry found.now.before from (λ state after layout unlinked. IfDamaged result (λ _. (F.told folder.old).files ≡ None))) }
+    ensures untold_out { ForSome (F.told folder.old).files (λ from. IsOwnedBy found.now.entry owned.now from → ForEachNext node found.now.entry found.now.before from (λ state layout keep chains unlinked item. IfDamaged result (λ _. (F.told folder.old).files ≡ None))) }
+    ensures silent { (F.told folder.old).files ≡ None → (F.told folder.new).files ≡ None }
+    ensures later { F.faults folder.old ≤ F.faults folder.new }
+    ensures device { IfDevice result (Rises (F.faults folder.old) (F.faults folder.new)) }
 {
-    take_out(f, files, found, node)?;
-    free_owned(f, files, owned)
+    take_out(folder, files, found, node)?;
+    free_owned(folder, files, owned)
 }

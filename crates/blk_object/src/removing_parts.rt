@@ -30,7 +30,7 @@ use blk_io::{Fault, Folder};
 /// Its record is in its chain after the record before, or is the first; and it names this node. This takes as many
 /// folder calls as `remove_item`.
 pub fn remove_part<F: Folder>(
-    f: &mut F,
+    folder: &mut F,
     files: &BlockFiles,
     found: &Found,
     node: Addr,
@@ -40,37 +40,37 @@ pub fn remove_part<F: Folder>(
     requires stands { IsTrue (stands_among files.now found.now.entry) }
     requires kind_before { IfSome found.now.before (λ before. kind_of before ≡ blocks_256) }
     requires stands_before { IfSome found.now.before (λ before. IsTrue (stands_among files.now before)) }
-    requires is_open { ForSome (F.told f.old).files (IsOpen files.now) }
+    requires is_open { ForSome (F.told folder.old).files (IsOpen files.now) }
 
     // The charge is that of what lay there with this record.
-    ensures charge { IfOk result (λ charge. ForSome (F.told f.old).files (λ from. (was : Loaded) → LoadsWith found.now.entry was from → charge ≡ charge_of was)) }
+    ensures charge { IfOk result (λ charge. ForSome (F.told folder.old).files (λ from. (was : Loaded) → LoadsWith found.now.entry was from → charge ≡ charge_of was)) }
     ensures small { IfOk result (λ charge. charge < 2 ^ 34) }
 
     // Where some items are out, or none, and the others are counted, one more is out in the end, and those that are left are counted.
-    ensures removed { OnOk result (ForSome (F.told f.old).files (λ from. ForEachNext node found.now.entry found.now.before from (λ state layout keep chains unlinked item. CountsLeft state layout keep from → ForSome (F.told f.new).files (IsOutAndCounted state layout keep chains unlinked item found.now.entry)))) }
+    ensures removed { OnOk result (ForSome (F.told folder.old).files (λ from. ForEachNext node found.now.entry found.now.before from (λ state layout keep chains unlinked item. CountsLeft state layout keep from → ForSome (F.told folder.new).files (IsOutAndCounted state layout keep chains unlinked item found.now.entry)))) }
 
     // The session is the same then.
-    ensures session { OnOk result (ForSome (F.told f.old).files (λ from. ForEachNext node found.now.entry found.now.before from (λ state layout keep chains unlinked item. ForSome (F.told f.new).files (SameSession from)))) }
+    ensures session { OnOk result (ForSome (F.told folder.old).files (λ from. ForEachNext node found.now.entry found.now.before from (λ state layout keep chains unlinked item. ForSome (F.told folder.new).files (SameSession from)))) }
 
     // What lay in unlinked places, as its main item, loads yet by itself.
-    ensures keeps { OnOk result (ForSome (F.told f.old).files (λ from. ForEachNext node found.now.entry found.now.before from (λ state layout keep chains unlinked item. ForSome (F.told f.new).files (KeepsUnlinked unlinked from)))) }
+    ensures keeps { OnOk result (ForSome (F.told folder.old).files (λ from. ForEachNext node found.now.entry found.now.before from (λ state layout keep chains unlinked item. ForSome (F.told folder.new).files (KeepsUnlinked unlinked from)))) }
 
     // While a part goes after its main item, the durable contents with its object doomed are recovered.
-    ensures part { ForSome (F.told f.old).files (λ from. ForEachPart node found.now.entry found.now.before from (λ state number object. Passes (F.told f.old) (F.told f.new) (Finds (rest (doomed number state (Some object)))))) }
+    ensures part { ForSome (F.told folder.old).files (λ from. ForEachPart node found.now.entry found.now.before from (λ state number object. Passes (F.told folder.old) (F.told folder.new) (Finds (rest (doomed number state (Some object)))))) }
 
-    ensures is_open { ForSome (F.told f.new).files (IsOpen files.now) }
+    ensures is_open { ForSome (F.told folder.new).files (IsOpen files.now) }
 
     // Corruption is a check that fails on what is read here; nothing is written after it.
-    ensures damaged { IfDamaged result (IsFailedCheck files.now (F.told f.new)) }
+    ensures damaged { IfDamaged result (IsFailedCheck files.now (F.told folder.new)) }
 
     // An observable folder, with such an item, reports no corruption.
-    ensures untold { ForSome (F.told f.old).files (λ from. ForEachNext node found.now.entry found.now.before from (λ state layout keep chains unlinked item. IfDamaged result (λ _. (F.told f.old).files ≡ None))) }
+    ensures untold { ForSome (F.told folder.old).files (λ from. ForEachNext node found.now.entry found.now.before from (λ state layout keep chains unlinked item. IfDamaged result (λ _. (F.told folder.old).files ≡ None))) }
 
-    ensures silent { (F.told f.old).files ≡ None → (F.told f.new).files ≡ None }
-    ensures later { F.faults f.old ≤ F.faults f.new }
-    ensures device { IfDevice result (Rises (F.faults f.old) (F.faults f.new)) }
+    ensures silent { (F.told folder.old).files ≡ None → (F.told folder.new).files ≡ None }
+    ensures later { F.faults folder.old ≤ F.faults folder.new }
+    ensures device { IfDevice result (Rises (F.faults folder.old) (F.faults folder.new)) }
 {
-    let charge = take_away(f, files, found, node)?;
-    count_less(f, files, charge)?;
+    let charge = take_away(folder, files, found, node)?;
+    count_less(folder, files, charge)?;
     Ok(charge)
 }

@@ -38,7 +38,7 @@ const MOST_BYTES: u32 = blk_model::MOST_BYTES as u32;
 /// A failed check is one of `write`, an external file that is shorter than its stream, or an index that hasn't its
 /// length.
 pub fn write_object<F: Folder>(
-    f: &mut F,
+    folder: &mut F,
     files: &mut BlockFiles,
     entry: Addr,
     stream: u8,
@@ -50,42 +50,42 @@ pub fn write_object<F: Folder>(
     requires kind { kind_of entry ≡ blocks_256 }
     requires stands { IsTrue (stands_among files.old entry) }
     requires most { offset + length bytes.now ≤ most_stream_bytes }
-    requires is_open { ForSome (F.told f.old).files (IsOpen files.old) }
+    requires is_open { ForSome (F.told folder.old).files (IsOpen files.old) }
 
     // Each state that was kept, with such an object, is kept with its stream written in the end, but for the counters.
-    ensures written { OnOk result (ForSome (F.told f.old).files (λ from. ForEachUnsettled entry stream offset cut bytes.now from (λ state layout unlinked number object was. ForSome (F.told f.new).files (IsWrittenUncounted state layout unlinked number object was stream offset cut bytes.now from)))) }
+    ensures written { OnOk result (ForSome (F.told folder.old).files (λ from. ForEachUnsettled entry stream offset cut bytes.now from (λ state layout unlinked number object was. ForSome (F.told folder.new).files (IsWrittenUncounted state layout unlinked number object was stream offset cut bytes.now from)))) }
 
     // So is each with a part of such an object, which the stream makes one with another value.
-    ensures part_written { OnOk result (ForSome (F.told f.old).files (λ from. ForEachPartUnsettled entry stream offset cut bytes.now from (λ state layout unlinked number object n value was role. ForSome (F.told f.new).files (IsPartWrittenUncounted state layout unlinked number object n value was role stream offset cut bytes.now from)))) }
+    ensures part_written { OnOk result (ForSome (F.told folder.old).files (λ from. ForEachPartUnsettled entry stream offset cut bytes.now from (λ state layout unlinked number object n value was role. ForSome (F.told folder.new).files (IsPartWrittenUncounted state layout unlinked number object n value was role stream offset cut bytes.now from)))) }
 
     // At each word the old durable contents are recovered: a dirty object isn't durable, nor are its parts.
-    ensures stops { ForSome (F.told f.old).files (λ from. ForEachUnsettled entry stream offset cut bytes.now from (λ state layout unlinked number object was. Passes (F.told f.old) (F.told f.new) (Finds (rest state)))) }
+    ensures stops { ForSome (F.told folder.old).files (λ from. ForEachUnsettled entry stream offset cut bytes.now from (λ state layout unlinked number object was. Passes (F.told folder.old) (F.told folder.new) (Finds (rest state)))) }
 
-    ensures part_stops { ForSome (F.told f.old).files (λ from. ForEachPartUnsettled entry stream offset cut bytes.now from (λ state layout unlinked number object n value was role. Passes (F.told f.old) (F.told f.new) (Finds (rest state)))) }
+    ensures part_stops { ForSome (F.told folder.old).files (λ from. ForEachPartUnsettled entry stream offset cut bytes.now from (λ state layout unlinked number object n value was role. Passes (F.told folder.old) (F.told folder.new) (Finds (rest state)))) }
 
     // What was valid still is.
     ensures keeps { KeepsStanding files.old files.new }
-    ensures is_open { OnOk result (ForSome (F.told f.new).files (IsOpen files.new)) }
+    ensures is_open { OnOk result (ForSome (F.told folder.new).files (IsOpen files.new)) }
 
     // Corruption is a check that fails on what is read here; nothing is written after it.
-    ensures damaged { IfDamaged result (IsFailedCheck files.new (F.told f.new)) }
+    ensures damaged { IfDamaged result (IsFailedCheck files.new (F.told folder.new)) }
 
     // An observable folder, with such an object or such a part, reports no corruption.
-    ensures untold { ForSome (F.told f.old).files (λ from. ForEachUnsettled entry stream offset cut bytes.now from (λ state layout unlinked number object was. IfDamaged result (λ _. (F.told f.old).files ≡ None))) }
-    ensures part_untold { ForSome (F.told f.old).files (λ from. ForEachPartUnsettled entry stream offset cut bytes.now from (λ state layout unlinked number object n value was role. IfDamaged result (λ _. (F.told f.old).files ≡ None))) }
+    ensures untold { ForSome (F.told folder.old).files (λ from. ForEachUnsettled entry stream offset cut bytes.now from (λ state layout unlinked number object was. IfDamaged result (λ _. (F.told folder.old).files ≡ None))) }
+    ensures part_untold { ForSome (F.told folder.old).files (λ from. ForEachPartUnsettled entry stream offset cut bytes.now from (λ state layout unlinked number object n value was role. IfDamaged result (λ _. (F.told folder.old).files ≡ None))) }
 
-    ensures silent { (F.told f.old).files ≡ None → (F.told f.new).files ≡ None }
-    ensures later { F.faults f.old ≤ F.faults f.new }
-    ensures device { IfDevice result (Rises (F.faults f.old) (F.faults f.new)) }
+    ensures silent { (F.told folder.old).files ≡ None → (F.told folder.new).files ≡ None }
+    ensures later { F.faults folder.old ≤ F.faults folder.new }
+    ensures device { IfDevice result (Rises (F.faults folder.old) (F.faults folder.new)) }
 {
-    check_stream(f, files, entry, stream)?;
-    write(f, files, entry, stream, offset, cut, bytes)?;
-    check_index(f)
+    check_stream(folder, files, entry, stream)?;
+    write(folder, files, entry, stream, offset, cut, bytes)?;
+    check_index(folder)
 }
 
 // Looks whether the bytes of a stream are in their file, where they lie in an external one.
 fn check_stream<F: Folder>(
-    f: &mut F,
+    folder: &mut F,
     files: &BlockFiles,
     entry: Addr,
     stream: u8,
@@ -93,14 +93,14 @@ fn check_stream<F: Folder>(
     requires stream { stream < 3 }
     requires kind { kind_of entry ≡ blocks_256 }
     requires stands { IsTrue (stands_among files.now entry) }
-    ensures there { OnOk result (ForSome (F.told f.old).files (λ image. IsInFile (address_word image entry stream) 0 (size_word image entry stream) image)) }
-    ensures stays { Stays (F.told f.old) (F.told f.new) }
-    ensures damaged { IfDamaged result (IsFailedCheck files.now (F.told f.new)) }
-    ensures untold { ForSome (F.told f.old).files (Agrees files.now) → ForSome (F.told f.old).files (HasStreamThere entry stream) → IfDamaged result (λ _. (F.told f.old).files ≡ None) }
-    ensures later { F.faults f.old ≤ F.faults f.new }
-    ensures device { IfDevice result (Rises (F.faults f.old) (F.faults f.new)) }
+    ensures there { OnOk result (ForSome (F.told folder.old).files (λ image. IsInFile (address_word image entry stream) 0 (size_word image entry stream) image)) }
+    ensures stays { Stays (F.told folder.old) (F.told folder.new) }
+    ensures damaged { IfDamaged result (IsFailedCheck files.now (F.told folder.new)) }
+    ensures untold { ForSome (F.told folder.old).files (Agrees files.now) → ForSome (F.told folder.old).files (HasStreamThere entry stream) → IfDamaged result (λ _. (F.told folder.old).files ≡ None) }
+    ensures later { F.faults folder.old ≤ F.faults folder.new }
+    ensures device { IfDevice result (Rises (F.faults folder.old) (F.faults folder.new)) }
 {
-    let head = read_head(f, files, entry)?;
+    let head = read_head(folder, files, entry)?;
     let size = head.sizes[usize::from(stream)];
     let word = head.addrs[usize::from(stream)];
     if size == 0 {
@@ -109,7 +109,7 @@ fn check_stream<F: Folder>(
     let Some(addr) = Addr::from_word(word) else {
         return Err(unplaced(entry, stream, size, word));
     };
-    check_length(f, addr, size)
+    check_length(folder, addr, size)
 }
 
 // The failed check of a stream with bytes and without an address: it has the place of its size, where no stream is so long, and else that of its
@@ -126,19 +126,19 @@ fn unplaced(entry: Addr, stream: u8, size: u32, word: u32) -> Fault
 }
 
 // Looks whether so many bytes are in an external file; of blocks nothing is asked.
-fn check_length<F: Folder>(f: &mut F, addr: Addr, size: u32) -> Result<(), Fault>
-    ensures there { OnOk result (ForSome (F.told f.old).files (IsInFile addr 0 size)) }
-    ensures stays { Stays (F.told f.old) (F.told f.new) }
-    ensures damaged { IfDamaged result (ReadsTooFew (F.told f.new)) }
-    ensures untold { ForSome (F.told f.old).files (IsInFile addr 0 size) → IfDamaged result (λ _. (F.told f.old).files ≡ None) }
-    ensures later { F.faults f.old ≤ F.faults f.new }
-    ensures device { IfDevice result (Rises (F.faults f.old) (F.faults f.new)) }
+fn check_length<F: Folder>(folder: &mut F, addr: Addr, size: u32) -> Result<(), Fault>
+    ensures there { OnOk result (ForSome (F.told folder.old).files (IsInFile addr 0 size)) }
+    ensures stays { Stays (F.told folder.old) (F.told folder.new) }
+    ensures damaged { IfDamaged result (ReadsTooFew (F.told folder.new)) }
+    ensures untold { ForSome (F.told folder.old).files (IsInFile addr 0 size) → IfDamaged result (λ _. (F.told folder.old).files ≡ None) }
+    ensures later { F.faults folder.old ≤ F.faults folder.new }
+    ensures device { IfDevice result (Rises (F.faults folder.old) (F.faults folder.new)) }
 {
     if !is_external(addr) {
         return Ok(());
     }
     let file = file_of(addr);
-    let length = f.length(file)?.unwrap_or(0);
+    let length = folder.length(file)?.unwrap_or(0);
     if length < u64::from(size) {
         return Err(Fault::Damaged(Damage {
             file,

@@ -77,8 +77,8 @@ words-known f i n ws enough are =
     ext_get_or 0 (words_at f i n) ws (length-words_at f i n ∙ sym enough) (λ k inside. get-words f i n k (omega (arith, length-words_at f i n)) ∙ sym (are k (omega (arith, length-words_at f i n))))
 
 -- bytes are those of their words
-pub front-words : (bytes : List ℕ) (n : ℕ) → ((i : ℕ) → content bytes i < 256) → 4 * n ≤ length bytes → take (4 * n) bytes ≡ bytes_of_words (words_at (content bytes) 0 n)
-front-words bytes n small enough = sym (range-words n 0 (content bytes) small ∙ range-is (4 * n) 0 bytes (omega arith))
+pub prefix-words : (bytes : List ℕ) (n : ℕ) → ((i : ℕ) → content bytes i < 256) → 4 * n ≤ length bytes → take (4 * n) bytes ≡ bytes_of_words (words_at (content bytes) 0 n)
+prefix-words bytes n small enough = sym (range-words n 0 (content bytes) small ∙ range-is (4 * n) 0 bytes (omega arith))
 
 -- Heads.
 

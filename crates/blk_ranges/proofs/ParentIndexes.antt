@@ -20,7 +20,7 @@ use Rattle.blk_ranges.specs.declared.parent_map.ParentHead.{ParentHead}
 use Rattle.blk_ranges.specs.declared.parent_map.ParentMap.{ParentMap}
 use Rattle.blk_ranges.specs.PartMaps.{head_words}
 use Rattle.blk_ranges.specs.ParentMaps.{IsParentHead, OneByteAddsAPart, has_part_bit, head_bytes, head_fields, head_signature, no_parts, parent_bytes, parent_index_of, read_parent_head, with_part, with_part_bit}
-use Rattle.blk_ranges.proofs.HeadBytes.{SaysHead, front-words, head-known, head-said, head-right, put-behind}
+use Rattle.blk_ranges.proofs.HeadBytes.{SaysHead, prefix-words, head-known, head-said, head-right, put-behind}
 use borrow.Rule.Slice.PartMut.{put_mid, mid_of}
 
 -- Heads.
@@ -30,7 +30,7 @@ pub front-known : (head : ParentHead) (bytes : List ℕ) → ((i : ℕ) → cont
     → long_at (content bytes) 0 ≡ head_signature head → parent_key_len_of (content bytes) ≡ head.key_len → word_at (content bytes) 16 ≡ minus_one → last_block_len_of (content bytes) ≡ 0 → take 64 bytes ≡ head_bytes head
 unfolding head_bytes
 front-known head bytes small enough right signature key_len block len =
-    front-words bytes 16 small enough ∙ ap bytes_of_words (head-known (content bytes) small right ∙ λ k. head_words (signature k) (key_len k) (block k) (len k))
+    prefix-words bytes 16 small enough ∙ ap bytes_of_words (head-known (content bytes) small right ∙ λ k. head_words (signature k) (key_len k) (block k) (len k))
 
 -- the same of what was seen of the bytes
 pub front-seen : (head : ParentHead) (bytes seen : List ℕ) (x y : ℤ) (len : ℕ) → seen ≡ bytes → ((i : ℕ) → content bytes i < 256) → 64 ≤ length bytes → is_index_head (content seen) ≡ true

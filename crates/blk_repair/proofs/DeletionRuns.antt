@@ -52,7 +52,7 @@ use Rattle.law_recovery.proofs.MendedParts.{blocks-alike, external-leaves, words
 use Rattle.law_recovery.proofs.OwnClaims.{claim-file}
 use Rattle.law_recovery.proofs.RecordSeals.{linked-of, same-sealed}
 use Rattle.blk_repair.specs.Deletions.{DeletesAll, DeletesUpTo, IsMidDeletion, deletion_of, is_number_claimed, is_unclaimed, is_unlinked}
-use Rattle.blk_repair.specs.Endings.{BreaksOff}
+use Rattle.blk_repair.specs.Endings.{RepairBreaksOff}
 use Rattle.blk_repair.specs.Maps.{IsNextRebuilt}
 use Rattle.blk_repair.specs.Seals.{HasMendedLinksOf}
 use Rattle.blk_repair.proofs.Endings.{breaks-none, breaks-step, breaks-then, breaks-weaker}
@@ -320,10 +320,10 @@ all-deleted {a} {b} goes first last made rest = record {
 }
 
 -- one deletion, or none, passes what it leaves
-breaks-one : {a b : Told} (goes : File → Bool) (file : File) (P : Image → Type 0) → ForSome a.files P → (goes file ≡ true → ForSome a.files (λ image. P (applied (Delete file) image))) → Applies a b (deletion_of goes file) → BreaksOff a b P
+breaks-one : {a b : Told} (goes : File → Bool) (file : File) (P : Image → Type 0) → ForSome a.files P → (goes file ≡ true → ForSome a.files (λ image. P (applied (Delete file) image))) → Applies a b (deletion_of goes file) → RepairBreaksOff a b P
 breaks-one {a} {b} goes file P is leaves applies = by_test (goes file) refl applies
   where
-    by_test : (t : Bool) → goes file ≡ t → Applies a b (if t then Delete file ∷ [] else []) → BreaksOff a b P
+    by_test : (t : Bool) → goes file ≡ t → Applies a b (if t then Delete file ∷ [] else []) → RepairBreaksOff a b P
     by_test true e made = breaks-step P refl made tt (λ image there. (is image there, leaves e image there))
     by_test false e made = breaks-none P (told_same a b made) is
 
@@ -338,7 +338,7 @@ pub record HasDeletedBlocks (files : BlockFiles) (last : ℕ) (a b : Told) : Typ
   pub made : DeletesUpTo (is_unlinked files) (Block 3) (Block last) a b
   pub is_open : ForSome b.files (IsOpen files)
   pub linked : ForSome b.files (λ image. (n : ℕ) → n ≤ last → has_file image (Block n) ≡ true → is_among (all_files files) n ≡ true)
-  pub passed : ForSome a.files (λ from. (entry : Image) → HasMendedLinksOf entry from → BreaksOff a b (Holds entry from))
+  pub passed : ForSome a.files (λ from. (entry : Image) → HasMendedLinksOf entry from → RepairBreaksOff a b (Holds entry from))
   pub clean : ForSome a.files (λ from. OnlyLinked from → b ≡ a)
 
 pub blocks-begin : (files : BlockFiles) (a : Told) → ForSome a.files (IsOpen files) → HasDeletedBlocks files 3 a a
@@ -392,7 +392,7 @@ module _ (files : BlockFiles) (last n : ℕ) (a b c : Told) (has : HasDeletedBlo
     told_whole (λ image. (k : ℕ) → k ≤ n → has_file image (Block k) ≡ true → is_among (all_files files) k ≡ true) made (λ image there. gone-apart image there away),
   )
 
-  next-passes : (from : Image) → a.files ≡ Some from → (entry : Image) → HasMendedLinksOf entry from → BreaksOff a c (Holds entry from)
+  next-passes : (from : Image) → a.files ≡ Some from → (entry : Image) → HasMendedLinksOf entry from → RepairBreaksOff a c (Holds entry from)
   next-passes from there entry holds =
       let first = has.passed from there entry holds in
       breaks-then first (breaks-one (is_unlinked files) (Block n) (Holds entry from) (passes_end first.passes)
@@ -419,7 +419,7 @@ module _ (files : BlockFiles) (last n : ℕ) (a b c : Told) (has : HasDeletedBlo
         clean = next-clean;
       }
 
-pub blocks-said : {files : BlockFiles} {last : ℕ} {a b : Told} → HasDeletedBlocks files last a b → ForSome a.files (λ from. (entry : Image) → HasMendedLinksOf entry from → BreaksOff a b (IsMidDeletion entry from))
+pub blocks-said : {files : BlockFiles} {last : ℕ} {a b : Told} → HasDeletedBlocks files last a b → ForSome a.files (λ from. (entry : Image) → HasMendedLinksOf entry from → RepairBreaksOff a b (IsMidDeletion entry from))
 blocks-said {files} {last} {a} {b} has from there entry holds = breaks-weaker (has.passed from there entry holds) (holds-said entry from)
 
 -- none is after the last
@@ -535,7 +535,7 @@ pub record HasDeletedExternals (claims : Claims) (last : File) (a b : Told) : Ty
   pub made : DeletesUpTo (is_unclaimed claims) (Block 255) last a b
   pub is_open : (files : BlockFiles) → ForSome a.files (IsOpen files) → ForSome b.files (IsOpen files)
   pub claimed : ForSome b.files (λ image. (number : ℕ) → (IsBefore last (External number) → ⊥) → has_file image (External number) ≡ true → is_number_claimed claims number ≡ true)
-  pub passed : ForSome a.files (λ from. (entry : Image) → IsNextRebuilt entry claims from → BreaksOff a b (Holds entry from))
+  pub passed : ForSome a.files (λ from. (entry : Image) → IsNextRebuilt entry claims from → RepairBreaksOff a b (Holds entry from))
   pub clean : ForSome a.files (λ from. (entry : Image) → IsNextRebuilt entry claims from → OnlyClaimed from (claims_of_loaded (kept from)) → b ≡ a)
 
 pub externals-begin : (claims : Claims) (a : Told) → HasDeletedExternals claims (Block 255) a a
@@ -584,7 +584,7 @@ module _ (claims : Claims) (last : File) (number : ℕ) (a b c : Told) (has : Ha
   next-still_open files is true made = told_whole (IsOpen files) made (λ image there. external-open files image number (is image there))
   next-still_open files is false made = subst (λ (t : Told). ForSome t.files (IsOpen files)) (sym (told_same b c made)) is
 
-  next-kept : (from : Image) → a.files ≡ Some from → (entry : Image) → IsNextRebuilt entry claims from → BreaksOff a c (Holds entry from)
+  next-kept : (from : Image) → a.files ≡ Some from → (entry : Image) → IsNextRebuilt entry claims from → RepairBreaksOff a c (Holds entry from)
   next-kept from there entry rebuilt =
       let first = has.passed from there entry rebuilt in
       breaks-then first (breaks-one (is_unclaimed claims) (External number) (Holds entry from) (passes_end first.passes)
@@ -609,7 +609,7 @@ module _ (claims : Claims) (last : File) (number : ℕ) (a b c : Told) (has : Ha
     clean = next-all_claimed;
   }
 
-pub externals-said : {claims : Claims} {last : File} {a b : Told} → HasDeletedExternals claims last a b → ForSome a.files (λ from. (entry : Image) → IsNextRebuilt entry claims from → BreaksOff a b (IsMidDeletion entry from))
+pub externals-said : {claims : Claims} {last : File} {a b : Told} → HasDeletedExternals claims last a b → ForSome a.files (λ from. (entry : Image) → IsNextRebuilt entry claims from → RepairBreaksOff a b (IsMidDeletion entry from))
 externals-said {claims} {last} {a} {b} has from there entry next = breaks-weaker (has.passed from there entry next) (holds-said entry from)
 
 -- none is after the last

@@ -20,7 +20,7 @@ use Rattle.blk_scan.specs.declared.scan.Scan.{Scan}
 use Rattle.blk_repair.specs.Chains.{AreChainsScanned}
 use Rattle.blk_repair.specs.Counters.{HasIndexWords, IsIndexMended, IsNextCounted, counted_words, index_steps, index_words_steps}
 use Rattle.blk_repair.specs.Deletions.{IsMidDeletion}
-use Rattle.blk_repair.specs.Endings.{BreaksOff, EndsOrBreaksOff, EndsWithCrashWord}
+use Rattle.blk_repair.specs.Endings.{RepairBreaksOff, EndsOrBreaksOff, EndsWithCrashWord}
 use Rattle.blk_repair.specs.Maps.{AreFilesMended, IsNextRebuilt, Rebuilds}
 use Rattle.blk_repair.specs.Parts.{AppliesOf}
 use Rattle.blk_repair.specs.Removals.{IsListScanned, mending_steps}
@@ -28,7 +28,7 @@ use Rattle.blk_repair.specs.Repair.{AreBucketsScanned, IsNextFinished, IsRepaira
 use Rattle.blk_repair.specs.Seals.{AreSealedNow, HasMendedLinksOf, IsNextSealed, seals_steps}
 use Rattle.blk_repair.proofs.CounterRuns.{counted, index-along, index-mended, index-quiet, words-quiet}
 use Rattle.blk_repair.proofs.CrashWord.{SpareIt, counted-elsewhere, spare-all, spare-list, spare-seals, spare-table, spare-words}
-use Rattle.blk_repair.proofs.Endings.{breaks-front, breaks-part, breaks-then, breaks-weaker, either-then, either-weaker, ends-then, ends-weaker, spare-or-ended}
+use Rattle.blk_repair.proofs.Endings.{breaks-prefix, breaks-part, breaks-then, breaks-weaker, either-then, either-weaker, ends-then, ends-weaker, spare-or-ended}
 use Rattle.blk_repair.proofs.ListRuns.{quiet-mending, repaired, steps-are}
 use Rattle.blk_repair.proofs.MapRuns.{moment-keeps}
 use Rattle.blk_repair.proofs.RepairRuns.{chains-next, claims-next, counted-told, deletion-mid, links-mid, repaired-for, still-told}
@@ -38,27 +38,27 @@ use Rattle.blk_repair.proofs.TableRuns.{quiet-repair}
 -- ---- two parts
 
 -- steps that break off, and what is after them
-pub joined-either : {a b c : Told} {P Q : Image → Type 0} (R : Image → Type 0) (from : Image) → a.files ≡ Some from → BreaksOff a b P → ForSome b.files R → ForSome b.files (λ mid. R mid → EndsOrBreaksOff b c P Q) → EndsOrBreaksOff a c P Q
+pub joined-either : {a b c : Told} {P Q : Image → Type 0} (R : Image → Type 0) (from : Image) → a.files ≡ Some from → RepairBreaksOff a b P → ForSome b.files R → ForSome b.files (λ mid. R mid → EndsOrBreaksOff b c P Q) → EndsOrBreaksOff a c P Q
 joined-either R from there first is second = let now = still-told from there first.passes in either-then first (second now.0 now.1 (is now.0 now.1))
 
-pub joined-ends : {a b c : Told} {P Q : Image → Type 0} (R : Image → Type 0) (from : Image) → a.files ≡ Some from → BreaksOff a b P → ForSome b.files R → ForSome b.files (λ mid. R mid → EndsWithCrashWord b c P Q) → EndsWithCrashWord a c P Q
+pub joined-ends : {a b c : Told} {P Q : Image → Type 0} (R : Image → Type 0) (from : Image) → a.files ≡ Some from → RepairBreaksOff a b P → ForSome b.files R → ForSome b.files (λ mid. R mid → EndsWithCrashWord b c P Q) → EndsWithCrashWord a c P Q
 joined-ends R from there first is second = let now = still-told from there first.passes in ends-then first (second now.0 now.1 (is now.0 now.1))
 
 -- ---- the links
 
-pub list-breaks : (a b : Told) (nodes others : List ℕ) (from : Image) → a.files ≡ Some from → IsListScanned nodes others from → MakesPartOf a b (mending_steps nodes others) → BreaksOff a b (HoldsTheSame from)
+pub list-breaks : (a b : Told) (nodes others : List ℕ) (from : Image) → a.files ≡ Some from → IsListScanned nodes others from → MakesPartOf a b (mending_steps nodes others) → RepairBreaksOff a b (HoldsTheSame from)
 list-breaks a b nodes others from there scanned part =
     breaks-part (HoldsTheSame from) (part.made from there) (quiet-mending nodes others from) (subst SpareIt (steps-are from nodes others scanned) (spare-list from))
     (λ i here. subst (λ (x : Image). Along (HoldsTheSame from) x (mending_steps nodes others from)) (some_inj (sym there ∙ here)) (repaired from nodes others scanned).0)
 
-pub chains-break : (a b : Told) (records ends : List ℕ) (whole : List Bool) → ForSome a.files (λ from. AreChainsScanned records ends whole from → AppliesPrefix a b (chain_repair_steps from)) → ForSome a.files (λ from. AreChainsScanned records ends whole from → BreaksOff a b (HoldsTheSame from))
+pub chains-break : (a b : Told) (records ends : List ℕ) (whole : List Bool) → ForSome a.files (λ from. AreChainsScanned records ends whole from → AppliesPrefix a b (chain_repair_steps from)) → ForSome a.files (λ from. AreChainsScanned records ends whole from → RepairBreaksOff a b (HoldsTheSame from))
 chains-break a b records ends whole part from there scanned =
     breaks-part (HoldsTheSame from) (part from there scanned) (quiet-repair from) (spare-table from)
     (λ i here. subst (λ (x : Image). Along (HoldsTheSame from) x (chain_repair_steps from)) (some_inj (sym there ∙ here)) (chains-repaired from scanned.well_formed scanned.writable scanned.keeps_all).0)
 
 -- the list, and then the chains
-pub links-break : (scan : Scan) (a b c : Told) (from : Image) → a.files ≡ Some from → IsRepairable scan from → BreaksOff a b (HoldsTheSame from) → ForSome b.files (IsListMended from)
-    → ForSome b.files (λ mid. AreBucketsScanned scan.chains mid → BreaksOff b c (HoldsTheSame mid)) → BreaksOff a c (IsMidRepair from)
+pub links-break : (scan : Scan) (a b c : Told) (from : Image) → a.files ≡ Some from → IsRepairable scan from → RepairBreaksOff a b (HoldsTheSame from) → ForSome b.files (IsListMended from)
+    → ForSome b.files (λ mid. AreBucketsScanned scan.chains mid → RepairBreaksOff b c (HoldsTheSame mid)) → RepairBreaksOff a c (IsMidRepair from)
 links-break scan a b c from there is first mended chained =
     let now = still-told from there first.passes in
     let holds : HoldsTheSame from now.0 = passes_end first.passes now.0 now.1 in
@@ -67,7 +67,7 @@ links-break scan a b c from there is first mended chained =
 
 -- ---- the files
 
-pub rebuilds-break : (a b : Told) (files : BlockFiles) (claims : Claims) (entry from : Image) → a.files ≡ Some from → IsNextRebuilt entry claims from → AppliesOf (Rebuilds files claims) from a b → BreaksOff a b (IsMidRepair entry)
+pub rebuilds-break : (a b : Told) (files : BlockFiles) (claims : Claims) (entry from : Image) → a.files ≡ Some from → IsNextRebuilt entry claims from → AppliesOf (Rebuilds files claims) from a b → RepairBreaksOff a b (IsMidRepair entry)
 rebuilds-break a b files claims entry from there next made =
     let R : Image → Type 0 = IsRebuilding claims (all_files files) from in
     let M : Image → Type 0 = IsMidRepair entry in
@@ -83,23 +83,23 @@ rebuilds-break a b files claims entry from there next made =
     }
 
 -- the unlinked block files go, and then the unclaimed external files
-pub deletions-break : (claims : Claims) (a b c : Told) (entry from : Image) → a.files ≡ Some from → IsNextRebuilt entry claims from → BreaksOff a b (IsMidDeletion entry from)
-    → ForSome b.files (λ mid. (entry : Image) → IsNextRebuilt entry claims mid → BreaksOff b c (IsMidDeletion entry mid)) → BreaksOff a c (IsMidRepair entry)
+pub deletions-break : (claims : Claims) (a b c : Told) (entry from : Image) → a.files ≡ Some from → IsNextRebuilt entry claims from → RepairBreaksOff a b (IsMidDeletion entry from)
+    → ForSome b.files (λ mid. (entry : Image) → IsNextRebuilt entry claims mid → RepairBreaksOff b c (IsMidDeletion entry mid)) → RepairBreaksOff a c (IsMidRepair entry)
 deletions-break claims a b c entry from there next first second =
     let now = still-told from there first.passes in
     let rest : IsNextRebuilt entry claims now.0 = claims-next entry from now.0 claims next (passes_end first.passes now.0 now.1) in
     breaks-then (breaks-weaker first (deletion-mid entry from)) (breaks-weaker (second now.0 now.1 entry rest) (deletion-mid entry now.0))
 
 -- the block files are repaired, and then the others go
-pub store-breaks : (claims : Claims) (a b c : Told) (entry from : Image) → a.files ≡ Some from → IsNextRebuilt entry claims from → BreaksOff a b (IsMidRepair entry) → ForSome b.files (AreFilesMended entry from)
-    → ForSome b.files (λ mid. (entry : Image) → IsNextRebuilt entry claims mid → BreaksOff b c (IsMidRepair entry)) → BreaksOff a c (IsMidRepair entry)
+pub store-breaks : (claims : Claims) (a b c : Told) (entry from : Image) → a.files ≡ Some from → IsNextRebuilt entry claims from → RepairBreaksOff a b (IsMidRepair entry) → ForSome b.files (AreFilesMended entry from)
+    → ForSome b.files (λ mid. (entry : Image) → IsNextRebuilt entry claims mid → RepairBreaksOff b c (IsMidRepair entry)) → RepairBreaksOff a c (IsMidRepair entry)
 store-breaks claims a b c entry from there next first mended second =
     let now = still-told from there first.passes in
     breaks-then first (second now.0 now.1 entry (record { holds = (mended now.0 now.1).holds; claimed = next.claimed }))
 
 -- ---- the rest
 
-pub seals-break : (a b : Told) (words : List ℕ) (entry from : Image) → a.files ≡ Some from → IsNextSealed entry words from → ForSome a.files (λ image. AppliesPrefix a b (seals_steps words image)) → BreaksOff a b (HasMendedLinksOf entry)
+pub seals-break : (a b : Told) (words : List ℕ) (entry from : Image) → a.files ≡ Some from → IsNextSealed entry words from → ForSome a.files (λ image. AppliesPrefix a b (seals_steps words image)) → RepairBreaksOff a b (HasMendedLinksOf entry)
 seals-break a b words entry from there next part =
     breaks-part (HasMendedLinksOf entry) (part from there) (seals-quiet words from) (spare-seals words from)
     (λ i here. subst (λ (x : Image). Along (HasMendedLinksOf entry) x (seals_steps words from)) (some_inj (sym there ∙ here)) (all-sealed entry from words next.holds next.are_kept).0)
@@ -134,14 +134,14 @@ module _ (b c : Told) (items bytes id : ℕ) (small_items : items < 2 ^ 32) (sma
   index-may part = on (spare-or-ended counters part.made part.left spare-counters part.split)
     where
       on : SpareIt part.made ⊎ (part.made ≡ index_steps items bytes id mid) → EndsOrBreaksOff b c (HasMendedLinksOf entry) AreRight
-      on (inl spare) = inl (breaks-front (HasMendedLinksOf entry) part (index-quiet items bytes id mid) spare held)
+      on (inl spare) = inl (breaks-prefix (HasMendedLinksOf entry) part (index-quiet items bytes id mid) spare held)
       on (inr all) = inr (index-ends (subst (Applies b c) all part.applies))
 
 below : (n x : ℕ) → n ≡ x % 2 ^ 32 → n < 2 ^ 32
 below n x e = omega (arith, e)
 
 -- the seals, and then the words of the index, for what was told
-module _ (scan : Scan) (words : List ℕ) (w : words ≡ scan.bare.items) (a b c : Told) (entry from : Image) (there : a.files ≡ Some from) (next : IsNextFinished scan entry from) (first : BreaksOff a b (HasMendedLinksOf entry)) (items bytes id : ℕ)
+module _ (scan : Scan) (words : List ℕ) (w : words ≡ scan.bare.items) (a b c : Told) (entry from : Image) (there : a.files ≡ Some from) (next : IsNextFinished scan entry from) (first : RepairBreaksOff a b (HasMendedLinksOf entry)) (items bytes id : ℕ)
     (items-are : items ≡ length scan.kept.items % 2 ^ 32) (bytes-are : bytes ≡ scan.bytes % 2 ^ 32) (small_id : id < 2 ^ 32) (whole : ForSome b.files HasWholeIndex) (sealed : ForSome b.files (AreSealedNow entry from words)) where
   next-counted : ForSome b.files (IsNextCounted entry items bytes)
   next-counted mid here = counted-told scan entry mid items bytes items-are bytes-are next.links.scanned (passes_end first.passes mid here)

@@ -6,18 +6,18 @@ use Rattle.spec_image.specs.Bytes.{word_bytes}
 use Rattle.spec_image.specs.Image.{Image, Index}
 use Rattle.spec_image.specs.Steps.{TrailStep, Word, after, applied, word_step}
 use Rattle.spec_image.specs.Told.{Told, Along, Applies, AppliesPrefix, IsQuiet, Passes}
-use Rattle.spec_image.proofs.Runs.{grows_none, grows_then, quiet-append, quiet_front, until-append, until_front, until_weaker2}
+use Rattle.spec_image.proofs.Runs.{grows_none, grows_then, quiet-append, quiet_prefix, until-append, until_prefix, until_weaker2}
 use Rattle.spec_image.proofs.WordSteps.{quiet-word_step}
 use Rattle.blk_repair.specs.Counters.{crash_place}
-use Rattle.blk_repair.specs.Endings.{BreaksOff, EndsOrBreaksOff, EndsWithCrashWord}
+use Rattle.blk_repair.specs.Endings.{RepairBreaksOff, EndsOrBreaksOff, EndsWithCrashWord}
 use Rattle.blk_repair.proofs.CrashWord.{IsOther, SpareIt, spare-append}
 
 -- ---- steps that spare the crash word
 
 -- so do the first of them
-pub spare-front : (s t : List TrailStep) → SpareIt (s ++ t) → SpareIt s
-spare-front [] t spare = All-nil IsOther
-spare-front (x ∷ s) t spare = All-cons IsOther x s (All-head IsOther x (s ++ t) spare) (spare-front s t (All-tail IsOther x (s ++ t) spare))
+pub spare-prefix : (s t : List TrailStep) → SpareIt (s ++ t) → SpareIt s
+spare-prefix [] t spare = All-nil IsOther
+spare-prefix (x ∷ s) t spare = All-cons IsOther x s (All-head IsOther x (s ++ t) spare) (spare-prefix s t (All-tail IsOther x (s ++ t) spare))
 
 heads-same : {x y : TrailStep} {s t : List TrailStep} → x ∷ s ≡ y ∷ t → x ≡ y
 heads-same e = cc
@@ -50,37 +50,37 @@ front-or-all (z ∷ s) x (y ∷ made) left e = on (front-or-all s x made left (t
 pub spare-or-ended : (s made left : List TrailStep) → SpareIt s → s ++ word_step Index crash_place 1 ≡ made ++ left → SpareIt made ⊎ (made ≡ s ++ word_step Index crash_place 1)
 unfolding word_step
 spare-or-ended s made left spare e =
-    ⊎_elim (λ (more : (rest : List TrailStep) × (s ≡ made ++ rest)). inl (spare-front made more.0 (subst SpareIt more.1 spare))) (λ (same : made ≡ s ++ Word Index crash_place (word_bytes 1) ∷ []). inr same)
+    ⊎_elim (λ (more : (rest : List TrailStep) × (s ≡ made ++ rest)). inl (spare-prefix made more.0 (subst SpareIt more.1 spare))) (λ (same : made ≡ s ++ Word Index crash_place (word_bytes 1) ∷ []). inr same)
     (front-or-all s (Word Index crash_place (word_bytes 1)) made left e)
 
 -- ---- steps that break off
 
 -- none was made
-pub breaks-none : {a b : Told} (P : Image → Type 0) → b ≡ a → ForSome a.files P → BreaksOff a b P
+pub breaks-none : {a b : Told} (P : Image → Type 0) → b ≡ a → ForSome a.files P → RepairBreaksOff a b P
 breaks-none P same holds = record { passes = record { steps = []; applies = grows_none same; quiet = tt; along = holds }; unmarked = All-nil IsOther }
 
 -- a part of some steps was, which spares it
-pub breaks-front : {a b : Told} {s : List TrailStep} (P : Image → Type 0) (part : AppliesPrefix a b s) → IsQuiet s → SpareIt part.made → ForSome a.files (λ image. Along P image s) → BreaksOff a b P
-breaks-front {a} {b} {s} P part quiet spare along = record {
+pub breaks-prefix : {a b : Told} {s : List TrailStep} (P : Image → Type 0) (part : AppliesPrefix a b s) → IsQuiet s → SpareIt part.made → ForSome a.files (λ image. Along P image s) → RepairBreaksOff a b P
+breaks-prefix {a} {b} {s} P part quiet spare along = record {
   passes = record {
     steps = part.made;
     applies = part.applies;
-    quiet = quiet_front part.made part.left (subst IsQuiet part.split quiet);
-    along = λ image there. until_front P P part.made part.left image (λ i h. h) (subst (Along P image) part.split (along image there));
+    quiet = quiet_prefix part.made part.left (subst IsQuiet part.split quiet);
+    along = λ image there. until_prefix P P part.made part.left image (λ i h. h) (subst (Along P image) part.split (along image there));
   };
   unmarked = spare;
 }
 
 -- so does each part of steps that do
-pub breaks-part : {a b : Told} {s : List TrailStep} (P : Image → Type 0) → AppliesPrefix a b s → IsQuiet s → SpareIt s → ForSome a.files (λ image. Along P image s) → BreaksOff a b P
-breaks-part {a} {b} {s} P part quiet spare along = breaks-front P part quiet (spare-front part.made part.left (subst SpareIt part.split spare)) along
+pub breaks-part : {a b : Told} {s : List TrailStep} (P : Image → Type 0) → AppliesPrefix a b s → IsQuiet s → SpareIt s → ForSome a.files (λ image. Along P image s) → RepairBreaksOff a b P
+breaks-part {a} {b} {s} P part quiet spare along = breaks-prefix P part quiet (spare-prefix part.made part.left (subst SpareIt part.split spare)) along
 
 -- one was, which spares it
-pub breaks-step : {a b : Told} {x : TrailStep} (P : Image → Type 0) → IsOther x → Applies a b (x ∷ []) → IsQuiet (x ∷ []) → ForSome a.files (λ image. P image × P (applied x image)) → BreaksOff a b P
+pub breaks-step : {a b : Told} {x : TrailStep} (P : Image → Type 0) → IsOther x → Applies a b (x ∷ []) → IsQuiet (x ∷ []) → ForSome a.files (λ image. P image × P (applied x image)) → RepairBreaksOff a b P
 breaks-step {a} {b} {x} P other made quiet both = record { passes = record { steps = x ∷ []; applies = made; quiet = quiet; along = both }; unmarked = All-cons IsOther x [] other (All-nil IsOther) }
 
 -- some were, and then others
-pub breaks-then : {a b c : Told} {P : Image → Type 0} → BreaksOff a b P → BreaksOff b c P → BreaksOff a c P
+pub breaks-then : {a b c : Told} {P : Image → Type 0} → RepairBreaksOff a b P → RepairBreaksOff b c P → RepairBreaksOff a c P
 breaks-then {a} {b} {c} {P} first second =
     let s : List TrailStep = first.passes.steps in
     let t : List TrailStep = second.passes.steps in
@@ -95,7 +95,7 @@ breaks-then {a} {b} {c} {P} first second =
     }
 
 -- what holds of the files may be weaker
-pub breaks-weaker : {a b : Told} {P R : Image → Type 0} → BreaksOff a b P → ((image : Image) → P image → R image) → BreaksOff a b R
+pub breaks-weaker : {a b : Told} {P R : Image → Type 0} → RepairBreaksOff a b P → ((image : Image) → P image → R image) → RepairBreaksOff a b R
 breaks-weaker {a} {b} {P} {R} broken weaker = record {
   passes = record {
     steps = broken.passes.steps;
@@ -129,7 +129,7 @@ ends-weaker {a} {b} {P} {Q} {R} {S} ends weaker last = record {
 }
 
 -- steps that break off, and others after them
-pub ends-then : {a b c : Told} {P Q : Image → Type 0} → BreaksOff a b P → EndsWithCrashWord b c P Q → EndsWithCrashWord a c P Q
+pub ends-then : {a b c : Told} {P Q : Image → Type 0} → RepairBreaksOff a b P → EndsWithCrashWord b c P Q → EndsWithCrashWord a c P Q
 ends-then {a} {b} {c} {P} {Q} first ends =
     let steps : List TrailStep = first.passes.steps in
     let joined : steps ++ (ends.before ++ word_step Index crash_place 1) ≡ (steps ++ ends.before) ++ word_step Index crash_place 1 = sym (append_assoc steps ends.before (word_step Index crash_place 1)) in
@@ -158,7 +158,7 @@ pub either-stayed : {a m b : Told} {P Q : Image → Type 0} → m ≡ a → Ends
 either-stayed {a} {m} {b} {P} {Q} stays either = subst (λ (t : Told). EndsOrBreaksOff t b P Q) stays either
 
 -- steps that break off come before
-pub either-then : {a b c : Told} {P Q : Image → Type 0} → BreaksOff a b P → EndsOrBreaksOff b c P Q → EndsOrBreaksOff a c P Q
+pub either-then : {a b c : Told} {P Q : Image → Type 0} → RepairBreaksOff a b P → EndsOrBreaksOff b c P Q → EndsOrBreaksOff a c P Q
 either-then first (inl broken) = inl (breaks-then first broken)
 either-then first (inr ends) = inr (ends-then first ends)
 

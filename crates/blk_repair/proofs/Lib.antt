@@ -8,7 +8,7 @@ pub mod SealRuns
 pub mod CounterRuns
 pub mod MapRuns
 pub mod WholeChains
-pub mod FrontRuns
+pub mod BucketWordRuns
 pub mod TableRuns
 pub mod CrashWord
 pub mod Endings

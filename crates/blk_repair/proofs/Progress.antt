@@ -6,7 +6,7 @@ use Rattle.spec_image.specs.Image.{Image}
 use Rattle.spec_image.specs.Steps.{TrailStep, after}
 use Rattle.spec_image.specs.Told.{Told, Along, Applies, AppliesPrefix}
 use Rattle.spec_image.proofs.Cuts.{after-append}
-use Rattle.spec_image.proofs.Runs.{along_front, grows_none, grows_then, part_then, part_only, part_whole, some_inj, told_part}
+use Rattle.spec_image.proofs.Runs.{along_prefix, grows_none, grows_then, part_then, part_only, part_whole, some_inj, told_part}
 use Rattle.blk_disk.specs.declared.tables.BlockFiles.{BlockFiles}
 use Rattle.blk_disk.specs.Open.{IsOpen}
 
@@ -46,7 +46,7 @@ module _ {old now : Told} {whole rest : Image → List TrailStep} (progress : Pr
       by_files None none = absurd (no_some (sym (progress.silent none) ∙ here))
       by_files (Some from) there =
           subst P (some_inj (sym (now_files from there) ∙ here))
-          (along_front P (progress.done from) (rest (after (progress.done from) from)) from (subst (Along P from) (progress.split from) (all from there)))
+          (along_prefix P (progress.done from) (rest (after (progress.done from) from)) from (subst (Along P from) (progress.split from) (all from there)))
 
   -- what holds now of every told beginning holds of the files now
   pub now_by : (P : Image → Type 0) → ForSome old.files (λ from. ForSome now.files P) → ForSome now.files P

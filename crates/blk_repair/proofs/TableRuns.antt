@@ -14,7 +14,7 @@ use Rattle.law_recovery.specs.ChainRepair.{AreChainsMended, HasChainsUpTo, chain
 use Rattle.law_recovery.specs.ListRepair.{HoldsTheSame}
 use Rattle.law_recovery.proofs.ChainRepair.{chains-begin, chains-repaired}
 use Rattle.blk_audit.specs.BucketEnds.{records_of}
-use Rattle.blk_repair.specs.Chains.{AreChainsScanned, IsFront, IsNextBucket}
+use Rattle.blk_repair.specs.Chains.{AreChainsScanned, IsBucketWord, IsNextBucket}
 use Rattle.blk_repair.specs.Damages.{AllCheck}
 use Rattle.blk_repair.proofs.ChainRuns.{kept-check, mends-next, quiet-chain}
 
@@ -57,7 +57,7 @@ one-left records bucket left more image is = ap (λ (n : ℕ). chains_steps reco
 
 -- what is known of the bucket that is next
 next-is : (old now : Told) (records ends : List ℕ) (whole : List Bool) (bucket front : ℕ) (own : List ℕ) (told : Bool) (from : Image) → bucket < 65536 → own ≡ records_of records ends bucket → told ≡ slice_index_or whole bucket false
-    → ForSome now.files (λ image. told ≡ false → IsFront front bucket image) → AreChainsScanned records ends whole from → IsMendedTo old now from bucket → ForSome now.files (IsNextBucket from bucket front own told)
+    → ForSome now.files (λ image. told ≡ false → IsBucketWord front bucket image) → AreChainsScanned records ends whole from → IsMendedTo old now from bucket → ForSome now.files (IsNextBucket from bucket front own told)
 next-is old now records ends whole bucket front own told from inside own-is told-is read scanned to image here = record {
   next = record { well_formed = scanned.well_formed; keeps_all = scanned.keeps_all; up_to = to.up_to image here; are_kept = own-is ∙ scanned.are_kept bucket inside };
   is_whole = λ yes. subst (IsChain (store_of from) bucket) (sym own-is) (scanned.are_whole bucket inside (sym told-is ∙ yes));
@@ -93,7 +93,7 @@ part-so-far old now records ends whole bucket are from there scanned =
 
 -- one call more
 module _ (old now : Told) (records ends : List ℕ) (whole : List Bool) (bucket front : ℕ) (own : List ℕ) (told : Bool) (inside : bucket < 65536) (own-is : own ≡ records_of records ends bucket) (told-is : told ≡ slice_index_or whole bucket false)
-    (read : ForSome now.files (λ image. told ≡ false → IsFront front bucket image)) (are : AreMendedTo old now records ends whole bucket) where
+    (read : ForSome now.files (λ image. told ≡ false → IsBucketWord front bucket image)) (are : AreMendedTo old now records ends whole bucket) where
   -- the files now have this as their next bucket
   has-next : ForSome old.files (AreChainsScanned records ends whole) → ForSome now.files (λ image. (from : Image) × IsNextBucket from bucket front own told image)
   has-next scanned image here = by_files old.files refl

@@ -18,22 +18,22 @@ pub record IsNextChain (from : Image) (bucket : ℕ) (records : List ℕ) (image
   pub are_kept : records ≡ kept_records from bucket
 
 -- this is the word of a bucket
-abbrev pub IsFront : (front bucket : ℕ) → Image → Type 0
-IsFront front bucket image = front ≡ bucket_of (byte image Index) bucket
+abbrev pub IsBucketWord : (front bucket : ℕ) → Image → Type 0
+IsBucketWord front bucket image = front ≡ bucket_of (byte image Index) bucket
 
 -- and if the bucket is told whole, it was the chain of these already; if it isn't, its word was read
 pub record IsNextBucket (from : Image) (bucket front : ℕ) (records : List ℕ) (whole : Bool) (image : Image) : Type 0 where
   pub next : IsNextChain from bucket records image
   pub is_whole : whole ≡ true → IsChain (store_of from) bucket records
-  pub is_front : whole ≡ false → IsFront front bucket image
+  pub is_front : whole ≡ false → IsBucketWord front bucket image
 
 -- the words of all other buckets are as before
 abbrev pub KeepsOtherBuckets : ℕ → Image → Image → Type 0
 KeepsOtherBuckets bucket from image = (other : ℕ) → other ≢ bucket → bucket_of (byte image Index) other ≡ bucket_of (byte from Index) other
 
 -- the words of the buckets from one on, up to another, were read: each is at the place that its bucket has in its piece of the table
-abbrev pub AreFronts : (words : List ℕ) (bucket last : ℕ) → Image → Type 0
-AreFronts words bucket last image = (other : ℕ) → bucket ≤ other → other < last → slice_index words (other % buckets_of_piece) ≡ bucket_of (byte image Index) other
+abbrev pub AreBucketWords : (words : List ℕ) (bucket last : ℕ) → Image → Type 0
+AreBucketWords words bucket last image = (other : ℕ) → bucket ≤ other → other < last → slice_index words (other % buckets_of_piece) ≡ bucket_of (byte image Index) other
 
 -- the list was repaired, and these are the kept records of all buckets; each bucket that is told whole is the chain of its records
 pub record AreChainsScanned (records ends : List ℕ) (whole : List Bool) (image : Image) : Type 0 where

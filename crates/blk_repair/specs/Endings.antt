@@ -7,7 +7,7 @@ use Rattle.spec_image.specs.Told.{Told, Along, Applies, IsQuiet, Passes}
 use Rattle.blk_repair.specs.Counters.{crash_place, writes_crash_word}
 
 -- steps were made, none of them a note, and none writes inside the crash word; P holds of the files before each of them and after the last
-pub record BreaksOff (old new : Told) (P : Image → Type 0) : Type 0 where
+pub record RepairBreaksOff (old new : Told) (P : Image → Type 0) : Type 0 where
   pub passes : Passes old new P
   pub unmarked : All (λ step. writes_crash_word step ≡ false) passes.steps
 
@@ -22,4 +22,4 @@ pub record EndsWithCrashWord (old new : Told) (P Q : Image → Type 0) : Type 0 
 
 -- one or the other
 abbrev pub EndsOrBreaksOff : (old new : Told) → (P Q : Image → Type 0) → Type 0
-EndsOrBreaksOff old new P Q = BreaksOff old new P ⊎ EndsWithCrashWord old new P Q
+EndsOrBreaksOff old new P Q = RepairBreaksOff old new P ⊎ EndsWithCrashWord old new P Q

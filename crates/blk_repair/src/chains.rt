@@ -7,7 +7,7 @@ ghost use Rattle.blk_disk.specs.Tables.{is_record_among};
 ghost use Rattle.blk_disk.specs.Open.{IsOpen};
 ghost use Rattle.law_recovery.specs.ChainRepair.{chain_steps, next_words_steps};
 ghost use Rattle.blk_repair.specs.Damages.{AllCheck, IsFailedLink};
-ghost use Rattle.blk_repair.specs.Chains.{IsFront, KeepsOtherBuckets};
+ghost use Rattle.blk_repair.specs.Chains.{IsBucketWord, KeepsOtherBuckets};
 
 use crate::links::{first_word, set_front, set_next};
 use blk_addr::Addr;
@@ -20,47 +20,47 @@ use blk_io::{Fault, Folder};
 // A word is written only where it differs. A record that is to be written and doesn't check is corruption, and so are
 // too few bytes. This takes at most one folder call and six for each record.
 pub(crate) fn mend_chain<F: Folder>(
-    f: &mut F,
+    folder: &mut F,
     files: &BlockFiles,
     bucket: u16,
     front: u32,
     records: &[Addr],
 ) -> Result<(), Fault>
     requires stand { All (λ w. is_record_among files.now w ≡ true) records.now }
-    requires is_open { ForSome (F.told f.old).files (IsOpen files.now) }
-    ensures steps { OnOk result (ForSome (F.told f.old).files (λ from. IsFront front bucket from → Applies (F.told f.old) (F.told f.new) (chain_steps bucket records.now from))) }
-    ensures prefix { ForSome (F.told f.old).files (λ from. IsFront front bucket from → AppliesPrefix (F.told f.old) (F.told f.new) (chain_steps bucket records.now from)) }
-    ensures silent { (F.told f.old).files ≡ None → (F.told f.new).files ≡ None }
-    ensures others { OnOk result (ForSome (F.told f.old).files (λ from. ForSome (F.told f.new).files (KeepsOtherBuckets bucket from))) }
-    ensures is_open { ForSome (F.told f.new).files (IsOpen files.now) }
+    requires is_open { ForSome (F.told folder.old).files (IsOpen files.now) }
+    ensures steps { OnOk result (ForSome (F.told folder.old).files (λ from. IsBucketWord front bucket from → Applies (F.told folder.old) (F.told folder.new) (chain_steps bucket records.now from))) }
+    ensures prefix { ForSome (F.told folder.old).files (λ from. IsBucketWord front bucket from → AppliesPrefix (F.told folder.old) (F.told folder.new) (chain_steps bucket records.now from)) }
+    ensures silent { (F.told folder.old).files ≡ None → (F.told folder.new).files ≡ None }
+    ensures others { OnOk result (ForSome (F.told folder.old).files (λ from. ForSome (F.told folder.new).files (KeepsOtherBuckets bucket from))) }
+    ensures is_open { ForSome (F.told folder.new).files (IsOpen files.now) }
 
     // An observable folder reports corruption only where not all of the records check.
-    ensures damaged { IfDamaged result (IsFailedLink files.now (F.told f.new)) }
-    ensures untold { ForSome (F.told f.old).files (AllCheck records.now) → IfDamaged result (λ _. (F.told f.old).files ≡ None) }
+    ensures damaged { IfDamaged result (IsFailedLink files.now (F.told folder.new)) }
+    ensures untold { ForSome (F.told folder.old).files (AllCheck records.now) → IfDamaged result (λ _. (F.told folder.old).files ≡ None) }
 
-    ensures later { F.faults f.old ≤ F.faults f.new }
-    ensures device { IfDevice result (Rises (F.faults f.old) (F.faults f.new)) }
+    ensures later { F.faults folder.old ≤ F.faults folder.new }
+    ensures device { IfDevice result (Rises (F.faults folder.old) (F.faults folder.new)) }
 {
-    set_front(f, bucket, front, first_word(records))?;
-    link(f, files, records)
+    set_front(folder, bucket, front, first_word(records))?;
+    link(folder, files, records)
 }
 
 // Each of some records gets the one after it as its next, and the last gets 0.
-fn link<F: Folder>(f: &mut F, files: &BlockFiles, records: &[Addr]) -> Result<(), Fault>
+fn link<F: Folder>(folder: &mut F, files: &BlockFiles, records: &[Addr]) -> Result<(), Fault>
     requires stand { All (λ w. is_record_among files.now w ≡ true) records.now }
-    requires is_open { ForSome (F.told f.old).files (IsOpen files.now) }
-    ensures steps { OnOk result (ForSome (F.told f.old).files (λ from. Applies (F.told f.old) (F.told f.new) (next_words_steps records.now from))) }
-    ensures prefix { MakesPartOf (F.told f.old) (F.told f.new) (λ from. next_words_steps records.now from) }
-    ensures damaged { IfDamaged result (IsFailedLink files.now (F.told f.new)) }
+    requires is_open { ForSome (F.told folder.old).files (IsOpen files.now) }
+    ensures steps { OnOk result (ForSome (F.told folder.old).files (λ from. Applies (F.told folder.old) (F.told folder.new) (next_words_steps records.now from))) }
+    ensures prefix { MakesPartOf (F.told folder.old) (F.told folder.new) (λ from. next_words_steps records.now from) }
+    ensures damaged { IfDamaged result (IsFailedLink files.now (F.told folder.new)) }
 
     // An observable folder reports corruption only where not all of them check.
-    ensures untold { ForSome (F.told f.old).files (AllCheck records.now) → IfDamaged result (λ _. (F.told f.old).files ≡ None) }
-    ensures later { F.faults f.old ≤ F.faults f.new }
-    ensures device { IfDevice result (Rises (F.faults f.old) (F.faults f.new)) }
+    ensures untold { ForSome (F.told folder.old).files (AllCheck records.now) → IfDamaged result (λ _. (F.told folder.old).files ≡ None) }
+    ensures later { F.faults folder.old ≤ F.faults folder.new }
+    ensures device { IfDevice result (Rises (F.faults folder.old) (F.faults folder.new)) }
 {
     for i in 0..records.len() {
         let behind = first_word(&records[i + 1..]);
-        set_next(f, files, records[i], behind)?;
+        set_next(folder, files, records[i], behind)?;
     }
     Ok(())
 }

@@ -18,25 +18,30 @@ use blk_record::IndexHead;
 ///
 /// Each is read, and written where it differs. The crash word alone is written in any case, and last, so that the end
 /// of an opening is known by it. This takes at most nine folder calls. Too few bytes are corruption.
-pub fn mend_index<F: Folder>(f: &mut F, items: u32, bytes: u32, this_id: u32) -> Result<(), Fault>
-    requires complete { ForSome (F.told f.old).files HasWholeIndex }
-    ensures words { OnOk result (ForSome (F.told f.new).files (HasIndexWords items bytes this_id)) }
-    ensures steps { OnOk result (ForSome (F.told f.old).files (λ from. Applies (F.told f.old) (F.told f.new) (index_steps items bytes this_id from))) }
-    ensures prefix { MakesPartOf (F.told f.old) (F.told f.new) (λ from. index_steps items bytes this_id from) }
+pub fn mend_index<F: Folder>(
+    folder: &mut F,
+    items: u32,
+    bytes: u32,
+    this_id: u32,
+) -> Result<(), Fault>
+    requires complete { ForSome (F.told folder.old).files HasWholeIndex }
+    ensures words { OnOk result (ForSome (F.told folder.new).files (HasIndexWords items bytes this_id)) }
+    ensures steps { OnOk result (ForSome (F.told folder.old).files (λ from. Applies (F.told folder.old) (F.told folder.new) (index_steps items bytes this_id from))) }
+    ensures prefix { MakesPartOf (F.told folder.old) (F.told folder.new) (λ from. index_steps items bytes this_id from) }
 
     // Where the links are repaired they stay so at each word, with the same kept and found; in the end the counters count what is kept, and what was repaired of the files and of the seals is so
     // still.
-    ensures mended { OnOk result (ForSome (F.told f.old).files (λ from. (entry : Image) → IsNextCounted entry items bytes from → ForSome (F.told f.new).files (IsIndexMended entry from))) }
-    ensures stops { ForSome (F.told f.old).files (λ from. (entry : Image) → HasMendedLinksOf entry from → Passes (F.told f.old) (F.told f.new) (HasMendedLinksOf entry)) }
+    ensures mended { OnOk result (ForSome (F.told folder.old).files (λ from. (entry : Image) → IsNextCounted entry items bytes from → ForSome (F.told folder.new).files (IsIndexMended entry from))) }
+    ensures stops { ForSome (F.told folder.old).files (λ from. (entry : Image) → HasMendedLinksOf entry from → Passes (F.told folder.old) (F.told folder.new) (HasMendedLinksOf entry)) }
 
-    ensures complete { ForSome (F.told f.new).files HasWholeIndex }
+    ensures complete { ForSome (F.told folder.new).files HasWholeIndex }
 
     // An observable folder reports no corruption.
-    ensures damaged { IfDamaged result (IsShortIndexWord (F.told f.new)) }
-    ensures untold { IfDamaged result (λ _. (F.told f.old).files ≡ None) }
+    ensures damaged { IfDamaged result (IsShortIndexWord (F.told folder.new)) }
+    ensures untold { IfDamaged result (λ _. (F.told folder.old).files ≡ None) }
 
-    ensures later { F.faults f.old ≤ F.faults f.new }
-    ensures device { IfDevice result (Rises (F.faults f.old) (F.faults f.new)) }
+    ensures later { F.faults folder.old ≤ F.faults folder.new }
+    ensures device { IfDevice result (Rises (F.faults folder.old) (F.faults folder.new)) }
 {
     let words = [
         (IndexHead::SIZES, items),
@@ -44,45 +49,45 @@ pub fn mend_index<F: Folder>(f: &mut F, items: u32, bytes: u32, this_id: u32) ->
         (IndexHead::NUM_BYTES, bytes),
         (IndexHead::THIS_ID, this_id),
     ];
-    set_words(f, &words)?;
-    set_word(f, IndexHead::CRASH, 1)?;
+    set_words(folder, &words)?;
+    set_word(folder, IndexHead::CRASH, 1)?;
     Ok(())
 }
 
 // Words of the index's header become these, each unless it is.
-fn set_words<F: Folder>(f: &mut F, words: &[(u64, u32)]) -> Result<(), Fault>
+fn set_words<F: Folder>(folder: &mut F, words: &[(u64, u32)]) -> Result<(), Fault>
     requires hidden { All (λ (w : ℕ × ℕ). IsHiddenWord w.0) words.now }
-    requires complete { ForSome (F.told f.old).files HasWholeIndex }
-    ensures steps { OnOk result (ForSome (F.told f.old).files (λ from. Applies (F.told f.old) (F.told f.new) (index_words_steps words.now from))) }
-    ensures prefix { MakesPartOf (F.told f.old) (F.told f.new) (λ from. index_words_steps words.now from) }
-    ensures complete { ForSome (F.told f.new).files HasWholeIndex }
-    ensures damaged { IfDamaged result (IsShortIndexWord (F.told f.new)) }
-    ensures untold { IfDamaged result (λ _. (F.told f.old).files ≡ None) }
-    ensures later { F.faults f.old ≤ F.faults f.new }
-    ensures device { IfDevice result (Rises (F.faults f.old) (F.faults f.new)) }
+    requires complete { ForSome (F.told folder.old).files HasWholeIndex }
+    ensures steps { OnOk result (ForSome (F.told folder.old).files (λ from. Applies (F.told folder.old) (F.told folder.new) (index_words_steps words.now from))) }
+    ensures prefix { MakesPartOf (F.told folder.old) (F.told folder.new) (λ from. index_words_steps words.now from) }
+    ensures complete { ForSome (F.told folder.new).files HasWholeIndex }
+    ensures damaged { IfDamaged result (IsShortIndexWord (F.told folder.new)) }
+    ensures untold { IfDamaged result (λ _. (F.told folder.old).files ≡ None) }
+    ensures later { F.faults folder.old ≤ F.faults folder.new }
+    ensures device { IfDevice result (Rises (F.faults folder.old) (F.faults folder.new)) }
 {
     for word in words {
-        set_where_other(f, word.0, word.1)?;
+        set_where_other(folder, word.0, word.1)?;
     }
     Ok(())
 }
 
 // A word of the index's header becomes this one, unless it is.
-fn set_where_other<F: Folder>(f: &mut F, at: u64, value: u32) -> Result<(), Fault>
+fn set_where_other<F: Folder>(folder: &mut F, at: u64, value: u32) -> Result<(), Fault>
     requires hidden { IsHiddenWord at }
-    requires complete { ForSome (F.told f.old).files HasWholeIndex }
-    ensures steps { OnOk result (ForSome (F.told f.old).files (λ from. Applies (F.told f.old) (F.told f.new) (index_word_steps at value from))) }
-    ensures prefix { MakesPartOf (F.told f.old) (F.told f.new) (λ from. index_word_steps at value from) }
-    ensures complete { ForSome (F.told f.new).files HasWholeIndex }
-    ensures damaged { IfDamaged result (IsShort (F.told f.new) FileId.Index at 4) }
-    ensures untold { IfDamaged result (λ _. (F.told f.old).files ≡ None) }
-    ensures later { F.faults f.old ≤ F.faults f.new }
-    ensures device { IfDevice result (Rises (F.faults f.old) (F.faults f.new)) }
+    requires complete { ForSome (F.told folder.old).files HasWholeIndex }
+    ensures steps { OnOk result (ForSome (F.told folder.old).files (λ from. Applies (F.told folder.old) (F.told folder.new) (index_word_steps at value from))) }
+    ensures prefix { MakesPartOf (F.told folder.old) (F.told folder.new) (λ from. index_word_steps at value from) }
+    ensures complete { ForSome (F.told folder.new).files HasWholeIndex }
+    ensures damaged { IfDamaged result (IsShort (F.told folder.new) FileId.Index at 4) }
+    ensures untold { IfDamaged result (λ _. (F.told folder.old).files ≡ None) }
+    ensures later { F.faults folder.old ≤ F.faults folder.new }
+    ensures device { IfDevice result (Rises (F.faults folder.old) (F.faults folder.new)) }
 {
-    let now = word(f, at)?;
+    let now = word(folder, at)?;
     if now == value {
         return Ok(());
     }
-    set_word(f, at, value)?;
+    set_word(folder, at, value)?;
     Ok(())
 }

@@ -11,7 +11,7 @@ ghost use Rattle.spec_folder.specs.Sound.{OnlyClaimed, OnlyLinked};
 ghost use Rattle.blk_disk.specs.declared.tables.BlockFiles.{BlockFiles};
 ghost use Rattle.blk_disk.specs.Open.{IsOpen};
 ghost use Rattle.blk_repair.specs.Deletions.{DeletesAll, DeletesSome, IsMidDeletion, deletion_of, is_number_claimed, is_unclaimed, is_unlinked, last_block_file, last_first_file};
-ghost use Rattle.blk_repair.specs.Endings.{BreaksOff};
+ghost use Rattle.blk_repair.specs.Endings.{RepairBreaksOff};
 ghost use Rattle.blk_repair.specs.Maps.{IsNextRebuilt};
 ghost use Rattle.blk_repair.specs.Seals.{HasMendedLinksOf};
 
@@ -26,27 +26,27 @@ const LAST_FIRST_FILE: u8 = 3;
 ///
 /// This takes one `list` call, and one more for each block file from `data_4` on; each file that goes takes a `delete`
 /// call. `Failed` comes only where the folder failed in this call; a prefix of the deletions has then lasted.
-pub fn delete_unlinked<F: Folder>(f: &mut F, files: &BlockFiles) -> Result<(), Failed>
-    requires is_open { ForSome (F.told f.old).files (IsOpen files.now) }
-    ensures linked { OnOk result (ForSome (F.told f.new).files OnlyLinked) }
-    ensures steps { OnOk result (DeletesAll (is_unlinked files.now) last_first_file (F.told f.old) (F.told f.new)) }
-    ensures prefix { DeletesSome (is_unlinked files.now) last_first_file (F.told f.old) (F.told f.new) }
+pub fn delete_unlinked<F: Folder>(folder: &mut F, files: &BlockFiles) -> Result<(), Failed>
+    requires is_open { ForSome (F.told folder.old).files (IsOpen files.now) }
+    ensures linked { OnOk result (ForSome (F.told folder.new).files OnlyLinked) }
+    ensures steps { OnOk result (DeletesAll (is_unlinked files.now) last_first_file (F.told folder.old) (F.told folder.new)) }
+    ensures prefix { DeletesSome (is_unlinked files.now) last_first_file (F.told folder.old) (F.told folder.new) }
 
     // Where the links are repaired they stay so at each deletion, with the same kept and found, and the crash word is spared; and what was repaired of the files and of the seals is so
     // still.
-    ensures stops { ForSome (F.told f.old).files (λ from. (entry : Image) → HasMendedLinksOf entry from → BreaksOff (F.told f.old) (F.told f.new) (IsMidDeletion entry from)) }
+    ensures stops { ForSome (F.told folder.old).files (λ from. (entry : Image) → HasMendedLinksOf entry from → RepairBreaksOff (F.told folder.old) (F.told folder.new) (IsMidDeletion entry from)) }
 
-    ensures is_open { ForSome (F.told f.new).files (IsOpen files.now) }
+    ensures is_open { ForSome (F.told folder.new).files (IsOpen files.now) }
 
     // Where only linked block files are there, no step is made.
-    ensures clean { ForSome (F.told f.old).files (λ from. OnlyLinked from → Stays (F.told f.old) (F.told f.new)) }
+    ensures clean { ForSome (F.told folder.old).files (λ from. OnlyLinked from → Stays (F.told folder.old) (F.told folder.new)) }
 
-    ensures later { F.faults f.old ≤ F.faults f.new }
-    ensures failed { OnErr result (Rises (F.faults f.old) (F.faults f.new)) }
+    ensures later { F.faults folder.old ≤ F.faults folder.new }
+    ensures failed { OnErr result (Rises (F.faults folder.old) (F.faults folder.new)) }
 {
     let mut last = LAST_FIRST_FILE;
-    while let Some(n) = next_block(f, last)? {
-        delete_block(f, files, n)?;
+    while let Some(n) = next_block(folder, last)? {
+        delete_block(folder, files, n)?;
         last = n;
     }
     Ok(())
@@ -57,87 +57,87 @@ pub fn delete_unlinked<F: Folder>(f: &mut F, files: &BlockFiles) -> Result<(), F
 /// A number that no address has isn't used. This takes one `list` call, and one more for each external file; each file
 /// that goes takes a `delete` call. `Failed` comes only where the folder failed in this call; a prefix of the deletions
 /// has then lasted.
-pub fn delete_unclaimed<F: Folder>(f: &mut F, claims: &Claims) -> Result<(), Failed>
+pub fn delete_unclaimed<F: Folder>(folder: &mut F, claims: &Claims) -> Result<(), Failed>
     // With the used blocks of what is kept, the external files that are there are those that it uses.
-    ensures claimed { OnOk result (ForSome (F.told f.old).files (λ from. (entry : Image) → IsNextRebuilt entry claims.now from → ForSome (F.told f.new).files (λ image. OnlyClaimed image (claims_of_loaded (kept image))))) }
-    ensures steps { OnOk result (DeletesAll (is_unclaimed claims.now) last_block_file (F.told f.old) (F.told f.new)) }
-    ensures prefix { DeletesSome (is_unclaimed claims.now) last_block_file (F.told f.old) (F.told f.new) }
+    ensures claimed { OnOk result (ForSome (F.told folder.old).files (λ from. (entry : Image) → IsNextRebuilt entry claims.now from → ForSome (F.told folder.new).files (λ image. OnlyClaimed image (claims_of_loaded (kept image))))) }
+    ensures steps { OnOk result (DeletesAll (is_unclaimed claims.now) last_block_file (F.told folder.old) (F.told folder.new)) }
+    ensures prefix { DeletesSome (is_unclaimed claims.now) last_block_file (F.told folder.old) (F.told folder.new) }
 
     // The links then stay repaired at each deletion, with the same kept and found, and the crash word is spared; and what was repaired of the files and of the seals is so
     // still.
-    ensures stops { ForSome (F.told f.old).files (λ from. (entry : Image) → IsNextRebuilt entry claims.now from → BreaksOff (F.told f.old) (F.told f.new) (IsMidDeletion entry from)) }
+    ensures stops { ForSome (F.told folder.old).files (λ from. (entry : Image) → IsNextRebuilt entry claims.now from → RepairBreaksOff (F.told folder.old) (F.told folder.new) (IsMidDeletion entry from)) }
 
-    ensures is_open { (files : BlockFiles) → ForSome (F.told f.old).files (IsOpen files) → ForSome (F.told f.new).files (IsOpen files) }
+    ensures is_open { (files : BlockFiles) → ForSome (F.told folder.old).files (IsOpen files) → ForSome (F.told folder.new).files (IsOpen files) }
 
     // Where only those are there already, no step is made.
-    ensures clean { ForSome (F.told f.old).files (λ from. (entry : Image) → IsNextRebuilt entry claims.now from → OnlyClaimed from (claims_of_loaded (kept from)) → Stays (F.told f.old) (F.told f.new)) }
+    ensures clean { ForSome (F.told folder.old).files (λ from. (entry : Image) → IsNextRebuilt entry claims.now from → OnlyClaimed from (claims_of_loaded (kept from)) → Stays (F.told folder.old) (F.told folder.new)) }
 
-    ensures later { F.faults f.old ≤ F.faults f.new }
-    ensures failed { OnErr result (Rises (F.faults f.old) (F.faults f.new)) }
+    ensures later { F.faults folder.old ≤ F.faults folder.new }
+    ensures failed { OnErr result (Rises (F.faults folder.old) (F.faults folder.new)) }
 {
     let mut last = FileId::Block(u8::MAX);
-    while let Some(number) = next_external(f, last)? {
-        delete_external(f, claims, number)?;
+    while let Some(number) = next_external(folder, last)? {
+        delete_external(folder, claims, number)?;
         last = FileId::External(number);
     }
     Ok(())
 }
 
 // The least block file that is there after one.
-fn next_block<F: Folder>(f: &mut F, last: u8) -> Result<Option<u8>, Failed>
+fn next_block<F: Folder>(folder: &mut F, last: u8) -> Result<Option<u8>, Failed>
     ensures after { IfOk result (λ next. ForSome next (λ n. last < n)) }
-    ensures next { IfOk result (λ next. ForSome next (λ n. ForSome (F.told f.old).files (λ image. IsNextFile image (Some (block last)) (Some (block n))))) }
-    ensures none { result ≡ Ok None → ForSome (F.told f.old).files (λ image. (n : ℕ) → last < n → has_file image (block n) ≡ false) }
-    ensures stays { Stays (F.told f.old) (F.told f.new) }
-    ensures later { F.faults f.old ≤ F.faults f.new }
-    ensures failed { OnErr result (Rises (F.faults f.old) (F.faults f.new)) }
+    ensures next { IfOk result (λ next. ForSome next (λ n. ForSome (F.told folder.old).files (λ image. IsNextFile image (Some (block last)) (Some (block n))))) }
+    ensures none { result ≡ Ok None → ForSome (F.told folder.old).files (λ image. (n : ℕ) → last < n → has_file image (block n) ≡ false) }
+    ensures stays { Stays (F.told folder.old) (F.told folder.new) }
+    ensures later { F.faults folder.old ≤ F.faults folder.new }
+    ensures failed { OnErr result (Rises (F.faults folder.old) (F.faults folder.new)) }
 {
-    match f.list(Some(FileId::Block(last)))? {
+    match folder.list(Some(FileId::Block(last)))? {
         Some(FileId::Block(n)) => Ok(Some(n)),
         _ => Ok(None),
     }
 }
 
 // Deletes a block file that isn't linked.
-fn delete_block<F: Folder>(f: &mut F, files: &BlockFiles, n: u8) -> Result<(), Failed>
-    ensures steps { OnOk result (Applies (F.told f.old) (F.told f.new) (deletion_of (is_unlinked files.now) (block n))) }
-    ensures undone { OnErr result (Stays (F.told f.old) (F.told f.new)) }
-    ensures later { F.faults f.old ≤ F.faults f.new }
-    ensures failed { OnErr result (Rises (F.faults f.old) (F.faults f.new)) }
+fn delete_block<F: Folder>(folder: &mut F, files: &BlockFiles, n: u8) -> Result<(), Failed>
+    ensures steps { OnOk result (Applies (F.told folder.old) (F.told folder.new) (deletion_of (is_unlinked files.now) (block n))) }
+    ensures undone { OnErr result (Stays (F.told folder.old) (F.told folder.new)) }
+    ensures later { F.faults folder.old ≤ F.faults folder.new }
+    ensures failed { OnErr result (Rises (F.faults folder.old) (F.faults folder.new)) }
 {
     if files.max_entries(n).is_some() {
         return Ok(());
     }
-    f.delete(FileId::Block(n))
+    folder.delete(FileId::Block(n))
 }
 
 // The least external file that is there after a file, after which no block file is.
-fn next_external<F: Folder>(f: &mut F, last: FileId) -> Result<Option<u32>, Failed>
+fn next_external<F: Folder>(folder: &mut F, last: FileId) -> Result<Option<u32>, Failed>
     requires past { IsBefore (file_of last) last_block_file → ⊥ }
     ensures after { IfOk result (λ next. ForSome next (λ number. IsBefore (file_of last) (external number))) }
-    ensures next { IfOk result (λ next. ForSome next (λ number. ForSome (F.told f.old).files (λ image. IsNextFile image (Some (file_of last)) (Some (external number))))) }
-    ensures none { result ≡ Ok None → ForSome (F.told f.old).files (λ image. (number : ℕ) → IsBefore (file_of last) (external number) → has_file image (external number) ≡ false) }
-    ensures stays { Stays (F.told f.old) (F.told f.new) }
-    ensures later { F.faults f.old ≤ F.faults f.new }
-    ensures failed { OnErr result (Rises (F.faults f.old) (F.faults f.new)) }
+    ensures next { IfOk result (λ next. ForSome next (λ number. ForSome (F.told folder.old).files (λ image. IsNextFile image (Some (file_of last)) (Some (external number))))) }
+    ensures none { result ≡ Ok None → ForSome (F.told folder.old).files (λ image. (number : ℕ) → IsBefore (file_of last) (external number) → has_file image (external number) ≡ false) }
+    ensures stays { Stays (F.told folder.old) (F.told folder.new) }
+    ensures later { F.faults folder.old ≤ F.faults folder.new }
+    ensures failed { OnErr result (Rises (F.faults folder.old) (F.faults folder.new)) }
 {
-    match f.list(Some(last))? {
+    match folder.list(Some(last))? {
         Some(FileId::External(number)) => Ok(Some(number)),
         _ => Ok(None),
     }
 }
 
 // Deletes an external file whose number isn't used.
-fn delete_external<F: Folder>(f: &mut F, claims: &Claims, number: u32) -> Result<(), Failed>
-    ensures steps { OnOk result (Applies (F.told f.old) (F.told f.new) (deletion_of (is_unclaimed claims.now) (external number))) }
-    ensures undone { OnErr result (Stays (F.told f.old) (F.told f.new)) }
-    ensures later { F.faults f.old ≤ F.faults f.new }
-    ensures failed { OnErr result (Rises (F.faults f.old) (F.faults f.new)) }
+fn delete_external<F: Folder>(folder: &mut F, claims: &Claims, number: u32) -> Result<(), Failed>
+    ensures steps { OnOk result (Applies (F.told folder.old) (F.told folder.new) (deletion_of (is_unclaimed claims.now) (external number))) }
+    ensures undone { OnErr result (Stays (F.told folder.old) (F.told folder.new)) }
+    ensures later { F.faults folder.old ≤ F.faults folder.new }
+    ensures failed { OnErr result (Rises (F.faults folder.old) (F.faults folder.new)) }
 {
     if is_claimed(claims, number) {
         return Ok(());
     }
-    f.delete(FileId::External(number))
+    folder.delete(FileId::External(number))
 }
 
 // Whether an external number is one that addresses have, and is used.

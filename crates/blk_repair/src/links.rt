@@ -12,7 +12,7 @@ ghost use Rattle.blk_io.specs.Faults.{IfDamaged, IfDevice};
 ghost use Rattle.blk_disk.specs.Tables.{is_record_among};
 ghost use Rattle.blk_disk.specs.Open.{IsOpen};
 ghost use Rattle.law_recovery.specs.ChainRepair.{bucket_steps, next_steps};
-ghost use Rattle.blk_repair.specs.Chains.{IsFront};
+ghost use Rattle.blk_repair.specs.Chains.{IsBucketWord};
 ghost use Rattle.blk_repair.specs.Damages.{IsFailedLink};
 
 use blk_addr::Addr;
@@ -34,47 +34,47 @@ pub(crate) fn first_word(records: &[Addr]) -> u32
 
 // The word of a bucket, as it was read, becomes this one, unless it is.
 pub(crate) fn set_front<F: Folder>(
-    f: &mut F,
+    folder: &mut F,
     number: u16,
     now: u32,
     word: u32,
 ) -> Result<(), Failed>
-    requires complete { ForSome (F.told f.old).files HasWholeIndex }
-    ensures steps { OnOk result (ForSome (F.told f.old).files (λ from. IsFront now number from → Applies (F.told f.old) (F.told f.new) (bucket_steps number word from))) }
-    ensures prefix { ForSome (F.told f.old).files (λ from. IsFront now number from → AppliesPrefix (F.told f.old) (F.told f.new) (bucket_steps number word from)) }
+    requires complete { ForSome (F.told folder.old).files HasWholeIndex }
+    ensures steps { OnOk result (ForSome (F.told folder.old).files (λ from. IsBucketWord now number from → Applies (F.told folder.old) (F.told folder.new) (bucket_steps number word from))) }
+    ensures prefix { ForSome (F.told folder.old).files (λ from. IsBucketWord now number from → AppliesPrefix (F.told folder.old) (F.told folder.new) (bucket_steps number word from)) }
 
     // On every folder this word is written at most.
-    ensures only { AppliesPrefix (F.told f.old) (F.told f.new) (word_step index (place_of_bucket number) word) }
+    ensures only { AppliesPrefix (F.told folder.old) (F.told folder.new) (word_step index (place_of_bucket number) word) }
 
-    ensures later { F.faults f.old ≤ F.faults f.new }
-    ensures failed { OnErr result (Rises (F.faults f.old) (F.faults f.new)) }
+    ensures later { F.faults folder.old ≤ F.faults folder.new }
+    ensures failed { OnErr result (Rises (F.faults folder.old) (F.faults folder.new)) }
 {
     if now == word {
         return Ok(());
     }
-    set_bucket(f, number, word)
+    set_bucket(folder, number, word)
 }
 
 // The next of a record becomes this word by a sealed update, unless it is.
 pub(crate) fn set_next<F: Folder>(
-    f: &mut F,
+    folder: &mut F,
     files: &BlockFiles,
     entry: Addr,
     word: u32,
 ) -> Result<(), Fault>
     requires stands { is_record_among files.now entry ≡ true }
-    requires is_open { ForSome (F.told f.old).files (IsOpen files.now) }
-    ensures checked { OnOk result (ForSome (F.told f.old).files (λ image. ((store_of image).chain_next entry ≡ word) ⊎ RecordChecks entry image)) }
-    ensures steps { OnOk result (ForSome (F.told f.old).files (λ from. Applies (F.told f.old) (F.told f.new) (next_steps entry word from))) }
-    ensures prefix { MakesPartOf (F.told f.old) (F.told f.new) (λ from. next_steps entry word from) }
-    ensures damaged { IfDamaged result (IsFailedLink files.now (F.told f.new)) }
-    ensures untold { ForSome (F.told f.old).files (RecordChecks entry) → IfDamaged result (λ _. (F.told f.old).files ≡ None) }
-    ensures later { F.faults f.old ≤ F.faults f.new }
-    ensures device { IfDevice result (Rises (F.faults f.old) (F.faults f.new)) }
+    requires is_open { ForSome (F.told folder.old).files (IsOpen files.now) }
+    ensures checked { OnOk result (ForSome (F.told folder.old).files (λ image. ((store_of image).chain_next entry ≡ word) ⊎ RecordChecks entry image)) }
+    ensures steps { OnOk result (ForSome (F.told folder.old).files (λ from. Applies (F.told folder.old) (F.told folder.new) (next_steps entry word from))) }
+    ensures prefix { MakesPartOf (F.told folder.old) (F.told folder.new) (λ from. next_steps entry word from) }
+    ensures damaged { IfDamaged result (IsFailedLink files.now (F.told folder.new)) }
+    ensures untold { ForSome (F.told folder.old).files (RecordChecks entry) → IfDamaged result (λ _. (F.told folder.old).files ≡ None) }
+    ensures later { F.faults folder.old ≤ F.faults folder.new }
+    ensures device { IfDevice result (Rises (F.faults folder.old) (F.faults folder.new)) }
 {
-    let now = field(f, files, entry, EntryView::NEXT)?;
+    let now = field(folder, files, entry, EntryView::NEXT)?;
     if now == word {
         return Ok(());
     }
-    files.update_sealed(f, entry, &[(EntryView::NEXT, word)])
+    files.update_sealed(folder, entry, &[(EntryView::NEXT, word)])
 }

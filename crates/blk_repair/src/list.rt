@@ -22,33 +22,33 @@ use blk_lru::{complete, end_at};
 /// `walked` are the nodes that completing leaves, and `kept` those of them that are kept, in the same order. A list that is
 /// whole and idle with the kept nodes takes 3 folder calls. A failed check is one of the calls on the list.
 pub fn mend_list<F: Folder>(
-    f: &mut F,
+    folder: &mut F,
     files: &BlockFiles,
     walked: &[Addr],
     kept: &[Addr],
 ) -> Result<(), Fault>
     requires stand { All (λ w. is_node_among files.now w ≡ true) walked.now }
-    requires is_open { ForSome (F.told f.old).files (IsOpen files.now) }
-    ensures steps { OnOk result (ForSome (F.told f.old).files (λ from. Applies (F.told f.old) (F.told f.new) (mending_steps walked.now kept.now from))) }
-    ensures prefix { MakesPartOf (F.told f.old) (F.told f.new) (mending_steps walked.now kept.now) }
+    requires is_open { ForSome (F.told folder.old).files (IsOpen files.now) }
+    ensures steps { OnOk result (ForSome (F.told folder.old).files (λ from. Applies (F.told folder.old) (F.told folder.new) (mending_steps walked.now kept.now from))) }
+    ensures prefix { MakesPartOf (F.told folder.old) (F.told folder.new) (mending_steps walked.now kept.now) }
 
     // With the walked and the kept nodes of the folder the list is repaired in the end, and the same is kept and found at each
     // word.
-    ensures mended { OnOk result (ForSome (F.told f.old).files (λ from. IsListScanned walked.now kept.now from → ForSome (F.told f.new).files (IsListMended from))) }
-    ensures stops { ForSome (F.told f.old).files (λ from. IsListScanned walked.now kept.now from → Passes (F.told f.old) (F.told f.new) (HoldsTheSame from)) }
+    ensures mended { OnOk result (ForSome (F.told folder.old).files (λ from. IsListScanned walked.now kept.now from → ForSome (F.told folder.new).files (IsListMended from))) }
+    ensures stops { ForSome (F.told folder.old).files (λ from. IsListScanned walked.now kept.now from → Passes (F.told folder.old) (F.told folder.new) (HoldsTheSame from)) }
 
-    ensures is_open { ForSome (F.told f.new).files (IsOpen files.now) }
+    ensures is_open { ForSome (F.told folder.new).files (IsOpen files.now) }
 
     // An observable folder reports corruption only where these aren't its walked and kept nodes.
-    ensures damaged { IfDamaged result (IsListRepairDamage files.now (F.told f.new)) }
-    ensures untold { ForSome (F.told f.old).files (IsListScanned walked.now kept.now) → IfDamaged result (λ _. (F.told f.old).files ≡ None) }
+    ensures damaged { IfDamaged result (IsListRepairDamage files.now (F.told folder.new)) }
+    ensures untold { ForSome (F.told folder.old).files (IsListScanned walked.now kept.now) → IfDamaged result (λ _. (F.told folder.old).files ≡ None) }
 
-    ensures later { F.faults f.old ≤ F.faults f.new }
-    ensures device { IfDevice result (Rises (F.faults f.old) (F.faults f.new)) }
+    ensures later { F.faults folder.old ≤ F.faults folder.new }
+    ensures device { IfDevice result (Rises (F.faults folder.old) (F.faults folder.new)) }
 {
-    complete(f, files)?;
-    end_at(f, files, last_of(walked))?;
-    remove_others(f, files, walked, kept)
+    complete(folder, files)?;
+    end_at(folder, files, last_of(walked))?;
+    remove_others(folder, files, walked, kept)
 }
 
 // The last of some nodes.

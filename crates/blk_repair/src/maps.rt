@@ -23,11 +23,11 @@ use blk_io::{Fault, Folder};
 /// A word is written only where it differs, and a length only where the file is too short. A failed check is a read of
 /// a header that gave too few bytes, which needs an opaque folder.
 pub fn mend_files<F: Folder>(
-    f: &mut F,
+    folder: &mut F,
     files: &mut BlockFiles,
     claims: &Claims,
 ) -> Result<(), Fault>
-    requires is_open { ForSome (F.told f.old).files (IsOpen files.old) }
+    requires is_open { ForSome (F.told folder.old).files (IsOpen files.old) }
     // In any case the same files are linked, and what was valid still is.
     ensures all { (kind : ℕ) → files_of files.new kind ≡ files_of files.old kind }
     ensures keeps { KeepsStanding files.old files.new }
@@ -36,22 +36,22 @@ pub fn mend_files<F: Folder>(
     ensures fitted { OnOk result (AreFitted files.old files.new) }
 
     // A step is made only where it is needed, and none but on lengths, maps, counters and updating.
-    ensures rebuilds { ForSome (F.told f.old).files (λ from. AppliesOf (Rebuilds files.old claims.now) from (F.told f.old) (F.told f.new)) }
+    ensures rebuilds { ForSome (F.told folder.old).files (λ from. AppliesOf (Rebuilds files.old claims.now) from (F.told folder.old) (F.told folder.new)) }
 
     // Where the links are repaired they stay so at each word, with the same kept and found; where the used blocks are those of what is kept the files are repaired in the end, and what was sealed is
     // so still.
-    ensures mended { OnOk result (ForSome (F.told f.old).files (λ from. (entry : Image) → IsNextRebuilt entry claims.now from → ForSome (F.told f.new).files (AreFilesMended entry from))) }
-    ensures stops { ForSome (F.told f.old).files (λ from. (entry : Image) → KeepsMendedLinks entry from → Passes (F.told f.old) (F.told f.new) (KeepsMendedLinks entry)) }
-    ensures is_open { ForSome (F.told f.new).files (IsOpen files.new) }
+    ensures mended { OnOk result (ForSome (F.told folder.old).files (λ from. (entry : Image) → IsNextRebuilt entry claims.now from → ForSome (F.told folder.new).files (AreFilesMended entry from))) }
+    ensures stops { ForSome (F.told folder.old).files (λ from. (entry : Image) → KeepsMendedLinks entry from → Passes (F.told folder.old) (F.told folder.new) (KeepsMendedLinks entry)) }
+    ensures is_open { ForSome (F.told folder.new).files (IsOpen files.new) }
 
     // Where each file has all its blocks, and its map and its counters are right, no step is made.
-    ensures clean { ForSome (F.told f.old).files (λ from. AreRight claims.now files.old from → Stays (F.told f.old) (F.told f.new)) }
-    ensures damaged { IfDamaged result (IsShortReadOf (F.told f.new) (all_files files.old)) }
-    ensures untold { IfDamaged result (λ _. (F.told f.old).files ≡ None) }
-    ensures silent { (F.told f.old).files ≡ None → (F.told f.new).files ≡ None }
-    ensures later { F.faults f.old ≤ F.faults f.new }
-    ensures device { IfDevice result (Rises (F.faults f.old) (F.faults f.new)) }
+    ensures clean { ForSome (F.told folder.old).files (λ from. AreRight claims.now files.old from → Stays (F.told folder.old) (F.told folder.new)) }
+    ensures damaged { IfDamaged result (IsShortReadOf (F.told folder.new) (all_files files.old)) }
+    ensures untold { IfDamaged result (λ _. (F.told folder.old).files ≡ None) }
+    ensures silent { (F.told folder.old).files ≡ None → (F.told folder.new).files ≡ None }
+    ensures later { F.faults folder.old ≤ F.faults folder.new }
+    ensures device { IfDevice result (Rises (F.faults folder.old) (F.faults folder.new)) }
 {
-    rebuild(f, files, claims)?;
+    rebuild(folder, files, claims)?;
     Ok(())
 }

@@ -21,29 +21,29 @@ use blk_lru::remove;
 /// A node goes out by an operation of its own, so by at most 17 folder calls; a list in which all nodes are kept takes
 /// none. A failed check is one of `remove`.
 pub fn remove_others<F: Folder>(
-    f: &mut F,
+    folder: &mut F,
     files: &BlockFiles,
     walked: &[Addr],
     kept: &[Addr],
 ) -> Result<(), Fault>
     requires stand { All (λ w. is_node_among files.now w ≡ true) walked.now }
-    requires is_open { ForSome (F.told f.old).files (IsOpen files.now) }
-    ensures steps { OnOk result (ForSome (F.told f.old).files (λ from. Applies (F.told f.old) (F.told f.new) (removal_steps (all_but walked.now kept.now) from))) }
-    ensures prefix { MakesPartOf (F.told f.old) (F.told f.new) (λ from. removal_steps (all_but walked.now kept.now) from) }
+    requires is_open { ForSome (F.told folder.old).files (IsOpen files.now) }
+    ensures steps { OnOk result (ForSome (F.told folder.old).files (λ from. Applies (F.told folder.old) (F.told folder.new) (removal_steps (all_but walked.now kept.now) from))) }
+    ensures prefix { MakesPartOf (F.told folder.old) (F.told folder.new) (λ from. removal_steps (all_but walked.now kept.now) from) }
 
     // Where the list was ended with the walked nodes, it is repaired in the end, and the same is kept and found at each
     // word.
-    ensures mended { OnOk result (ForSome (F.told f.old).files (λ from. (entry : Image) → IsEndedList entry walked.now kept.now from → ForSome (F.told f.new).files (IsListMended entry))) }
-    ensures stops { ForSome (F.told f.old).files (λ from. (entry : Image) → IsEndedList entry walked.now kept.now from → Passes (F.told f.old) (F.told f.new) (HoldsTheSame entry)) }
+    ensures mended { OnOk result (ForSome (F.told folder.old).files (λ from. (entry : Image) → IsEndedList entry walked.now kept.now from → ForSome (F.told folder.new).files (IsListMended entry))) }
+    ensures stops { ForSome (F.told folder.old).files (λ from. (entry : Image) → IsEndedList entry walked.now kept.now from → Passes (F.told folder.old) (F.told folder.new) (HoldsTheSame entry)) }
 
-    ensures is_open { ForSome (F.told f.new).files (IsOpen files.now) }
+    ensures is_open { ForSome (F.told folder.new).files (IsOpen files.now) }
 
     // An observable folder reports corruption only where the list wasn't ended with the walked nodes.
-    ensures damaged { IfDamaged result (IsRemovalsDamage files.now (F.told f.new)) }
-    ensures untold { ForSome (F.told f.old).files (λ from. (entry : Image) × IsEndedList entry walked.now kept.now from) → IfDamaged result (λ _. (F.told f.old).files ≡ None) }
+    ensures damaged { IfDamaged result (IsRemovalsDamage files.now (F.told folder.new)) }
+    ensures untold { ForSome (F.told folder.old).files (λ from. (entry : Image) × IsEndedList entry walked.now kept.now from) → IfDamaged result (λ _. (F.told folder.old).files ≡ None) }
 
-    ensures later { F.faults f.old ≤ F.faults f.new }
-    ensures device { IfDevice result (Rises (F.faults f.old) (F.faults f.new)) }
+    ensures later { F.faults folder.old ≤ F.faults folder.new }
+    ensures device { IfDevice result (Rises (F.faults folder.old) (F.faults folder.new)) }
 {
     let mut passed = 0;
     for i in 0..walked.len() {
@@ -51,7 +51,7 @@ pub fn remove_others<F: Folder>(
         if is_next(kept, passed, node) {
             passed += 1;
         } else {
-            remove(f, files, node)?;
+            remove(folder, files, node)?;
         }
     }
     Ok(())

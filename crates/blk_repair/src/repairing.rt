@@ -18,7 +18,7 @@ ghost use Rattle.law_recovery.specs.MendedLinks.{HasMendedLinks};
 ghost use Rattle.blk_scan.specs.Scans.{ChainsStandIf, StandAmong};
 ghost use Rattle.blk_repair.specs.Damages.{IsChainsRepairDamage};
 ghost use Rattle.blk_repair.specs.Deletions.{DeletesOthers};
-ghost use Rattle.blk_repair.specs.Endings.{BreaksOff, EndsOrBreaksOff, EndsWithCrashWord};
+ghost use Rattle.blk_repair.specs.Endings.{RepairBreaksOff, EndsOrBreaksOff, EndsWithCrashWord};
 ghost use Rattle.blk_repair.specs.Maps.{IsNextRebuilt};
 ghost use Rattle.blk_repair.specs.Parts.{AppliesOf, InTurn};
 ghost use Rattle.blk_repair.specs.Repair.{AreBucketsScanned, AreLinksMended, AreOnlyKeptLeft, AreOthersDeleted, IsBehindRepairDamage, IsLinksRepairDamage, IsNextFinished, IsRepairDamage, IsRepairable, IsRepaired, IsRepairedFor, IsRestRepairDamage, MendsFiles, MendsLinks, MendsRest, NeedsOnlyWords, RepairsInOrder, counting_steps, next_id as id_after};
@@ -93,163 +93,177 @@ fn next_id(this_id: u32) -> u32
 
 // Repairs the links, and then what is after them, for a session with this number.
 fn mend_all<F: Folder>(
-    f: &mut F,
+    folder: &mut F,
     files: &mut BlockFiles,
     scan: &Scan,
     this_id: u32,
 ) -> Result<(), Fault>
     requires stand { StandAmong files.old scan.now }
-    requires is_open { ForSome (F.told f.old).files (IsOpen files.old) }
+    requires is_open { ForSome (F.told folder.old).files (IsOpen files.old) }
     ensures all { (kind : ℕ) → files_of files.new kind ≡ files_of files.old kind }
     ensures keeps { KeepsStanding files.old files.new }
     ensures fitted { OnOk result (AreFitted files.old files.new) }
-    ensures mended { OnOk result (ForSome (F.told f.old).files (λ from. IsRepairable scan.now from → ForSome (F.told f.new).files (IsRepairedFor this_id from))) }
-    ensures stops { ForSome (F.told f.old).files (λ from. IsRepairable scan.now from → EndsOrBreaksOff (F.told f.old) (F.told f.new) (IsMidRepair from) (IsRepairedFor this_id from)) }
-    ensures last { OnOk result (ForSome (F.told f.old).files (λ from. IsRepairable scan.now from → EndsWithCrashWord (F.told f.old) (F.told f.new) (IsMidRepair from) (IsRepairedFor this_id from))) }
-    ensures steps { OnOk result (ForSome (F.told f.old).files (λ from. IsRepairable scan.now from → AppliesOf (RepairsInOrder files.old scan.now from this_id) from (F.told f.old) (F.told f.new))) }
-    ensures is_open { ForSome (F.told f.new).files (IsOpen files.new) }
-    ensures clean { OnOk result (ForSome (F.told f.old).files (λ from. IsRepairable scan.now from → NeedsOnlyWords scan.now from → Applies (F.told f.old) (F.told f.new) (counting_steps from this_id from))) }
-    ensures damaged { IfDamaged result (IsRepairDamage files.new (F.told f.new)) }
-    ensures untold { ForSome (F.told f.old).files (IsRepairable scan.now) → IfDamaged result (λ _. (F.told f.old).files ≡ None) }
-    ensures silent { (F.told f.old).files ≡ None → (F.told f.new).files ≡ None }
-    ensures later { F.faults f.old ≤ F.faults f.new }
-    ensures device { IfDevice result (Rises (F.faults f.old) (F.faults f.new)) }
+    ensures mended { OnOk result (ForSome (F.told folder.old).files (λ from. IsRepairable scan.now from → ForSome (F.told folder.new).files (IsRepairedFor this_id from))) }
+    ensures stops { ForSome (F.told folder.old).files (λ from. IsRepairable scan.now from → EndsOrBreaksOff (F.told folder.old) (F.told folder.new) (IsMidRepair from) (IsRepairedFor this_id from)) }
+    ensures last { OnOk result (ForSome (F.told folder.old).files (λ from. IsRepairable scan.now from → EndsWithCrashWord (F.told folder.old) (F.told folder.new) (IsMidRepair from) (IsRepairedFor this_id from))) }
+    ensures steps { OnOk result (ForSome (F.told folder.old).files (λ from. IsRepairable scan.now from → AppliesOf (RepairsInOrder files.old scan.now from this_id) from (F.told folder.old) (F.told folder.new))) }
+    ensures is_open { ForSome (F.told folder.new).files (IsOpen files.new) }
+    ensures clean { OnOk result (ForSome (F.told folder.old).files (λ from. IsRepairable scan.now from → NeedsOnlyWords scan.now from → Applies (F.told folder.old) (F.told folder.new) (counting_steps from this_id from))) }
+    ensures damaged { IfDamaged result (IsRepairDamage files.new (F.told folder.new)) }
+    ensures untold { ForSome (F.told folder.old).files (IsRepairable scan.now) → IfDamaged result (λ _. (F.told folder.old).files ≡ None) }
+    ensures silent { (F.told folder.old).files ≡ None → (F.told folder.new).files ≡ None }
+    ensures later { F.faults folder.old ≤ F.faults folder.new }
+    ensures device { IfDevice result (Rises (F.faults folder.old) (F.faults folder.new)) }
 {
-    mend_links(f, files, scan)?;
-    mend_behind(f, files, scan, this_id)
+    mend_links(folder, files, scan)?;
+    mend_behind(folder, files, scan, this_id)
 }
 
 // Repairs what is after the links: the files, and then the rest.
 fn mend_behind<F: Folder>(
-    f: &mut F,
+    folder: &mut F,
     files: &mut BlockFiles,
     scan: &Scan,
     this_id: u32,
 ) -> Result<(), Fault>
     requires stand { All (CanBeSealed files.old) scan.now.bare.items }
-    requires is_open { ForSome (F.told f.old).files (IsOpen files.old) }
+    requires is_open { ForSome (F.told folder.old).files (IsOpen files.old) }
     ensures all { (kind : ℕ) → files_of files.new kind ≡ files_of files.old kind }
     ensures keeps { KeepsStanding files.old files.new }
     ensures fitted { OnOk result (AreFitted files.old files.new) }
-    ensures mended { OnOk result (ForSome (F.told f.old).files (λ from. (entry : Image) → AreLinksMended scan.now entry from → ForSome (F.told f.new).files (IsRepairedFor this_id entry))) }
-    ensures stops { ForSome (F.told f.old).files (λ from. (entry : Image) → AreLinksMended scan.now entry from → EndsOrBreaksOff (F.told f.old) (F.told f.new) (IsMidRepair entry) (IsRepairedFor this_id entry)) }
-    ensures last { OnOk result (ForSome (F.told f.old).files (λ from. (entry : Image) → AreLinksMended scan.now entry from → EndsWithCrashWord (F.told f.old) (F.told f.new) (IsMidRepair entry) (IsRepairedFor this_id entry))) }
-    ensures steps { OnOk result (ForSome (F.told f.old).files (λ from. (entry : Image) → AreLinksMended scan.now entry from → AppliesOf (InTurn (MendsFiles files.old scan.now.claims) (MendsRest scan.now entry this_id)) from (F.told f.old) (F.told f.new))) }
-    ensures is_open { ForSome (F.told f.new).files (IsOpen files.new) }
-    ensures clean { OnOk result (ForSome (F.told f.old).files (λ from. (entry : Image) → AreLinksMended scan.now entry from → NeedsOnlyWords scan.now from → Applies (F.told f.old) (F.told f.new) (counting_steps entry this_id from))) }
-    ensures damaged { IfDamaged result (IsBehindRepairDamage files.new (F.told f.new)) }
-    ensures untold { ForSome (F.told f.old).files (λ from. (entry : Image) × AreLinksMended scan.now entry from) → IfDamaged result (λ _. (F.told f.old).files ≡ None) }
-    ensures silent { (F.told f.old).files ≡ None → (F.told f.new).files ≡ None }
-    ensures later { F.faults f.old ≤ F.faults f.new }
-    ensures device { IfDevice result (Rises (F.faults f.old) (F.faults f.new)) }
+    ensures mended { OnOk result (ForSome (F.told folder.old).files (λ from. (entry : Image) → AreLinksMended scan.now entry from → ForSome (F.told folder.new).files (IsRepairedFor this_id entry))) }
+    ensures stops { ForSome (F.told folder.old).files (λ from. (entry : Image) → AreLinksMended scan.now entry from → EndsOrBreaksOff (F.told folder.old) (F.told folder.new) (IsMidRepair entry) (IsRepairedFor this_id entry)) }
+    ensures last { OnOk result (ForSome (F.told folder.old).files (λ from. (entry : Image) → AreLinksMended scan.now entry from → EndsWithCrashWord (F.told folder.old) (F.told folder.new) (IsMidRepair entry) (IsRepairedFor this_id entry))) }
+    ensures steps { OnOk result (ForSome (F.told folder.old).files (λ from. (entry : Image) → AreLinksMended scan.now entry from → AppliesOf (InTurn (MendsFiles files.old scan.now.claims) (MendsRest scan.now entry this_id)) from (F.told folder.old) (F.told folder.new))) }
+    ensures is_open { ForSome (F.told folder.new).files (IsOpen files.new) }
+    ensures clean { OnOk result (ForSome (F.told folder.old).files (λ from. (entry : Image) → AreLinksMended scan.now entry from → NeedsOnlyWords scan.now from → Applies (F.told folder.old) (F.told folder.new) (counting_steps entry this_id from))) }
+    ensures damaged { IfDamaged result (IsBehindRepairDamage files.new (F.told folder.new)) }
+    ensures untold { ForSome (F.told folder.old).files (λ from. (entry : Image) × AreLinksMended scan.now entry from) → IfDamaged result (λ _. (F.told folder.old).files ≡ None) }
+    ensures silent { (F.told folder.old).files ≡ None → (F.told folder.new).files ≡ None }
+    ensures later { F.faults folder.old ≤ F.faults folder.new }
+    ensures device { IfDevice result (Rises (F.faults folder.old) (F.faults folder.new)) }
 {
-    mend_store(f, files, scan.claims())?;
-    mend_rest(f, files, scan, this_id)
+    mend_store(folder, files, scan.claims())?;
+    mend_rest(folder, files, scan, this_id)
 }
 
 // Repairs the block files for what is used, and then deletes the files that nothing names.
-fn mend_store<F: Folder>(f: &mut F, files: &mut BlockFiles, claims: &Claims) -> Result<(), Fault>
-    requires is_open { ForSome (F.told f.old).files (IsOpen files.old) }
+fn mend_store<F: Folder>(
+    folder: &mut F,
+    files: &mut BlockFiles,
+    claims: &Claims,
+) -> Result<(), Fault>
+    requires is_open { ForSome (F.told folder.old).files (IsOpen files.old) }
     ensures all { (kind : ℕ) → files_of files.new kind ≡ files_of files.old kind }
     ensures keeps { KeepsStanding files.old files.new }
     ensures fitted { OnOk result (AreFitted files.old files.new) }
-    ensures mended { OnOk result (ForSome (F.told f.old).files (λ from. (entry : Image) → IsNextRebuilt entry claims.now from → ForSome (F.told f.new).files (AreOnlyKeptLeft entry from))) }
-    ensures stops { ForSome (F.told f.old).files (λ from. (entry : Image) → IsNextRebuilt entry claims.now from → BreaksOff (F.told f.old) (F.told f.new) (IsMidRepair entry)) }
-    ensures steps { OnOk result (ForSome (F.told f.old).files (λ from. AppliesOf (MendsFiles files.old claims.now) from (F.told f.old) (F.told f.new))) }
-    ensures is_open { ForSome (F.told f.new).files (IsOpen files.new) }
-    ensures clean { OnOk result (ForSome (F.told f.old).files (λ from. (entry : Image) → IsNextRebuilt entry claims.now from → HasMendedFiles from → HasOnlyKeptFiles from → Stays (F.told f.old) (F.told f.new))) }
-    ensures damaged { IfDamaged result (IsShortReadOf (F.told f.new) (all_files files.new)) }
-    ensures untold { IfDamaged result (λ _. (F.told f.old).files ≡ None) }
-    ensures silent { (F.told f.old).files ≡ None → (F.told f.new).files ≡ None }
-    ensures later { F.faults f.old ≤ F.faults f.new }
-    ensures device { IfDevice result (Rises (F.faults f.old) (F.faults f.new)) }
+    ensures mended { OnOk result (ForSome (F.told folder.old).files (λ from. (entry : Image) → IsNextRebuilt entry claims.now from → ForSome (F.told folder.new).files (AreOnlyKeptLeft entry from))) }
+    ensures stops { ForSome (F.told folder.old).files (λ from. (entry : Image) → IsNextRebuilt entry claims.now from → RepairBreaksOff (F.told folder.old) (F.told folder.new) (IsMidRepair entry)) }
+    ensures steps { OnOk result (ForSome (F.told folder.old).files (λ from. AppliesOf (MendsFiles files.old claims.now) from (F.told folder.old) (F.told folder.new))) }
+    ensures is_open { ForSome (F.told folder.new).files (IsOpen files.new) }
+    ensures clean { OnOk result (ForSome (F.told folder.old).files (λ from. (entry : Image) → IsNextRebuilt entry claims.now from → HasMendedFiles from → HasOnlyKeptFiles from → Stays (F.told folder.old) (F.told folder.new))) }
+    ensures damaged { IfDamaged result (IsShortReadOf (F.told folder.new) (all_files files.new)) }
+    ensures untold { IfDamaged result (λ _. (F.told folder.old).files ≡ None) }
+    ensures silent { (F.told folder.old).files ≡ None → (F.told folder.new).files ≡ None }
+    ensures later { F.faults folder.old ≤ F.faults folder.new }
+    ensures device { IfDevice result (Rises (F.faults folder.old) (F.faults folder.new)) }
 {
-    mend_files(f, files, claims)?;
-    delete_others(f, files, claims)?;
+    mend_files(folder, files, claims)?;
+    delete_others(folder, files, claims)?;
     Ok(())
 }
 
 // Deletes the block files that aren't linked, and then the external files that aren't used.
-fn delete_others<F: Folder>(f: &mut F, files: &BlockFiles, claims: &Claims) -> Result<(), Failed>
-    requires is_open { ForSome (F.told f.old).files (IsOpen files.now) }
-    ensures mended { OnOk result (ForSome (F.told f.old).files (λ from. (entry : Image) → IsNextRebuilt entry claims.now from → ForSome (F.told f.new).files (AreOthersDeleted entry from))) }
-    ensures stops { ForSome (F.told f.old).files (λ from. (entry : Image) → IsNextRebuilt entry claims.now from → BreaksOff (F.told f.old) (F.told f.new) (IsMidRepair entry)) }
-    ensures steps { OnOk result (ForSome (F.told f.old).files (λ from. AppliesOf (DeletesOthers files.now claims.now) from (F.told f.old) (F.told f.new))) }
-    ensures is_open { ForSome (F.told f.new).files (IsOpen files.now) }
-    ensures clean { OnOk result (ForSome (F.told f.old).files (λ from. (entry : Image) → IsNextRebuilt entry claims.now from → HasOnlyKeptFiles from → Stays (F.told f.old) (F.told f.new))) }
-    ensures silent { (F.told f.old).files ≡ None → (F.told f.new).files ≡ None }
-    ensures later { F.faults f.old ≤ F.faults f.new }
-    ensures failed { OnErr result (Rises (F.faults f.old) (F.faults f.new)) }
+fn delete_others<F: Folder>(
+    folder: &mut F,
+    files: &BlockFiles,
+    claims: &Claims,
+) -> Result<(), Failed>
+    requires is_open { ForSome (F.told folder.old).files (IsOpen files.now) }
+    ensures mended { OnOk result (ForSome (F.told folder.old).files (λ from. (entry : Image) → IsNextRebuilt entry claims.now from → ForSome (F.told folder.new).files (AreOthersDeleted entry from))) }
+    ensures stops { ForSome (F.told folder.old).files (λ from. (entry : Image) → IsNextRebuilt entry claims.now from → RepairBreaksOff (F.told folder.old) (F.told folder.new) (IsMidRepair entry)) }
+    ensures steps { OnOk result (ForSome (F.told folder.old).files (λ from. AppliesOf (DeletesOthers files.now claims.now) from (F.told folder.old) (F.told folder.new))) }
+    ensures is_open { ForSome (F.told folder.new).files (IsOpen files.now) }
+    ensures clean { OnOk result (ForSome (F.told folder.old).files (λ from. (entry : Image) → IsNextRebuilt entry claims.now from → HasOnlyKeptFiles from → Stays (F.told folder.old) (F.told folder.new))) }
+    ensures silent { (F.told folder.old).files ≡ None → (F.told folder.new).files ≡ None }
+    ensures later { F.faults folder.old ≤ F.faults folder.new }
+    ensures failed { OnErr result (Rises (F.faults folder.old) (F.faults folder.new)) }
 {
-    delete_unlinked(f, files)?;
-    delete_unclaimed(f, claims)
+    delete_unlinked(folder, files)?;
+    delete_unclaimed(folder, claims)
 }
 
 // Repairs the LRU list, and then the chains.
-fn mend_links<F: Folder>(f: &mut F, files: &BlockFiles, scan: &Scan) -> Result<(), Fault>
+fn mend_links<F: Folder>(folder: &mut F, files: &BlockFiles, scan: &Scan) -> Result<(), Fault>
     requires stand { StandAmong files.now scan.now }
-    requires is_open { ForSome (F.told f.old).files (IsOpen files.now) }
-    ensures mended { OnOk result (ForSome (F.told f.old).files (λ from. IsRepairable scan.now from → ForSome (F.told f.new).files (AreLinksMended scan.now from))) }
-    ensures stops { ForSome (F.told f.old).files (λ from. IsRepairable scan.now from → BreaksOff (F.told f.old) (F.told f.new) (IsMidRepair from)) }
-    ensures steps { OnOk result (ForSome (F.told f.old).files (λ from. IsRepairable scan.now from → AppliesOf MendsLinks from (F.told f.old) (F.told f.new))) }
-    ensures is_open { ForSome (F.told f.new).files (IsOpen files.now) }
-    ensures clean { OnOk result (ForSome (F.told f.old).files (λ from. IsRepairable scan.now from → HasMendedLinks from → Stays (F.told f.old) (F.told f.new))) }
-    ensures damaged { IfDamaged result (IsLinksRepairDamage files.now (F.told f.new)) }
-    ensures untold { ForSome (F.told f.old).files (IsRepairable scan.now) → IfDamaged result (λ _. (F.told f.old).files ≡ None) }
-    ensures silent { (F.told f.old).files ≡ None → (F.told f.new).files ≡ None }
-    ensures later { F.faults f.old ≤ F.faults f.new }
-    ensures device { IfDevice result (Rises (F.faults f.old) (F.faults f.new)) }
+    requires is_open { ForSome (F.told folder.old).files (IsOpen files.now) }
+    ensures mended { OnOk result (ForSome (F.told folder.old).files (λ from. IsRepairable scan.now from → ForSome (F.told folder.new).files (AreLinksMended scan.now from))) }
+    ensures stops { ForSome (F.told folder.old).files (λ from. IsRepairable scan.now from → RepairBreaksOff (F.told folder.old) (F.told folder.new) (IsMidRepair from)) }
+    ensures steps { OnOk result (ForSome (F.told folder.old).files (λ from. IsRepairable scan.now from → AppliesOf MendsLinks from (F.told folder.old) (F.told folder.new))) }
+    ensures is_open { ForSome (F.told folder.new).files (IsOpen files.now) }
+    ensures clean { OnOk result (ForSome (F.told folder.old).files (λ from. IsRepairable scan.now from → HasMendedLinks from → Stays (F.told folder.old) (F.told folder.new))) }
+    ensures damaged { IfDamaged result (IsLinksRepairDamage files.now (F.told folder.new)) }
+    ensures untold { ForSome (F.told folder.old).files (IsRepairable scan.now) → IfDamaged result (λ _. (F.told folder.old).files ≡ None) }
+    ensures silent { (F.told folder.old).files ≡ None → (F.told folder.new).files ≡ None }
+    ensures later { F.faults folder.old ≤ F.faults folder.new }
+    ensures device { IfDevice result (Rises (F.faults folder.old) (F.faults folder.new)) }
 {
-    mend_list(f, files, scan.walked_nodes(), scan.kept_nodes())?;
-    mend_buckets(f, files, scan)
+    mend_list(folder, files, scan.walked_nodes(), scan.kept_nodes())?;
+    mend_buckets(folder, files, scan)
 }
 
 // Makes each bucket the chain of its kept records, where the scan tells of one that isn't.
-fn mend_buckets<F: Folder>(f: &mut F, files: &BlockFiles, scan: &Scan) -> Result<(), Fault>
+fn mend_buckets<F: Folder>(folder: &mut F, files: &BlockFiles, scan: &Scan) -> Result<(), Fault>
     requires stand { ChainsStandIf files.now scan.now.chains }
-    requires is_open { ForSome (F.told f.old).files (IsOpen files.now) }
-    ensures mended { OnOk result (ForSome (F.told f.old).files (λ from. AreBucketsScanned scan.now.chains from → ForSome (F.told f.new).files (AreChainsMended from))) }
-    ensures stops { ForSome (F.told f.old).files (λ from. AreBucketsScanned scan.now.chains from → BreaksOff (F.told f.old) (F.told f.new) (HoldsTheSame from)) }
-    ensures steps { OnOk result (ForSome (F.told f.old).files (λ from. AreBucketsScanned scan.now.chains from → Applies (F.told f.old) (F.told f.new) (chain_repair_steps from))) }
-    ensures is_open { ForSome (F.told f.new).files (IsOpen files.now) }
-    ensures clean { OnOk result (ForSome (F.told f.old).files (λ from. AreBucketsScanned scan.now.chains from → HasMendedLinks from → Stays (F.told f.old) (F.told f.new))) }
-    ensures damaged { IfDamaged result (IsChainsRepairDamage files.now (F.told f.new)) }
-    ensures untold { ForSome (F.told f.old).files (AreBucketsScanned scan.now.chains) → IfDamaged result (λ _. (F.told f.old).files ≡ None) }
-    ensures silent { (F.told f.old).files ≡ None → (F.told f.new).files ≡ None }
-    ensures later { F.faults f.old ≤ F.faults f.new }
-    ensures device { IfDevice result (Rises (F.faults f.old) (F.faults f.new)) }
+    requires is_open { ForSome (F.told folder.old).files (IsOpen files.now) }
+    ensures mended { OnOk result (ForSome (F.told folder.old).files (λ from. AreBucketsScanned scan.now.chains from → ForSome (F.told folder.new).files (AreChainsMended from))) }
+    ensures stops { ForSome (F.told folder.old).files (λ from. AreBucketsScanned scan.now.chains from → RepairBreaksOff (F.told folder.old) (F.told folder.new) (HoldsTheSame from)) }
+    ensures steps { OnOk result (ForSome (F.told folder.old).files (λ from. AreBucketsScanned scan.now.chains from → Applies (F.told folder.old) (F.told folder.new) (chain_repair_steps from))) }
+    ensures is_open { ForSome (F.told folder.new).files (IsOpen files.now) }
+    ensures clean { OnOk result (ForSome (F.told folder.old).files (λ from. AreBucketsScanned scan.now.chains from → HasMendedLinks from → Stays (F.told folder.old) (F.told folder.new))) }
+    ensures damaged { IfDamaged result (IsChainsRepairDamage files.now (F.told folder.new)) }
+    ensures untold { ForSome (F.told folder.old).files (AreBucketsScanned scan.now.chains) → IfDamaged result (λ _. (F.told folder.old).files ≡ None) }
+    ensures silent { (F.told folder.old).files ≡ None → (F.told folder.new).files ≡ None }
+    ensures later { F.faults folder.old ≤ F.faults folder.new }
+    ensures device { IfDevice result (Rises (F.faults folder.old) (F.faults folder.new)) }
 {
     match scan.chains() {
-        Some(chains) => mend_chains(f, files, chains.records(), chains.ends(), chains.whole()),
+        Some(chains) => mend_chains(
+            folder,
+            files,
+            chains.records(),
+            chains.ends(),
+            chains.whole(),
+        ),
         None => Ok(()),
     }
 }
 
 // Seals what is kept, and makes the words of the index right.
 fn mend_rest<F: Folder>(
-    f: &mut F,
+    folder: &mut F,
     files: &BlockFiles,
     scan: &Scan,
     this_id: u32,
 ) -> Result<(), Fault>
     requires stand { All (CanBeSealed files.now) scan.now.bare.items }
-    requires is_open { ForSome (F.told f.old).files (IsOpen files.now) }
-    ensures mended { OnOk result (ForSome (F.told f.old).files (λ from. (entry : Image) → IsNextFinished scan.now entry from → ForSome (F.told f.new).files (IsRepairedFor this_id entry))) }
-    ensures stops { ForSome (F.told f.old).files (λ from. (entry : Image) → IsNextFinished scan.now entry from → EndsOrBreaksOff (F.told f.old) (F.told f.new) (IsMidRepair entry) (IsRepairedFor this_id entry)) }
-    ensures last { OnOk result (ForSome (F.told f.old).files (λ from. (entry : Image) → IsNextFinished scan.now entry from → EndsWithCrashWord (F.told f.old) (F.told f.new) (IsMidRepair entry) (IsRepairedFor this_id entry))) }
-    ensures steps { OnOk result (ForSome (F.told f.old).files (λ from. (entry : Image) → IsNextFinished scan.now entry from → AppliesOf (MendsRest scan.now entry this_id) from (F.told f.old) (F.told f.new))) }
-    ensures is_open { ForSome (F.told f.new).files (IsOpen files.now) }
-    ensures clean { OnOk result (ForSome (F.told f.old).files (λ from. (entry : Image) → IsNextFinished scan.now entry from → NeedsOnlyWords scan.now from → Applies (F.told f.old) (F.told f.new) (counting_steps entry this_id from))) }
-    ensures damaged { IfDamaged result (IsRestRepairDamage files.now (F.told f.new)) }
-    ensures untold { ForSome (F.told f.old).files (λ from. (entry : Image) × IsNextFinished scan.now entry from) → IfDamaged result (λ _. (F.told f.old).files ≡ None) }
-    ensures silent { (F.told f.old).files ≡ None → (F.told f.new).files ≡ None }
-    ensures later { F.faults f.old ≤ F.faults f.new }
-    ensures device { IfDevice result (Rises (F.faults f.old) (F.faults f.new)) }
+    requires is_open { ForSome (F.told folder.old).files (IsOpen files.now) }
+    ensures mended { OnOk result (ForSome (F.told folder.old).files (λ from. (entry : Image) → IsNextFinished scan.now entry from → ForSome (F.told folder.new).files (IsRepairedFor this_id entry))) }
+    ensures stops { ForSome (F.told folder.old).files (λ from. (entry : Image) → IsNextFinished scan.now entry from → EndsOrBreaksOff (F.told folder.old) (F.told folder.new) (IsMidRepair entry) (IsRepairedFor this_id entry)) }
+    ensures last { OnOk result (ForSome (F.told folder.old).files (λ from. (entry : Image) → IsNextFinished scan.now entry from → EndsWithCrashWord (F.told folder.old) (F.told folder.new) (IsMidRepair entry) (IsRepairedFor this_id entry))) }
+    ensures steps { OnOk result (ForSome (F.told folder.old).files (λ from. (entry : Image) → IsNextFinished scan.now entry from → AppliesOf (MendsRest scan.now entry this_id) from (F.told folder.old) (F.told folder.new))) }
+    ensures is_open { ForSome (F.told folder.new).files (IsOpen files.now) }
+    ensures clean { OnOk result (ForSome (F.told folder.old).files (λ from. (entry : Image) → IsNextFinished scan.now entry from → NeedsOnlyWords scan.now from → Applies (F.told folder.old) (F.told folder.new) (counting_steps entry this_id from))) }
+    ensures damaged { IfDamaged result (IsRestRepairDamage files.now (F.told folder.new)) }
+    ensures untold { ForSome (F.told folder.old).files (λ from. (entry : Image) × IsNextFinished scan.now entry from) → IfDamaged result (λ _. (F.told folder.old).files ≡ None) }
+    ensures silent { (F.told folder.old).files ≡ None → (F.told folder.new).files ≡ None }
+    ensures later { F.faults folder.old ≤ F.faults folder.new }
+    ensures device { IfDevice result (Rises (F.faults folder.old) (F.faults folder.new)) }
 {
-    seal_records(f, files, scan.bare())?;
+    seal_records(folder, files, scan.bare())?;
     let items = low_word(scan.items());
     let bytes = low_word(scan.bytes());
-    mend_index(f, items, bytes, this_id)
+    mend_index(folder, items, bytes, this_id)
 }
 
 // A number modulo 2^32.

@@ -16,28 +16,32 @@ use blk_io::{Fault, Folder};
 ///
 /// A seal that is the hash already isn't written. One that is neither 0 nor the hash is corruption, and so are too few
 /// bytes. This takes at most two folder calls for each of them.
-pub fn seal_records<F: Folder>(f: &mut F, files: &BlockFiles, records: &[Addr]) -> Result<(), Fault>
+pub fn seal_records<F: Folder>(
+    folder: &mut F,
+    files: &BlockFiles,
+    records: &[Addr],
+) -> Result<(), Fault>
     requires stand { All (CanBeSealed files.now) records.now }
-    requires is_open { ForSome (F.told f.old).files (IsOpen files.now) }
-    ensures steps { OnOk result (ForSome (F.told f.old).files (λ from. Applies (F.told f.old) (F.told f.new) (seals_steps records.now from))) }
-    ensures prefix { MakesPartOf (F.told f.old) (F.told f.new) (λ from. seals_steps records.now from) }
+    requires is_open { ForSome (F.told folder.old).files (IsOpen files.now) }
+    ensures steps { OnOk result (ForSome (F.told folder.old).files (λ from. Applies (F.told folder.old) (F.told folder.new) (seals_steps records.now from))) }
+    ensures prefix { MakesPartOf (F.told folder.old) (F.told folder.new) (λ from. seals_steps records.now from) }
 
     // Where the links are repaired and these nodes and records are kept, the links stay so at each word, with the same kept and found; in the end these are sealed, so all that is kept is where the others were, and what was sealed or repaired of the files is so
     // still.
-    ensures sealed { OnOk result (ForSome (F.told f.old).files (λ from. (entry : Image) → IsNextSealed entry records.now from → ForSome (F.told f.new).files (AreSealedNow entry from records.now))) }
-    ensures stops { ForSome (F.told f.old).files (λ from. (entry : Image) → IsNextSealed entry records.now from → Passes (F.told f.old) (F.told f.new) (HasMendedLinksOf entry)) }
+    ensures sealed { OnOk result (ForSome (F.told folder.old).files (λ from. (entry : Image) → IsNextSealed entry records.now from → ForSome (F.told folder.new).files (AreSealedNow entry from records.now))) }
+    ensures stops { ForSome (F.told folder.old).files (λ from. (entry : Image) → IsNextSealed entry records.now from → Passes (F.told folder.old) (F.told folder.new) (HasMendedLinksOf entry)) }
 
-    ensures is_open { ForSome (F.told f.new).files (IsOpen files.now) }
+    ensures is_open { ForSome (F.told folder.new).files (IsOpen files.now) }
 
     // An observable folder reports corruption only where not all of them are kept.
-    ensures damaged { IfDamaged result (IsWrongSealed files.now (F.told f.new)) }
-    ensures untold { ForSome (F.told f.old).files (λ from. (entry : Image) × IsNextSealed entry records.now from) → IfDamaged result (λ _. (F.told f.old).files ≡ None) }
+    ensures damaged { IfDamaged result (IsWrongSealed files.now (F.told folder.new)) }
+    ensures untold { ForSome (F.told folder.old).files (λ from. (entry : Image) × IsNextSealed entry records.now from) → IfDamaged result (λ _. (F.told folder.old).files ≡ None) }
 
-    ensures later { F.faults f.old ≤ F.faults f.new }
-    ensures device { IfDevice result (Rises (F.faults f.old) (F.faults f.new)) }
+    ensures later { F.faults folder.old ≤ F.faults folder.new }
+    ensures device { IfDevice result (Rises (F.faults folder.old) (F.faults folder.new)) }
 {
     for record in records {
-        files.seal(f, *record)?;
+        files.seal(folder, *record)?;
     }
     Ok(())
 }

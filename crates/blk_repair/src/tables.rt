@@ -12,7 +12,7 @@ ghost use Rattle.law_recovery.specs.ListRepair.{HoldsTheSame};
 ghost use Rattle.blk_index.specs.Table.{buckets_of_piece};
 ghost use Rattle.blk_audit.specs.BucketEnds.{AreEnds, records_of as records_among};
 ghost use Rattle.blk_audit.specs.Faults.{IsTableDamage};
-ghost use Rattle.blk_repair.specs.Chains.{AreChainsScanned, AreFronts, IsNextBucket, KeepsOtherBuckets};
+ghost use Rattle.blk_repair.specs.Chains.{AreChainsScanned, AreBucketWords, IsNextBucket, KeepsOtherBuckets};
 ghost use Rattle.blk_repair.specs.Damages.{AllCheck, IsChainsRepairDamage, IsFailedLink};
 
 use crate::chains::mend_chain;
@@ -29,7 +29,7 @@ use blk_io::{Fault, Folder};
 /// where one of them isn't told whole: so the table takes at most 4 calls beside its writes. A record that is to be written
 /// and doesn't check is corruption, and so are too few bytes.
 pub fn mend_chains<F: Folder>(
-    f: &mut F,
+    folder: &mut F,
     files: &BlockFiles,
     records: &[Addr],
     ends: &[u32],
@@ -38,32 +38,32 @@ pub fn mend_chains<F: Folder>(
     requires stand { All (λ w. is_record_among files.now w ≡ true) records.now }
     requires ends { AreEnds records.now ends.now }
     requires told { length whole.now ≡ table_length }
-    requires is_open { ForSome (F.told f.old).files (IsOpen files.now) }
+    requires is_open { ForSome (F.told folder.old).files (IsOpen files.now) }
 
     // With the kept records of the folder the steps are those of the repair of the chains, from the first on: all are
     // repaired in the end, and the same is kept and found at each word.
-    ensures steps { OnOk result (ForSome (F.told f.old).files (λ from. AreChainsScanned records.now ends.now whole.now from → Applies (F.told f.old) (F.told f.new) (chain_repair_steps from))) }
-    ensures prefix { ForSome (F.told f.old).files (λ from. AreChainsScanned records.now ends.now whole.now from → AppliesPrefix (F.told f.old) (F.told f.new) (chain_repair_steps from)) }
-    ensures mended { OnOk result (ForSome (F.told f.old).files (λ from. AreChainsScanned records.now ends.now whole.now from → ForSome (F.told f.new).files (AreChainsMended from))) }
-    ensures stops { ForSome (F.told f.old).files (λ from. AreChainsScanned records.now ends.now whole.now from → Passes (F.told f.old) (F.told f.new) (HoldsTheSame from)) }
+    ensures steps { OnOk result (ForSome (F.told folder.old).files (λ from. AreChainsScanned records.now ends.now whole.now from → Applies (F.told folder.old) (F.told folder.new) (chain_repair_steps from))) }
+    ensures prefix { ForSome (F.told folder.old).files (λ from. AreChainsScanned records.now ends.now whole.now from → AppliesPrefix (F.told folder.old) (F.told folder.new) (chain_repair_steps from)) }
+    ensures mended { OnOk result (ForSome (F.told folder.old).files (λ from. AreChainsScanned records.now ends.now whole.now from → ForSome (F.told folder.new).files (AreChainsMended from))) }
+    ensures stops { ForSome (F.told folder.old).files (λ from. AreChainsScanned records.now ends.now whole.now from → Passes (F.told folder.old) (F.told folder.new) (HoldsTheSame from)) }
 
-    ensures is_open { ForSome (F.told f.new).files (IsOpen files.now) }
-    ensures silent { (F.told f.old).files ≡ None → (F.told f.new).files ≡ None }
+    ensures is_open { ForSome (F.told folder.new).files (IsOpen files.now) }
+    ensures silent { (F.told folder.old).files ≡ None → (F.told folder.new).files ≡ None }
 
     // An observable folder reports corruption only where these aren't its kept records.
-    ensures damaged { IfDamaged result (IsChainsRepairDamage files.now (F.told f.new)) }
-    ensures untold { ForSome (F.told f.old).files (AreChainsScanned records.now ends.now whole.now) → IfDamaged result (λ _. (F.told f.old).files ≡ None) }
+    ensures damaged { IfDamaged result (IsChainsRepairDamage files.now (F.told folder.new)) }
+    ensures untold { ForSome (F.told folder.old).files (AreChainsScanned records.now ends.now whole.now) → IfDamaged result (λ _. (F.told folder.old).files ≡ None) }
 
-    ensures later { F.faults f.old ≤ F.faults f.new }
-    ensures device { IfDevice result (Rises (F.faults f.old) (F.faults f.new)) }
+    ensures later { F.faults folder.old ≤ F.faults folder.new }
+    ensures device { IfDevice result (Rises (F.faults folder.old) (F.faults folder.new)) }
 {
     let mut table = [0u32; BUCKETS_OF_PIECE];
     let mut read = 0;
     for i in 0..ends.len() {
-        read = read_piece(f, whole[i], i as u16, read, &mut table)?;
+        read = read_piece(folder, whole[i], i as u16, read, &mut table)?;
         let own = records_of(records, ends, i);
         mend_bucket(
-            f,
+            folder,
             files,
             i as u16,
             table[i % BUCKETS_OF_PIECE],
@@ -77,7 +77,7 @@ pub fn mend_chains<F: Folder>(
 // Reads the words of the piece of the table in which a bucket is, unless it is told whole or they were read: the words
 // of the buckets before `read` were. Gives the bucket up to which they are read then.
 fn read_piece<F: Folder>(
-    f: &mut F,
+    folder: &mut F,
     whole: bool,
     bucket: u16,
     read: u32,
@@ -85,25 +85,25 @@ fn read_piece<F: Folder>(
 ) -> Result<u32, Fault>
     requires size { length table.old ≡ buckets_of_piece }
     ensures size { length table.new ≡ buckets_of_piece }
-    ensures fronts { IfOk result (λ now. ForSome (F.told f.old).files (λ from. AreFronts table.old bucket read from → AreFronts table.new bucket now from)) }
+    ensures fronts { IfOk result (λ now. ForSome (F.told folder.old).files (λ from. AreBucketWords table.old bucket read from → AreBucketWords table.new bucket now from)) }
     ensures reached { IfOk result (λ now. whole ≡ false → bucket < now) }
-    ensures stays { Stays (F.told f.old) (F.told f.new) }
-    ensures damaged { IfDamaged result (IsTableDamage (F.told f.new)) }
-    ensures untold { ForSome (F.told f.old).files HasWholeIndex → IfDamaged result (λ _. (F.told f.old).files ≡ None) }
-    ensures later { F.faults f.old ≤ F.faults f.new }
-    ensures device { IfDevice result (Rises (F.faults f.old) (F.faults f.new)) }
+    ensures stays { Stays (F.told folder.old) (F.told folder.new) }
+    ensures damaged { IfDamaged result (IsTableDamage (F.told folder.new)) }
+    ensures untold { ForSome (F.told folder.old).files HasWholeIndex → IfDamaged result (λ _. (F.told folder.old).files ≡ None) }
+    ensures later { F.faults folder.old ≤ F.faults folder.new }
+    ensures device { IfDevice result (Rises (F.faults folder.old) (F.faults folder.new)) }
 {
     if whole || u32::from(bucket) < read {
         return Ok(read);
     }
     let first = bucket - bucket % BUCKETS_OF_PIECE as u16;
-    buckets(f, first, table)?;
+    buckets(folder, first, table)?;
     Ok(u32::from(first) + BUCKETS_OF_PIECE as u32)
 }
 
 // Makes a bucket the chain of its kept records, unless it is told whole.
 fn mend_bucket<F: Folder>(
-    f: &mut F,
+    folder: &mut F,
     files: &BlockFiles,
     bucket: u16,
     front: u32,
@@ -111,21 +111,21 @@ fn mend_bucket<F: Folder>(
     whole: bool,
 ) -> Result<(), Fault>
     requires stand { All (λ w. is_record_among files.now w ≡ true) records.now }
-    requires is_open { ForSome (F.told f.old).files (IsOpen files.now) }
-    ensures steps { OnOk result (ForSome (F.told f.old).files (λ from. (entry : Image) → IsNextBucket entry bucket front records.now whole from → Applies (F.told f.old) (F.told f.new) (chain_steps bucket records.now from))) }
-    ensures prefix { ForSome (F.told f.old).files (λ from. (entry : Image) → IsNextBucket entry bucket front records.now whole from → AppliesPrefix (F.told f.old) (F.told f.new) (chain_steps bucket records.now from)) }
-    ensures others { OnOk result (ForSome (F.told f.old).files (λ from. ForSome (F.told f.new).files (KeepsOtherBuckets bucket from))) }
-    ensures is_open { ForSome (F.told f.new).files (IsOpen files.now) }
-    ensures silent { (F.told f.old).files ≡ None → (F.told f.new).files ≡ None }
-    ensures damaged { IfDamaged result (IsFailedLink files.now (F.told f.new)) }
-    ensures untold { ForSome (F.told f.old).files (AllCheck records.now) → IfDamaged result (λ _. (F.told f.old).files ≡ None) }
-    ensures later { F.faults f.old ≤ F.faults f.new }
-    ensures device { IfDevice result (Rises (F.faults f.old) (F.faults f.new)) }
+    requires is_open { ForSome (F.told folder.old).files (IsOpen files.now) }
+    ensures steps { OnOk result (ForSome (F.told folder.old).files (λ from. (entry : Image) → IsNextBucket entry bucket front records.now whole from → Applies (F.told folder.old) (F.told folder.new) (chain_steps bucket records.now from))) }
+    ensures prefix { ForSome (F.told folder.old).files (λ from. (entry : Image) → IsNextBucket entry bucket front records.now whole from → AppliesPrefix (F.told folder.old) (F.told folder.new) (chain_steps bucket records.now from)) }
+    ensures others { OnOk result (ForSome (F.told folder.old).files (λ from. ForSome (F.told folder.new).files (KeepsOtherBuckets bucket from))) }
+    ensures is_open { ForSome (F.told folder.new).files (IsOpen files.now) }
+    ensures silent { (F.told folder.old).files ≡ None → (F.told folder.new).files ≡ None }
+    ensures damaged { IfDamaged result (IsFailedLink files.now (F.told folder.new)) }
+    ensures untold { ForSome (F.told folder.old).files (AllCheck records.now) → IfDamaged result (λ _. (F.told folder.old).files ≡ None) }
+    ensures later { F.faults folder.old ≤ F.faults folder.new }
+    ensures device { IfDevice result (Rises (F.faults folder.old) (F.faults folder.new)) }
 {
     if whole {
         return Ok(());
     }
-    mend_chain(f, files, bucket, front, records)
+    mend_chain(folder, files, bucket, front, records)
 }
 
 // The records of a bucket among those of all buckets.

@@ -11,7 +11,7 @@ use Rattle.spec_run.specs.Script.{session_script}
 use Rattle.spec_run.specs.Run.{Turn, turns}
 use Rattle.blk_cache.specs.declared.fault.StepFault.{StepFault}
 use Rattle.blk_run.specs.declared.line.Line.{Line}
-use Rattle.blk_run.specs.Pending.{Holds}
+use Rattle.blk_run.specs.Pending.{HoldsLine}
 use Rattle.blk_run.specs.Playing.{SoFar, StandsAt, Around, PlaysPart, cut_behind}
 use Rattle.blk_run.proofs.Cuts.{cut_as, cut_at, cut_more, cut_none, ends_line, rest_few}
 use Rattle.blk_run.proofs.Parts.{IsThen, part_fewer, part_none, part_only, part_then}
@@ -29,13 +29,13 @@ lines_then number texts more state clock = more_lines number texts more state cl
 pub record ArePlayed (before bytes rest : List ℕ) (line : Line) (lines_old lines : ℕ) (keeps_old keeps : State → Image → Type 0) (notes_old notes : ℕ) (old new : Around) : Type 0 where
   pub whole : List (List ℕ)
   pub pending : List ℕ
-  pub holds : Holds line pending
+  pub holds : HoldsLine line pending
   pub split : cut_behind before bytes ≡ with_bytes (cut_as whole pending) rest
   pub counted : lines ≡ lines_old + length whole
   pub plays : (far : SoFar) (left : ℕ) → StandsAt far keeps_old notes_old (left + (length before + length bytes)) old.folder → PlaysPart {A = Unit {0}} (Ok tt) (lines_part (lines_old + 1) whole) far keeps notes (left + (length pending + length rest)) old new
 
 -- none at first
-pub none_played : (before bytes : List ℕ) (line : Line) (lines : ℕ) (keeps : State → Image → Type 0) (notes : ℕ) (here : Around) → Holds line before → ArePlayed before bytes bytes line lines lines keeps keeps notes notes here here
+pub none_played : (before bytes : List ℕ) (line : Line) (lines : ℕ) (keeps : State → Image → Type 0) (notes : ℕ) (here : Around) → HoldsLine line before → ArePlayed before bytes bytes line lines lines keeps keeps notes notes here here
 unfolding session_script turns
 none_played before bytes line lines keeps notes here holds = record {
   whole = [];
@@ -74,7 +74,7 @@ module _ (before bytes rest : List ℕ) (line : Line) (lines_old lines : ℕ) (k
         (λ after stands. subst (λ (n : ℕ). PlaysPart result (lines_part n (text ∷ [])) after keeps_new notes_new (left + length (drop (end + 1) rest)) mid new) number
         (next after (left + length (drop (end + 1) rest)) (subst (λ (n : ℕ). StandsAt after keeps notes n mid.folder) room stands)))
 
-    pub line_played : (line_new : Line) (lines_new : ℕ) → Holds line_new [] → lines_new ≡ lines + 1
+    pub line_played : (line_new : Line) (lines_new : ℕ) → HoldsLine line_new [] → lines_new ≡ lines + 1
         → ((far : SoFar) (left : ℕ) → StandsAt far keeps notes (left + (length text + 1)) mid.folder → PlaysPart {A = Unit {0}} (Ok tt) (lines_part (lines + 1) (text ∷ [])) far keeps_new notes_new left mid new)
         → ArePlayed before bytes (drop (end + 1) rest) line_new lines_old lines_new keeps_old keeps_new notes_old notes_new old new
     line_played line_new lines_new holds counts next = record {
@@ -86,7 +86,7 @@ module _ (before bytes rest : List ℕ) (line : Line) (lines_old lines : ℕ) (k
       plays = λ far left at. let none : left + length (drop (end + 1) rest) ≡ left + (0 + length (drop (end + 1) rest)) = omega arith in subst (λ (n : ℕ). PlaysPart {A = Unit {0}} (Ok tt) (lines_part (lines_old + 1) (so_far.whole ++ text ∷ [])) far keeps_new notes_new n old new) none (one_more (Ok tt) next far left at);
     }
 
-    pub line_played_of : (later : List ℕ) (line_new : Line) (lines_new : ℕ) → later ≡ drop (end + 1) rest → Holds line_new [] → lines_new ≡ lines + 1
+    pub line_played_of : (later : List ℕ) (line_new : Line) (lines_new : ℕ) → later ≡ drop (end + 1) rest → HoldsLine line_new [] → lines_new ≡ lines + 1
         → ((far : SoFar) (left : ℕ) → StandsAt far keeps notes (left + (length text + 1)) mid.folder → PlaysPart {A = Unit {0}} (Ok tt) (lines_part (lines + 1) (text ∷ [])) far keeps_new notes_new left mid new)
         → ArePlayed before bytes later line_new lines_old lines_new keeps_old keeps_new notes_old notes_new old new
     line_played_of later line_new lines_new is holds counts next =
@@ -120,8 +120,8 @@ module _ (before bytes rest : List ℕ) (line : Line) (lines_old lines : ℕ) (k
       subst (λ (c : Cut). PlaysPart {A = Unit {0}} (Ok tt) (lines_part (lines_old + 1) c.whole) far keeps notes (left + length c.rest) old mid) (sym cut_is)
       (subst (λ (n : ℕ). PlaysPart {A = Unit {0}} (Ok tt) (lines_part (lines_old + 1) so_far.whole) far keeps notes n old mid) room (so_far.plays far left at))
 
-  pub rest_holds : (line_new : Line) → Holds line_new (so_far.pending ++ rest) → Holds line_new (cut_behind before bytes).rest
-  rest_holds line_new holds = subst (λ (c : Cut). Holds line_new c.rest) (sym cut_is) holds
+  pub rest_holds : (line_new : Line) → HoldsLine line_new (so_far.pending ++ rest) → HoldsLine line_new (cut_behind before bytes).rest
+  rest_holds line_new holds = subst (λ (c : Cut). HoldsLine line_new c.rest) (sym cut_is) holds
 
   pub all_counted : lines ≡ lines_old + length (cut_behind before bytes).whole
   all_counted = so_far.counted ∙ ap (λ (c : Cut). lines_old + length c.whole) (sym cut_is)

@@ -23,7 +23,7 @@ use Rattle.blk_disk.specs.Open.{IsOpen}
 use Rattle.blk_model.specs.State.{Bounds, State}
 use Rattle.spec_run.specs.Script.{totals_line}
 use Rattle.blk_run.specs.declared.ending.Status.{Status}
-use Rattle.blk_run.specs.Count.{AreTotalsOf, EndsSame, IsDamaged, PrintsAt, ShowsTotals, opened_on}
+use Rattle.blk_run.specs.Count.{AreTotalsOf, EndsSame, IsDamaged, PrintsCountAt, ShowsTotals, opened_on}
 
 -- nothing is a prefix of each text
 pub none_printed : (line : List ℕ) (old : Option (List ℕ)) → Appends old old line
@@ -34,7 +34,7 @@ none_printed line old = record { front = []; rest = line; split = refl; written 
     same (Some w) = ap Some (sym (append-nil w))
 
 -- the totals of the files that are told, and any where none are
-pub told_totals : (s : Status) (limits : Bounds) (files : Option Image) (old new : Option (List ℕ)) → ((line : List ℕ) → PrintsAt s line old new) → ShowsTotals s limits files old new
+pub told_totals : (s : Status) (limits : Bounds) (files : Option Image) (old new : Option (List ℕ)) → ((line : List ℕ) → PrintsCountAt s line old new) → ShowsTotals s limits files old new
 told_totals s limits None old new printed = record { item_count = 0; byte_count = 0; totals = λ image there. absurd (no_image there); printed = printed (totals_line 0 0) }
   where
     no_image : {image : Image} → ◌≡◌ {A = Option Image} None (Some image) → ⊥

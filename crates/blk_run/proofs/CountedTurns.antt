@@ -24,7 +24,7 @@ use Rattle.blk_cache.specs.declared.fault.StepFault.TheVariants as fault
 use Rattle.blk_cache.specs.CacheKeeping.{KeepsState}
 use Rattle.blk_cache.specs.Stepping.{IfSink}
 use Rattle.blk_run.specs.Fixed.{GoOn, PlaysUpTo}
-use Rattle.blk_run.specs.Generating.{AreWithin, AsksCounted, Following, IsAsked, PlaysCounted, PlaysOn, evicted_by, hidden_turn, longest_read, unshown}
+use Rattle.blk_run.specs.Generating.{AreWithin, AsksCounted, Following, IsGeneratedRequest, PlaysCounted, PlaysOn, evicted_by, hidden_turn, longest_read, unshown}
 use Rattle.blk_run.specs.Playing.{AreMade, Around, Asks, Plays, PlaysPart, SoFar, StandsAt, asked_turn, has_refused, refuses, state_now, with_more}
 use Rattle.blk_run.proofs.Asking.{around}
 use Rattle.blk_run.proofs.EvictedCounts.{read_few, told_by}
@@ -67,7 +67,7 @@ within_more commands counts a evicted within few bytes one =
     record { commands_few = omega (arith, c); refused_few = omega (arith, r, one); evicted_few = omega (arith, e, few); read_few = omega (arith, d, bytes) }
 
 -- a command that was done, and counted by the items before it and after it
-module _ (far : SoFar) (cache next : Cache) (notes notes_next left : ℕ) (told now : Told) (moment : ℕ) (request : Request) (asked : IsAsked request) (at : StandsAt far (KeepsState cache) notes (left + 2) told)
+module _ (far : SoFar) (cache next : Cache) (notes notes_next left : ℕ) (told now : Told) (moment : ℕ) (request : Request) (asked : IsGeneratedRequest request) (at : StandsAt far (KeepsState cache) notes (left + 2) told)
     (stands : StandsAt (with_more far (record { moment = moment; request = request } ∷ [])) (KeepsState next) notes_next left now) where
   abbrev made : Outcome
   made = outcome_in (state_now far) (record { moment = moment; request = request })

@@ -18,14 +18,14 @@ use Rattle.blk_model.proofs.Evicted.{state_without}
 use Rattle.blk_model.proofs.States.{Named, named_object}
 use Rattle.blk_model.proofs.Steps.{none_comes, room_for_is_loose}
 use Rattle.law_state.proofs.CommandEnding.{groups-turn}
-use Rattle.blk_items.specs.RoomLaws.{IsLessBy, IsLastUnpinned, group_for}
+use Rattle.blk_items.specs.RoomLaws.{IsLessByGroup, IsLastUnpinned, group_for}
 use Rattle.blk_items.proofs.RoomCounts.{counted-less}
 use Rattle.blk_items.proofs.RoomGroups.{last-goes, last-next, loose-for, nothing-more, without-none}
 use Rattle.blk_cache.specs.Evicting.{count_of_groups}
 use Rattle.blk_cache.proofs.Creates.{items-after}
 use Rattle.blk_cache.proofs.WriteRoom.{items-same}
 use Rattle.blk_gen.specs.Counting.{bytes_read, evicted_items}
-use Rattle.blk_run.specs.Generating.{IsAsked, evicted_by, longest_read}
+use Rattle.blk_run.specs.Generating.{IsGeneratedRequest, evicted_by, longest_read}
 
 -- The groups that go.
 
@@ -67,7 +67,7 @@ module _ (enough : State → Bool) (state : State) (valid : IsValidState state) 
   next_fewer : enough state ≡ false → Last (is_pinned state []) state.uses → IsFewer state (evicted_until enough state [])
   next_fewer wants last =
       let is : IsLastUnpinned state [] last.front last.item last.behind = record { listed = last.listed; unpinned = last.unpinned; pinned_behind = last.pinned_behind } in
-      let less : IsLessBy state (group_for last.item last.front) = counted-less state last.front last.item last.behind valid (last-goes state [] last.front last.item last.behind tt is) in
+      let less : IsLessByGroup state (group_for last.item last.front) = counted-less state last.front last.item last.behind valid (last-goes state [] last.front last.item last.behind tt is) in
       let some = some_items last.item last.front in
       let left = less.items_left in
       let valid_next : IsValidState (without (group_for last.item last.front ∷ []) state) = state_without state valid [] (group_for last.item last.front ∷ []) (loose-for (is_pinned state []) last.item last.front last.unpinned, tt) in
@@ -153,7 +153,7 @@ closed_told state moment handle None = (refl, omega arith)
 closed_told state moment handle (Some why) = (refl, omega arith)
 
 -- each command of a generator
-pub told_by : (state : State) (moment : ℕ) (request : Request) → IsValidState state → IsAsked request → IsTold request state (step state moment request)
+pub told_by : (state : State) (moment : ℕ) (request : Request) → IsValidState state → IsGeneratedRequest request → IsTold request state (step state moment request)
 unfolding step
 told_by state moment (to_create handle key) valid asked = created_told state moment handle key valid (refused moment (to_create handle key) state)
 told_by state moment (to_write handle stream offset cut bytes) valid asked = written_told state moment handle stream offset cut bytes valid (refused moment (to_write handle stream offset cut bytes) state) refl
@@ -172,7 +172,7 @@ told_by state moment to_total valid asked = absurd asked
 
 -- What it reads.
 
-bytes_few : (request : Request) → IsAsked request → (moment : ℕ) (state : State) (r : Option Refusal) → bytes_read (answer_of (outcome moment request state r).reply) ≤ longest_read
+bytes_few : (request : Request) → IsGeneratedRequest request → (moment : ℕ) (state : State) (r : Option Refusal) → bytes_read (answer_of (outcome moment request state r).reply) ≤ longest_read
 unfolding outcome reply
 bytes_few (to_create handle key) asked moment state None = omega arith
 bytes_few (to_open handle key) asked moment state None = omega arith
@@ -191,6 +191,6 @@ bytes_few (to_trim bytes) asked moment state None = absurd asked
 bytes_few to_total asked moment state None = absurd asked
 bytes_few request asked moment state (Some why) = omega arith
 
-pub read_few : (state : State) (moment : ℕ) (request : Request) → IsAsked request → bytes_read (answer_of (step state moment request).reply) ≤ longest_read
+pub read_few : (state : State) (moment : ℕ) (request : Request) → IsGeneratedRequest request → bytes_read (answer_of (step state moment request).reply) ≤ longest_read
 unfolding step
 read_few state moment request asked = bytes_few request asked moment state (refused moment request state)

@@ -61,7 +61,7 @@ still_along : (from : Image) (steps : List TrailStep) → Along (opening.HoldsSt
 still_along from steps all = until_weaker2 (opening.HoldsStill from) (HoldsStill from) (opening.HoldsStill from) (HoldsStill from) steps from (held_still from) (held_still from) all
 
 -- what `start` opened
-pub opened_by_start : (from : Image) (limits : Bounds) (old new : Told) → old.files ≡ Some from → opening.Opens from old new → Opens from (open_state (found from) limits) old new
+pub opened_by_start : (from : Image) (limits : Bounds) (old new : Told) → old.files ≡ Some from → opening.OpensFolder from old new → Opens from (open_state (found from) limits) old new
 unfolding word_step
 opened_by_start from limits old new there opens = record {
   before = opens.before;

@@ -14,7 +14,7 @@ use Rattle.blk_run.specs.declared.input.InputEnd.{InputEnd}
 use Rattle.blk_run.specs.declared.input.InputEnd.TheVariants as end
 use Rattle.blk_run.specs.declared.line.Line.{Line}
 use Rattle.blk_run.specs.Inputs.{IsPastBudget, IsReadWhole, IsTakenUpTo, PlaysInput}
-use Rattle.blk_run.specs.Pending.{Holds}
+use Rattle.blk_run.specs.Pending.{HoldsLine}
 use Rattle.blk_run.specs.Playing.{SoFar, StandsAt, Around, Plays, PlaysPart, cut_behind}
 use Rattle.blk_run.proofs.Cuts.{behind_lines, cut_more, with_bytes-append}
 use Rattle.blk_run.proofs.Parts.{handed_on, part_fewer, part_none, part_then}
@@ -28,13 +28,13 @@ AreLeft taken left input = (behind : List ℕ) × ((input ≡ taken ++ behind) �
 pub record IsInputPlayed (budget left : ℕ) (input_old input : Option (List ℕ)) (line : Line) (lines : ℕ) (keeps_old keeps : State → Image → Type 0) (notes_old notes : ℕ) (old new : Around) : Type 0 where
   pub taken : List ℕ
   pub count : length taken + left ≡ budget
-  pub holds : Holds line (cut taken).rest
+  pub holds : HoldsLine line (cut taken).rest
   pub counted : lines ≡ length (whole_lines taken)
   pub of : ForSome input_old (AreLeft taken input)
   pub plays : (far : SoFar) (spare : ℕ) → StandsAt far keeps_old notes_old (spare + (budget + 1)) old.folder → PlaysPart {A = Unit {0}} (Ok tt) (lines_part 1 (whole_lines taken)) far keeps notes (spare + (length (cut taken).rest + (left + 1))) old new
 
 -- nothing at first
-pub no_input : (budget : ℕ) (input : Option (List ℕ)) (line : Line) (lines : ℕ) (keeps : State → Image → Type 0) (notes : ℕ) (here : Around) → lines ≡ 0 → Holds line [] → IsInputPlayed budget budget input input line lines keeps keeps notes notes here here
+pub no_input : (budget : ℕ) (input : Option (List ℕ)) (line : Line) (lines : ℕ) (keeps : State → Image → Type 0) (notes : ℕ) (here : Around) → lines ≡ 0 → HoldsLine line [] → IsInputPlayed budget budget input input line lines keeps keeps notes notes here here
 unfolding with_bytes session_script turns
 no_input budget input line lines keeps notes here none holds = record {
   taken = [];
@@ -116,13 +116,13 @@ module _ (budget left : ℕ) (input_old input : Option (List ℕ)) (line : Line)
 
     module _ (input_new : Option (List ℕ)) where
       -- all that was taken is used
-      pub piece_played : (left_new : ℕ) → left_new ≡ left - length bytes → (line_new : Line) (lines_new : ℕ) → Holds line_new after.rest → lines_new ≡ lines_now + length after.whole → ForSome input (AreLeft bytes input_new)
+      pub piece_played : (left_new : ℕ) → left_new ≡ left - length bytes → (line_new : Line) (lines_new : ℕ) → HoldsLine line_new after.rest → lines_new ≡ lines_now + length after.whole → ForSome input (AreLeft bytes input_new)
           → ((far : SoFar) (spare : ℕ) → StandsAt far keeps notes (spare + (length before + length bytes)) mid.folder → PlaysPart {A = Unit {0}} (Ok tt) (lines_part (lines_now + 1) after.whole) far keeps_new notes_new (spare + length after.rest) mid new)
           → IsInputPlayed budget left_new input_old input_new line_new lines_new keeps_old keeps_new notes_old notes_new old new
       piece_played left_new left_is line_new lines_new holds counts took next = record {
         taken = all;
         count = let c = so_far.count in let l = length-append so_far.taken bytes in omega (arith, c, l, enough, left_is);
-        holds = subst (λ (l : List ℕ). Holds line_new l) (sym rest_is) holds;
+        holds = subst (λ (l : List ℕ). HoldsLine line_new l) (sym rest_is) holds;
         counted = counts ∙ ap (λ (n : ℕ). n + length after.whole) so_far.counted ∙ sym (length-append (whole_lines so_far.taken) after.whole) ∙ ap length (sym whole_is);
         of = λ whole there.
             let l = so_far.of whole there in

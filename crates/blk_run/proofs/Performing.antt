@@ -16,7 +16,7 @@ use Rattle.blk_run.specs.Inputs.{IsReadWhole, IsTakenPast, IsTakenUpTo}
 use Rattle.blk_run.specs.Session.{DoesNothing, FixedScript, IsCompleteScript, IsDamagedBy, LeavesUnput, OnDamage, Outside, Put}
 use Rattle.blk_run.specs.Statuses.{CauseOf}
 use Rattle.blk_script.specs.declared.fault.LineFault.{LineFault}
-use Rattle.blk_run.specs.WholeInputs.{IsWholeInRoom, longest_input}
+use Rattle.blk_run.specs.WholeInputs.{IsWholeInBuffer, longest_input}
 use Rattle.blk_run.specs.Work.{Performs, ReadsOnDamage, no_input, whole_input}
 
 -- a cause, where the source can't have failed and nothing is too long
@@ -40,10 +40,10 @@ pub same_key : {a b : List ℕ} → ◌≡◌ {A = Result (List ℕ) LineFault} 
 same_key e = cc
 
 -- the whole input is at the start of a buffer
-pub read_whole : (len : ℕ) (room : List ℕ) (old_left new_left : Option (List ℕ)) → ForSome old_left (IsWholeInRoom len new_left room) → ForSome old_left (λ input. (take len room ≡ input) × IsReadWhole longest_input input new_left)
-read_whole len room old_left new_left read input left =
+pub read_whole : (len : ℕ) (buffer : List ℕ) (old_left new_left : Option (List ℕ)) → ForSome old_left (IsWholeInBuffer len new_left buffer) → ForSome old_left (λ input. (take len buffer ≡ input) × IsReadWhole longest_input input new_left)
+read_whole len buffer old_left new_left read input left =
     let so = read input left in
-    let t = length-take len room in
+    let t = length-take len buffer in
     let s = ap (λ (l : List ℕ). length l) so.are in
     let w = so.within in
     (so.are, record { within = omega (arith, t, s, w); none_left = so.none_left })

@@ -32,7 +32,7 @@ use Rattle.blk_run.proofs.HeadlineBridge.{opened_by_start}
 
 -- what is opened is the beginning of a run
 pub begins_at : (from : Image) (limits : Bounds) (readings : Readings) (old : Outside) (there : old.folder.files ≡ Some from) (clock : old.clock ≡ Some readings) (keeps : State → Image → Type 0)
-    (told : Told) (notes left : ℕ) → IsUsable from → opening.Opens from old.folder told → ForSome told.files (keeps (open_state (found from) limits)) → notes ≡ 0 → left < 2 ^ 65
+    (told : Told) (notes left : ℕ) → IsUsable from → opening.OpensFolder from old.folder told → ForSome told.files (keeps (open_state (found from) limits)) → notes ≡ 0 → left < 2 ^ 65
     → StandsAt (begun_far from limits readings old there clock) keeps notes left told
 begins_at from limits readings old there clock keeps told notes left usable opens kept none few =
     begins from limits readings old there clock keeps told notes left usable (opened_by_start from limits old.folder told there opens) kept none few

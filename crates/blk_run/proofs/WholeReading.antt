@@ -7,26 +7,26 @@ use Rattle.std.proofs.lemmas.Slice.{take-put_mid_below}
 use borrow.Rule.Slice.PartMut.{mid_of, put_mid}
 use Rattle.blk_io.specs.Streams.{Moves}
 use Rattle.blk_run.specs.Inputs.{IsTakenPast, IsTakenUpTo}
-use Rattle.blk_run.specs.WholeInputs.{IsTakenSoFar, IsWholeInRoom}
+use Rattle.blk_run.specs.WholeInputs.{IsTakenSoFar, IsWholeInBuffer}
 
 -- the buffer that is left
-pub room_left : (len : ℕ) (room : List ℕ) → len ≤ length room → length (mid_of len (length room - len) room) ≡ length room - len
-room_left len room within = length-take (length room - len) (drop len room) ∙ (let d = length-drop len room in omega (arith, d, within))
+pub room_left : (len : ℕ) (buffer : List ℕ) → len ≤ length buffer → length (mid_of len (length buffer - len) buffer) ≡ length buffer - len
+room_left len buffer within = length-take (length buffer - len) (drop len buffer) ∙ (let d = length-drop len buffer in omega (arith, d, within))
 
-no_rest : (len : ℕ) (room new : List ℕ) → len ≤ length room → put_mid len (length room - len) room new ≡ take len room ++ new
-no_rest len room new within =
-    ap (λ (l : List ℕ). take len room ++ (new ++ l)) (drop_all (length room - len) (drop len room) (let d = length-drop len room in omega (arith, d))) ∙ ap (λ (l : List ℕ). take len room ++ l) (append-nil new)
+no_rest : (len : ℕ) (buffer new : List ℕ) → len ≤ length buffer → put_mid len (length buffer - len) buffer new ≡ take len buffer ++ new
+no_rest len buffer new within =
+    ap (λ (l : List ℕ). take len buffer ++ (new ++ l)) (drop_all (length buffer - len) (drop len buffer) (let d = length-drop len buffer in omega (arith, d))) ∙ ap (λ (l : List ℕ). take len buffer ++ l) (append-nil new)
 
-module _ (len n : ℕ) (room old new bytes : List ℕ) (within : len < length room) (same : length new ≡ length room - len) (moves : Moves (drop len bytes) old new n) where
-  take_len : length (take len room) ≡ len
-  take_len = length-take len room ∙ omega (arith, within)
+module _ (len n : ℕ) (buffer old new bytes : List ℕ) (within : len < length buffer) (same : length new ≡ length buffer - len) (moves : Moves (drop len bytes) old new n) where
+  take_len : length (take len buffer) ≡ len
+  take_len = length-take len buffer ∙ omega (arith, within)
 
   -- more bytes are in the buffer
-  pub taken_more : {left : Option (List ℕ)} {next : Option (List ℕ)} → IsTakenSoFar len left room bytes → n ≤ length new → next ≡ option_map (drop n) left → IsTakenSoFar (len + n) next (put_mid len (length room - len) room new) bytes
+  pub taken_more : {left : Option (List ℕ)} {next : Option (List ℕ)} → IsTakenSoFar len left buffer bytes → n ≤ length new → next ≡ option_map (drop n) left → IsTakenSoFar (len + n) next (put_mid len (length buffer - len) buffer new) bytes
   taken_more so few is = record {
     are =
-        ap (take (len + n)) (no_rest len room new (omega (arith, within)))
-        ∙ ap (λ (k : ℕ). take (k + n) (take len room ++ new)) (sym take_len) ∙ take-append-add (take len room) new n
+        ap (take (len + n)) (no_rest len buffer new (omega (arith, within)))
+        ∙ ap (λ (k : ℕ). take (k + n) (take len buffer ++ new)) (sym take_len) ∙ take-append-add (take len buffer) new n
         ∙ ap (λ (l : List ℕ). l ++ take n new) so.are ∙ ap (λ (l : List ℕ). take len bytes ++ l) moves.front ∙ both;
     within = let c = moves.count in let d = length-drop len bytes in let w = so.within in omega (arith, c, d, w);
     left_is = is ∙ ap (option_map (drop n)) so.left_is ∙ ap Some (drop-drop n len bytes);
@@ -38,24 +38,24 @@ module _ (len n : ℕ) (room old new bytes : List ℕ) (within : len < length ro
           sym (take-append-add (take len bytes) (drop len bytes) n) ∙ ap (λ (k : ℕ). take (k + n) (take len bytes ++ drop len bytes)) have ∙ ap (take (len + n)) (take-append-drop len bytes)
 
   -- none is left
-  pub taken_all : {left : Option (List ℕ)} {next : Option (List ℕ)} → IsTakenSoFar len left room bytes → len ≤ 1048576 → n ≡ 0 → 0 < length old → next ≡ option_map (drop n) left → IsWholeInRoom len next (put_mid len (length room - len) room new) bytes
+  pub taken_all : {left : Option (List ℕ)} {next : Option (List ℕ)} → IsTakenSoFar len left buffer bytes → len ≤ 1048576 → n ≡ 0 → 0 < length old → next ≡ option_map (drop n) left → IsWholeInBuffer len next (put_mid len (length buffer - len) buffer new) bytes
   taken_all so few none some is =
       let end : drop len bytes ≡ [] = moves.end none some in
       let long : length bytes ≤ len = (let d = length-drop len bytes in let z : length (drop len bytes) ≡ 0 = ap length end in omega (arith, d, z)) in
       record {
-        are = take-put_mid_below len (length room - len) room new len (omega arith) (omega (arith, within)) ∙ so.are ∙ take_all len bytes long;
+        are = take-put_mid_below len (length buffer - len) buffer new len (omega arith) (omega (arith, within)) ∙ so.are ∙ take_all len bytes long;
         within = few;
         none_left = is ∙ ap (option_map (drop n)) so.left_is ∙ ap (λ (l : List ℕ). Some (drop n l)) end ∙ ap Some (drop_all n [] (omega arith));
       }
 
 -- the buffer keeps its length
-pub placed_length : (len : ℕ) (room new : List ℕ) → len ≤ length room → length new ≡ length room - len → length (put_mid len (length room - len) room new) ≡ length room
-placed_length len room new within same =
-    ap length (no_rest len room new within) ∙ (let a = length-append (take len room) new in let t = length-take len room in omega (arith, a, t, same, within))
+pub placed_length : (len : ℕ) (buffer new : List ℕ) → len ≤ length buffer → length new ≡ length buffer - len → length (put_mid len (length buffer - len) buffer new) ≡ length buffer
+placed_length len buffer new within same =
+    ap length (no_rest len buffer new within) ∙ (let a = length-append (take len buffer) new in let t = length-take len buffer in omega (arith, a, t, same, within))
 
 -- what was taken is a prefix of the input
-pub taken_front : (most len : ℕ) (room bytes : List ℕ) {left next : Option (List ℕ)} → IsTakenSoFar len left room bytes → len ≤ most → next ≡ left → IsTakenUpTo most next bytes
-taken_front most len room bytes so few same = (
+pub taken_front : (most len : ℕ) (buffer bytes : List ℕ) {left next : Option (List ℕ)} → IsTakenSoFar len left buffer bytes → len ≤ most → next ≡ left → IsTakenUpTo most next bytes
+taken_front most len buffer bytes so few same = (
   take len bytes,
   record {
     behind = drop len bytes;
@@ -66,8 +66,8 @@ taken_front most len room bytes so few same = (
 )
 
 -- and it is one byte more than may be
-pub taken_past : (most len : ℕ) (room bytes : List ℕ) {left : Option (List ℕ)} → IsTakenSoFar len left room bytes → len ≡ most + 1 → IsTakenPast most left bytes
-taken_past most len room bytes so past =
+pub taken_past : (most len : ℕ) (buffer bytes : List ℕ) {left : Option (List ℕ)} → IsTakenSoFar len left buffer bytes → len ≡ most + 1 → IsTakenPast most left bytes
+taken_past most len buffer bytes so past =
     let within : most < length bytes = let w = so.within in omega (arith, w, past) in
     let byte = get_or bytes most 0 in
     let front : take len bytes ≡ take most bytes ++ byte ∷ [] = ap (λ (k : ℕ). take k bytes) past ∙ take_more bytes most 0 within in (

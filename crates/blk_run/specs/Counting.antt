@@ -8,7 +8,7 @@ use Rattle.blk_io.specs.Streams.{later_of}
 use Rattle.blk_cache.specs.Opening.{HoldsStill}
 use Rattle.blk_run.specs.declared.ending.Status.{Status}
 use Rattle.blk_run.specs.declared.ending.Status.TheVariants as status
-use Rattle.blk_run.specs.Count.{AnswersFor, EndsSame, IsMadeAtNext, ShowsTotals}
+use Rattle.blk_run.specs.Count.{CountAnswersFor, EndsSame, IsMadeAtNext, ShowsTotals}
 use Rattle.blk_run.specs.Failing.{IsFailedInOpening}
 use Rattle.blk_run.specs.Session.{Outside}
 
@@ -19,7 +19,7 @@ IsDoneOrSink result = (result ≡ status.Ok) ⊎ (result ≡ status.Sink)
 -- `count` by its status; before and now are the sink's counts of faults
 pub record Counts (result : Status) (limits : Bounds) (before now : ℕ) (old new : Outside) : Type 0 where
   -- the folder decides the status, but for failures and out of memory
-  pub answer : ForSome old.folder.files (AnswersFor result)
+  pub answer : ForSome old.folder.files (CountAnswersFor result)
   -- what is printed of what the folder holds, and of a failed check
   pub printed : ShowsTotals result limits old.folder.files old.written new.written
   pub damage : result ≡ status.Damaged → IsFailedInOpening old.folder new.folder old.written new.written before now

@@ -14,7 +14,7 @@ use Rattle.blk_cache.specs.Opening.{EndsSession}
 use Rattle.blk_run.specs.Playing.{SoFar, state_now}
 
 -- these commands were done after those of a run, and the folder was closed: the durable contents after all are recovered, the run is whole, the folder is sound and no session is open
-pub record IsClosed (commands : List Stamped) (far : SoFar) (new : Told) (clock_old clock_new : Option Readings) : Type 0 where
+pub record HasClosedAll (commands : List Stamped) (far : SoFar) (new : Told) (clock_old clock_new : Option Readings) : Type 0 where
   pub whole : IsWholeRun far.from far.opened (far.done ++ commands) far.start new
   pub holds : ForSome new.files (λ image. found image ≡ rest (state_after far.opened (far.done ++ commands)))
   pub ends : ForSome new.files EndsSession
@@ -22,7 +22,7 @@ pub record IsClosed (commands : List Stamped) (far : SoFar) (new : Told) (clock_
 
 -- as an answer tells: where the folder failed, a crash leaves what it may; an observable folder reports no corruption
 abbrev pub ClosesBy : Result (Unit {0}) Fault → List Stamped → SoFar → Told → (clock_old clock_new : Option Readings) → Type 0
-ClosesBy (Ok done) commands far new clock_old clock_new = IsClosed commands far new clock_old clock_new
+ClosesBy (Ok done) commands far new clock_old clock_new = HasClosedAll commands far new clock_old clock_new
 ClosesBy (Err fault.Device) commands far new clock_old clock_new = Stops far.from far.opened (far.done ++ commands) far.start new
 ClosesBy (Err (fault.Damaged damage)) commands far new clock_old clock_new = ⊥
 

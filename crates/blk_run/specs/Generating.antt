@@ -23,13 +23,13 @@ abbrev pub longest_read : ℕ
 longest_read = 20001
 
 -- a command that a generator may ask
-abbrev pub IsAsked : Request → Type 0
-IsAsked (to_create handle key) = Unit {0}
-IsAsked (to_open handle key) = Unit {0}
-IsAsked (to_read handle stream offset count) = count ≤ longest_read
-IsAsked (to_write handle stream offset cut bytes) = Unit {0}
-IsAsked (to_close handle) = Unit {0}
-IsAsked _ = ⊥
+abbrev pub IsGeneratedRequest : Request → Type 0
+IsGeneratedRequest (to_create handle key) = Unit {0}
+IsGeneratedRequest (to_open handle key) = Unit {0}
+IsGeneratedRequest (to_read handle stream offset count) = count ≤ longest_read
+IsGeneratedRequest (to_write handle stream offset cut bytes) = Unit {0}
+IsGeneratedRequest (to_close handle) = Unit {0}
+IsGeneratedRequest _ = ⊥
 
 -- how many items such a command evicted, by how many there were before it and are after it: a Create that isn't refused made one of them, and only a Create and a Write evict
 abbrev pub evicted_by : Request → Answer → (before after : ℕ) → ℕ

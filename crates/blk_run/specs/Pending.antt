@@ -8,8 +8,8 @@ AreKept false kept bytes = bytes ≡ kept
 AreKept true kept bytes = 2200000 < length bytes
 
 -- these bytes of a line have come
-abbrev pub Holds : Line → List ℕ → Type 0
-Holds line bytes = AreKept line.too_long (take line.len line.kept.items) bytes
+abbrev pub HoldsLine : Line → List ℕ → Type 0
+HoldsLine line bytes = AreKept line.too_long (take line.len line.kept.items) bytes
 
 -- how many bytes of a line have come, and one more than a line may have where they are too many
 abbrev pub pending : Line → ℕ

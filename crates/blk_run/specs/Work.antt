@@ -55,11 +55,11 @@ DoesWork (no_input script) result limits from readings source sink old new = Fix
 DoesWork (folder_text text) result limits from readings source sink old new = ShowsText result (text from) old new
 
 -- where nothing failed and the input is as long as it may be: the whole output was printed, or it was out of memory
-abbrev pub Completes : Work → Status → Bounds → Image → Readings → Outside → Outside → Type 0
-Completes input_lines result limits from readings old new = ForSome old.left (λ input. length input ≤ budget → IsComplete result limits from readings input old new)
-Completes (whole_input script) result limits from readings old new = ForSome old.left (λ input. length input ≤ longest_input → IsCompleteScript result (script input) limits from readings (record old { left = new.left }) new)
-Completes (no_input script) result limits from readings old new = IsCompleteScript result script limits from readings old new
-Completes (folder_text text) result limits from readings old new = IsCompleteText result (text from) old new
+abbrev pub CompletesWork : Work → Status → Bounds → Image → Readings → Outside → Outside → Type 0
+CompletesWork input_lines result limits from readings old new = ForSome old.left (λ input. length input ≤ budget → IsComplete result limits from readings input old new)
+CompletesWork (whole_input script) result limits from readings old new = ForSome old.left (λ input. length input ≤ longest_input → IsCompleteScript result (script input) limits from readings (record old { left = new.left }) new)
+CompletesWork (no_input script) result limits from readings old new = IsCompleteScript result script limits from readings old new
+CompletesWork (folder_text text) result limits from readings old new = IsCompleteText result (text from) old new
 
 -- a script of the whole input on a folder of which a check fails: the input wasn't read whole, or it was out of memory, and no more was done; or it was
 abbrev pub ReadsOnDamage : Status → Damage → (before now : ℕ) → Outside → Outside → Type 0
@@ -76,18 +76,18 @@ MeetsDamage (no_input script) result damage before now old new = OnDamage result
 MeetsDamage (folder_text text) result damage before now old new = OnDamage result damage before now old new
 
 -- the input is longer than it may be
-abbrev pub IsTooLong : Work → Option (List ℕ) → Type 0
-IsTooLong input_lines left = ForSome left (λ input. budget < length input)
-IsTooLong (whole_input script) left = ForSome left (λ input. longest_input < length input)
-IsTooLong (no_input script) left = ⊥
-IsTooLong (folder_text text) left = ⊥
+abbrev pub IsInputTooLong : Work → Option (List ℕ) → Type 0
+IsInputTooLong input_lines left = ForSome left (λ input. budget < length input)
+IsInputTooLong (whole_input script) left = ForSome left (λ input. longest_input < length input)
+IsInputTooLong (no_input script) left = ⊥
+IsInputTooLong (folder_text text) left = ⊥
 
 -- how much of the input is taken: no more than it may have and one byte
-abbrev pub Takes : Work → (old new : Option (List ℕ)) → Type 0
-Takes input_lines old new = ForSome old (IsTakenUpTo (budget + 1) new)
-Takes (whole_input script) old new = ForSome old (IsTakenUpTo (longest_input + 1) new)
-Takes (no_input script) old new = new ≡ old
-Takes (folder_text text) old new = new ≡ old
+abbrev pub TakesInput : Work → (old new : Option (List ℕ)) → Type 0
+TakesInput input_lines old new = ForSome old (IsTakenUpTo (budget + 1) new)
+TakesInput (whole_input script) old new = ForSome old (IsTakenUpTo (longest_input + 1) new)
+TakesInput (no_input script) old new = new ≡ old
+TakesInput (folder_text text) old new = new ≡ old
 
 -- a check of the work fails: of a run, or of what is read for a text
 abbrev pub IsDamagedWork : Work → (before now : ℕ) → Outside → Outside → Type 0
@@ -101,12 +101,12 @@ pub record Performs (work : Work) (result : Status) (limits : Bounds) (device so
   -- on a folder that is unfinished or well formed it is the run on the map model
   pub plays : ForSome old.folder.files (λ from. IsUsable from → ForSome old.clock (λ readings. DoesWork work result limits from readings source (Rises before now) old new))
   -- where nothing fails the whole output is printed, unless it is out of memory
-  pub complete : ForSome old.folder.files (λ from. IsUsable from → ForSome old.clock (λ readings. (device → ⊥) → (source → ⊥) → (Rises before now → ⊥) → Completes work result limits from readings old new))
+  pub complete : ForSome old.folder.files (λ from. IsUsable from → ForSome old.clock (λ readings. (device → ⊥) → (source → ⊥) → (Rises before now → ⊥) → CompletesWork work result limits from readings old new))
   -- on a finished folder of which a check fails that is printed, and no more is done
   pub damage : ForSome old.folder.files (λ from. (damage : Damage) → IsDamagedBy damage from → MeetsDamage work result damage before now old new)
   -- the cause of each status, on every folder
-  pub cause : CauseOf result (IsDamagedWork work before now old new) device source (Rises before now) (IsTooLong work old.left)
-  pub takes : Takes work old.left new.left
+  pub cause : CauseOf result (IsDamagedWork work before now old new) device source (Rises before now) (IsInputTooLong work old.left)
+  pub takes : TakesInput work old.left new.left
 
 -- the work leaves the input unread
 abbrev pub IsUnread : Work → Type 0

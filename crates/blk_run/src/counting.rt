@@ -18,7 +18,7 @@ ghost use Rattle.blk_cache.specs.BoundNames.{AreAllFree};
 ghost use Rattle.blk_cache.specs.CacheKeeping.{KeepsState};
 ghost use Rattle.blk_cache.specs.Opening.{EndsSession, HoldsStill, WasMadeAt};
 ghost use Rattle.blk_cache.specs.Stepping.{IfSink};
-ghost use Rattle.blk_run.specs.Count.{AnswersFor, EndsSame, IsMadeAtNext, PrintsAt, ShowsTotals};
+ghost use Rattle.blk_run.specs.Count.{CountAnswersFor, EndsSame, IsMadeAtNext, PrintsCountAt, ShowsTotals};
 ghost use Rattle.blk_run.specs.Errors.{IsOnlySink};
 ghost use Rattle.blk_run.specs.Failing.{IsDamagedRun, IsFailedInOpening};
 ghost use Rattle.blk_run.specs.Playing.{StandsAt};
@@ -54,7 +54,7 @@ pub(crate) fn run_count<F: Folder, K: Sink, C: Clock>(
     ensures later { (F.faults folder.old ≤ F.faults folder.new) × (K.faults out.old ≤ K.faults out.new) }
 
     // The folder decides the status, but for failures and out of memory.
-    ensures answer { ForSome (F.told folder.old).files (AnswersFor result) }
+    ensures answer { ForSome (F.told folder.old).files (CountAnswersFor result) }
 
     // What is printed of what the folder holds, and of a failed check.
     ensures printed { ShowsTotals result (bounds_of limits) (F.told folder.old).files (K.written out.old) (K.written out.new) }
@@ -97,7 +97,7 @@ fn count<F: Folder, K: Sink>(cache: Cache, folder: &mut F, out: &mut K) -> Statu
     requires is_open { ForSome (F.told folder.old).files (IsOpen cache.files) }
     ensures runs { (from : Image) (limits : Bounds) (readings : Readings) (left : Option (List ℕ)) (start : Told) (first next : Option Readings) → start.files ≡ Some from → first ≡ Some readings → next ≡ option_map later_of first → StandsAt (record { start = start; from = from; opened = open_state (found from) limits; done = [] }) (KeepsState cache) cache.notes (2 * handle_names) (F.told folder.old) → FixedRuns result count_script limits from readings (Rises (K.faults out.old) (K.faults out.new)) (record { folder = start; written = K.written out.old; left = left; clock = first }) (record { folder = F.told folder.new; written = K.written out.new; left = left; clock = next }) }
     ensures answers { (result ≡ Status.Ok) ⊎ ((result ≡ Status.Sink) ⊎ (result ≡ Status.Device)) }
-    ensures printed { PrintsAt result (totals_line cache.items cache.bytes) (K.written out.old) (K.written out.new) }
+    ensures printed { PrintsCountAt result (totals_line cache.items cache.bytes) (K.written out.old) (K.written out.new) }
     ensures ended { (result ≡ Status.Ok) ⊎ (result ≡ Status.Sink) → ForSome (F.told folder.old).files (λ from. (state : State) → KeepsState cache state from → ForSome (F.told folder.new).files EndsSession) }
     ensures session { (result ≡ Status.Ok) ⊎ (result ≡ Status.Sink) → ForSome (F.told folder.old).files (λ from. ForSome (F.told folder.new).files (λ image. this_id_of (byte image index) ≡ this_id_of (byte from index))) }
     ensures made { (result ≡ Status.Ok) ⊎ (result ≡ Status.Sink) → ForSome (F.told folder.old).files (λ from. ForSome (F.told folder.new).files (WasMadeAt (create_time_of (byte from index)))) }

@@ -12,7 +12,7 @@ ghost use Rattle.blk_gen.specs.Generator.{created_turn, gen_script, turn_script,
 ghost use Rattle.blk_object.specs.FailedChecks.{IsFailedCheck};
 ghost use Rattle.blk_cache.specs.Stepping.{IfDone, IfSink, IfStepDamaged, IfStepDevice};
 ghost use Rattle.blk_run.specs.Errors.{IsOnlySink};
-ghost use Rattle.blk_run.specs.Generating.{AreWithin, AsksCounted, Following, IsAsked, PlaysCounted, evicted_by, unshown};
+ghost use Rattle.blk_run.specs.Generating.{AreWithin, AsksCounted, Following, IsGeneratedRequest, PlaysCounted, evicted_by, unshown};
 ghost use Rattle.blk_run.specs.Playing.{PlaysPart, SoFar, StandsAt};
 ghost use Rattle.blk_disk.specs.Open.{IsOpen};
 ghost use Rattle.blk_cache.specs.CacheKeeping.{KeepsState};
@@ -52,10 +52,18 @@ pub(crate) fn play_generated<F: Folder, K: Sink, C: Clock>(
 {
     let mut draws = Draws::new(seed);
     let mut counts = Counts::new();
-    let mut room = [0u8; LONGEST_DATA];
+    let mut buffer = [0u8; LONGEST_DATA];
     for number in 0..count {
         let turn = draws.turn();
-        play_turn(cache, &mut counts, number, &turn, &mut room, folder, clock)?;
+        play_turn(
+            cache,
+            &mut counts,
+            number,
+            &turn,
+            &mut buffer,
+            folder,
+            clock,
+        )?;
     }
     show_counts(cache, &counts, out)
 }
@@ -66,13 +74,13 @@ fn play_turn<F: Folder, C: Clock>(
     counts: &mut Counts,
     number: u32,
     turn: &Turn,
-    room: &mut [u8],
+    buffer: &mut [u8],
     folder: &mut F,
     clock: &mut C,
 ) -> Result<(), StepFault>
     requires is_open { ForSome (F.told folder.old).files (IsOpen cache.old.files) }
     requires key { turn.now.key_number < 1000 }
-    requires room { turn.now.byte_count ≤ length room.old }
+    requires buffer { turn.now.byte_count ≤ length buffer.old }
     ensures played { (far : SoFar) (left commands : ℕ) (following : Following) (written : Option (List ℕ)) (refused : Bool) → commands + 5 < 2 ^ 36 → AreWithin commands counts.old → StandsAt far (KeepsState cache.old) (cache.old.notes) (left + 10) (F.told folder.old) → PlaysCounted result (commands + 5) counts.new (turn_script number turn.now counts.old following) (following counts.new) far (KeepsState cache.new) (cache.new.notes) left (unshown (F.told folder.old) written (C.readings clock.old) refused) (unshown (F.told folder.new) written (C.readings clock.new) refused) }
     ensures is_open { IfDone result (ForSome (F.told folder.new).files (IsOpen cache.new.files)) }
     ensures later { F.faults folder.old ≤ F.faults folder.new }
@@ -85,12 +93,12 @@ fn play_turn<F: Folder, C: Clock>(
     let open = Command::Open { handle: 0, key };
     let opened = ask_counted(cache, counts, &open, folder, clock)?;
     if is_missing(&opened) {
-        return play_missing(cache, counts, number, turn, room, folder, clock);
+        return play_missing(cache, counts, number, turn, buffer, folder, clock);
     }
     if is_refusal(&opened) {
         return Ok(());
     }
-    play_used(cache, counts, number, turn, room, folder, clock)
+    play_used(cache, counts, number, turn, buffer, folder, clock)
 }
 
 // Plays an iteration whose object is missing: it is made, and used where that isn't refused.
@@ -99,13 +107,13 @@ fn play_missing<F: Folder, C: Clock>(
     counts: &mut Counts,
     number: u32,
     turn: &Turn,
-    room: &mut [u8],
+    buffer: &mut [u8],
     folder: &mut F,
     clock: &mut C,
 ) -> Result<(), StepFault>
     requires is_open { ForSome (F.told folder.old).files (IsOpen cache.old.files) }
     requires key { turn.now.key_number < 1000 }
-    requires room { turn.now.byte_count ≤ length room.old }
+    requires buffer { turn.now.byte_count ≤ length buffer.old }
     ensures played { (far : SoFar) (left commands : ℕ) (following : Following) (written : Option (List ℕ)) (refused : Bool) → commands + 4 < 2 ^ 36 → AreWithin commands counts.old → StandsAt far (KeepsState cache.old) (cache.old.notes) (left + 8) (F.told folder.old) → PlaysCounted result (commands + 4) counts.new (created_turn number turn.now counts.old following) (following counts.new) far (KeepsState cache.new) (cache.new.notes) left (unshown (F.told folder.old) written (C.readings clock.old) refused) (unshown (F.told folder.new) written (C.readings clock.new) refused) }
     ensures is_open { IfDone result (ForSome (F.told folder.new).files (IsOpen cache.new.files)) }
     ensures later { F.faults folder.old ≤ F.faults folder.new }
@@ -120,7 +128,7 @@ fn play_missing<F: Folder, C: Clock>(
     if is_refusal(&made) {
         return Ok(());
     }
-    play_used(cache, counts, number, turn, room, folder, clock)
+    play_used(cache, counts, number, turn, buffer, folder, clock)
 }
 
 // Uses the object that the handle 0 names: a Write that cuts, a Read and a Close, of which none ends the iteration.
@@ -129,12 +137,12 @@ fn play_used<F: Folder, C: Clock>(
     counts: &mut Counts,
     number: u32,
     turn: &Turn,
-    room: &mut [u8],
+    buffer: &mut [u8],
     folder: &mut F,
     clock: &mut C,
 ) -> Result<(), StepFault>
     requires is_open { ForSome (F.told folder.old).files (IsOpen cache.old.files) }
-    requires room { turn.now.byte_count ≤ length room.old }
+    requires buffer { turn.now.byte_count ≤ length buffer.old }
     ensures played { (far : SoFar) (left commands : ℕ) (following : Following) (written : Option (List ℕ)) (refused : Bool) → commands + 3 < 2 ^ 36 → AreWithin commands counts.old → StandsAt far (KeepsState cache.old) (cache.old.notes) (left + 6) (F.told folder.old) → PlaysCounted result (commands + 3) counts.new (used_turn number turn.now counts.old following) (following counts.new) far (KeepsState cache.new) (cache.new.notes) left (unshown (F.told folder.old) written (C.readings clock.old) refused) (unshown (F.told folder.new) written (C.readings clock.new) refused) }
     ensures is_open { IfDone result (ForSome (F.told folder.new).files (IsOpen cache.new.files)) }
     ensures later { F.faults folder.old ≤ F.faults folder.new }
@@ -147,7 +155,7 @@ fn play_used<F: Folder, C: Clock>(
         stream: turn.stream,
         offset: 0,
         cut: true,
-        bytes: bytes_of(number, turn.byte_count, room),
+        bytes: bytes_of(number, turn.byte_count, buffer),
     };
     ask_counted(cache, counts, &write, folder, clock)?;
     let read = Command::Read {
@@ -162,11 +170,11 @@ fn play_used<F: Folder, C: Clock>(
 }
 
 // The bytes that the iteration with a number writes, at the start of the buffer.
-fn bytes_of(number: u32, count: u16, room: &mut [u8]) -> &[u8]
-    requires { count ≤ length room.old }
+fn bytes_of(number: u32, count: u16, buffer: &mut [u8]) -> &[u8]
+    requires { count ≤ length buffer.old }
     ensures { result.now ≡ generated_bytes number count }
 {
-    let bytes = &mut room[..usize::from(count)];
+    let bytes = &mut buffer[..usize::from(count)];
     fill(number, bytes);
     bytes
 }
@@ -180,7 +188,7 @@ fn ask_counted<F: Folder, C: Clock>(
     clock: &mut C,
 ) -> Result<Answer, StepFault>
     requires is_open { ForSome (F.told folder.old).files (IsOpen cache.old.files) }
-    requires asked { IsAsked (request_of command.now) }
+    requires asked { IsGeneratedRequest (request_of command.now) }
     ensures asked { (far : SoFar) (left : ℕ) → StandsAt far (KeepsState cache.old) (cache.old.notes) (left + 2) (F.told folder.old) → AsksCounted result (request_of command.now) counts.old counts.new far (KeepsState cache.new) (cache.new.notes) left (F.told folder.old) (F.told folder.new) (C.readings clock.old) (C.readings clock.new) }
     ensures is_open { IfDone result (ForSome (F.told folder.new).files (IsOpen cache.new.files)) }
     ensures later { F.faults folder.old ≤ F.faults folder.new }

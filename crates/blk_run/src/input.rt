@@ -4,7 +4,7 @@ ghost use Rattle.std.specs.Option.{ForSome, option_map};
 ghost use Rattle.spec_image.specs.Told.{Rises};
 ghost use Rattle.blk_object.specs.FailedChecks.{IsFailedCheck};
 ghost use Rattle.blk_cache.specs.Stepping.{IfDone, IfSink, IfStepDamaged, IfStepDevice};
-ghost use Rattle.blk_run.specs.Pending.{Holds, pending};
+ghost use Rattle.blk_run.specs.Pending.{HoldsLine, pending};
 ghost use Rattle.blk_run.specs.Playing.{SoFar, StandsAt};
 ghost use Rattle.blk_run.specs.Inputs.{IsTakenUpTo, PlaysInput, IfFailed, IfTooLong};
 ghost use Rattle.blk_disk.specs.Open.{IsOpen};
@@ -57,7 +57,7 @@ pub(crate) fn play_input<F: Folder, S: Source, K: Sink, C: Clock>(
     cache: &mut Cache,
     played: &mut Played,
     line: &mut Line,
-    room: &mut [u8],
+    buffer: &mut [u8],
     budget: u64,
     input: &mut S,
     out: &mut K,
@@ -65,9 +65,9 @@ pub(crate) fn play_input<F: Folder, S: Source, K: Sink, C: Clock>(
     clock: &mut C,
 ) -> Result<InputEnd, StepFault>
     requires is_open { ForSome (F.told folder.old).files (IsOpen cache.old.files) }
-    requires room { 2200000 ≤ length room.old }
+    requires buffer { 2200000 ≤ length buffer.old }
     requires first { played.old.lines + pending line.old ≡ 0 }
-    requires nothing { Holds line.old [] }
+    requires nothing { HoldsLine line.old [] }
     ensures played { (far : SoFar) (spare : ℕ) → StandsAt far (KeepsState cache.old) (cache.old.notes) (spare + (budget + 1)) (F.told folder.old) → PlaysInput result budget (S.left input.old) (S.left input.new) far (KeepsState cache.new) (cache.new.notes) spare (record { folder = F.told folder.old; written = K.written out.old; clock = C.readings clock.old; refused = played.old.refused }) (record { folder = F.told folder.new; written = K.written out.new; clock = C.readings clock.new; refused = played.new.refused }) }
     ensures taken { ForSome (S.left input.old) (IsTakenUpTo (budget + 1) (S.left input.new)) }
     ensures is_open { IfDone result (ForSome (F.told folder.new).files (IsOpen cache.new.files)) }
@@ -95,7 +95,7 @@ pub(crate) fn play_input<F: Folder, S: Source, K: Sink, C: Clock>(
             played,
             line,
             front(&piece, usable as usize),
-            room,
+            buffer,
             out,
             folder,
             clock,
@@ -106,7 +106,7 @@ pub(crate) fn play_input<F: Folder, S: Source, K: Sink, C: Clock>(
         left -= usable;
     }
     if !line.is_empty() {
-        play_line(cache, played, line, room, out, folder, clock)?;
+        play_line(cache, played, line, buffer, out, folder, clock)?;
     }
     Ok(InputEnd::Whole)
 }

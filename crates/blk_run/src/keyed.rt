@@ -30,10 +30,10 @@ pub(crate) fn get<F: Folder, K: Sink, C: Clock>(
     ensures performs { (left : Option (List ℕ)) → Performs (no_input (get_script (percent_decode key.now) stream)) result (bounds_of limits) (Rises (F.faults folder.old) (F.faults folder.new)) ⊥ (K.faults out.old) (K.faults out.new) (record { folder = F.told folder.old; written = K.written out.old; left = left; clock = C.readings clock.old }) (record { folder = F.told folder.new; written = K.written out.new; left = left; clock = C.readings clock.new }) }
     ensures later { (F.faults folder.old ≤ F.faults folder.new) × (K.faults out.old ≤ K.faults out.new) }
 {
-    let Ok(mut room) = take_room(alloc, key.len()) else {
+    let Ok(mut buffer) = take_buffer(alloc, key.len()) else {
         return Status::Memory;
     };
-    let Ok(key) = decode_key(key, &mut room) else {
+    let Ok(key) = decode_key(key, &mut buffer) else {
         unreachable!()
     };
     let open = Command::Open { handle: 0, key };
@@ -61,10 +61,10 @@ pub(crate) fn doom<F: Folder, K: Sink, C: Clock>(
     ensures performs { (left : Option (List ℕ)) → Performs (no_input (doom_script (percent_decode key.now))) result (bounds_of limits) (Rises (F.faults folder.old) (F.faults folder.new)) ⊥ (K.faults out.old) (K.faults out.new) (record { folder = F.told folder.old; written = K.written out.old; left = left; clock = C.readings clock.old }) (record { folder = F.told folder.new; written = K.written out.new; left = left; clock = C.readings clock.new }) }
     ensures later { (F.faults folder.old ≤ F.faults folder.new) × (K.faults out.old ≤ K.faults out.new) }
 {
-    let Ok(mut room) = take_room(alloc, key.len()) else {
+    let Ok(mut buffer) = take_buffer(alloc, key.len()) else {
         return Status::Memory;
     };
-    let Ok(key) = decode_key(key, &mut room) else {
+    let Ok(key) = decode_key(key, &mut buffer) else {
         unreachable!()
     };
     let commands = Fixed::Commands(&[Command::DoomKey { key }]);
@@ -87,13 +87,13 @@ pub(crate) fn put<F: Folder, S: Source, K: Sink, C: Clock>(
     ensures performs { Performs (whole_input (put_script (percent_decode key.now) stream)) result (bounds_of limits) (Rises (F.faults folder.old) (F.faults folder.new)) (Rises (S.faults input.old) (S.faults input.new)) (K.faults out.old) (K.faults out.new) (record { folder = F.told folder.old; written = K.written out.old; left = S.left input.old; clock = C.readings clock.old }) (record { folder = F.told folder.new; written = K.written out.new; left = S.left input.new; clock = C.readings clock.new }) }
     ensures later { (F.faults folder.old ≤ F.faults folder.new) × ((S.faults input.old ≤ S.faults input.new) × (K.faults out.old ≤ K.faults out.new)) }
 {
-    let Ok(mut room) = take_room(alloc, key.len()) else {
+    let Ok(mut buffer) = take_buffer(alloc, key.len()) else {
         return Status::Memory;
     };
-    let Ok(mut bytes) = take_room(alloc, LONGEST_INPUT + 1) else {
+    let Ok(mut bytes) = take_buffer(alloc, LONGEST_INPUT + 1) else {
         return Status::Memory;
     };
-    let Ok(key) = decode_key(key, &mut room) else {
+    let Ok(key) = decode_key(key, &mut buffer) else {
         unreachable!()
     };
     match read_input(input, &mut bytes) {
@@ -108,8 +108,8 @@ pub(crate) fn put<F: Folder, S: Source, K: Sink, C: Clock>(
 }
 
 // Takes memory for so many bytes.
-fn take_room(alloc: Global, count: usize) -> Result<Vec<u8>, NoMemory>
-    ensures { IfOk result (λ room. length room.items ≡ count) }
+fn take_buffer(alloc: Global, count: usize) -> Result<Vec<u8>, NoMemory>
+    ensures { IfOk result (λ buffer. length buffer.items ≡ count) }
 {
     Ok(vec![in alloc; 0; count]?)
 }

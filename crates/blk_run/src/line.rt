@@ -12,16 +12,16 @@ pub(crate) struct Line {
     kept: Vec<u8>,
     len: usize,
     too_long: bool,
-    ghost room: { length kept.items ≡ 2200000 },
+    ghost buffer: { length kept.items ≡ 2200000 },
     ghost within: { len ≤ 2200000 },
 }
 
 impl Line {
-    ghost use Rattle.blk_run.specs.Pending.{Holds, pending};
+    ghost use Rattle.blk_run.specs.Pending.{HoldsLine, pending};
 
     // A line without a byte.
     pub(crate) fn new(alloc: Global) -> Result<Line, NoMemory>
-        ensures nothing { IfOk result (λ line. Holds line []) }
+        ensures nothing { IfOk result (λ line. HoldsLine line []) }
         ensures none { IfOk result (λ line. pending line ≡ 0) }
     {
         Ok(Line {
@@ -33,7 +33,7 @@ impl Line {
 
     // More bytes of it come.
     pub(crate) fn add(&mut self, more: &[u8])
-        ensures added { (bytes : List ℕ) → Holds self.old bytes → Holds self.new (bytes ++ more.now) }
+        ensures added { (bytes : List ℕ) → HoldsLine self.old bytes → HoldsLine self.new (bytes ++ more.now) }
         ensures few { pending self.new ≤ pending self.old + length more.now }
     {
         if self.too_long || LONGEST_LINE - self.len < more.len() {
@@ -47,7 +47,7 @@ impl Line {
 
     // The next line begins.
     pub(crate) fn clear(&mut self)
-        ensures nothing { Holds self.new [] }
+        ensures nothing { HoldsLine self.new [] }
         ensures none { pending self.new ≡ 0 }
     {
         self.len = 0;
@@ -56,7 +56,7 @@ impl Line {
 
     // Whether no byte of it has come.
     pub(crate) fn is_empty(&self) -> bool
-        ensures nothing { (bytes : List ℕ) → Holds self.now bytes → IsTrue result ↔ (bytes ≡ []) }
+        ensures nothing { (bytes : List ℕ) → HoldsLine self.now bytes → IsTrue result ↔ (bytes ≡ []) }
         ensures some { result ≡ false → 0 < pending self.now }
     {
         self.len == 0 && !self.too_long
@@ -64,9 +64,9 @@ impl Line {
 
     // Its bytes, but for a line that is too long.
     pub(crate) fn bytes(&self) -> Option<&[u8]>
-        ensures whole { (bytes : List ℕ) → Holds self.now bytes → ForSome result (λ kept. kept.now ≡ bytes) }
+        ensures whole { (bytes : List ℕ) → HoldsLine self.now bytes → ForSome result (λ kept. kept.now ≡ bytes) }
         ensures few { ForSome result (λ kept. length kept.now ≤ 2200000) }
-        ensures too_long { (bytes : List ℕ) → Holds self.now bytes → result ≡ None → 2200000 < length bytes }
+        ensures too_long { (bytes : List ℕ) → HoldsLine self.now bytes → result ≡ None → 2200000 < length bytes }
     {
         if self.too_long {
             None

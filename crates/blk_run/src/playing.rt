@@ -12,7 +12,7 @@ ghost use Rattle.blk_run.specs.Playing.{cut_behind};
 ghost use Rattle.blk_object.specs.FailedChecks.{IsFailedCheck};
 ghost use Rattle.blk_cache.specs.Stepping.{IfDone, IfSink, IfStepDamaged, IfStepDevice};
 ghost use Rattle.blk_run.specs.Errors.{IsFlushed, IsOnlySink};
-ghost use Rattle.blk_run.specs.Pending.{Holds, pending};
+ghost use Rattle.blk_run.specs.Pending.{HoldsLine, pending};
 ghost use Rattle.blk_run.specs.Playing.{Asks, SoFar, StandsAt, PlaysPart, has_refused, refuses};
 ghost use Rattle.blk_disk.specs.Open.{IsOpen};
 ghost use Rattle.blk_cache.specs.CacheKeeping.{KeepsState};
@@ -55,15 +55,15 @@ pub(crate) fn play_line<F: Folder, K: Sink, C: Clock>(
     cache: &mut Cache,
     played: &mut Played,
     line: &Line,
-    room: &mut [u8],
+    buffer: &mut [u8],
     out: &mut K,
     folder: &mut F,
     clock: &mut C,
 ) -> Result<(), StepFault>
     requires is_open { ForSome (F.told folder.old).files (IsOpen cache.old.files) }
-    requires room { 2200000 ≤ length room.old }
+    requires buffer { 2200000 ≤ length buffer.old }
     requires few { played.old.lines < 2 ^ 64 - 1 }
-    ensures played { (bytes : List ℕ) → Holds line.now bytes → (far : SoFar) (left : ℕ) → StandsAt far (KeepsState cache.old) (cache.old.notes) (left + (length bytes + 1)) (F.told folder.old) → PlaysPart result (λ state readings. turns (session_script (played.old.lines + 1) (bytes ∷ [])) state readings) far (KeepsState cache.new) (cache.new.notes) left (record { folder = F.told folder.old; written = K.written out.old; clock = C.readings clock.old; refused = played.old.refused }) (record { folder = F.told folder.new; written = K.written out.new; clock = C.readings clock.new; refused = played.new.refused }) }
+    ensures played { (bytes : List ℕ) → HoldsLine line.now bytes → (far : SoFar) (left : ℕ) → StandsAt far (KeepsState cache.old) (cache.old.notes) (left + (length bytes + 1)) (F.told folder.old) → PlaysPart result (λ state readings. turns (session_script (played.old.lines + 1) (bytes ∷ [])) state readings) far (KeepsState cache.new) (cache.new.notes) left (record { folder = F.told folder.old; written = K.written out.old; clock = C.readings clock.old; refused = played.old.refused }) (record { folder = F.told folder.new; written = K.written out.new; clock = C.readings clock.new; refused = played.new.refused }) }
     ensures lines { played.new.lines ≡ played.old.lines + 1 }
     ensures is_open { IfDone result (ForSome (F.told folder.new).files (IsOpen cache.new.files)) }
     ensures later { F.faults folder.old ≤ F.faults folder.new }
@@ -74,7 +74,7 @@ pub(crate) fn play_line<F: Folder, K: Sink, C: Clock>(
 {
     played.lines += 1;
     match line.bytes() {
-        Some(bytes) => match read_line(bytes, room) {
+        Some(bytes) => match read_line(bytes, buffer) {
             Ok(command) => play_command(cache, played, &command, out, folder, clock),
             Err(why) => play_error(played, why, out),
         },
@@ -192,17 +192,17 @@ pub(crate) fn play_bytes<F: Folder, K: Sink, C: Clock>(
     played: &mut Played,
     line: &mut Line,
     bytes: &[u8],
-    room: &mut [u8],
+    buffer: &mut [u8],
     out: &mut K,
     folder: &mut F,
     clock: &mut C,
 ) -> Result<(), StepFault>
     requires is_open { ForSome (F.told folder.old).files (IsOpen cache.old.files) }
-    requires room { 2200000 ≤ length room.old }
+    requires buffer { 2200000 ≤ length buffer.old }
     requires few { played.old.lines + pending line.old + length bytes.now < 2 ^ 64 }
-    ensures played { (before : List ℕ) → Holds line.old before → (far : SoFar) (left : ℕ) → StandsAt far (KeepsState cache.old) (cache.old.notes) (left + (length before + length bytes.now)) (F.told folder.old) → PlaysPart result (λ state readings. turns (session_script (played.old.lines + 1) (cut_behind before bytes.now).whole) state readings) far (KeepsState cache.new) (cache.new.notes) (left + length (cut_behind before bytes.now).rest) (record { folder = F.told folder.old; written = K.written out.old; clock = C.readings clock.old; refused = played.old.refused }) (record { folder = F.told folder.new; written = K.written out.new; clock = C.readings clock.new; refused = played.new.refused }) }
-    ensures holds { OnOk result ((before : List ℕ) → Holds line.old before → Holds line.new (cut_behind before bytes.now).rest) }
-    ensures counted { OnOk result ((before : List ℕ) → Holds line.old before → played.new.lines ≡ played.old.lines + length (cut_behind before bytes.now).whole) }
+    ensures played { (before : List ℕ) → HoldsLine line.old before → (far : SoFar) (left : ℕ) → StandsAt far (KeepsState cache.old) (cache.old.notes) (left + (length before + length bytes.now)) (F.told folder.old) → PlaysPart result (λ state readings. turns (session_script (played.old.lines + 1) (cut_behind before bytes.now).whole) state readings) far (KeepsState cache.new) (cache.new.notes) (left + length (cut_behind before bytes.now).rest) (record { folder = F.told folder.old; written = K.written out.old; clock = C.readings clock.old; refused = played.old.refused }) (record { folder = F.told folder.new; written = K.written out.new; clock = C.readings clock.new; refused = played.new.refused }) }
+    ensures holds { OnOk result ((before : List ℕ) → HoldsLine line.old before → HoldsLine line.new (cut_behind before bytes.now).rest) }
+    ensures counted { OnOk result ((before : List ℕ) → HoldsLine line.old before → played.new.lines ≡ played.old.lines + length (cut_behind before bytes.now).whole) }
     ensures lines { OnOk result (played.new.lines + pending line.new ≤ played.old.lines + pending line.old + length bytes.now) }
     ensures is_open { IfDone result (ForSome (F.told folder.new).files (IsOpen cache.new.files)) }
     ensures later { F.faults folder.old ≤ F.faults folder.new }
@@ -214,7 +214,7 @@ pub(crate) fn play_bytes<F: Folder, K: Sink, C: Clock>(
     let mut rest = bytes;
     while let Some(end) = line_end(rest) {
         line.add(&rest[..end]);
-        play_line(cache, played, line, room, out, folder, clock)?;
+        play_line(cache, played, line, buffer, out, folder, clock)?;
         line.clear();
         rest = behind(rest, end + 1);
     }

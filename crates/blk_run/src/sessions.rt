@@ -17,7 +17,7 @@ ghost use Rattle.blk_cache.specs.CacheKeeping.{KeepsState};
 ghost use Rattle.blk_run.specs.Ending.{EndsRun};
 ghost use Rattle.blk_run.specs.Failing.{IsCommandDamage, IsDamagedRun, IsFailedSomewhere};
 ghost use Rattle.blk_run.specs.Inputs.{IsTakenUpTo};
-ghost use Rattle.blk_run.specs.Pending.{Holds, pending};
+ghost use Rattle.blk_run.specs.Pending.{HoldsLine, pending};
 ghost use Rattle.blk_run.specs.Playing.{SoFar, StandsAt};
 ghost use Rattle.blk_run.specs.Session.{IsComplete, IsDamagedBy, OnDamage, Outside, Runs, Session};
 ghost use Rattle.blk_run.specs.Statuses.{CauseOf, may_close, status_after};
@@ -68,12 +68,19 @@ pub fn session<F: Folder, S: Source, K: Sink, C: Clock>(
     let Ok(mut line) = Line::new(alloc) else {
         return Status::Memory;
     };
-    let Ok(mut room) = take_room(alloc) else {
+    let Ok(mut buffer) = take_line_buffer(alloc) else {
         return Status::Memory;
     };
     match Cache::start(alloc, folder, limits, clock.now()) {
         Ok(cache) => play(
-            cache, &mut line, &mut room, budget, input, out, folder, clock,
+            cache,
+            &mut line,
+            &mut buffer,
+            budget,
+            input,
+            out,
+            folder,
+            clock,
         ),
         Err(OpenFault::Device) => Status::Device,
         Err(OpenFault::Memory) => Status::Memory,
@@ -85,8 +92,8 @@ pub fn session<F: Folder, S: Source, K: Sink, C: Clock>(
 }
 
 // Takes the memory for the key or the data of a line.
-fn take_room(alloc: Global) -> Result<Vec<u8>, NoMemory>
-    ensures { IfOk result (λ room. 2200000 ≤ length room.items) }
+fn take_line_buffer(alloc: Global) -> Result<Vec<u8>, NoMemory>
+    ensures { IfOk result (λ buffer. 2200000 ≤ length buffer.items) }
 {
     Ok(vec![in alloc; 0; LONGEST_LINE]?)
 }
@@ -95,7 +102,7 @@ fn take_room(alloc: Global) -> Result<Vec<u8>, NoMemory>
 fn play<F: Folder, S: Source, K: Sink, C: Clock>(
     mut cache: Cache,
     line: &mut Line,
-    room: &mut [u8],
+    buffer: &mut [u8],
     budget: u64,
     input: &mut S,
     out: &mut K,
@@ -103,9 +110,9 @@ fn play<F: Folder, S: Source, K: Sink, C: Clock>(
     clock: &mut C,
 ) -> Status
     requires is_open { ForSome (F.told folder.old).files (IsOpen cache.files) }
-    requires room { 2200000 ≤ length room.old }
+    requires buffer { 2200000 ≤ length buffer.old }
     requires first { pending line.old ≡ 0 }
-    requires nothing { Holds line.old [] }
+    requires nothing { HoldsLine line.old [] }
     ensures runs { (from : Image) (limits : Bounds) (readings : Readings) (bytes : List ℕ) (start : Told) (first : Option Readings) → start.files ≡ Some from → first ≡ Some readings → C.readings clock.old ≡ option_map later_of first → S.left input.old ≡ Some bytes → StandsAt (record { start = start; from = from; opened = open_state (found from) limits; done = [] }) (KeepsState cache) cache.notes (2 * handle_names + (budget + 1)) (F.told folder.old) → Runs result limits budget from readings bytes (Rises (S.faults input.old) (S.faults input.new)) (Rises (K.faults out.old) (K.faults out.new)) (record { folder = start; written = K.written out.old; left = S.left input.old; clock = first }) (record { folder = F.told folder.new; written = K.written out.new; left = S.left input.new; clock = C.readings clock.new }) }
     ensures untold { (far : SoFar) → StandsAt far (KeepsState cache) cache.notes (2 * handle_names + (budget + 1)) (F.told folder.old) → result ≢ Status.Damaged }
     ensures cause { CauseOf result (IsFailedSomewhere (F.told folder.new)) (Rises (F.faults folder.old) (F.faults folder.new)) (Rises (S.faults input.old) (S.faults input.new)) (Rises (K.faults out.old) (K.faults out.new)) (ForSome (S.left input.old) (λ bytes. budget < length bytes)) }
@@ -120,7 +127,7 @@ fn play<F: Folder, S: Source, K: Sink, C: Clock>(
         &mut cache,
         &mut played,
         line,
-        room,
+        buffer,
         budget,
         input,
         out,

@@ -19,16 +19,16 @@ pub(crate) enum InputFault {
 
 // Reads the whole input into the start of the buffer, which is a byte longer than the input may be, and tells how many bytes it
 // is.
-pub(crate) fn read_input<S: Source>(input: &mut S, room: &mut [u8]) -> Result<usize, InputFault>
-    requires room { length room.old ≡ 1048577 }
-    ensures room { length room.new ≡ 1048577 }
-    ensures reads { Reads result (S.left input.old) (S.left input.new) room.new }
+pub(crate) fn read_input<S: Source>(input: &mut S, buffer: &mut [u8]) -> Result<usize, InputFault>
+    requires buffer { length buffer.old ≡ 1048577 }
+    ensures buffer { length buffer.new ≡ 1048577 }
+    ensures reads { Reads result (S.left input.old) (S.left input.new) buffer.new }
     ensures later { S.faults input.old ≤ S.faults input.new }
     ensures source { IfSource result (Rises (S.faults input.old) (S.faults input.new)) }
 {
     let mut len = 0;
     while len <= LONGEST_INPUT {
-        match input.take(&mut room[len..]) {
+        match input.take(&mut buffer[len..]) {
             Ok(0) => return Ok(len),
             Ok(taken) => len += taken,
             Err(_) => return Err(InputFault::Source),

@@ -60,8 +60,8 @@ few_mapped {B = B} h (x ∷ xs) = go (h x) (few_mapped h xs)
     go None few = omega (arith, few)
     go (Some y) few = omega (arith, few)
 
-pub few_of_front : {A B : Type 0} (h : A → Option B) (xs : List A) (ys rest : List B) → ys ++ rest ≡ filter_map h xs → length ys ≤ length xs
-few_of_front h xs ys rest are =
+pub few_of_prefix : {A B : Type 0} (h : A → Option B) (xs : List A) (ys rest : List B) → ys ++ rest ≡ filter_map h xs → length ys ≤ length xs
+few_of_prefix h xs ys rest are =
     let long : length ys + length rest ≡ length (filter_map h xs) = sym (length-append ys rest) ∙ ap length are in
     let few : length (filter_map h xs) ≤ length xs = few_mapped h xs in
     omega (arith, long, few)

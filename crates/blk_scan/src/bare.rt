@@ -32,26 +32,26 @@ use std::collections::BTreeSet;
 // One folder call reads each of the records that was not read with the lists.
 pub(crate) fn bare_of<F: Folder>(
     alloc: Global,
-    f: &mut F,
+    folder: &mut F,
     files: &BlockFiles,
     lists: &Lists,
     records: &[Loaded],
 ) -> Result<Vec<Addr>, ScanFault>
     requires nodes { NodesStand files.now (nodes_walked lists.now.walked) }
-    ensures bare { IfOk result (λ bare. ForSome (F.told f.old).files (λ image. Agrees files.now image → AreListsOf image lists.now → AreShown image (kept image) records.now → AreBare image bare.items)) }
-    ensures exact { IfOk result (λ bare. ForSome (F.told f.old).files (λ image. Agrees files.now image → AreListsOf image lists.now → AreShown image (kept image) records.now → bare.items ≡ bare_of_kept image)) }
+    ensures bare { IfOk result (λ bare. ForSome (F.told folder.old).files (λ image. Agrees files.now image → AreListsOf image lists.now → AreShown image (kept image) records.now → AreBare image bare.items)) }
+    ensures exact { IfOk result (λ bare. ForSome (F.told folder.old).files (λ image. Agrees files.now image → AreListsOf image lists.now → AreShown image (kept image) records.now → bare.items ≡ bare_of_kept image)) }
     ensures stand { IfOk result (λ bare. All (CanBeSealed files.now) bare.items) }
-    ensures stays { Stays (F.told f.old) (F.told f.new) }
-    ensures damaged { IfScanDamaged result (IsRecordDamage files.now (F.told f.new)) }
-    ensures untold { ForSome (F.told f.old).files (Agrees files.now) → IfScanDamaged result (λ _. (F.told f.old).files ≡ None) }
-    ensures later { F.faults f.old ≤ F.faults f.new }
-    ensures device { IfScanDevice result (Rises (F.faults f.old) (F.faults f.new)) }
+    ensures stays { Stays (F.told folder.old) (F.told folder.new) }
+    ensures damaged { IfScanDamaged result (IsRecordDamage files.now (F.told folder.new)) }
+    ensures untold { ForSome (F.told folder.old).files (Agrees files.now) → IfScanDamaged result (λ _. (F.told folder.old).files ≡ None) }
+    ensures later { F.faults folder.old ≤ F.faults folder.new }
+    ensures device { IfScanDevice result (Rises (F.faults folder.old) (F.faults folder.new)) }
 {
     let nodes = nodes_of(alloc, records)?;
     let kept = set_of(alloc, &nodes)?;
     let mut bare = bare_nodes(alloc, lists, &kept)?;
     let entries = entries_of(alloc, records)?;
-    add_records(f, files, lists, &entries, &mut bare)?;
+    add_records(folder, files, lists, &entries, &mut bare)?;
     Ok(bare)
 }
 
@@ -91,46 +91,46 @@ fn add_node(
 
 // Adds those of some records that have 0 as their seal.
 fn add_records<F: Folder>(
-    f: &mut F,
+    folder: &mut F,
     files: &BlockFiles,
     lists: &Lists,
     entries: &[Addr],
     bare: &mut Vec<Addr>,
 ) -> Result<(), ScanFault>
-    ensures added { OnOk result (ForSome (F.told f.old).files (λ image. AreListsOf image lists.now → All (λ w. is_record_among files.now w ≡ true) entries.now → bare.new.items ≡ bare.old.items ++ filter (is_bare_record image) entries.now)) }
+    ensures added { OnOk result (ForSome (F.told folder.old).files (λ image. AreListsOf image lists.now → All (λ w. is_record_among files.now w ≡ true) entries.now → bare.new.items ≡ bare.old.items ++ filter (is_bare_record image) entries.now)) }
     ensures stand { OnOk result (All (CanBeSealed files.now) bare.old.items → All (CanBeSealed files.now) bare.new.items) }
-    ensures stays { Stays (F.told f.old) (F.told f.new) }
-    ensures damaged { IfScanDamaged result (IsRecordDamage files.now (F.told f.new)) }
-    ensures untold { ForSome (F.told f.old).files (Agrees files.now) → IfScanDamaged result (λ _. (F.told f.old).files ≡ None) }
-    ensures later { F.faults f.old ≤ F.faults f.new }
-    ensures device { IfScanDevice result (Rises (F.faults f.old) (F.faults f.new)) }
+    ensures stays { Stays (F.told folder.old) (F.told folder.new) }
+    ensures damaged { IfScanDamaged result (IsRecordDamage files.now (F.told folder.new)) }
+    ensures untold { ForSome (F.told folder.old).files (Agrees files.now) → IfScanDamaged result (λ _. (F.told folder.old).files ≡ None) }
+    ensures later { F.faults folder.old ≤ F.faults folder.new }
+    ensures device { IfScanDevice result (Rises (F.faults folder.old) (F.faults folder.new)) }
 {
     for i in 0..entries.len() {
-        add_record(f, files, lists, entries[i], bare)?;
+        add_record(folder, files, lists, entries[i], bare)?;
     }
     Ok(())
 }
 
 // Adds a record, if it is there and has 0 as its seal.
 fn add_record<F: Folder>(
-    f: &mut F,
+    folder: &mut F,
     files: &BlockFiles,
     lists: &Lists,
     entry: Addr,
     bare: &mut Vec<Addr>,
 ) -> Result<(), ScanFault>
-    ensures added { OnOk result (ForSome (F.told f.old).files (λ image. AreListsOf image lists.now → is_record_among files.now entry ≡ true → bare.new.items ≡ bare.old.items ++ filter (is_bare_record image) (entry ∷ []))) }
+    ensures added { OnOk result (ForSome (F.told folder.old).files (λ image. AreListsOf image lists.now → is_record_among files.now entry ≡ true → bare.new.items ≡ bare.old.items ++ filter (is_bare_record image) (entry ∷ []))) }
     ensures stand { OnOk result (All (CanBeSealed files.now) bare.old.items → All (CanBeSealed files.now) bare.new.items) }
-    ensures stays { Stays (F.told f.old) (F.told f.new) }
-    ensures damaged { IfScanDamaged result (IsRecordDamage files.now (F.told f.new)) }
-    ensures untold { ForSome (F.told f.old).files (Agrees files.now) → IfScanDamaged result (λ _. (F.told f.old).files ≡ None) }
-    ensures later { F.faults f.old ≤ F.faults f.new }
-    ensures device { IfScanDevice result (Rises (F.faults f.old) (F.faults f.new)) }
+    ensures stays { Stays (F.told folder.old) (F.told folder.new) }
+    ensures damaged { IfScanDamaged result (IsRecordDamage files.now (F.told folder.new)) }
+    ensures untold { ForSome (F.told folder.old).files (Agrees files.now) → IfScanDamaged result (λ _. (F.told folder.old).files ≡ None) }
+    ensures later { F.faults folder.old ≤ F.faults folder.new }
+    ensures device { IfScanDevice result (Rises (F.faults folder.old) (F.faults folder.new)) }
 {
     let Some(standing) = files.entry(entry.word()) else {
         return Ok(());
     };
-    let said = lists.record_at(f, files, standing)?;
+    let said = lists.record_at(folder, files, standing)?;
     if said.words.bare {
         push(bare, standing)?;
     }

@@ -41,43 +41,43 @@ use std::alloc::Global;
 ///
 /// `Damaged` with the first check of the index and of the headers of the block files that fails; an observable folder reports
 /// no other failed check. `Device` where the folder failed in this call, and `Memory` when out of memory.
-pub fn scan_folder<F: Folder>(alloc: Global, f: &mut F) -> Result<Scan, ScanFault>
-    ensures scanned { IfOk result (λ scan. ForSome (F.told f.old).files (λ image. IsWellFormed image → IsScanOf image scan)) }
-    ensures exact { IfOk result (λ scan. ForSome (F.told f.old).files (λ image. IsWellFormed image → IsExactScan image scan)) }
-    ensures empty { IfOk result (λ scan. ForSome (F.told f.old).files (λ image. IsUnfinished image → IsEmptyScan scan)) }
+pub fn scan_folder<F: Folder>(alloc: Global, folder: &mut F) -> Result<Scan, ScanFault>
+    ensures scanned { IfOk result (λ scan. ForSome (F.told folder.old).files (λ image. IsWellFormed image → IsScanOf image scan)) }
+    ensures exact { IfOk result (λ scan. ForSome (F.told folder.old).files (λ image. IsWellFormed image → IsExactScan image scan)) }
+    ensures empty { IfOk result (λ scan. ForSome (F.told folder.old).files (λ image. IsUnfinished image → IsEmptyScan scan)) }
     ensures few { IfOk result (λ scan. length scan.walked.items ≤ most_nodes) }
-    ensures checked { IfOk result (λ _. ForSome (F.told f.old).files (λ image. IsUnfinished image ⊎ IsWellFormed image)) }
-    ensures stays { Stays (F.told f.old) (F.told f.new) }
+    ensures checked { IfOk result (λ _. ForSome (F.told folder.old).files (λ image. IsUnfinished image ⊎ IsWellFormed image)) }
+    ensures stays { Stays (F.told folder.old) (F.told folder.new) }
 
     // An observable folder reports corruption only where a check of its headers fails: the first that does.
-    ensures damaged { IfScanDamaged result (λ damage. ForSome (F.told f.old).files (λ image. (IsUnfinished image → ⊥) × (first_damage image ≡ Some (damage_of damage)))) }
+    ensures damaged { IfScanDamaged result (λ damage. ForSome (F.told folder.old).files (λ image. (IsUnfinished image → ⊥) × (first_damage image ≡ Some (damage_of damage)))) }
 
     // The cause of a failed check, which holds for an opaque folder too.
-    ensures cause { IfScanDamaged result (IsFolderDamage (F.told f.old)) }
+    ensures cause { IfScanDamaged result (IsFolderDamage (F.told folder.old)) }
 
-    ensures later { F.faults f.old ≤ F.faults f.new }
-    ensures device { IfScanDevice result (Rises (F.faults f.old) (F.faults f.new)) }
+    ensures later { F.faults folder.old ≤ F.faults folder.new }
+    ensures device { IfScanDevice result (Rises (F.faults folder.old) (F.faults folder.new)) }
 {
-    match look(f)? {
+    match look(folder)? {
         Start::Unfinished => Ok(Scan::empty(alloc)),
-        Start::Finished => scan_finished(alloc, f),
+        Start::Finished => scan_finished(alloc, folder),
     }
 }
 
 // Tells what a folder holds whose index is finished.
-fn scan_finished<F: Folder>(alloc: Global, f: &mut F) -> Result<Scan, ScanFault>
-    ensures scanned { IfOk result (λ scan. ForSome (F.told f.old).files (λ image. IsScanOf image scan)) }
-    ensures exact { IfOk result (λ scan. ForSome (F.told f.old).files (λ image. IsExactScan image scan)) }
+fn scan_finished<F: Folder>(alloc: Global, folder: &mut F) -> Result<Scan, ScanFault>
+    ensures scanned { IfOk result (λ scan. ForSome (F.told folder.old).files (λ image. IsScanOf image scan)) }
+    ensures exact { IfOk result (λ scan. ForSome (F.told folder.old).files (λ image. IsExactScan image scan)) }
     ensures few { IfOk result (λ scan. length scan.walked.items ≤ most_nodes) }
-    ensures checked { IfOk result (λ _. ForSome (F.told f.old).files (λ image. first_block_damage image ≡ None)) }
-    ensures stays { Stays (F.told f.old) (F.told f.new) }
-    ensures damaged { IfScanDamaged result (λ damage. ForSome (F.told f.old).files (λ image. HasWholeIndex image → first_block_damage image ≡ Some (damage_of damage))) }
-    ensures cause { IfScanDamaged result (IsBlocksDamage (F.told f.old)) }
-    ensures later { F.faults f.old ≤ F.faults f.new }
-    ensures device { IfScanDevice result (Rises (F.faults f.old) (F.faults f.new)) }
+    ensures checked { IfOk result (λ _. ForSome (F.told folder.old).files (λ image. first_block_damage image ≡ None)) }
+    ensures stays { Stays (F.told folder.old) (F.told folder.new) }
+    ensures damaged { IfScanDamaged result (λ damage. ForSome (F.told folder.old).files (λ image. HasWholeIndex image → first_block_damage image ≡ Some (damage_of damage))) }
+    ensures cause { IfScanDamaged result (IsBlocksDamage (F.told folder.old)) }
+    ensures later { F.faults folder.old ≤ F.faults folder.new }
+    ensures device { IfScanDevice result (Rises (F.faults folder.old) (F.faults folder.new)) }
 {
-    let files = BlockFiles::load(f)?;
-    scan_files(alloc, f, &files)
+    let files = BlockFiles::load(folder)?;
+    scan_files(alloc, folder, &files)
 }
 
 /// Tells what a folder holds whose block files were loaded, as it is once its operation in flight is completed. Nothing
@@ -88,27 +88,27 @@ fn scan_finished<F: Folder>(alloc: Global, f: &mut F) -> Result<Scan, ScanFault>
 /// call, and `Memory` when out of memory.
 pub fn scan_files<F: Folder>(
     alloc: Global,
-    f: &mut F,
+    folder: &mut F,
     files: &BlockFiles,
 ) -> Result<Scan, ScanFault>
-    ensures scanned { IfOk result (λ scan. ForSome (F.told f.old).files (λ image. Agrees files.now image → IsScanOf image scan)) }
-    ensures exact { IfOk result (λ scan. ForSome (F.told f.old).files (λ image. Agrees files.now image → IsExactScan image scan)) }
+    ensures scanned { IfOk result (λ scan. ForSome (F.told folder.old).files (λ image. Agrees files.now image → IsScanOf image scan)) }
+    ensures exact { IfOk result (λ scan. ForSome (F.told folder.old).files (λ image. Agrees files.now image → IsExactScan image scan)) }
     ensures stand { IfOk result (StandAmong files.now) }
     ensures few { IfOk result (λ scan. length scan.walked.items ≤ most_nodes) }
-    ensures stays { Stays (F.told f.old) (F.told f.new) }
+    ensures stays { Stays (F.told folder.old) (F.told folder.new) }
 
     // An observable folder reports corruption only where its index is too short or the block files don't agree with it.
-    ensures damaged { IfScanDamaged result (IsScanDamage files.now (F.told f.new)) }
-    ensures untold { ForSome (F.told f.old).files (IsOpen files.now) → IfScanDamaged result (λ _. (F.told f.old).files ≡ None) }
+    ensures damaged { IfScanDamaged result (IsScanDamage files.now (F.told folder.new)) }
+    ensures untold { ForSome (F.told folder.old).files (IsOpen files.now) → IfScanDamaged result (λ _. (F.told folder.old).files ≡ None) }
 
-    ensures later { F.faults f.old ≤ F.faults f.new }
-    ensures device { IfScanDevice result (Rises (F.faults f.old) (F.faults f.new)) }
+    ensures later { F.faults folder.old ≤ F.faults folder.new }
+    ensures device { IfScanDevice result (Rises (F.faults folder.old) (F.faults folder.new)) }
 {
-    let lists = read_lists(alloc, f, files)?;
-    let judged = judge_nodes(alloc, f, files, &lists)?;
-    let unlisted = unlisted(alloc, f, files, &lists)?;
+    let lists = read_lists(alloc, folder, files)?;
+    let judged = judge_nodes(alloc, folder, files, &lists)?;
+    let unlisted = unlisted(alloc, folder, files, &lists)?;
     let ordered = order(alloc, &lists, &judged)?;
-    let bare = bare_of(alloc, f, files, &lists, &ordered.records)?;
+    let bare = bare_of(alloc, folder, files, &lists, &ordered.records)?;
     let scan = tell(alloc, &lists, judged, ordered, &unlisted, bare)?;
     Ok(scan)
 }

@@ -60,6 +60,6 @@ pub decoded_err : (field : List ℕ) (n : ℕ) (answer : Result (Unit {0}) FromH
 decoded_err field n answer u why out half says err = was_err (decode_of field) answer u why out (rw (decode_sized-half field n half) at says) err
 
 -- one more byte at the start of the buffer
-pub front_more : (room all left next : List ℕ) (n byte : ℕ) → take n room ++ left ≡ all → left ≡ byte ∷ next → n < length room → take (n + 1) (slice_set room n byte) ++ next ≡ all
-front_more room all left next n byte so step within =
-    ap (λ (front : List ℕ). front ++ next) (take-set_at room n (n + 1) byte refl within) ∙ append_assoc (take n room) (byte ∷ []) next ∙ ap (λ (rest : List ℕ). take n room ++ rest) (sym step) ∙ so
+pub prefix_more : (buffer all left next : List ℕ) (n byte : ℕ) → take n buffer ++ left ≡ all → left ≡ byte ∷ next → n < length buffer → take (n + 1) (slice_set buffer n byte) ++ next ≡ all
+prefix_more buffer all left next n byte so step within =
+    ap (λ (front : List ℕ). front ++ next) (take-set_at buffer n (n + 1) byte refl within) ∙ append_assoc (take n buffer) (byte ∷ []) next ∙ ap (λ (rest : List ℕ). take n buffer ++ rest) (sym step) ∙ so

@@ -9,8 +9,8 @@ use hex::decode_to_slice;
 const LONGEST_DATA: usize = 2097152;
 
 /// The bytes that a field says, at the start of the buffer.
-pub fn decode_data<'a>(field: &[u8], room: &'a mut [u8]) -> Result<&'a [u8], LineFault>
-    requires { length field.now ≤ length room.old }
+pub fn decode_data<'a>(field: &[u8], buffer: &'a mut [u8]) -> Result<&'a [u8], LineFault>
+    requires { length field.now ≤ length buffer.old }
     ensures { given (λ bytes. bytes.now) result ≡ data_field field.now }
 {
     if field == b"-".as_slice() {
@@ -22,7 +22,7 @@ pub fn decode_data<'a>(field: &[u8], room: &'a mut [u8]) -> Result<&'a [u8], Lin
     if field.is_empty() {
         return Err(LineFault::Hex);
     }
-    let bytes = &mut room[..field.len() / 2];
+    let bytes = &mut buffer[..field.len() / 2];
     match decode_to_slice(field, bytes) {
         Ok(()) => Ok(bytes),
         Err(_) => Err(LineFault::Hex),

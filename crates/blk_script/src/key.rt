@@ -10,15 +10,15 @@ use percent_encoding::percent_decode;
 
 /// The key that a field says, at the start of the buffer. A field is a word of a script line.
 #[tactic(auto, unfolding(crate::specs::Fields::key_field))]
-pub fn decode_key<'a>(field: &[u8], room: &'a mut [u8]) -> Result<&'a [u8], LineFault>
-    requires { length field.now ≤ length room.old }
+pub fn decode_key<'a>(field: &[u8], buffer: &'a mut [u8]) -> Result<&'a [u8], LineFault>
+    requires { length field.now ≤ length buffer.old }
     ensures { given (λ key. key.now) result ≡ key_field field.now }
 {
     if !is_key(field) {
         return Err(LineFault::Key);
     }
-    let length = decode_into(field, room);
-    Ok(&room[..length])
+    let length = decode_into(field, buffer);
+    Ok(&buffer[..length])
 }
 
 /// Whether a field says a key.
@@ -68,14 +68,14 @@ fn is_hex_digit(byte: u8) -> bool
 }
 
 // Decodes a field into the start of the buffer, and tells how many bytes it gave.
-fn decode_into(field: &[u8], room: &mut [u8]) -> usize
-    requires { length field.now ≤ length room.old }
-    ensures within { result ≤ length room.new }
-    ensures bytes { take result room.new ≡ percent.percent_decode field.now }
+fn decode_into(field: &[u8], buffer: &mut [u8]) -> usize
+    requires { length field.now ≤ length buffer.old }
+    ensures within { result ≤ length buffer.new }
+    ensures bytes { take result buffer.new ≡ percent.percent_decode field.now }
 {
     let mut length = 0;
     for byte in percent_decode(field) {
-        room[length] = byte;
+        buffer[length] = byte;
         length += 1;
     }
     length

@@ -14,8 +14,8 @@ pub const LONGEST_LINE: usize = 2200000;
 
 /// The command that a line says, or its first fault. The line comes without its end. The key or the data of the command
 /// is decoded into the start of the buffer.
-pub fn read_line<'a>(line: &[u8], room: &'a mut [u8]) -> Result<Command<'a>, LineFault>
-    requires { length line.now ≤ length room.old }
+pub fn read_line<'a>(line: &[u8], buffer: &'a mut [u8]) -> Result<Command<'a>, LineFault>
+    requires { length line.now ≤ length buffer.old }
     ensures { given request_of result ≡ read_text line.now }
 {
     if line.len() > LONGEST_LINE {
@@ -26,30 +26,34 @@ pub fn read_line<'a>(line: &[u8], room: &'a mut [u8]) -> Result<Command<'a>, Lin
     }
     let (word, fields) = first_field(line);
     match word_of(word) {
-        Some(word) => read_fields(word, fields, room),
+        Some(word) => read_fields(word, fields, buffer),
         None => Err(LineFault::UnknownWord),
     }
 }
 
 // What the fields after a word say.
 #[tactic(auto, unfolding(crate::specs::Line::reading))]
-fn read_fields<'a>(word: Word, fields: Fields, room: &'a mut [u8]) -> Result<Command<'a>, LineFault>
-    requires { length_left fields ≤ length room.old }
+fn read_fields<'a>(
+    word: Word,
+    fields: Fields,
+    buffer: &'a mut [u8],
+) -> Result<Command<'a>, LineFault>
+    requires { length_left fields ≤ length buffer.old }
     ensures { given request_of result ≡ reading word (fields_left fields.entry) }
 {
     match word {
-        Word::Create => readers::read_create(fields, room),
-        Word::Open => readers::read_open(fields, room),
+        Word::Create => readers::read_create(fields, buffer),
+        Word::Open => readers::read_open(fields, buffer),
         Word::Read => readers::read_read(fields),
-        Word::Write => readers::read_write(fields, room, false),
-        Word::Cut => readers::read_write(fields, room, true),
+        Word::Write => readers::read_write(fields, buffer, false),
+        Word::Cut => readers::read_write(fields, buffer, true),
         Word::Size => readers::read_size(fields),
-        Word::SparseWrite => readers::read_sparse_write(fields, room),
+        Word::SparseWrite => readers::read_sparse_write(fields, buffer),
         Word::SparseRead => readers::read_sparse_read(fields),
         Word::SparseRange => readers::read_sparse_range(fields),
         Word::Doom => readers::read_doom(fields),
         Word::Close => readers::read_close(fields),
-        Word::DoomKey => readers::read_doom_key(fields, room),
+        Word::DoomKey => readers::read_doom_key(fields, buffer),
         Word::Trim => readers::read_trim(fields),
         Word::List => readers::read_list(fields),
         Word::Total => readers::read_total(fields),

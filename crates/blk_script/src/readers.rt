@@ -9,20 +9,20 @@ use crate::{LineFault, shapes};
 use blk_model::Command;
 
 /// `create H KEY`
-pub fn read_create<'a>(fields: Fields, room: &'a mut [u8]) -> Result<Command<'a>, LineFault>
-    requires { length_left fields ≤ length room.old }
+pub fn read_create<'a>(fields: Fields, buffer: &'a mut [u8]) -> Result<Command<'a>, LineFault>
+    requires { length_left fields ≤ length buffer.old }
     ensures { given request_of result ≡ two_fields (handle_and_key to_create) (fields_left fields.entry) }
 {
-    let (handle, key) = shapes::handle_and_key(fields, room)?;
+    let (handle, key) = shapes::handle_and_key(fields, buffer)?;
     Ok(Command::Create { handle, key })
 }
 
 /// `open H KEY`
-pub fn read_open<'a>(fields: Fields, room: &'a mut [u8]) -> Result<Command<'a>, LineFault>
-    requires { length_left fields ≤ length room.old }
+pub fn read_open<'a>(fields: Fields, buffer: &'a mut [u8]) -> Result<Command<'a>, LineFault>
+    requires { length_left fields ≤ length buffer.old }
     ensures { given request_of result ≡ two_fields (handle_and_key to_open) (fields_left fields.entry) }
 {
-    let (handle, key) = shapes::handle_and_key(fields, room)?;
+    let (handle, key) = shapes::handle_and_key(fields, buffer)?;
     Ok(Command::Open { handle, key })
 }
 
@@ -42,13 +42,13 @@ pub fn read_read<'a>(fields: Fields) -> Result<Command<'a>, LineFault>
 /// `write H S OFFSET DATA`, or `cut` with the same fields.
 pub fn read_write<'a>(
     fields: Fields,
-    room: &'a mut [u8],
+    buffer: &'a mut [u8],
     cut: bool,
 ) -> Result<Command<'a>, LineFault>
-    requires { length_left fields ≤ length room.old }
+    requires { length_left fields ≤ length buffer.old }
     ensures { given request_of result ≡ four_fields (stream_and_data (λ h s o d. to_write h s o cut d)) (fields_left fields.entry) }
 {
-    let (handle, stream, offset, bytes) = shapes::stream_and_data(fields, room)?;
+    let (handle, stream, offset, bytes) = shapes::stream_and_data(fields, buffer)?;
     Ok(Command::Write {
         handle,
         stream,
@@ -67,11 +67,11 @@ pub fn read_size<'a>(fields: Fields) -> Result<Command<'a>, LineFault>
 }
 
 /// `swrite H OFFSET DATA`
-pub fn read_sparse_write<'a>(fields: Fields, room: &'a mut [u8]) -> Result<Command<'a>, LineFault>
-    requires { length_left fields ≤ length room.old }
+pub fn read_sparse_write<'a>(fields: Fields, buffer: &'a mut [u8]) -> Result<Command<'a>, LineFault>
+    requires { length_left fields ≤ length buffer.old }
     ensures { given request_of result ≡ three_fields (handle_and_data to_sparse_write) (fields_left fields.entry) }
 {
-    let (handle, offset, bytes) = shapes::handle_and_data(fields, room)?;
+    let (handle, offset, bytes) = shapes::handle_and_data(fields, buffer)?;
     Ok(Command::SparseWrite {
         handle,
         offset,
@@ -120,11 +120,11 @@ pub fn read_close<'a>(fields: Fields) -> Result<Command<'a>, LineFault>
 }
 
 /// `doomkey KEY`
-pub fn read_doom_key<'a>(fields: Fields, room: &'a mut [u8]) -> Result<Command<'a>, LineFault>
-    requires { length_left fields ≤ length room.old }
+pub fn read_doom_key<'a>(fields: Fields, buffer: &'a mut [u8]) -> Result<Command<'a>, LineFault>
+    requires { length_left fields ≤ length buffer.old }
     ensures { given request_of result ≡ one_field (key_alone to_doom_key) (fields_left fields.entry) }
 {
-    let key = shapes::key_alone(fields, room)?;
+    let key = shapes::key_alone(fields, buffer)?;
     Ok(Command::DoomKey { key })
 }
 

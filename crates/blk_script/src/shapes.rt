@@ -11,13 +11,16 @@ use crate::key::decode_key;
 use crate::number::{read_count, read_handle, read_stream};
 
 /// A handle and a key.
-pub fn handle_and_key<'a>(fields: Fields, room: &'a mut [u8]) -> Result<(u16, &'a [u8]), LineFault>
-    requires { length_left fields ≤ length room.old }
+pub fn handle_and_key<'a>(
+    fields: Fields,
+    buffer: &'a mut [u8],
+) -> Result<(u16, &'a [u8]), LineFault>
+    requires { length_left fields ≤ length buffer.old }
     ensures { (make : ℕ → List ℕ → Request) → given (λ p. make p.0 p.1.now) result ≡ spec.two_fields (spec.handle_and_key make) (fields_left fields.entry) }
 {
     let (handle, key) = fields.two()?;
     let handle = read_handle(handle)?;
-    let key = decode_key(key, room)?;
+    let key = decode_key(key, buffer)?;
     Ok((handle, key))
 }
 
@@ -30,12 +33,12 @@ pub fn handle_alone(fields: Fields) -> Result<u16, LineFault>
 }
 
 /// A key alone.
-pub fn key_alone<'a>(fields: Fields, room: &'a mut [u8]) -> Result<&'a [u8], LineFault>
-    requires { length_left fields ≤ length room.old }
+pub fn key_alone<'a>(fields: Fields, buffer: &'a mut [u8]) -> Result<&'a [u8], LineFault>
+    requires { length_left fields ≤ length buffer.old }
     ensures { (make : List ℕ → Request) → given (λ key. make key.now) result ≡ spec.one_field (spec.key_alone make) (fields_left fields.entry) }
 {
     let key = fields.one()?;
-    decode_key(key, room)
+    decode_key(key, buffer)
 }
 
 /// A number alone.
@@ -70,15 +73,15 @@ pub fn handle_and_range(fields: Fields) -> Result<(u16, u64, u64), LineFault>
 /// A handle, an offset and data.
 pub fn handle_and_data<'a>(
     fields: Fields,
-    room: &'a mut [u8],
+    buffer: &'a mut [u8],
 ) -> Result<(u16, u64, &'a [u8]), LineFault>
-    requires { length_left fields ≤ length room.old }
+    requires { length_left fields ≤ length buffer.old }
     ensures { (make : ℕ → ℕ → List ℕ → Request) → given (λ p. make p.0 p.1 p.2.now) result ≡ spec.three_fields (spec.handle_and_data make) (fields_left fields.entry) }
 {
     let (handle, offset, data) = fields.three()?;
     let handle = read_handle(handle)?;
     let offset = read_count(offset)?;
-    let bytes = decode_data(data, room)?;
+    let bytes = decode_data(data, buffer)?;
     Ok((handle, offset, bytes))
 }
 
@@ -97,15 +100,15 @@ pub fn stream_and_range(fields: Fields) -> Result<(u16, u8, u64, u64), LineFault
 /// A handle, a stream, an offset and data.
 pub fn stream_and_data<'a>(
     fields: Fields,
-    room: &'a mut [u8],
+    buffer: &'a mut [u8],
 ) -> Result<(u16, u8, u64, &'a [u8]), LineFault>
-    requires { length_left fields ≤ length room.old }
+    requires { length_left fields ≤ length buffer.old }
     ensures { (make : ℕ → ℕ → ℕ → List ℕ → Request) → given (λ p. make p.0 p.1 p.2 p.3.now) result ≡ spec.four_fields (spec.stream_and_data make) (fields_left fields.entry) }
 {
     let (handle, stream, offset, data) = fields.four()?;
     let handle = read_handle(handle)?;
     let stream = read_stream(stream)?;
     let offset = read_count(offset)?;
-    let bytes = decode_data(data, room)?;
+    let bytes = decode_data(data, buffer)?;
     Ok((handle, stream, offset, bytes))
 }

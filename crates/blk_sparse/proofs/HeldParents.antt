@@ -16,12 +16,12 @@ use Rattle.blk_object.specs.NextItems.{IsMainOut}
 use Rattle.blk_object.specs.UnlinkedLoads.{KeepsUnlinked, LiesUnlinked}
 use Rattle.blk_object.proofs.CountsOut.{still-counted}
 use Rattle.blk_object.proofs.HeldDooms.{held-out-counted}
-use Rattle.blk_sparse.specs.Dropping.{IsWholeOut}
+use Rattle.blk_sparse.specs.Dropping.{IsWholeDropped}
 use Rattle.blk_sparse.specs.Parents.{IsHeldWhole, LiesAsParent}
 
 module _ (state : State) (layout : Layout) (unlinked : List ℕ) (number : ℕ) (object : Object) (key : List ℕ) (node entry : ℕ) (before : Option ℕ) (from : Image) (m : LiesAsParent true state layout unlinked number object key node entry before from) where
   -- once the main item was out, and what lay in unlinked places then lies there still
-  module _ (out : Image) (is : IsMainOut state layout unlinked object.key m.lies.was out) (image : Image) (kept : KeepsUnlinked (words_of m.lies.was ++ unlinked) out image) (o : IsWholeOut state layout (words_of m.lies.was ++ unlinked) object.key image) where
+  module _ (out : Image) (is : IsMainOut state layout unlinked object.key m.lies.was out) (image : Image) (kept : KeepsUnlinked (words_of m.lies.was ++ unlinked) out image) (o : IsWholeDropped state layout (words_of m.lies.was ++ unlinked) object.key image) where
     pub out-whole : IsOutWhole state layout number object m.lies.was o.chains unlinked entry image
     out-whole =
         let lies : LiesUnlinked (words_of m.lies.was ++ unlinked) entry_normal (layout.place (main object.key)) m.lies.was image = kept entry_normal (layout.place (main object.key)) m.lies.was is.lies in

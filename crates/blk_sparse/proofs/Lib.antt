@@ -40,4 +40,4 @@ pub mod MoreItems
 pub mod StoredObjects
 pub mod KeptParents
 pub mod UsedMains
-pub mod FrontRuns
+pub mod PrefixRuns

@@ -43,7 +43,7 @@ use Rattle.blk_object.specs.Making.{long_word, words_of_places}
 use Rattle.blk_object.proofs.MakingStored.{changed-stored, counters-then, of-all}
 use Rattle.blk_object.proofs.MakingTaken.{session-then}
 use Rattle.blk_object.proofs.MakingWritten.{some-address, stored-address, words-are}
-use Rattle.blk_sparse.specs.NewParts.{ArePartStreams, HasStreamsNow, IsChildWritten, IsPartThere, AreStoredAt, WritesPart, child_entry, new_part, streams_of_part, words_of_part}
+use Rattle.blk_sparse.specs.NewParts.{ArePartStreams, HasStreamsNow, IsChildWritten, IsPartLoaded, AreStoredAt, WritesPart, child_entry, new_part, streams_of_part, words_of_part}
 use Rattle.blk_sparse.specs.declared.new_part.PartPlaces.{PartPlaces}
 use Rattle.blk_sparse.proofs.NewIndex.{changes_are}
 
@@ -226,7 +226,7 @@ module _ (files : BlockFiles) (places : PartPlaces) (name : List ℕ) (moment : 
     same-table : (b : ℕ) → (store_of image).table b ≡ (store_of from).table b
     same-table b = sym (moved-fields.rest.table b) ∙ sym ((agreeing-views (has_claim (all_claims (loaded_new its name))) from mid w.change.agree).table b)
 
-    part-there : IsPartThere (new_part places name bytes index role) image
+    part-there : IsPartLoaded (new_part places name bytes index role) image
     part-there = record {
       loads = loads;
       follows = sym (moved-fields.chain_next its-entry) ∙ w.shown.chain_next ∙ w.follows ∙ sym (same-table (bucket_of_key name));

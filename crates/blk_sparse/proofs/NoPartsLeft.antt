@@ -23,7 +23,7 @@ use Rattle.law_state.specs.Changes.{Finds, SameSession}
 use Rattle.blk_object.specs.ListedParts.{HaveNoPart, is_part_of}
 use Rattle.blk_object.specs.UnlinkedLoads.{KeepsUnlinked}
 use Rattle.blk_object.proofs.PartsLeft.{none-left}
-use Rattle.blk_sparse.specs.Dropping.{AreGone, AreLeft, HasIndexedParts, IsWholeOut}
+use Rattle.blk_sparse.specs.Dropping.{AreGone, AreLeft, HasIndexedParts, IsWholeDropped}
 use Rattle.blk_sparse.specs.declared.dropping.IndexedParts.{IndexedParts}
 use Rattle.blk_sparse.proofs.PartsNext.{same-session, same-unlinked}
 use Rattle.blk_sparse.proofs.PartsOut.{left-finds, stays-passes}
@@ -78,7 +78,7 @@ not-true false e = refl
 
 -- what holds in the end where nothing goes
 pub record IsUnwalked (E : Type 0) (call : E → ℕ → E → Type 0) (old : Told) (state : State) (layout : Layout) (keep : Item → Bool) (unlinked key : List ℕ) (number : ℕ) (object : Object) (from : Image) (each : E) : Type 0 where
-  pub out : ForSome old.files (IsWholeOut state layout unlinked key)
+  pub out : ForSome old.files (IsWholeDropped state layout unlinked key)
   pub session : ForSome old.files (SameSession from)
   pub keeps : ForSome old.files (KeepsUnlinked unlinked from)
   pub called : FoldsTo call each (parts_among key (filter keep state.uses)) each
@@ -92,9 +92,9 @@ unwalked E call old each state layout keep chains unlinked key number object fro
     let no : HaveNoPart key (filter keep state.uses) = none-left-of state layout keep chains unlinked key number object from left indexed has (not-true indexed.any none) in
     let whole = none-left state layout keep chains unlinked key from left.kept left.counted left.others no in
     let empty : parts_among key (filter keep state.uses) ≡ [] = none-among key (filter keep state.uses) no in
-    let out : IsWholeOut state layout unlinked key from = record { chains = chains; kept = whole.0; counted = whole.1 } in
+    let out : IsWholeDropped state layout unlinked key from = record { chains = chains; kept = whole.0; counted = whole.1 } in
     record {
-      out = λ image is. subst (IsWholeOut state layout unlinked key) (some_inj (sym there ∙ is)) out;
+      out = λ image is. subst (IsWholeDropped state layout unlinked key) (some_inj (sym there ∙ is)) out;
       session = λ image is. same-session from image (some_inj (sym is ∙ there));
       keeps = λ image is. same-unlinked unlinked from image (some_inj (sym is ∙ there));
       called = subst (λ (ns : List ℕ). FoldsTo call each ns each) (sym empty) refl;

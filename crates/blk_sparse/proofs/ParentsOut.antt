@@ -35,18 +35,18 @@ use Rattle.blk_object.proofs.CountsOut.{counted-out-ends, still-counted}
 use Rattle.blk_object.proofs.FreedPlaces.{all-counted, all-out, going-finds-doomed}
 use Rattle.blk_object.proofs.GoingNext.{main-going, main-leaves}
 use Rattle.blk_object.proofs.OwnedPlaces.{kept-load}
-use Rattle.blk_sparse.specs.Dropping.{AreGone, AreLeft, HasIndexedParts, HasNoBit, IsCalledAtFront, IsWholeOut}
+use Rattle.blk_sparse.specs.Dropping.{AreGone, AreLeft, HasIndexedParts, HasNoBit, IsCalledOverPrefix, IsWholeDropped}
 use Rattle.blk_sparse.specs.Parents.{AreGoneBeside, IsGoneWhole, IsGroupTold, LiesAsParent, LoadsAsParent, MayGoWhole}
 use Rattle.blk_sparse.specs.declared.dropping.Gone.{Gone}
 use Rattle.blk_sparse.specs.declared.dropping.IndexedParts.{IndexedParts}
 
 -- ---- the places of the main item are freed
 
-module _ (words : List ℕ) (state : State) (layout : Layout) (unlinked key : List ℕ) (number : ℕ) (object : Object) (from : Image) (o : IsWholeOut state layout (words ++ unlinked) key from) where
+module _ (words : List ℕ) (state : State) (layout : Layout) (unlinked key : List ℕ) (number : ℕ) (object : Object) (from : Image) (o : IsWholeDropped state layout (words ++ unlinked) key from) where
   pub may-free : AreFreeable words from
   may-free = record { state = state; layout = layout; keep = is_of_another key; chains = o.chains; others = unlinked; kept = o.kept }
 
-  pub freed-whole : (image : Image) → Removes words from image → IsWholeOut state layout unlinked key image
+  pub freed-whole : (image : Image) → Removes words from image → IsWholeDropped state layout unlinked key image
   freed-whole image freed = record {
     chains = o.chains;
     kept = all-out state layout (is_of_another key) o.chains words unlinked from image freed o.kept;
@@ -63,7 +63,7 @@ pub beside : (layout : Layout) (items : List Item) (charge : ℕ) (parts : Gone)
 beside layout items charge parts gone = record { many = ap (λ (n : ℕ). n + 1) gone.many; charged = ap (λ (n : ℕ). n + charge) gone.charged }
 
 -- nothing was told yet
-pub not-yet : (E : Type 0) (call : E → ℕ → E → Type 0) (numbers : List ℕ) (each : E) → IsCalledAtFront E call numbers each each
+pub not-yet : (E : Type 0) (call : E → ℕ → E → Type 0) (numbers : List ℕ) (each : E) → IsCalledOverPrefix E call numbers each each
 not-yet E call numbers each = record { front = []; others = numbers; split = refl; called = refl }
 
 -- ---- the main item is out
@@ -135,8 +135,8 @@ module _ {held : Bool} (state : State) (layout : Layout) (unlinked : List ℕ) (
 
 -- in the end an object that no handle names is gone
 pub gone-whole : (state : State) (layout : Layout) (unlinked : List ℕ) (number : ℕ) (object : Object) (key : List ℕ) (node entry : ℕ) (before : Option ℕ) (from : Image) (m : MayGoWhole state layout unlinked number object key node entry before from)
-    → (image : Image) → IsWholeOut state layout unlinked key image → IsGoneWhole state layout unlinked number object image
-gone-whole state layout unlinked number object key node entry before from m image out = subst (λ (k : List ℕ). IsWholeOut state layout unlinked k image → IsGoneWhole state layout unlinked number object image) m.of_key (λ (o : IsWholeOut state layout unlinked object.key image).
+    → (image : Image) → IsWholeDropped state layout unlinked key image → IsGoneWhole state layout unlinked number object image
+gone-whole state layout unlinked number object key node entry before from m image out = subst (λ (k : List ℕ). IsWholeDropped state layout unlinked k image → IsGoneWhole state layout unlinked number object image) m.of_key (λ (o : IsWholeDropped state layout unlinked object.key image).
     let valid = state_doomed state m.kept.entries.valid number object m.here m.live in
     record {
       chains = o.chains;

@@ -20,7 +20,7 @@ use Rattle.blk_object.specs.ListedParts.{HaveNoPart}
 use Rattle.blk_object.specs.UnlinkedLoads.{KeepsUnlinked}
 use Rattle.blk_object.proofs.PartsLeft.{none-left}
 use Rattle.blk_object.proofs.Sessions.{then-session}
-use Rattle.blk_sparse.specs.Dropping.{AreGone, AreLeft, ForEachLeft, HasSignature, IsCalledAtFront, IsDropOfNext, IsNextOut, IsWholeOut}
+use Rattle.blk_sparse.specs.Dropping.{AreGone, AreLeft, ForEachLeft, HasSignature, IsCalledOverPrefix, IsDropOfNext, IsNextOut, IsWholeDropped}
 use Rattle.blk_sparse.specs.declared.dropping.Dropped.{Dropped}
 use Rattle.blk_sparse.specs.declared.dropping.Gone.{Gone}
 use Rattle.blk_sparse.proofs.PartsOut.{stays-passes}
@@ -64,8 +64,8 @@ dropping-begins E call old key signature each from there finds state layout keep
 
 module _ (E : Type 0) (call : E → ℕ → E → Type 0) (old now : Told) (state : State) (layout : Layout) (keep : Item → Bool) (unlinked key : List ℕ) (number : ℕ) (object : Object) (from : Image) (at : Option ℕ) (turn : ℕ) (gone : Gone) (each last : E) (d : IsDropping E call old now state layout keep unlinked key number object from at turn gone each last) where
   -- what was told so far is a prefix
-  pub called-front : IsCalledAtFront E call (parts_among key (filter keep state.uses)) each last
-  called-front = record { front = d.walked.done; others = parts_among key d.walked.is.items; split = d.walked.split; called = d.walked.called }
+  pub called-prefix : IsCalledOverPrefix E call (parts_among key (filter keep state.uses)) each last
+  called-prefix = record { front = d.walked.done; others = parts_among key d.walked.is.items; split = d.walked.split; called = d.walked.called }
 
   -- one part more
   pub dropping-next : (new : Told) (signature : ℕ) (dropped : Dropped) (more : Gone) (then_is : E) → HasSignature layout key signature → more.items ≡ gone.items + 1 → more.bytes ≡ gone.bytes + dropped.charge → call last dropped.number then_is
@@ -110,7 +110,7 @@ module _ (E : Type 0) (call : E → ℕ → E → Type 0) (old now : Told) (stat
 
   -- where none is left
   pub record IsDropped (now_is : Image) : Type 0 where
-    pub out : IsWholeOut state layout unlinked key now_is
+    pub out : IsWholeDropped state layout unlinked key now_is
     pub called : FoldsTo call each (parts_among key (filter keep state.uses)) last
     pub gone_is : AreGone layout (map (part key) (parts_among key (filter keep state.uses))) gone
 
@@ -133,7 +133,7 @@ module _ (E : Type 0) (call : E → ℕ → E → Type 0) (old now : Told) (stat
 
   -- what holds in the end
   pub record IsEnd (new : Told) : Type 0 where
-    pub out : ForSome new.files (IsWholeOut state layout unlinked key)
+    pub out : ForSome new.files (IsWholeDropped state layout unlinked key)
     pub session : ForSome new.files (SameSession from)
     pub keeps : ForSome new.files (KeepsUnlinked unlinked from)
     pub called : FoldsTo call each (parts_among key (filter keep state.uses)) last
@@ -144,7 +144,7 @@ module _ (E : Type 0) (call : E → ℕ → E → Type 0) (old now : Told) (stat
   end-of new passes same none =
       let all = dropped-all none in
       record {
-        out = λ image is. subst (IsWholeOut state layout unlinked key) (sym (same image is)) all.out;
+        out = λ image is. subst (IsWholeDropped state layout unlinked key) (sym (same image is)) all.out;
         session = λ image is. subst (SameSession from) (sym (same image is)) d.session;
         keeps = λ image is. subst (KeepsUnlinked unlinked from) (sym (same image is)) d.unlinked_keeps;
         called = all.called;

@@ -30,7 +30,7 @@ use Rattle.blk_object.proofs.OwnedPlaces.{left-load}
 use Rattle.blk_object.proofs.PartsFound.{names-are-theirs}
 use Rattle.law_state.specs.PartlyOut.{chains_but}
 use Rattle.law_state.specs.PartlyOutStops.{LeavesOtherKeys}
-use Rattle.blk_sparse.specs.Dropping.{AreLeft, HasSignature, IsPartLeft, IsPartOut}
+use Rattle.blk_sparse.specs.Dropping.{AreLeft, HasSignature, IsPartLeft, IsPartDropped}
 
 pub none-some : {A : Type 0} {x : A} → ◌≡◌ {A = Option A} None (Some x) → ⊥
 none-some e = cc
@@ -110,7 +110,7 @@ module _ (signature n node : ℕ) (state : State) (layout : Layout) (keep : Item
       })
 
   -- once it is out, the others are left
-  pub others-left : (entry : ℕ) (now : Image) → IsOutAndCounted state layout keep chains unlinked (part key n) entry now → IsPartOut state layout keep unlinked key number object n now
+  pub others-left : (entry : ℕ) (now : Image) → IsOutAndCounted state layout keep chains unlinked (part key n) entry now → IsPartDropped state layout keep unlinked key number object n now
   others-left entry now out = record {
     chains = chains_but chains entry;
     left = record { kept = out.out; counted = out.counted; here = left.here; of_key = left.of_key; others = part-leaves key keep n left.others };

@@ -106,15 +106,15 @@ run-late asked start (false ∷ tests) late e = run-late asked (start + 1) tests
 run-late asked start (true ∷ tests) late e = absurd (let same : start ≡ asked = e in omega (arith, late, same))
 
 -- a run that begins at once is what is present at the front; where it doesn't, nothing is
-pub record IsFront (place count : ℕ) (run : ℕ × ℕ) (front : List ℕ) : Type 0 where
+pub record IsRunPrefix (place count : ℕ) (run : ℕ × ℕ) (front : List ℕ) : Type 0 where
   pub at_once : run.0 ≡ place → run.1 ≡ length front
   pub later : run.0 ≢ place → length front ≡ 0
 
-pub run-front : (t : ℕ → Bool) (place count : ℕ) → IsFront place count (first_run place place (map t (numbers_from place count))) (take_while t (numbers_from place count))
+pub run-front : (t : ℕ → Bool) (place count : ℕ) → IsRunPrefix place count (first_run place place (map t (numbers_from place count))) (take_while t (numbers_from place count))
 unfolding numbers_from
 run-front t place zero = record { at_once = λ e. refl; later = λ e. refl }
 run-front t place (suc count) = by (t place) refl where
-  by : (b : Bool) → t place ≡ b → IsFront place (suc count) (first_run place place (t place ∷ map t (numbers_from (place + 1) count))) (take_while t (place ∷ numbers_from (place + 1) count))
+  by : (b : Bool) → t place ≡ b → IsRunPrefix place (suc count) (first_run place place (t place ∷ map t (numbers_from (place + 1) count))) (take_while t (place ∷ numbers_from (place + 1) count))
   by true e =
       let run : first_run place place (t place ∷ map t (numbers_from (place + 1) count)) ≡ (place, 1 + length (take_while (λ b. b) (map t (numbers_from (place + 1) count)))) = ap (λ (b : Bool). first_run place place (b ∷ map t (numbers_from (place + 1) count))) e in
       let many = ap (λ (r : ℕ × ℕ). r.1) run in

@@ -137,7 +137,7 @@ module _ (object : Object) (n of_part place count : ℕ) (from : Image) (r : IsP
       enough : (k o s b place f : ℕ) → k ≡ min o (s - place) → s ≡ b → o ≡ f → place + f ≤ max b place → k ≡ f
       enough k o s b place f many long whole inside = omega (arith, many, long, whole, inside)
 
-pub front-only : (k : ℕ) (xs ys : List ℕ) → k ≤ length xs → take k (xs ++ ys) ≡ take k xs
-front-only zero xs ys le = refl
-front-only (suc k) [] ys le = absurd (omega (arith, le))
-front-only (suc k) (x ∷ xs) ys le = ap (λ (l : List ℕ). x ∷ l) (front-only k xs ys (omega (arith, le)))
+pub prefix-only : (k : ℕ) (xs ys : List ℕ) → k ≤ length xs → take k (xs ++ ys) ≡ take k xs
+prefix-only zero xs ys le = refl
+prefix-only (suc k) [] ys le = absurd (omega (arith, le))
+prefix-only (suc k) (x ∷ xs) ys le = ap (λ (l : List ℕ). x ∷ l) (prefix-only k xs ys (omega (arith, le)))

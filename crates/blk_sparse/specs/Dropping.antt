@@ -70,7 +70,7 @@ pub record AreGone (layout : Layout) (items : List Item) (gone : Gone) : Type 0 
   pub charged : gone.bytes ≡ charges_at layout (nodes_of layout items)
 
 -- a closure was called with a prefix of some numbers, one after another
-pub record IsCalledAtFront (E : Type 0) (call : E → ℕ → E → Type 0) (numbers : List ℕ) (old new : E) : Type 0 where
+pub record IsCalledOverPrefix (E : Type 0) (call : E → ℕ → E → Type 0) (numbers : List ℕ) (old new : E) : Type 0 where
   pub front : List ℕ
   pub others : List ℕ
   pub split : numbers ≡ front ++ others
@@ -79,7 +79,7 @@ pub record IsCalledAtFront (E : Type 0) (call : E → ℕ → E → Type 0) (num
 -- In the end.
 
 -- all items of a key are out, and what is left is counted
-pub record IsWholeOut (state : State) (layout : Layout) (unlinked key : List ℕ) (image : Image) : Type 0 where
+pub record IsWholeDropped (state : State) (layout : Layout) (unlinked key : List ℕ) (image : Image) : Type 0 where
   pub chains : ℕ → List ℕ
   pub kept : KeepsPartlyOut state layout (is_of_another key) chains unlinked image
   pub counted : CountsLeft state layout (is_of_another key) image
@@ -135,6 +135,6 @@ ForEachPartLeft key signature n node from P =
     → P state layout keep unlinked number object p.was
 
 -- it is out too, in chains that are some
-pub record IsPartOut (state : State) (layout : Layout) (keep : Item → Bool) (unlinked key : List ℕ) (number : ℕ) (object : Object) (n : ℕ) (image : Image) : Type 0 where
+pub record IsPartDropped (state : State) (layout : Layout) (keep : Item → Bool) (unlinked key : List ℕ) (number : ℕ) (object : Object) (n : ℕ) (image : Image) : Type 0 where
   pub chains : ℕ → List ℕ
   pub left : AreLeft state layout (keeps_but keep (part key n)) chains unlinked key number object image

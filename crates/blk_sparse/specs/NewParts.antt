@@ -103,7 +103,7 @@ pub record HasStreamsNow (entry : ℕ) (streams : PartStreams) (from image : Ima
   pub outside : SameOutside (record_range entry) from image
 
 -- a part is there: it loads by itself, its record's next is the word of its bucket, its node checks, and both are sealed
-pub record IsPartThere (loaded : Loaded) (image : Image) : Type 0 where
+pub record IsPartLoaded (loaded : Loaded) (image : Image) : Type 0 where
   pub loads : load (store_of image) (unchained_rule entry_normal) loaded.node ≡ Ok loaded
   pub follows : (store_of image).chain_next loaded.contents ≡ (store_of image).table (bucket_of_hash (hash loaded.key))
   pub good : (list_of image).checks loaded.node ≡ true
@@ -120,7 +120,7 @@ pub record ArePartStreams (places : PartPlaces) (name bytes index : List ℕ) (r
 -- a state is kept with the words of a part unlinked, which is there, and was nobody's
 pub record KeepsPart (state : State) (layout : Layout) (unlinked : List ℕ) (places : PartPlaces) (loaded : Loaded) (image : Image) : Type 0 where
   pub kept : KeepsUncounted state layout (words_of_part places ++ unlinked) image
-  pub there : IsPartThere loaded image
+  pub there : IsPartLoaded loaded image
   pub nobodys : IsNobodys places.places.node places.places.entry layout
 
 -- each state that was kept with the words of a part unlinked is kept so, by the same counters and in the same session, and the part is there

@@ -72,19 +72,19 @@ pub fn begin<F: Folder>(
 }
 
 // The length of the key of an object's record, by one folder call.
-fn parent_length<F: Folder>(f: &mut F, files: &BlockFiles, entry: Addr) -> Result<u32, Fault>
+fn parent_length<F: Folder>(folder: &mut F, files: &BlockFiles, entry: Addr) -> Result<u32, Fault>
     requires kind { kind_of entry ≡ blocks_256 }
     requires stands { IsTrue (stands_among files.now entry) }
     ensures some { IfOk result (λ len. 1 ≤ len) }
     ensures short { IfOk result (λ len. len ≤ longest_key) }
-    ensures length { IfOk result (λ len. ForSome (F.told f.old).files (λ image. len ≡ (entry_at image entry).key_len)) }
-    ensures stays { Stays (F.told f.old) (F.told f.new) }
-    ensures damaged { IfDamaged result (IsFailedCheck files.now (F.told f.new)) }
-    ensures untold { ForSome (F.told f.old).files (Agrees files.now) → ForSome (F.told f.old).files (HasParentLength entry) → IfDamaged result (λ _. (F.told f.old).files ≡ None) }
-    ensures later { F.faults f.old ≤ F.faults f.new }
-    ensures device { IfDevice result (Rises (F.faults f.old) (F.faults f.new)) }
+    ensures length { IfOk result (λ len. ForSome (F.told folder.old).files (λ image. len ≡ (entry_at image entry).key_len)) }
+    ensures stays { Stays (F.told folder.old) (F.told folder.new) }
+    ensures damaged { IfDamaged result (IsFailedCheck files.now (F.told folder.new)) }
+    ensures untold { ForSome (F.told folder.old).files (Agrees files.now) → ForSome (F.told folder.old).files (HasParentLength entry) → IfDamaged result (λ _. (F.told folder.old).files ≡ None) }
+    ensures later { F.faults folder.old ≤ F.faults folder.new }
+    ensures device { IfDevice result (Rises (F.faults folder.old) (F.faults folder.new)) }
 {
-    let head = read_head(f, files, entry)?;
+    let head = read_head(folder, files, entry)?;
     if head.key_len == 0 || head.key_len > LONGEST_KEY {
         return Err(record_damage(entry, EntryView::KEY_LEN, head.key_len));
     }
@@ -108,7 +108,7 @@ fn print_index(signature: i64, key_len: u32, out: &mut [u8; 8256])
 
 // Writes the bytes of an index as the third stream of a plain object, and then its record gets the flags of a parent.
 fn give_index<F: Folder>(
-    f: &mut F,
+    folder: &mut F,
     files: &mut BlockFiles,
     entry: Addr,
     bytes: &[u8],
@@ -116,34 +116,34 @@ fn give_index<F: Folder>(
     requires kind { kind_of entry ≡ blocks_256 }
     requires stands { IsTrue (stands_among files.old entry) }
     requires long { length bytes.now ≡ parent_index_length }
-    requires is_open { ForSome (F.told f.old).files (IsOpen files.old) }
-    ensures begun { OnOk result (ForSome (F.told f.old).files (λ from. ForEachPlainWith bytes.now entry from (λ state layout unlinked number object node signature. ForSome (F.told f.new).files (KeepsParentThen (with_object state number (with_signature object signature)) layout unlinked number (with_signature object signature) node entry signature from)))) }
-    ensures stops { ForSome (F.told f.old).files (λ from. ForEachPlainWith bytes.now entry from (λ state layout unlinked number object node signature. Passes (F.told f.old) (F.told f.new) (Finds (rest state)))) }
+    requires is_open { ForSome (F.told folder.old).files (IsOpen files.old) }
+    ensures begun { OnOk result (ForSome (F.told folder.old).files (λ from. ForEachPlainWith bytes.now entry from (λ state layout unlinked number object node signature. ForSome (F.told folder.new).files (KeepsParentThen (with_object state number (with_signature object signature)) layout unlinked number (with_signature object signature) node entry signature from)))) }
+    ensures stops { ForSome (F.told folder.old).files (λ from. ForEachPlainWith bytes.now entry from (λ state layout unlinked number object node signature. Passes (F.told folder.old) (F.told folder.new) (Finds (rest state)))) }
     ensures keeps { KeepsStanding files.old files.new }
-    ensures is_open { OnOk result (ForSome (F.told f.new).files (IsOpen files.new)) }
-    ensures damaged { IfDamaged result (IsFailedCheck files.new (F.told f.new)) }
-    ensures untold { ForSome (F.told f.old).files (λ from. ForEachPlainWith bytes.now entry from (λ state layout unlinked number object node signature. IfDamaged result (λ _. (F.told f.old).files ≡ None))) }
-    ensures silent { (F.told f.old).files ≡ None → (F.told f.new).files ≡ None }
-    ensures later { F.faults f.old ≤ F.faults f.new }
-    ensures device { IfDevice result (Rises (F.faults f.old) (F.faults f.new)) }
+    ensures is_open { OnOk result (ForSome (F.told folder.new).files (IsOpen files.new)) }
+    ensures damaged { IfDamaged result (IsFailedCheck files.new (F.told folder.new)) }
+    ensures untold { ForSome (F.told folder.old).files (λ from. ForEachPlainWith bytes.now entry from (λ state layout unlinked number object node signature. IfDamaged result (λ _. (F.told folder.old).files ≡ None))) }
+    ensures silent { (F.told folder.old).files ≡ None → (F.told folder.new).files ≡ None }
+    ensures later { F.faults folder.old ≤ F.faults folder.new }
+    ensures device { IfDevice result (Rises (F.faults folder.old) (F.faults folder.new)) }
 {
-    write_object(f, files, entry, INDEX, 0, true, bytes)?;
-    set_parent(f, files, entry)
+    write_object(folder, files, entry, INDEX, 0, true, bytes)?;
+    set_parent(folder, files, entry)
 }
 
 // Gives a record the flags of a parent, by one sealed update.
-fn set_parent<F: Folder>(f: &mut F, files: &BlockFiles, entry: Addr) -> Result<(), Fault>
+fn set_parent<F: Folder>(folder: &mut F, files: &BlockFiles, entry: Addr) -> Result<(), Fault>
     requires kind { kind_of entry ≡ blocks_256 }
     requires stands { IsTrue (stands_among files.now entry) }
-    requires is_open { ForSome (F.told f.old).files (IsOpen files.now) }
-    ensures marked { OnOk result (ForSome (F.told f.old).files (λ from. ForEachWithIndex entry from (λ state layout unlinked number object was index. ForSome (F.told f.new).files (IsParentMarked state layout unlinked number object was index from)))) }
-    ensures stops { ForSome (F.told f.old).files (λ from. ForEachWithIndex entry from (λ state layout unlinked number object was index. Passes (F.told f.old) (F.told f.new) (Finds (rest state)))) }
-    ensures is_open { ForSome (F.told f.new).files (IsOpen files.now) }
-    ensures damaged { IfDamaged result (IsFailedCheck files.now (F.told f.new)) }
-    ensures untold { ForSome (F.told f.old).files (λ from. ForEachWithIndex entry from (λ state layout unlinked number object was index. IfDamaged result (λ _. (F.told f.old).files ≡ None))) }
-    ensures silent { (F.told f.old).files ≡ None → (F.told f.new).files ≡ None }
-    ensures later { F.faults f.old ≤ F.faults f.new }
-    ensures device { IfDevice result (Rises (F.faults f.old) (F.faults f.new)) }
+    requires is_open { ForSome (F.told folder.old).files (IsOpen files.now) }
+    ensures marked { OnOk result (ForSome (F.told folder.old).files (λ from. ForEachWithIndex entry from (λ state layout unlinked number object was index. ForSome (F.told folder.new).files (IsParentMarked state layout unlinked number object was index from)))) }
+    ensures stops { ForSome (F.told folder.old).files (λ from. ForEachWithIndex entry from (λ state layout unlinked number object was index. Passes (F.told folder.old) (F.told folder.new) (Finds (rest state)))) }
+    ensures is_open { ForSome (F.told folder.new).files (IsOpen files.now) }
+    ensures damaged { IfDamaged result (IsFailedCheck files.now (F.told folder.new)) }
+    ensures untold { ForSome (F.told folder.old).files (λ from. ForEachWithIndex entry from (λ state layout unlinked number object was index. IfDamaged result (λ _. (F.told folder.old).files ≡ None))) }
+    ensures silent { (F.told folder.old).files ≡ None → (F.told folder.new).files ≡ None }
+    ensures later { F.faults folder.old ≤ F.faults folder.new }
+    ensures device { IfDevice result (Rises (F.faults folder.old) (F.faults folder.new)) }
 {
-    files.update_sealed(f, entry, &[(EntryView::FLAGS, PARENT)])
+    files.update_sealed(folder, entry, &[(EntryView::FLAGS, PARENT)])
 }

@@ -32,7 +32,7 @@ use blk_stream::read;
 
 // Writes a piece to a part that there is, from a place in it on: first its data, then its map; and then the part is used.
 pub(crate) fn change_part<F: Folder>(
-    f: &mut F,
+    folder: &mut F,
     files: &mut BlockFiles,
     part: Addr,
     place: u32,
@@ -43,56 +43,56 @@ pub(crate) fn change_part<F: Folder>(
     requires stands { IsTrue (stands_among files.old part) }
     requires some { 1 ≤ length piece.now }
     requires inside { place + length piece.now ≤ part_size }
-    requires is_open { ForSome (F.told f.old).files (IsOpen files.old) }
+    requires is_open { ForSome (F.told folder.old).files (IsOpen files.old) }
 
     // Each state that was kept, with such a part of a dirty object, is kept with the piece written and the part in front, but for the counters.
-    ensures written { OnOk result (ForSome (F.told f.old).files (λ from. ForEachPartThere part from (λ state layout unlinked number object node entry signature n. ForSome (F.told f.new).files (KeepsParentThen (with_piece_written state number object n place piece.now) layout unlinked number (with_piece object n place piece.now) node entry signature from)))) }
+    ensures written { OnOk result (ForSome (F.told folder.old).files (λ from. ForEachPartThere part from (λ state layout unlinked number object node entry signature n. ForSome (F.told folder.new).files (KeepsParentThen (with_piece_written state number object n place piece.now) layout unlinked number (with_piece object n place piece.now) node entry signature from)))) }
 
     // At each word the old durable contents are recovered: a dirty object isn't durable, nor are its parts.
-    ensures stops { ForSome (F.told f.old).files (λ from. ForEachPartThere part from (λ state layout unlinked number object node entry signature n. Passes (F.told f.old) (F.told f.new) (Finds (rest state)))) }
+    ensures stops { ForSome (F.told folder.old).files (λ from. ForEachPartThere part from (λ state layout unlinked number object node entry signature n. Passes (F.told folder.old) (F.told folder.new) (Finds (rest state)))) }
 
     // The part has the bytes before its map changes.
-    ensures ordered { OnOk result (ForSome (F.told f.old).files (λ from. ForEachPartThere part from (λ state layout unlinked number object node entry signature n. IsDataBeforeMap state unlinked number object n place piece.now (F.told f.old) (F.told f.new)))) }
+    ensures ordered { OnOk result (ForSome (F.told folder.old).files (λ from. ForEachPartThere part from (λ state layout unlinked number object node entry signature n. IsDataBeforeMap state unlinked number object n place piece.now (F.told folder.old) (F.told folder.new)))) }
 
     // What was valid still is.
     ensures keeps { KeepsStanding files.old files.new }
-    ensures is_open { OnOk result (ForSome (F.told f.new).files (IsOpen files.new)) }
+    ensures is_open { OnOk result (ForSome (F.told folder.new).files (IsOpen files.new)) }
 
     // Corruption is a check that fails on what is read here; nothing is written after it.
-    ensures damaged { IfDamaged result (IsFailedCheck files.new (F.told f.new)) }
+    ensures damaged { IfDamaged result (IsFailedCheck files.new (F.told folder.new)) }
 
     // An observable folder, with such a part, reports no corruption.
-    ensures untold { ForSome (F.told f.old).files (λ from. ForEachPartThere part from (λ state layout unlinked number object node entry signature n. IfDamaged result (λ _. (F.told f.old).files ≡ None))) }
+    ensures untold { ForSome (F.told folder.old).files (λ from. ForEachPartThere part from (λ state layout unlinked number object node entry signature n. IfDamaged result (λ _. (F.told folder.old).files ≡ None))) }
 
-    ensures silent { (F.told f.old).files ≡ None → (F.told f.new).files ≡ None }
-    ensures later { F.faults f.old ≤ F.faults f.new }
-    ensures device { IfDevice result (Rises (F.faults f.old) (F.faults f.new)) }
+    ensures silent { (F.told folder.old).files ≡ None → (F.told folder.new).files ≡ None }
+    ensures later { F.faults folder.old ≤ F.faults folder.new }
+    ensures device { IfDevice result (Rises (F.faults folder.old) (F.faults folder.new)) }
 {
-    let map = read_map(f, files, part)?;
+    let map = read_map(folder, files, part)?;
     let mut bytes = [0u8; PartMap::LEN];
     print_noted(map, place, piece.len() as u32, &mut bytes);
-    write_noted(f, files, part, place, piece, &bytes)?;
-    use_entry(f, files, part, moment)
+    write_noted(folder, files, part, place, piece, &bytes)?;
+    use_entry(folder, files, part, moment)
 }
 
 // The index of a part, which is read from its third stream, by two folder calls.
 pub(crate) fn read_map<F: Folder>(
-    f: &mut F,
+    folder: &mut F,
     files: &BlockFiles,
     part: Addr,
 ) -> Result<PartMap, Fault>
     requires kind { kind_of part ≡ blocks_256 }
     requires stands { IsTrue (stands_among files.now part) }
-    ensures map { IfOk result (λ map. ForSome (F.told f.old).files (λ image. (loaded : Loaded) (name : Name) (index : PartIndex) → LoadsWith part loaded image → loaded.role ≡ IsPart name index → index_of map ≡ index)) }
+    ensures map { IfOk result (λ map. ForSome (F.told folder.old).files (λ image. (loaded : Loaded) (name : Name) (index : PartIndex) → LoadsWith part loaded image → loaded.role ≡ IsPart name index → index_of map ≡ index)) }
     ensures valid { IfOk result IsPartMap }
-    ensures stays { Stays (F.told f.old) (F.told f.new) }
-    ensures damaged { IfDamaged result (IsFailedCheck files.now (F.told f.new)) }
-    ensures untold { ForSome (F.told f.old).files (Agrees files.now) → ForSome (F.told f.old).files (LoadsAsPart part) → IfDamaged result (λ _. (F.told f.old).files ≡ None) }
-    ensures later { F.faults f.old ≤ F.faults f.new }
-    ensures device { IfDevice result (Rises (F.faults f.old) (F.faults f.new)) }
+    ensures stays { Stays (F.told folder.old) (F.told folder.new) }
+    ensures damaged { IfDamaged result (IsFailedCheck files.now (F.told folder.new)) }
+    ensures untold { ForSome (F.told folder.old).files (Agrees files.now) → ForSome (F.told folder.old).files (LoadsAsPart part) → IfDamaged result (λ _. (F.told folder.old).files ≡ None) }
+    ensures later { F.faults folder.old ≤ F.faults folder.new }
+    ensures device { IfDevice result (Rises (F.faults folder.old) (F.faults folder.new)) }
 {
     let mut bytes = [0u8; PartMap::LEN];
-    let len = read(f, files, part, INDEX, 0, &mut bytes)?;
+    let len = read(folder, files, part, INDEX, 0, &mut bytes)?;
     match PartMap::read(&bytes[..len]) {
         Some(map) => Ok(map),
         None => Err(record_damage(part, EntryView::FLAGS, CHILD)),
@@ -113,7 +113,7 @@ fn print_noted(map: PartMap, place: u32, len: u32, out: &mut [u8; 192])
 
 // Writes a piece of a part's data, and then the bytes of its index.
 fn write_noted<F: Folder>(
-    f: &mut F,
+    folder: &mut F,
     files: &mut BlockFiles,
     part: Addr,
     place: u32,
@@ -125,19 +125,19 @@ fn write_noted<F: Folder>(
     requires some { 1 ≤ length piece.now }
     requires inside { place + length piece.now ≤ part_size }
     requires map { length map.now ≡ 192 }
-    requires is_open { ForSome (F.told f.old).files (IsOpen files.old) }
-    ensures written { OnOk result (ForSome (F.told f.old).files (λ from. ForEachToBeChanged part place piece.now map.now from (λ state layout unlinked number object node entry signature n. ForSome (F.told f.new).files (IsChangedUnused state layout unlinked number object node entry signature n part place piece.now from)))) }
-    ensures stops { ForSome (F.told f.old).files (λ from. ForEachToBeChanged part place piece.now map.now from (λ state layout unlinked number object node entry signature n. Passes (F.told f.old) (F.told f.new) (Finds (rest state)))) }
-    ensures ordered { OnOk result (ForSome (F.told f.old).files (λ from. ForEachToBeChanged part place piece.now map.now from (λ state layout unlinked number object node entry signature n. IsDataBeforeMap state unlinked number object n place piece.now (F.told f.old) (F.told f.new)))) }
+    requires is_open { ForSome (F.told folder.old).files (IsOpen files.old) }
+    ensures written { OnOk result (ForSome (F.told folder.old).files (λ from. ForEachToBeChanged part place piece.now map.now from (λ state layout unlinked number object node entry signature n. ForSome (F.told folder.new).files (IsChangedUnused state layout unlinked number object node entry signature n part place piece.now from)))) }
+    ensures stops { ForSome (F.told folder.old).files (λ from. ForEachToBeChanged part place piece.now map.now from (λ state layout unlinked number object node entry signature n. Passes (F.told folder.old) (F.told folder.new) (Finds (rest state)))) }
+    ensures ordered { OnOk result (ForSome (F.told folder.old).files (λ from. ForEachToBeChanged part place piece.now map.now from (λ state layout unlinked number object node entry signature n. IsDataBeforeMap state unlinked number object n place piece.now (F.told folder.old) (F.told folder.new)))) }
     ensures keeps { KeepsStanding files.old files.new }
-    ensures is_open { OnOk result (ForSome (F.told f.new).files (IsOpen files.new)) }
-    ensures damaged { IfDamaged result (IsFailedCheck files.new (F.told f.new)) }
-    ensures untold { ForSome (F.told f.old).files (λ from. ForEachToBeChanged part place piece.now map.now from (λ state layout unlinked number object node entry signature n. IfDamaged result (λ _. (F.told f.old).files ≡ None))) }
-    ensures silent { (F.told f.old).files ≡ None → (F.told f.new).files ≡ None }
-    ensures later { F.faults f.old ≤ F.faults f.new }
-    ensures device { IfDevice result (Rises (F.faults f.old) (F.faults f.new)) }
+    ensures is_open { OnOk result (ForSome (F.told folder.new).files (IsOpen files.new)) }
+    ensures damaged { IfDamaged result (IsFailedCheck files.new (F.told folder.new)) }
+    ensures untold { ForSome (F.told folder.old).files (λ from. ForEachToBeChanged part place piece.now map.now from (λ state layout unlinked number object node entry signature n. IfDamaged result (λ _. (F.told folder.old).files ≡ None))) }
+    ensures silent { (F.told folder.old).files ≡ None → (F.told folder.new).files ≡ None }
+    ensures later { F.faults folder.old ≤ F.faults folder.new }
+    ensures device { IfDevice result (Rises (F.faults folder.old) (F.faults folder.new)) }
 {
     let offset = u64::from(place);
-    write_object(f, files, part, DATA, offset, false, piece)?;
-    write_object(f, files, part, INDEX, 0, true, map)
+    write_object(folder, files, part, DATA, offset, false, piece)?;
+    write_object(folder, files, part, INDEX, 0, true, map)
 }

@@ -21,7 +21,7 @@ ghost use Rattle.blk_object.specs.FailedChecks.{IsFailedCheck};
 ghost use Rattle.blk_object.specs.Owning.{LoadsWith};
 ghost use Rattle.blk_object.specs.UnlinkedLoads.{KeepsUnlinked};
 ghost use Rattle.blk_sparse.specs.Children.{ForEachParentOut, HasParentKey};
-ghost use Rattle.blk_sparse.specs.Dropping.{HasNoBit, IsCalledAtFront, IsWholeOut};
+ghost use Rattle.blk_sparse.specs.Dropping.{HasNoBit, IsCalledOverPrefix, IsWholeDropped};
 ghost use Rattle.blk_sparse.specs.Parents.{LoadsAsParent};
 
 use crate::dropping::{IndexedParts, drop_indexed_with};
@@ -56,7 +56,7 @@ pub fn drop_children<F: Folder>(
     requires is_open { ForSome (F.told f.old).files (IsOpen files.now) }
 
     // Where the parent of an object is out, and perhaps parts of it, and what is left is counted, all its items are out in the end, in the same session. How many parts went is told.
-    ensures out { OnOk result (ForSome (F.told f.old).files (λ from. ForEachParentOut parent.now.node parent.now.entry (cast_unsigned w64 parent.now.signature) from (λ state layout keep unlinked number object. ForSome (F.told f.new).files (IsWholeOut state layout unlinked object.key)))) }
+    ensures out { OnOk result (ForSome (F.told f.old).files (λ from. ForEachParentOut parent.now.node parent.now.entry (cast_unsigned w64 parent.now.signature) from (λ state layout keep unlinked number object. ForSome (F.told f.new).files (IsWholeDropped state layout unlinked object.key)))) }
     ensures count { IfOk result (λ count. ForSome (F.told f.old).files (λ from. ForEachParentOut parent.now.node parent.now.entry (cast_unsigned w64 parent.now.signature) from (λ state layout keep unlinked number object. count ≡ length (parts_among object.key (filter keep state.uses))))) }
     ensures session { OnOk result (ForSome (F.told f.old).files (λ from. ForEachParentOut parent.now.node parent.now.entry (cast_unsigned w64 parent.now.signature) from (λ state layout keep unlinked number object. ForSome (F.told f.new).files (SameSession from)))) }
 
@@ -93,7 +93,7 @@ pub fn drop_children<F: Folder>(
 /// those that `key_piece`, `read_signature` and `drop_parts_with` give, or a key that has no byte or is longer than a
 /// parent's, of the length in its record.
 pub fn drop_children_with<F: Folder, E: FnMut(u32)>(
-    f: &mut F,
+    folder: &mut F,
     files: &BlockFiles,
     parent: &Parent,
     name: &mut [u8],
@@ -104,56 +104,56 @@ pub fn drop_children_with<F: Folder, E: FnMut(u32)>(
     requires signature { cast_unsigned w64 parent.now.signature < signatures }
     requires name { longest_key + longest_name ≤ length name.old }
     requires callable { E.IsAlwaysCallable each.old }
-    requires is_open { ForSome (F.told f.old).files (IsOpen files.now) }
+    requires is_open { ForSome (F.told folder.old).files (IsOpen files.now) }
 
     // Where the parent of an object is out, and perhaps parts of it, and what is left is counted, all its items are out in the end, in the same session. How many parts went is told.
-    ensures out { OnOk result (ForSome (F.told f.old).files (λ from. ForEachParentOut parent.now.node parent.now.entry (cast_unsigned w64 parent.now.signature) from (λ state layout keep unlinked number object. ForSome (F.told f.new).files (IsWholeOut state layout unlinked object.key)))) }
-    ensures count { IfOk result (λ count. ForSome (F.told f.old).files (λ from. ForEachParentOut parent.now.node parent.now.entry (cast_unsigned w64 parent.now.signature) from (λ state layout keep unlinked number object. count ≡ length (parts_among object.key (filter keep state.uses))))) }
-    ensures session { OnOk result (ForSome (F.told f.old).files (λ from. ForEachParentOut parent.now.node parent.now.entry (cast_unsigned w64 parent.now.signature) from (λ state layout keep unlinked number object. ForSome (F.told f.new).files (SameSession from)))) }
+    ensures out { OnOk result (ForSome (F.told folder.old).files (λ from. ForEachParentOut parent.now.node parent.now.entry (cast_unsigned w64 parent.now.signature) from (λ state layout keep unlinked number object. ForSome (F.told folder.new).files (IsWholeDropped state layout unlinked object.key)))) }
+    ensures count { IfOk result (λ count. ForSome (F.told folder.old).files (λ from. ForEachParentOut parent.now.node parent.now.entry (cast_unsigned w64 parent.now.signature) from (λ state layout keep unlinked number object. count ≡ length (parts_among object.key (filter keep state.uses))))) }
+    ensures session { OnOk result (ForSome (F.told folder.old).files (λ from. ForEachParentOut parent.now.node parent.now.entry (cast_unsigned w64 parent.now.signature) from (λ state layout keep unlinked number object. ForSome (F.told folder.new).files (SameSession from)))) }
 
     // What lies in places that were unlinked at first, as those of the parent, lies there still.
-    ensures keeps { OnOk result (ForSome (F.told f.old).files (λ from. ForEachParentOut parent.now.node parent.now.entry (cast_unsigned w64 parent.now.signature) from (λ state layout keep unlinked number object. ForSome (F.told f.new).files (KeepsUnlinked unlinked from)))) }
+    ensures keeps { OnOk result (ForSome (F.told folder.old).files (λ from. ForEachParentOut parent.now.node parent.now.entry (cast_unsigned w64 parent.now.signature) from (λ state layout keep unlinked number object. ForSome (F.told folder.new).files (KeepsUnlinked unlinked from)))) }
 
     // No more parts go than a list has nodes.
     ensures few { IfOk result (λ count. count ≤ 131072) }
 
     // `each` was called with the numbers of the parts that were left, in the order of the list, once each; or with a prefix of
     // them.
-    ensures each { OnOk result (ForSome (F.told f.old).files (λ from. ForEachParentOut parent.now.node parent.now.entry (cast_unsigned w64 parent.now.signature) from (λ state layout keep unlinked number object. FoldsTo (λ p x q. E.step p x tt q) each.old (parts_among object.key (filter keep state.uses)) each.new))) }
-    ensures front { ForSome (F.told f.old).files (λ from. ForEachParentOut parent.now.node parent.now.entry (cast_unsigned w64 parent.now.signature) from (λ state layout keep unlinked number object. IsCalledAtFront E (λ p x q. E.step p x tt q) (parts_among object.key (filter keep state.uses)) each.old each.new)) }
+    ensures each { OnOk result (ForSome (F.told folder.old).files (λ from. ForEachParentOut parent.now.node parent.now.entry (cast_unsigned w64 parent.now.signature) from (λ state layout keep unlinked number object. FoldsTo (λ p x q. E.step p x tt q) each.old (parts_among object.key (filter keep state.uses)) each.new))) }
+    ensures front { ForSome (F.told folder.old).files (λ from. ForEachParentOut parent.now.node parent.now.entry (cast_unsigned w64 parent.now.signature) from (λ state layout keep unlinked number object. IsCalledOverPrefix E (λ p x q. E.step p x tt q) (parts_among object.key (filter keep state.uses)) each.old each.new)) }
 
     // On every folder it was called with some numbers.
     ensures calls { (numbers : List ℕ) × FoldsTo (λ p x q. E.step p x tt q) each.old numbers each.new }
 
     // At each word the durable contents with the object doomed are recovered.
-    ensures stops { ForSome (F.told f.old).files (λ from. ForEachParentOut parent.now.node parent.now.entry (cast_unsigned w64 parent.now.signature) from (λ state layout keep unlinked number object. Passes (F.told f.old) (F.told f.new) (Finds (rest (doomed number state (Some object)))))) }
+    ensures stops { ForSome (F.told folder.old).files (λ from. ForEachParentOut parent.now.node parent.now.entry (cast_unsigned w64 parent.now.signature) from (λ state layout keep unlinked number object. Passes (F.told folder.old) (F.told folder.new) (Finds (rest (doomed number state (Some object)))))) }
 
-    ensures is_open { ForSome (F.told f.new).files (IsOpen files.now) }
+    ensures is_open { ForSome (F.told folder.new).files (IsOpen files.now) }
 
     // Corruption is a check that fails on what is read here; nothing is written after it.
-    ensures damaged { IfDamaged result (IsFailedCheck files.now (F.told f.new)) }
+    ensures damaged { IfDamaged result (IsFailedCheck files.now (F.told folder.new)) }
 
     // An observable folder, with such a parent, reports no corruption.
-    ensures untold { ForSome (F.told f.old).files (λ from. ForEachParentOut parent.now.node parent.now.entry (cast_unsigned w64 parent.now.signature) from (λ state layout keep unlinked number object. IfDamaged result (λ _. (F.told f.old).files ≡ None))) }
+    ensures untold { ForSome (F.told folder.old).files (λ from. ForEachParentOut parent.now.node parent.now.entry (cast_unsigned w64 parent.now.signature) from (λ state layout keep unlinked number object. IfDamaged result (λ _. (F.told folder.old).files ≡ None))) }
 
-    ensures silent { (F.told f.old).files ≡ None → (F.told f.new).files ≡ None }
-    ensures later { F.faults f.old ≤ F.faults f.new }
-    ensures device { IfDevice result (Rises (F.faults f.old) (F.faults f.new)) }
+    ensures silent { (F.told folder.old).files ≡ None → (F.told folder.new).files ≡ None }
+    ensures later { F.faults folder.old ≤ F.faults folder.new }
+    ensures device { IfDevice result (Rises (F.faults folder.old) (F.faults folder.new)) }
 {
-    let (len, any) = read_parent(f, files, parent.entry, name)?;
-    let (key, room) = name.split_at_mut(LONGEST_KEY as usize);
+    let (len, any) = read_parent(folder, files, parent.entry, name)?;
+    let (key, buffer) = name.split_at_mut(LONGEST_KEY as usize);
     let indexed = IndexedParts {
         signature: parent.signature,
         any,
     };
-    let gone = drop_indexed_with(f, files, &key[..len], indexed, room, each)?;
+    let gone = drop_indexed_with(folder, files, &key[..len], indexed, buffer, each)?;
     Ok(gone.items)
 }
 
 // Reads the key of a parent into the front of `name`, and whether a bit of its index is set, by four folder calls. The
 // length of the key is given.
 fn read_parent<F: Folder>(
-    f: &mut F,
+    folder: &mut F,
     files: &BlockFiles,
     entry: Addr,
     name: &mut [u8],
@@ -163,22 +163,22 @@ fn read_parent<F: Folder>(
     requires name { longest_name ≤ length name.old }
     ensures some { IfOk result (λ read. 1 ≤ read.0) }
     ensures short { IfOk result (λ read. read.0 ≤ longest_key) }
-    ensures key { IfOk result (λ read. ForSome (F.told f.old).files (λ image. (key : List ℕ) → HasParentKey entry key image → take read.0 name.new ≡ key)) }
-    ensures none { IfOk result (λ read. ForSome (F.told f.old).files (λ image. (loaded : Loaded) (index : ParentIndex) → LoadsWith entry loaded image → loaded.role ≡ IsParent index → read.1 ≡ false → HasNoBit index)) }
-    ensures stays { Stays (F.told f.old) (F.told f.new) }
-    ensures damaged { IfDamaged result (IsFailedCheck files.now (F.told f.new)) }
-    ensures untold { ForSome (F.told f.old).files (Agrees files.now) → ForSome (F.told f.old).files (λ image. (key : List ℕ) × HasParentKey entry key image) → ForSome (F.told f.old).files (LoadsAsParent entry) → IfDamaged result (λ _. (F.told f.old).files ≡ None) }
-    ensures later { F.faults f.old ≤ F.faults f.new }
-    ensures device { IfDevice result (Rises (F.faults f.old) (F.faults f.new)) }
+    ensures key { IfOk result (λ read. ForSome (F.told folder.old).files (λ image. (key : List ℕ) → HasParentKey entry key image → take read.0 name.new ≡ key)) }
+    ensures none { IfOk result (λ read. ForSome (F.told folder.old).files (λ image. (loaded : Loaded) (index : ParentIndex) → LoadsWith entry loaded image → loaded.role ≡ IsParent index → read.1 ≡ false → HasNoBit index)) }
+    ensures stays { Stays (F.told folder.old) (F.told folder.new) }
+    ensures damaged { IfDamaged result (IsFailedCheck files.now (F.told folder.new)) }
+    ensures untold { ForSome (F.told folder.old).files (Agrees files.now) → ForSome (F.told folder.old).files (λ image. (key : List ℕ) × HasParentKey entry key image) → ForSome (F.told folder.old).files (LoadsAsParent entry) → IfDamaged result (λ _. (F.told folder.old).files ≡ None) }
+    ensures later { F.faults folder.old ≤ F.faults folder.new }
+    ensures device { IfDevice result (Rises (F.faults folder.old) (F.faults folder.new)) }
 {
-    let len = read_key(f, files, entry, name)?;
-    let indexed = read_index(f, files, entry)?;
+    let len = read_key(folder, files, entry, name)?;
+    let indexed = read_index(folder, files, entry)?;
     Ok((len, indexed.any))
 }
 
 // Reads the key of a parent into the front of `name`, by two folder calls. Its length is given.
 pub(crate) fn read_key<F: Folder>(
-    f: &mut F,
+    folder: &mut F,
     files: &BlockFiles,
     entry: Addr,
     name: &mut [u8],
@@ -188,14 +188,14 @@ pub(crate) fn read_key<F: Folder>(
     requires name { longest_name ≤ length name.old }
     ensures some { IfOk result (λ len. 1 ≤ len) }
     ensures short { IfOk result (λ len. len ≤ longest_key) }
-    ensures key { IfOk result (λ len. ForSome (F.told f.old).files (λ image. (key : List ℕ) → HasParentKey entry key image → take len name.new ≡ key)) }
-    ensures stays { Stays (F.told f.old) (F.told f.new) }
-    ensures damaged { IfDamaged result (IsFailedCheck files.now (F.told f.new)) }
-    ensures untold { ForSome (F.told f.old).files (Agrees files.now) → ForSome (F.told f.old).files (λ image. (key : List ℕ) × HasParentKey entry key image) → IfDamaged result (λ _. (F.told f.old).files ≡ None) }
-    ensures later { F.faults f.old ≤ F.faults f.new }
-    ensures device { IfDevice result (Rises (F.faults f.old) (F.faults f.new)) }
+    ensures key { IfOk result (λ len. ForSome (F.told folder.old).files (λ image. (key : List ℕ) → HasParentKey entry key image → take len name.new ≡ key)) }
+    ensures stays { Stays (F.told folder.old) (F.told folder.new) }
+    ensures damaged { IfDamaged result (IsFailedCheck files.now (F.told folder.new)) }
+    ensures untold { ForSome (F.told folder.old).files (Agrees files.now) → ForSome (F.told folder.old).files (λ image. (key : List ℕ) × HasParentKey entry key image) → IfDamaged result (λ _. (F.told folder.old).files ≡ None) }
+    ensures later { F.faults folder.old ≤ F.faults folder.new }
+    ensures device { IfDevice result (Rises (F.faults folder.old) (F.faults folder.new)) }
 {
-    let len = key_piece(f, files, entry, 0, name)?;
+    let len = key_piece(folder, files, entry, 0, name)?;
     if len == 0 || len > LONGEST_KEY as usize {
         let found = len.min(LONGEST_NAME as usize) as u32;
         return Err(record_damage(entry, EntryView::KEY_LEN, found));

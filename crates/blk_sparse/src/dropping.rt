@@ -19,7 +19,7 @@ ghost use Rattle.law_state.specs.Changes.{Finds, SameSession};
 ghost use Rattle.blk_object.specs.FailedChecks.{IsFailedCheck};
 ghost use Rattle.blk_object.specs.ListedParts.{SaysPart};
 ghost use Rattle.blk_object.specs.UnlinkedLoads.{KeepsUnlinked};
-ghost use Rattle.blk_sparse.specs.Dropping.{AreGone, ForEachBehind, ForEachIndexed, ForEachLeft, ForEachPartLeft, IsCalledAtFront, IsDropOfNext, IsPartOut, IsWholeOut};
+ghost use Rattle.blk_sparse.specs.Dropping.{AreGone, ForEachBehind, ForEachIndexed, ForEachLeft, ForEachPartLeft, IsCalledOverPrefix, IsDropOfNext, IsPartDropped, IsWholeDropped};
 
 use blk_addr::Addr;
 use blk_chain::find;
@@ -56,32 +56,32 @@ struct Dropped {
 /// Drops the parts of a key, after its main item went: each is taken out, its places are freed, and it is counted no
 /// longer; and then `each` is called with its number. They go in the order of the LRU list, in one walk over it.
 ///
-/// The signature is that of the index of the key's main item, and the names of the parts are made in `room`. This takes three
+/// The signature is that of the index of the key's main item, and the names of the parts are made in `buffer`. This takes three
 /// folder calls for each item of the list, two more for a part of any key, and those of `find` and `remove_part` for each
 /// part that goes. A part that its name doesn't find is corruption, of the hash of its record. No more parts go than a list
 /// has nodes.
 pub fn drop_parts_with<F: Folder, E: FnMut(u32)>(
-    f: &mut F,
+    folder: &mut F,
     files: &BlockFiles,
     key: &[u8],
     signature: i64,
-    room: &mut [u8],
+    buffer: &mut [u8],
     each: &mut E,
 ) -> Result<Gone, Fault>
     requires some { 1 ≤ length key.now }
     requires short { length key.now ≤ longest_key }
     requires signature { cast_unsigned w64 signature < signatures }
-    requires room { longest_name ≤ length room.old }
+    requires buffer { longest_name ≤ length buffer.old }
     requires callable { E.IsAlwaysCallable each.old }
-    requires is_open { ForSome (F.told f.old).files (IsOpen files.now) }
+    requires is_open { ForSome (F.told folder.old).files (IsOpen files.now) }
 
     // Where the main item of an object is out, and perhaps parts of it, and what is left is counted, all its items are out in the end, in the same session. How many went is told, and what they were charged.
-    ensures out { OnOk result (ForSome (F.told f.old).files (λ from. ForEachLeft key.now (cast_unsigned w64 signature) from (λ state layout keep unlinked number object. ForSome (F.told f.new).files (IsWholeOut state layout unlinked key.now)))) }
-    ensures gone { IfOk result (λ gone. ForSome (F.told f.old).files (λ from. ForEachLeft key.now (cast_unsigned w64 signature) from (λ state layout keep unlinked number object. AreGone layout (map (part key.now) (parts_among key.now (filter keep state.uses))) gone))) }
-    ensures session { OnOk result (ForSome (F.told f.old).files (λ from. ForEachLeft key.now (cast_unsigned w64 signature) from (λ state layout keep unlinked number object. ForSome (F.told f.new).files (SameSession from)))) }
+    ensures out { OnOk result (ForSome (F.told folder.old).files (λ from. ForEachLeft key.now (cast_unsigned w64 signature) from (λ state layout keep unlinked number object. ForSome (F.told folder.new).files (IsWholeDropped state layout unlinked key.now)))) }
+    ensures gone { IfOk result (λ gone. ForSome (F.told folder.old).files (λ from. ForEachLeft key.now (cast_unsigned w64 signature) from (λ state layout keep unlinked number object. AreGone layout (map (part key.now) (parts_among key.now (filter keep state.uses))) gone))) }
+    ensures session { OnOk result (ForSome (F.told folder.old).files (λ from. ForEachLeft key.now (cast_unsigned w64 signature) from (λ state layout keep unlinked number object. ForSome (F.told folder.new).files (SameSession from)))) }
 
     // What lies in places that were unlinked at first, as those of the main item, lies there still.
-    ensures keeps { OnOk result (ForSome (F.told f.old).files (λ from. ForEachLeft key.now (cast_unsigned w64 signature) from (λ state layout keep unlinked number object. ForSome (F.told f.new).files (KeepsUnlinked unlinked from)))) }
+    ensures keeps { OnOk result (ForSome (F.told folder.old).files (λ from. ForEachLeft key.now (cast_unsigned w64 signature) from (λ state layout keep unlinked number object. ForSome (F.told folder.new).files (KeepsUnlinked unlinked from)))) }
 
     // No more parts go than a list has nodes, each charged less than 2^34 bytes.
     ensures few { IfOk result (λ gone. gone.items ≤ 131072) }
@@ -89,31 +89,31 @@ pub fn drop_parts_with<F: Folder, E: FnMut(u32)>(
 
     // `each` was called with the numbers of the parts that were left, in the order of the list, once each; or with a prefix of
     // them.
-    ensures each { OnOk result (ForSome (F.told f.old).files (λ from. ForEachLeft key.now (cast_unsigned w64 signature) from (λ state layout keep unlinked number object. FoldsTo (λ p x q. E.step p x tt q) each.old (parts_among key.now (filter keep state.uses)) each.new))) }
-    ensures front { ForSome (F.told f.old).files (λ from. ForEachLeft key.now (cast_unsigned w64 signature) from (λ state layout keep unlinked number object. IsCalledAtFront E (λ p x q. E.step p x tt q) (parts_among key.now (filter keep state.uses)) each.old each.new)) }
+    ensures each { OnOk result (ForSome (F.told folder.old).files (λ from. ForEachLeft key.now (cast_unsigned w64 signature) from (λ state layout keep unlinked number object. FoldsTo (λ p x q. E.step p x tt q) each.old (parts_among key.now (filter keep state.uses)) each.new))) }
+    ensures front { ForSome (F.told folder.old).files (λ from. ForEachLeft key.now (cast_unsigned w64 signature) from (λ state layout keep unlinked number object. IsCalledOverPrefix E (λ p x q. E.step p x tt q) (parts_among key.now (filter keep state.uses)) each.old each.new)) }
 
     // On every folder it was called with some numbers.
     ensures calls { (numbers : List ℕ) × FoldsTo (λ p x q. E.step p x tt q) each.old numbers each.new }
 
     // At each word the durable contents with the object doomed are recovered.
-    ensures stops { ForSome (F.told f.old).files (λ from. ForEachLeft key.now (cast_unsigned w64 signature) from (λ state layout keep unlinked number object. Passes (F.told f.old) (F.told f.new) (Finds (rest (doomed number state (Some object)))))) }
+    ensures stops { ForSome (F.told folder.old).files (λ from. ForEachLeft key.now (cast_unsigned w64 signature) from (λ state layout keep unlinked number object. Passes (F.told folder.old) (F.told folder.new) (Finds (rest (doomed number state (Some object)))))) }
 
-    ensures is_open { ForSome (F.told f.new).files (IsOpen files.now) }
+    ensures is_open { ForSome (F.told folder.new).files (IsOpen files.now) }
 
     // Corruption is a check that fails on what is read here; nothing is written after it.
-    ensures damaged { IfDamaged result (IsFailedCheck files.now (F.told f.new)) }
+    ensures damaged { IfDamaged result (IsFailedCheck files.now (F.told folder.new)) }
 
     // An observable folder, in which parts are left so, reports no corruption.
-    ensures untold { ForSome (F.told f.old).files (λ from. ForEachLeft key.now (cast_unsigned w64 signature) from (λ state layout keep unlinked number object. IfDamaged result (λ _. (F.told f.old).files ≡ None))) }
+    ensures untold { ForSome (F.told folder.old).files (λ from. ForEachLeft key.now (cast_unsigned w64 signature) from (λ state layout keep unlinked number object. IfDamaged result (λ _. (F.told folder.old).files ≡ None))) }
 
-    ensures silent { (F.told f.old).files ≡ None → (F.told f.new).files ≡ None }
-    ensures later { F.faults f.old ≤ F.faults f.new }
-    ensures device { IfDevice result (Rises (F.faults f.old) (F.faults f.new)) }
+    ensures silent { (F.told folder.old).files ≡ None → (F.told folder.new).files ≡ None }
+    ensures later { F.faults folder.old ≤ F.faults folder.new }
+    ensures device { IfDevice result (Rises (F.faults folder.old) (F.faults folder.new)) }
 {
     let mut gone = Gone { items: 0, bytes: 0 };
     let mut behind = None;
     for _ in 0..MOST_NODES {
-        let Some(dropped) = drop_next(f, files, key, signature, behind, room)? else {
+        let Some(dropped) = drop_next(folder, files, key, signature, behind, buffer)? else {
             return Ok(gone);
         };
         gone.items += 1;
@@ -127,75 +127,75 @@ pub fn drop_parts_with<F: Folder, E: FnMut(u32)>(
 // Drops the parts of a key, after its main item went, as `drop_parts_with` does; but where its index says that there is
 // none, no list is walked.
 pub(crate) fn drop_indexed_with<F: Folder, E: FnMut(u32)>(
-    f: &mut F,
+    folder: &mut F,
     files: &BlockFiles,
     key: &[u8],
     indexed: IndexedParts,
-    room: &mut [u8],
+    buffer: &mut [u8],
     each: &mut E,
 ) -> Result<Gone, Fault>
     requires some { 1 ≤ length key.now }
     requires short { length key.now ≤ longest_key }
     requires signature { cast_unsigned w64 indexed.signature < signatures }
-    requires room { longest_name ≤ length room.old }
+    requires buffer { longest_name ≤ length buffer.old }
     requires callable { E.IsAlwaysCallable each.old }
-    requires is_open { ForSome (F.told f.old).files (IsOpen files.now) }
-    ensures out { OnOk result (ForSome (F.told f.old).files (λ from. ForEachIndexed key.now indexed from (λ state layout keep unlinked number object. ForSome (F.told f.new).files (IsWholeOut state layout unlinked key.now)))) }
-    ensures gone { IfOk result (λ gone. ForSome (F.told f.old).files (λ from. ForEachIndexed key.now indexed from (λ state layout keep unlinked number object. AreGone layout (map (part key.now) (parts_among key.now (filter keep state.uses))) gone))) }
-    ensures session { OnOk result (ForSome (F.told f.old).files (λ from. ForEachIndexed key.now indexed from (λ state layout keep unlinked number object. ForSome (F.told f.new).files (SameSession from)))) }
-    ensures keeps { OnOk result (ForSome (F.told f.old).files (λ from. ForEachIndexed key.now indexed from (λ state layout keep unlinked number object. ForSome (F.told f.new).files (KeepsUnlinked unlinked from)))) }
+    requires is_open { ForSome (F.told folder.old).files (IsOpen files.now) }
+    ensures out { OnOk result (ForSome (F.told folder.old).files (λ from. ForEachIndexed key.now indexed from (λ state layout keep unlinked number object. ForSome (F.told folder.new).files (IsWholeDropped state layout unlinked key.now)))) }
+    ensures gone { IfOk result (λ gone. ForSome (F.told folder.old).files (λ from. ForEachIndexed key.now indexed from (λ state layout keep unlinked number object. AreGone layout (map (part key.now) (parts_among key.now (filter keep state.uses))) gone))) }
+    ensures session { OnOk result (ForSome (F.told folder.old).files (λ from. ForEachIndexed key.now indexed from (λ state layout keep unlinked number object. ForSome (F.told folder.new).files (SameSession from)))) }
+    ensures keeps { OnOk result (ForSome (F.told folder.old).files (λ from. ForEachIndexed key.now indexed from (λ state layout keep unlinked number object. ForSome (F.told folder.new).files (KeepsUnlinked unlinked from)))) }
     ensures few { IfOk result (λ gone. gone.items ≤ 131072) }
     ensures light { IfOk result (λ gone. gone.bytes ≤ 2 ^ 51) }
-    ensures each { OnOk result (ForSome (F.told f.old).files (λ from. ForEachIndexed key.now indexed from (λ state layout keep unlinked number object. FoldsTo (λ p x q. E.step p x tt q) each.old (parts_among key.now (filter keep state.uses)) each.new))) }
-    ensures front { ForSome (F.told f.old).files (λ from. ForEachIndexed key.now indexed from (λ state layout keep unlinked number object. IsCalledAtFront E (λ p x q. E.step p x tt q) (parts_among key.now (filter keep state.uses)) each.old each.new)) }
+    ensures each { OnOk result (ForSome (F.told folder.old).files (λ from. ForEachIndexed key.now indexed from (λ state layout keep unlinked number object. FoldsTo (λ p x q. E.step p x tt q) each.old (parts_among key.now (filter keep state.uses)) each.new))) }
+    ensures front { ForSome (F.told folder.old).files (λ from. ForEachIndexed key.now indexed from (λ state layout keep unlinked number object. IsCalledOverPrefix E (λ p x q. E.step p x tt q) (parts_among key.now (filter keep state.uses)) each.old each.new)) }
     ensures calls { (numbers : List ℕ) × FoldsTo (λ p x q. E.step p x tt q) each.old numbers each.new }
-    ensures stops { ForSome (F.told f.old).files (λ from. ForEachIndexed key.now indexed from (λ state layout keep unlinked number object. Passes (F.told f.old) (F.told f.new) (Finds (rest (doomed number state (Some object)))))) }
-    ensures is_open { ForSome (F.told f.new).files (IsOpen files.now) }
-    ensures damaged { IfDamaged result (IsFailedCheck files.now (F.told f.new)) }
-    ensures untold { ForSome (F.told f.old).files (λ from. ForEachIndexed key.now indexed from (λ state layout keep unlinked number object. IfDamaged result (λ _. (F.told f.old).files ≡ None))) }
-    ensures silent { (F.told f.old).files ≡ None → (F.told f.new).files ≡ None }
-    ensures later { F.faults f.old ≤ F.faults f.new }
-    ensures device { IfDevice result (Rises (F.faults f.old) (F.faults f.new)) }
+    ensures stops { ForSome (F.told folder.old).files (λ from. ForEachIndexed key.now indexed from (λ state layout keep unlinked number object. Passes (F.told folder.old) (F.told folder.new) (Finds (rest (doomed number state (Some object)))))) }
+    ensures is_open { ForSome (F.told folder.new).files (IsOpen files.now) }
+    ensures damaged { IfDamaged result (IsFailedCheck files.now (F.told folder.new)) }
+    ensures untold { ForSome (F.told folder.old).files (λ from. ForEachIndexed key.now indexed from (λ state layout keep unlinked number object. IfDamaged result (λ _. (F.told folder.old).files ≡ None))) }
+    ensures silent { (F.told folder.old).files ≡ None → (F.told folder.new).files ≡ None }
+    ensures later { F.faults folder.old ≤ F.faults folder.new }
+    ensures device { IfDevice result (Rises (F.faults folder.old) (F.faults folder.new)) }
 {
     if !indexed.any {
         return Ok(Gone { items: 0, bytes: 0 });
     }
-    drop_parts_with(f, files, key, indexed.signature, room, each)
+    drop_parts_with(folder, files, key, indexed.signature, buffer, each)
 }
 
 // Drops the first part of a key after a node, or from the front of the list on, if there is one.
 fn drop_next<F: Folder>(
-    f: &mut F,
+    folder: &mut F,
     files: &BlockFiles,
     key: &[u8],
     signature: i64,
     from: Option<Addr>,
-    room: &mut [u8],
+    buffer: &mut [u8],
 ) -> Result<Option<Dropped>, Fault>
     requires some { 1 ≤ length key.now }
     requires short { length key.now ≤ longest_key }
     requires signature { cast_unsigned w64 signature < signatures }
     requires from { IfSome from (λ node. IsTrue (is_node_among files.now node)) }
-    requires room { longest_name ≤ length room.old }
-    requires is_open { ForSome (F.told f.old).files (IsOpen files.now) }
-    ensures next { IfOk result (λ next. ForSome (F.told f.old).files (λ image. ForEachBehind key.now (cast_unsigned w64 signature) from image (λ state layout keep unlinked number object is. ForSome (F.told f.new).files (IsDropOfNext state layout keep unlinked key.now number object is.front is.items next image)))) }
+    requires buffer { longest_name ≤ length buffer.old }
+    requires is_open { ForSome (F.told folder.old).files (IsOpen files.now) }
+    ensures next { IfOk result (λ next. ForSome (F.told folder.old).files (λ image. ForEachBehind key.now (cast_unsigned w64 signature) from image (λ state layout keep unlinked number object is. ForSome (F.told folder.new).files (IsDropOfNext state layout keep unlinked key.now number object is.front is.items next image)))) }
     ensures small { IfOk result (λ next. IfSome next (λ dropped. dropped.charge < 2 ^ 34)) }
     ensures stands { IfOk result (λ next. IfSome next (λ dropped. IfSome dropped.behind (λ node. IsTrue (is_node_among files.now node)))) }
-    ensures session { OnOk result (ForSome (F.told f.old).files (λ image. ForEachBehind key.now (cast_unsigned w64 signature) from image (λ state layout keep unlinked number object is. ForSome (F.told f.new).files (SameSession image)))) }
-    ensures keeps { OnOk result (ForSome (F.told f.old).files (λ image. ForEachBehind key.now (cast_unsigned w64 signature) from image (λ state layout keep unlinked number object is. ForSome (F.told f.new).files (KeepsUnlinked unlinked image)))) }
-    ensures stops { ForSome (F.told f.old).files (λ image. ForEachBehind key.now (cast_unsigned w64 signature) from image (λ state layout keep unlinked number object is. Passes (F.told f.old) (F.told f.new) (Finds (rest (doomed number state (Some object)))))) }
-    ensures is_open { ForSome (F.told f.new).files (IsOpen files.now) }
-    ensures damaged { IfDamaged result (IsFailedCheck files.now (F.told f.new)) }
-    ensures untold { ForSome (F.told f.old).files (λ image. ForEachBehind key.now (cast_unsigned w64 signature) from image (λ state layout keep unlinked number object is. IfDamaged result (λ _. (F.told f.old).files ≡ None))) }
-    ensures silent { (F.told f.old).files ≡ None → (F.told f.new).files ≡ None }
-    ensures later { F.faults f.old ≤ F.faults f.new }
-    ensures device { IfDevice result (Rises (F.faults f.old) (F.faults f.new)) }
+    ensures session { OnOk result (ForSome (F.told folder.old).files (λ image. ForEachBehind key.now (cast_unsigned w64 signature) from image (λ state layout keep unlinked number object is. ForSome (F.told folder.new).files (SameSession image)))) }
+    ensures keeps { OnOk result (ForSome (F.told folder.old).files (λ image. ForEachBehind key.now (cast_unsigned w64 signature) from image (λ state layout keep unlinked number object is. ForSome (F.told folder.new).files (KeepsUnlinked unlinked image)))) }
+    ensures stops { ForSome (F.told folder.old).files (λ image. ForEachBehind key.now (cast_unsigned w64 signature) from image (λ state layout keep unlinked number object is. Passes (F.told folder.old) (F.told folder.new) (Finds (rest (doomed number state (Some object)))))) }
+    ensures is_open { ForSome (F.told folder.new).files (IsOpen files.now) }
+    ensures damaged { IfDamaged result (IsFailedCheck files.now (F.told folder.new)) }
+    ensures untold { ForSome (F.told folder.old).files (λ image. ForEachBehind key.now (cast_unsigned w64 signature) from image (λ state layout keep unlinked number object is. IfDamaged result (λ _. (F.told folder.old).files ≡ None))) }
+    ensures silent { (F.told folder.old).files ≡ None → (F.told folder.new).files ≡ None }
+    ensures later { F.faults folder.old ≤ F.faults folder.new }
+    ensures device { IfDevice result (Rises (F.faults folder.old) (F.faults folder.new)) }
 {
-    let Some(part) = next_part(f, files, key, from, room)? else {
+    let Some(part) = next_part(folder, files, key, from, buffer)? else {
         return Ok(None);
     };
-    let behind = before(f, files, part.node)?;
-    let charge = drop_part(f, files, key, signature, &part, room)?;
+    let behind = before(folder, files, part.node)?;
+    let charge = drop_part(folder, files, key, signature, &part, buffer)?;
     Ok(Some(Dropped {
         number: part.number,
         charge,
@@ -205,12 +205,12 @@ fn drop_next<F: Folder>(
 
 // Drops a part, which its name finds in its chain. Its charge is given.
 fn drop_part<F: Folder>(
-    f: &mut F,
+    folder: &mut F,
     files: &BlockFiles,
     key: &[u8],
     signature: i64,
     part: &ListedPart,
-    room: &mut [u8],
+    buffer: &mut [u8],
 ) -> Result<u64, Fault>
     requires some { 1 ≤ length key.now }
     requires short { length key.now ≤ longest_key }
@@ -219,24 +219,24 @@ fn drop_part<F: Folder>(
     requires node { IsTrue (is_node_among files.now part.now.node) }
     requires kind { kind_of part.now.entry ≡ blocks_256 }
     requires stands { IsTrue (stands_among files.now part.now.entry) }
-    requires room { longest_name ≤ length room.old }
-    requires is_open { ForSome (F.told f.old).files (IsOpen files.now) }
-    ensures out { OnOk result (ForSome (F.told f.old).files (λ from. ForEachPartLeft key.now (cast_unsigned w64 signature) part.now.number part.now.node from (λ state layout keep unlinked number object was. ForSome (F.told f.new).files (IsPartOut state layout keep unlinked key.now number object part.now.number)))) }
-    ensures charge { IfOk result (λ charge. ForSome (F.told f.old).files (λ from. ForEachPartLeft key.now (cast_unsigned w64 signature) part.now.number part.now.node from (λ state layout keep unlinked number object was. charge ≡ charge_of was))) }
+    requires buffer { longest_name ≤ length buffer.old }
+    requires is_open { ForSome (F.told folder.old).files (IsOpen files.now) }
+    ensures out { OnOk result (ForSome (F.told folder.old).files (λ from. ForEachPartLeft key.now (cast_unsigned w64 signature) part.now.number part.now.node from (λ state layout keep unlinked number object was. ForSome (F.told folder.new).files (IsPartDropped state layout keep unlinked key.now number object part.now.number)))) }
+    ensures charge { IfOk result (λ charge. ForSome (F.told folder.old).files (λ from. ForEachPartLeft key.now (cast_unsigned w64 signature) part.now.number part.now.node from (λ state layout keep unlinked number object was. charge ≡ charge_of was))) }
     ensures small { IfOk result (λ charge. charge < 2 ^ 34) }
-    ensures session { OnOk result (ForSome (F.told f.old).files (λ from. ForEachPartLeft key.now (cast_unsigned w64 signature) part.now.number part.now.node from (λ state layout keep unlinked number object was. ForSome (F.told f.new).files (SameSession from)))) }
-    ensures keeps { OnOk result (ForSome (F.told f.old).files (λ from. ForEachPartLeft key.now (cast_unsigned w64 signature) part.now.number part.now.node from (λ state layout keep unlinked number object was. ForSome (F.told f.new).files (KeepsUnlinked unlinked from)))) }
-    ensures stops { ForSome (F.told f.old).files (λ from. ForEachPartLeft key.now (cast_unsigned w64 signature) part.now.number part.now.node from (λ state layout keep unlinked number object was. Passes (F.told f.old) (F.told f.new) (Finds (rest (doomed number state (Some object)))))) }
-    ensures is_open { ForSome (F.told f.new).files (IsOpen files.now) }
-    ensures damaged { ForSome (F.told f.old).files (SaysPart part.now.entry key.now part.now.number) → IfDamaged result (IsFailedCheck files.now (F.told f.new)) }
-    ensures untold { ForSome (F.told f.old).files (λ from. ForEachPartLeft key.now (cast_unsigned w64 signature) part.now.number part.now.node from (λ state layout keep unlinked number object was. IfDamaged result (λ _. (F.told f.old).files ≡ None))) }
-    ensures silent { (F.told f.old).files ≡ None → (F.told f.new).files ≡ None }
-    ensures later { F.faults f.old ≤ F.faults f.new }
-    ensures device { IfDevice result (Rises (F.faults f.old) (F.faults f.new)) }
+    ensures session { OnOk result (ForSome (F.told folder.old).files (λ from. ForEachPartLeft key.now (cast_unsigned w64 signature) part.now.number part.now.node from (λ state layout keep unlinked number object was. ForSome (F.told folder.new).files (SameSession from)))) }
+    ensures keeps { OnOk result (ForSome (F.told folder.old).files (λ from. ForEachPartLeft key.now (cast_unsigned w64 signature) part.now.number part.now.node from (λ state layout keep unlinked number object was. ForSome (F.told folder.new).files (KeepsUnlinked unlinked from)))) }
+    ensures stops { ForSome (F.told folder.old).files (λ from. ForEachPartLeft key.now (cast_unsigned w64 signature) part.now.number part.now.node from (λ state layout keep unlinked number object was. Passes (F.told folder.old) (F.told folder.new) (Finds (rest (doomed number state (Some object)))))) }
+    ensures is_open { ForSome (F.told folder.new).files (IsOpen files.now) }
+    ensures damaged { ForSome (F.told folder.old).files (SaysPart part.now.entry key.now part.now.number) → IfDamaged result (IsFailedCheck files.now (F.told folder.new)) }
+    ensures untold { ForSome (F.told folder.old).files (λ from. ForEachPartLeft key.now (cast_unsigned w64 signature) part.now.number part.now.node from (λ state layout keep unlinked number object was. IfDamaged result (λ _. (F.told folder.old).files ≡ None))) }
+    ensures silent { (F.told folder.old).files ≡ None → (F.told folder.new).files ≡ None }
+    ensures later { F.faults folder.old ≤ F.faults folder.new }
+    ensures device { IfDevice result (Rises (F.faults folder.old) (F.faults folder.new)) }
 {
-    let len = child_name(key, signature, part.number, room);
-    let Some(found) = find(f, files, &room[..len], true)? else {
+    let len = child_name(key, signature, part.number, buffer);
+    let Some(found) = find(folder, files, &buffer[..len], true)? else {
         return Err(record_damage(part.entry, EntryView::HASH, 0));
     };
-    remove_part(f, files, &found, part.node)
+    remove_part(folder, files, &found, part.node)
 }

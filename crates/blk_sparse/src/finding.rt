@@ -33,7 +33,7 @@ pub struct PartRecords {
 /// The key is read from the parent's record into the front of `name`, and the names of the parts are made after the
 /// longest key. For each covered part there are the calls of `find`.
 pub fn find_parts<F: Folder>(
-    f: &mut F,
+    folder: &mut F,
     files: &BlockFiles,
     parent: &Parent,
     name: &mut [u8],
@@ -47,10 +47,10 @@ pub fn find_parts<F: Folder>(
     requires some { 1 ≤ count }
     requires few { count ≤ part_size }
     requires inside { offset + count ≤ largest_offset }
-    requires is_open { ForSome (F.told f.old).files (IsOpen files.now) }
+    requires is_open { ForSome (F.told folder.old).files (IsOpen files.now) }
 
     // They are those of each object that a kept state has so.
-    ensures parts { IfOk result (λ found. ForSome (F.told f.old).files (λ from. ForEachKeptParent parent.now.node parent.now.entry (cast_unsigned w64 parent.now.signature) from (λ state layout unlinked number object. ArePartsFound layout object offset count found))) }
+    ensures parts { IfOk result (λ found. ForSome (F.told folder.old).files (λ from. ForEachKeptParent parent.now.node parent.now.entry (cast_unsigned w64 parent.now.signature) from (λ state layout unlinked number object. ArePartsFound layout object offset count found))) }
 
     // On every folder they are valid.
     ensures first_kind { IfOk result (λ found. IfSome found.first (λ entry. kind_of entry ≡ blocks_256)) }
@@ -58,57 +58,65 @@ pub fn find_parts<F: Folder>(
     ensures second_kind { IfOk result (λ found. IfSome found.second (λ entry. kind_of entry ≡ blocks_256)) }
     ensures second_stands { IfOk result (λ found. IfSome found.second (λ entry. IsTrue (stands_among files.now entry))) }
 
-    ensures stays { Stays (F.told f.old) (F.told f.new) }
+    ensures stays { Stays (F.told folder.old) (F.told folder.new) }
 
     // Corruption is a check that fails on what is read here. An observable folder, with such an object, gives none.
-    ensures damaged { IfDamaged result (IsFailedCheck files.now (F.told f.new)) }
-    ensures untold { ForSome (F.told f.old).files (λ from. ForEachKeptParent parent.now.node parent.now.entry (cast_unsigned w64 parent.now.signature) from (λ state layout unlinked number object. IfDamaged result (λ _. (F.told f.old).files ≡ None))) }
+    ensures damaged { IfDamaged result (IsFailedCheck files.now (F.told folder.new)) }
+    ensures untold { ForSome (F.told folder.old).files (λ from. ForEachKeptParent parent.now.node parent.now.entry (cast_unsigned w64 parent.now.signature) from (λ state layout unlinked number object. IfDamaged result (λ _. (F.told folder.old).files ≡ None))) }
 
-    ensures later { F.faults f.old ≤ F.faults f.new }
-    ensures device { IfDevice result (Rises (F.faults f.old) (F.faults f.new)) }
+    ensures later { F.faults folder.old ≤ F.faults folder.new }
+    ensures device { IfDevice result (Rises (F.faults folder.old) (F.faults folder.new)) }
 {
-    let len = read_key(f, files, parent.entry, name)?;
-    let (key, room) = name.split_at_mut(LONGEST_KEY as usize);
-    find_covered(f, files, &key[..len], parent.signature, room, offset, count)
+    let len = read_key(folder, files, parent.entry, name)?;
+    let (key, buffer) = name.split_at_mut(LONGEST_KEY as usize);
+    find_covered(
+        folder,
+        files,
+        &key[..len],
+        parent.signature,
+        buffer,
+        offset,
+        count,
+    )
 }
 
 // Finds the parts of an object with a key that a range covers.
 fn find_covered<F: Folder>(
-    f: &mut F,
+    folder: &mut F,
     files: &BlockFiles,
     key: &[u8],
     signature: i64,
-    room: &mut [u8],
+    buffer: &mut [u8],
     offset: u64,
     count: u64,
 ) -> Result<PartRecords, Fault>
     requires some_key { 1 ≤ length key.now }
     requires short { length key.now ≤ longest_key }
     requires signature { cast_unsigned w64 signature < signatures }
-    requires room { longest_name ≤ length room.old }
+    requires buffer { longest_name ≤ length buffer.old }
     requires some { 1 ≤ count }
     requires few { count ≤ part_size }
     requires inside { offset + count ≤ largest_offset }
-    requires is_open { ForSome (F.told f.old).files (IsOpen files.now) }
-    ensures parts { IfOk result (λ found. ForSome (F.told f.old).files (λ from. ForEachOfKey key.now (cast_unsigned w64 signature) from (λ state layout unlinked at object node entry. ArePartsFound layout object offset count found))) }
+    requires is_open { ForSome (F.told folder.old).files (IsOpen files.now) }
+    ensures parts { IfOk result (λ found. ForSome (F.told folder.old).files (λ from. ForEachOfKey key.now (cast_unsigned w64 signature) from (λ state layout unlinked at object node entry. ArePartsFound layout object offset count found))) }
     ensures first_kind { IfOk result (λ found. IfSome found.first (λ entry. kind_of entry ≡ blocks_256)) }
     ensures first_stands { IfOk result (λ found. IfSome found.first (λ entry. IsTrue (stands_among files.now entry))) }
     ensures second_kind { IfOk result (λ found. IfSome found.second (λ entry. kind_of entry ≡ blocks_256)) }
     ensures second_stands { IfOk result (λ found. IfSome found.second (λ entry. IsTrue (stands_among files.now entry))) }
-    ensures stays { Stays (F.told f.old) (F.told f.new) }
-    ensures damaged { IfDamaged result (IsFailedCheck files.now (F.told f.new)) }
-    ensures untold { ForSome (F.told f.old).files (λ from. ForEachOfKey key.now (cast_unsigned w64 signature) from (λ state layout unlinked at object node entry. IfDamaged result (λ _. (F.told f.old).files ≡ None))) }
-    ensures later { F.faults f.old ≤ F.faults f.new }
-    ensures device { IfDevice result (Rises (F.faults f.old) (F.faults f.new)) }
+    ensures stays { Stays (F.told folder.old) (F.told folder.new) }
+    ensures damaged { IfDamaged result (IsFailedCheck files.now (F.told folder.new)) }
+    ensures untold { ForSome (F.told folder.old).files (λ from. ForEachOfKey key.now (cast_unsigned w64 signature) from (λ state layout unlinked at object node entry. IfDamaged result (λ _. (F.told folder.old).files ≡ None))) }
+    ensures later { F.faults folder.old ≤ F.faults folder.new }
+    ensures device { IfDevice result (Rises (F.faults folder.old) (F.faults folder.new)) }
 {
     let (number, place) = child_of(offset);
-    let first = find_part(f, files, key, signature, number, room)?;
+    let first = find_part(folder, files, key, signature, number, buffer)?;
     if count <= u64::from(PART_SIZE - place) {
         return Ok(PartRecords {
             first,
             second: None,
         });
     }
-    let second = find_part(f, files, key, signature, number + 1, room)?;
+    let second = find_part(folder, files, key, signature, number + 1, buffer)?;
     Ok(PartRecords { first, second })
 }

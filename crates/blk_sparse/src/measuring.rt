@@ -57,7 +57,7 @@ pub(crate) struct Piece {
 /// The key is read from the parent's record into the front of `name`, and the names of the parts are made after the
 /// longest key. Each covered part is searched, and two folder calls read one that there is.
 pub fn measure<F: Folder>(
-    f: &mut F,
+    folder: &mut F,
     files: &BlockFiles,
     parent: &Parent,
     name: &mut [u8],
@@ -71,97 +71,113 @@ pub fn measure<F: Folder>(
     requires some { 1 ≤ count }
     requires few { count ≤ part_size }
     requires inside { offset + count ≤ largest_offset }
-    requires is_open { ForSome (F.told f.old).files (IsOpen files.now) }
-    ensures measured { IfOk result (λ found. ForSome (F.told f.old).files (λ from. ForEachParentMeasured parent.now.node parent.now.entry (cast_unsigned w64 parent.now.signature) from (λ layout object. IsMeasured layout object (cast_unsigned w64 parent.now.signature) offset count found))) }
+    requires is_open { ForSome (F.told folder.old).files (IsOpen files.now) }
+    ensures measured { IfOk result (λ found. ForSome (F.told folder.old).files (λ from. ForEachParentMeasured parent.now.node parent.now.entry (cast_unsigned w64 parent.now.signature) from (λ layout object. IsMeasured layout object (cast_unsigned w64 parent.now.signature) offset count found))) }
     ensures light { IfOk result (λ found. found.bytes < 2 ^ 36) }
-    ensures stays { Stays (F.told f.old) (F.told f.new) }
+    ensures stays { Stays (F.told folder.old) (F.told folder.new) }
 
     // Corruption is a check that fails on what is read here. An observable folder, with such an object, gives none.
-    ensures damaged { IfDamaged result (IsFailedCheck files.now (F.told f.new)) }
-    ensures untold { ForSome (F.told f.old).files (λ from. ForEachParentMeasured parent.now.node parent.now.entry (cast_unsigned w64 parent.now.signature) from (λ layout object. IfDamaged result (λ _. (F.told f.old).files ≡ None))) }
+    ensures damaged { IfDamaged result (IsFailedCheck files.now (F.told folder.new)) }
+    ensures untold { ForSome (F.told folder.old).files (λ from. ForEachParentMeasured parent.now.node parent.now.entry (cast_unsigned w64 parent.now.signature) from (λ layout object. IfDamaged result (λ _. (F.told folder.old).files ≡ None))) }
 
-    ensures later { F.faults f.old ≤ F.faults f.new }
-    ensures device { IfDevice result (Rises (F.faults f.old) (F.faults f.new)) }
+    ensures later { F.faults folder.old ≤ F.faults folder.new }
+    ensures device { IfDevice result (Rises (F.faults folder.old) (F.faults folder.new)) }
 {
-    let len = read_key(f, files, parent.entry, name)?;
-    let (key, room) = name.split_at_mut(LONGEST_KEY as usize);
-    measure_covered(f, files, &key[..len], parent.signature, room, offset, count)
+    let len = read_key(folder, files, parent.entry, name)?;
+    let (key, buffer) = name.split_at_mut(LONGEST_KEY as usize);
+    measure_covered(
+        folder,
+        files,
+        &key[..len],
+        parent.signature,
+        buffer,
+        offset,
+        count,
+    )
 }
 
 // Measures the parts that a write covers, of an object with a key.
 fn measure_covered<F: Folder>(
-    f: &mut F,
+    folder: &mut F,
     files: &BlockFiles,
     key: &[u8],
     signature: i64,
-    room: &mut [u8],
+    buffer: &mut [u8],
     offset: u64,
     count: u64,
 ) -> Result<Measured, Fault>
     requires some_key { 1 ≤ length key.now }
     requires short_key { length key.now ≤ longest_key }
     requires signature { cast_unsigned w64 signature < signatures }
-    requires room { longest_name ≤ length room.old }
+    requires buffer { longest_name ≤ length buffer.old }
     requires some { 1 ≤ count }
     requires few { count ≤ part_size }
     requires inside { offset + count ≤ largest_offset }
-    requires is_open { ForSome (F.told f.old).files (IsOpen files.now) }
-    ensures measured { IfOk result (λ found. ForSome (F.told f.old).files (λ from. ForEachOfKey key.now (cast_unsigned w64 signature) from (λ state layout unlinked at object node entry. IsMeasured layout object (cast_unsigned w64 signature) offset count found))) }
+    requires is_open { ForSome (F.told folder.old).files (IsOpen files.now) }
+    ensures measured { IfOk result (λ found. ForSome (F.told folder.old).files (λ from. ForEachOfKey key.now (cast_unsigned w64 signature) from (λ state layout unlinked at object node entry. IsMeasured layout object (cast_unsigned w64 signature) offset count found))) }
     ensures light { IfOk result (λ found. found.bytes < 2 ^ 36) }
-    ensures room { length room.new ≡ length room.old }
-    ensures stays { Stays (F.told f.old) (F.told f.new) }
-    ensures damaged { IfDamaged result (IsFailedCheck files.now (F.told f.new)) }
-    ensures untold { ForSome (F.told f.old).files (λ from. ForEachOfKey key.now (cast_unsigned w64 signature) from (λ state layout unlinked at object node entry. IfDamaged result (λ _. (F.told f.old).files ≡ None))) }
-    ensures later { F.faults f.old ≤ F.faults f.new }
-    ensures device { IfDevice result (Rises (F.faults f.old) (F.faults f.new)) }
+    ensures buffer { length buffer.new ≡ length buffer.old }
+    ensures stays { Stays (F.told folder.old) (F.told folder.new) }
+    ensures damaged { IfDamaged result (IsFailedCheck files.now (F.told folder.new)) }
+    ensures untold { ForSome (F.told folder.old).files (λ from. ForEachOfKey key.now (cast_unsigned w64 signature) from (λ state layout unlinked at object node entry. IfDamaged result (λ _. (F.told folder.old).files ≡ None))) }
+    ensures later { F.faults folder.old ≤ F.faults folder.new }
+    ensures device { IfDevice result (Rises (F.faults folder.old) (F.faults folder.new)) }
 {
     let (number, place) = child_of(offset);
     let end = u64::from(place) + count;
     let size = u64::from(PART_SIZE);
     if end <= size {
-        let piece = measure_piece(f, files, key, signature, number, room, end)?;
+        let piece = measure_piece(folder, files, key, signature, number, buffer, end)?;
         return Ok(measured_one(&piece));
     }
-    let front = measure_piece(f, files, key, signature, number, room, size)?;
-    let back = measure_piece(f, files, key, signature, number + 1, room, end - size)?;
+    let front = measure_piece(folder, files, key, signature, number, buffer, size)?;
+    let back = measure_piece(
+        folder,
+        files,
+        key,
+        signature,
+        number + 1,
+        buffer,
+        end - size,
+    )?;
     Ok(measured_two(&front, &back))
 }
 
 // Measures one part, for data up to an end.
 fn measure_piece<F: Folder>(
-    f: &mut F,
+    folder: &mut F,
     files: &BlockFiles,
     key: &[u8],
     signature: i64,
     number: u32,
-    room: &mut [u8],
+    buffer: &mut [u8],
     end: u64,
 ) -> Result<Piece, Fault>
     requires some { 1 ≤ length key.now }
     requires short { length key.now ≤ longest_key }
     requires signature { cast_unsigned w64 signature < signatures }
     requires number { number < part_count }
-    requires room { longest_name ≤ length room.old }
+    requires buffer { longest_name ≤ length buffer.old }
     requires end { end ≤ part_size }
-    requires is_open { ForSome (F.told f.old).files (IsOpen files.now) }
-    ensures measured { IfOk result (λ piece. ForSome (F.told f.old).files (λ from. ForEachOfKey key.now (cast_unsigned w64 signature) from (λ state layout unlinked at object node entry. IsPieceMeasured layout object (cast_unsigned w64 signature) number end piece))) }
+    requires is_open { ForSome (F.told folder.old).files (IsOpen files.now) }
+    ensures measured { IfOk result (λ piece. ForSome (F.told folder.old).files (λ from. ForEachOfKey key.now (cast_unsigned w64 signature) from (λ state layout unlinked at object node entry. IsPieceMeasured layout object (cast_unsigned w64 signature) number end piece))) }
     ensures light { IfOk result (λ piece. piece.charged + piece.bytes < 2 ^ 35) }
-    ensures room { length room.new ≡ length room.old }
-    ensures stays { Stays (F.told f.old) (F.told f.new) }
-    ensures damaged { IfDamaged result (IsFailedCheck files.now (F.told f.new)) }
-    ensures untold { ForSome (F.told f.old).files (λ from. ForEachOfKey key.now (cast_unsigned w64 signature) from (λ state layout unlinked at object node entry. IfDamaged result (λ _. (F.told f.old).files ≡ None))) }
-    ensures later { F.faults f.old ≤ F.faults f.new }
-    ensures device { IfDevice result (Rises (F.faults f.old) (F.faults f.new)) }
+    ensures buffer { length buffer.new ≡ length buffer.old }
+    ensures stays { Stays (F.told folder.old) (F.told folder.new) }
+    ensures damaged { IfDamaged result (IsFailedCheck files.now (F.told folder.new)) }
+    ensures untold { ForSome (F.told folder.old).files (λ from. ForEachOfKey key.now (cast_unsigned w64 signature) from (λ state layout unlinked at object node entry. IfDamaged result (λ _. (F.told folder.old).files ≡ None))) }
+    ensures later { F.faults folder.old ≤ F.faults folder.new }
+    ensures device { IfDevice result (Rises (F.faults folder.old) (F.faults folder.new)) }
 {
-    match find_part(f, files, key, signature, number, room)? {
-        Some(part) => measure_there(f, files, part, end),
-        None => Ok(measure_new(key, signature, number, room, end)),
+    match find_part(folder, files, key, signature, number, buffer)? {
+        Some(part) => measure_there(folder, files, part, end),
+        None => Ok(measure_new(key, signature, number, buffer, end)),
     }
 }
 
 // Measures a part that there is, by its record.
 fn measure_there<F: Folder>(
-    f: &mut F,
+    folder: &mut F,
     files: &BlockFiles,
     part: Addr,
     end: u64,
@@ -169,17 +185,17 @@ fn measure_there<F: Folder>(
     requires kind { kind_of part ≡ blocks_256 }
     requires stands { IsTrue (stands_among files.now part) }
     requires end { end ≤ part_size }
-    requires is_open { ForSome (F.told f.old).files (IsOpen files.now) }
-    ensures measured { IfOk result (λ piece. ForSome (F.told f.old).files (λ from. ForEachPartMeasured part from (λ layout object signature n. IsPieceMeasured layout object signature n end piece))) }
+    requires is_open { ForSome (F.told folder.old).files (IsOpen files.now) }
+    ensures measured { IfOk result (λ piece. ForSome (F.told folder.old).files (λ from. ForEachPartMeasured part from (λ layout object signature n. IsPieceMeasured layout object signature n end piece))) }
     ensures light { IfOk result (λ piece. piece.charged + piece.bytes < 2 ^ 35) }
-    ensures stays { Stays (F.told f.old) (F.told f.new) }
-    ensures damaged { IfDamaged result (IsFailedCheck files.now (F.told f.new)) }
-    ensures untold { ForSome (F.told f.old).files (λ from. ForEachPartMeasured part from (λ layout object signature n. IfDamaged result (λ _. (F.told f.old).files ≡ None))) }
-    ensures later { F.faults f.old ≤ F.faults f.new }
-    ensures device { IfDevice result (Rises (F.faults f.old) (F.faults f.new)) }
+    ensures stays { Stays (F.told folder.old) (F.told folder.new) }
+    ensures damaged { IfDamaged result (IsFailedCheck files.now (F.told folder.new)) }
+    ensures untold { ForSome (F.told folder.old).files (λ from. ForEachPartMeasured part from (λ layout object signature n. IfDamaged result (λ _. (F.told folder.old).files ≡ None))) }
+    ensures later { F.faults folder.old ≤ F.faults folder.new }
+    ensures device { IfDevice result (Rises (F.faults folder.old) (F.faults folder.new)) }
 {
-    let node = node_of(f, files, part)?;
-    let head = read_head(f, files, part)?;
+    let node = node_of(folder, files, part)?;
+    let head = read_head(folder, files, part)?;
     Ok(Piece {
         node: Some(node),
         charged: charge_of_head(&head),
@@ -188,20 +204,20 @@ fn measure_there<F: Folder>(
 }
 
 // Measures a part that is made: its name, its data up to the end, and the index of its blocks.
-fn measure_new(key: &[u8], signature: i64, number: u32, room: &mut [u8], end: u64) -> Piece
+fn measure_new(key: &[u8], signature: i64, number: u32, buffer: &mut [u8], end: u64) -> Piece
     requires some { 1 ≤ length key.now }
     requires short { length key.now ≤ longest_key }
     requires signature { cast_unsigned w64 signature < signatures }
     requires number { number < part_count }
-    requires room { longest_name ≤ length room.old }
+    requires buffer { longest_name ≤ length buffer.old }
     requires end { end ≤ part_size }
     ensures node { result.node ≡ None }
     ensures charged { result.charged ≡ 0 }
     ensures bytes { result.bytes ≡ length (child_name key.now (cast_unsigned w64 signature) number) + end + blocks_index_charge }
     ensures light { result.bytes < 2 ^ 35 }
-    ensures room { length room.new ≡ length room.old }
+    ensures buffer { length buffer.new ≡ length buffer.old }
 {
-    let len = child_name(key, signature, number, room);
+    let len = child_name(key, signature, number, buffer);
     Piece {
         node: None,
         charged: 0,
@@ -251,7 +267,7 @@ fn one_if_none(node: &Option<Addr>) -> u64
 /// Measures what a write of some bytes adds to a plain object that becomes sparse with a signature, but for the index of
 /// its parts: each covered part is made. Nothing is written, and two folder calls read the key into the front of `name`.
 pub fn measure_plain<F: Folder>(
-    f: &mut F,
+    folder: &mut F,
     files: &BlockFiles,
     entry: Addr,
     signature: i64,
@@ -266,44 +282,44 @@ pub fn measure_plain<F: Folder>(
     requires some { 1 ≤ count }
     requires few { count ≤ part_size }
     requires inside { offset + count ≤ largest_offset }
-    requires is_open { ForSome (F.told f.old).files (IsOpen files.now) }
-    ensures measured { IfOk result (λ found. ForSome (F.told f.old).files (λ from. ForEachPlainMeasured entry from (λ layout object. IsMeasured layout (with_signature object (cast_unsigned w64 signature)) (cast_unsigned w64 signature) offset count found))) }
+    requires is_open { ForSome (F.told folder.old).files (IsOpen files.now) }
+    ensures measured { IfOk result (λ found. ForSome (F.told folder.old).files (λ from. ForEachPlainMeasured entry from (λ layout object. IsMeasured layout (with_signature object (cast_unsigned w64 signature)) (cast_unsigned w64 signature) offset count found))) }
     ensures light { IfOk result (λ found. found.bytes < 2 ^ 36) }
-    ensures stays { Stays (F.told f.old) (F.told f.new) }
+    ensures stays { Stays (F.told folder.old) (F.told folder.new) }
 
     // Corruption is a check that fails on what is read here. An observable folder, with such an object, gives none.
-    ensures damaged { IfDamaged result (IsFailedCheck files.now (F.told f.new)) }
-    ensures untold { ForSome (F.told f.old).files (λ from. ForEachPlainMeasured entry from (λ layout object. IfDamaged result (λ _. (F.told f.old).files ≡ None))) }
+    ensures damaged { IfDamaged result (IsFailedCheck files.now (F.told folder.new)) }
+    ensures untold { ForSome (F.told folder.old).files (λ from. ForEachPlainMeasured entry from (λ layout object. IfDamaged result (λ _. (F.told folder.old).files ≡ None))) }
 
-    ensures later { F.faults f.old ≤ F.faults f.new }
-    ensures device { IfDevice result (Rises (F.faults f.old) (F.faults f.new)) }
+    ensures later { F.faults folder.old ≤ F.faults folder.new }
+    ensures device { IfDevice result (Rises (F.faults folder.old) (F.faults folder.new)) }
 {
-    let len = read_key(f, files, entry, name)?;
-    let (key, room) = name.split_at_mut(LONGEST_KEY as usize);
-    Ok(measure_made(&key[..len], signature, room, offset, count))
+    let len = read_key(folder, files, entry, name)?;
+    let (key, buffer) = name.split_at_mut(LONGEST_KEY as usize);
+    Ok(measure_made(&key[..len], signature, buffer, offset, count))
 }
 
 // Measures the parts that a write covers, of an object with a key that has none.
-fn measure_made(key: &[u8], signature: i64, room: &mut [u8], offset: u64, count: u64) -> Measured
+fn measure_made(key: &[u8], signature: i64, buffer: &mut [u8], offset: u64, count: u64) -> Measured
     requires some_key { 1 ≤ length key.now }
     requires short_key { length key.now ≤ longest_key }
     requires signature { cast_unsigned w64 signature < signatures }
-    requires room { longest_name ≤ length room.old }
+    requires buffer { longest_name ≤ length buffer.old }
     requires some { 1 ≤ count }
     requires few { count ≤ part_size }
     requires inside { offset + count ≤ largest_offset }
     ensures measured { (layout : Layout) (object : Object) → object.key ≡ key.now → object.parts ≡ [] → IsMeasured layout object (cast_unsigned w64 signature) offset count result }
     ensures light { result.bytes < 2 ^ 36 }
-    ensures room { length room.new ≡ length room.old }
+    ensures buffer { length buffer.new ≡ length buffer.old }
 {
     let (number, place) = child_of(offset);
     let end = u64::from(place) + count;
     let size = u64::from(PART_SIZE);
     if end <= size {
-        let piece = measure_new(key, signature, number, room, end);
+        let piece = measure_new(key, signature, number, buffer, end);
         return measured_one(&piece);
     }
-    let front = measure_new(key, signature, number, room, size);
-    let back = measure_new(key, signature, number + 1, room, end - size);
+    let front = measure_new(key, signature, number, buffer, size);
+    let back = measure_new(key, signature, number + 1, buffer, end - size);
     measured_two(&front, &back)
 }

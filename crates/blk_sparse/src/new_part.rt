@@ -51,36 +51,36 @@ pub(crate) struct PartPlaces {
 
 // Stores the bytes of a new stream, which no record names yet: zeros, and then the given ones from an offset on.
 fn take_stream<F: Folder>(
-    f: &mut F,
+    folder: &mut F,
     files: &mut BlockFiles,
     offset: u32,
     bytes: &[u8],
 ) -> Result<Addr, Fault>
     requires some { 1 ≤ length bytes.now }
     requires most { offset + length bytes.now ≤ most_stream_bytes }
-    requires is_open { ForSome (F.told f.old).files (IsOpen files.old) }
+    requires is_open { ForSome (F.told folder.old).files (IsOpen files.old) }
     ensures address { IfOk result (λ addr. IsTrue (is_address addr)) }
-    ensures taken { IfOk result (λ addr. ForSome (F.told f.old).files (λ from. LeavesRoom 1 from → ForSome (F.told f.new).files (Takes (addr ∷ []) from))) }
-    ensures stored { IfOk result (λ addr. ForSome (F.told f.old).files (λ from. LeavesRoom 1 from → ForSome (F.told f.new).files (AreStoredAt addr (overwritten [] offset bytes.now)))) }
+    ensures taken { IfOk result (λ addr. ForSome (F.told folder.old).files (λ from. LeavesRoom 1 from → ForSome (F.told folder.new).files (Takes (addr ∷ []) from))) }
+    ensures stored { IfOk result (λ addr. ForSome (F.told folder.old).files (λ from. LeavesRoom 1 from → ForSome (F.told folder.new).files (AreStoredAt addr (overwritten [] offset bytes.now)))) }
     ensures keeps { KeepsStanding files.old files.new }
-    ensures is_open { OnOk result (ForSome (F.told f.new).files (IsOpen files.new)) }
-    ensures stops { ForSome (F.told f.old).files (λ from. LeavesRoom 1 from → Passes (F.told f.old) (F.told f.new) (StillFinds [] from)) }
-    ensures damaged { IfDamaged result (IsFailedCheck files.new (F.told f.new)) }
-    ensures untold { ForSome (F.told f.old).files (LeavesRoom 1) → IfDamaged result (λ _. (F.told f.old).files ≡ None) }
-    ensures silent { (F.told f.old).files ≡ None → (F.told f.new).files ≡ None }
-    ensures later { F.faults f.old ≤ F.faults f.new }
-    ensures device { IfDevice result (Rises (F.faults f.old) (F.faults f.new)) }
+    ensures is_open { OnOk result (ForSome (F.told folder.new).files (IsOpen files.new)) }
+    ensures stops { ForSome (F.told folder.old).files (λ from. LeavesRoom 1 from → Passes (F.told folder.old) (F.told folder.new) (StillFinds [] from)) }
+    ensures damaged { IfDamaged result (IsFailedCheck files.new (F.told folder.new)) }
+    ensures untold { ForSome (F.told folder.old).files (LeavesRoom 1) → IfDamaged result (λ _. (F.told folder.old).files ≡ None) }
+    ensures silent { (F.told folder.old).files ≡ None → (F.told folder.new).files ≡ None }
+    ensures later { F.faults folder.old ≤ F.faults folder.new }
+    ensures device { IfDevice result (Rises (F.faults folder.old) (F.faults folder.new)) }
 {
-    let addr = store_new(f, files, offset, bytes)?;
+    let addr = store_new(folder, files, offset, bytes)?;
     // That the word is one of an address is known once it is read.
     let _word = addr.word();
-    check_index(f)?;
+    check_index(folder)?;
     Ok(addr)
 }
 
 // Takes the places of a new part, and stores its first piece and its index.
 fn take_part<F: Folder>(
-    f: &mut F,
+    folder: &mut F,
     files: &mut BlockFiles,
     name_len: u32,
     place: u32,
@@ -91,26 +91,26 @@ fn take_part<F: Folder>(
     requires some { 1 ≤ length piece.now }
     requires most { place + length piece.now ≤ part_size }
     requires map { length map.now ≡ part_index_length }
-    requires is_open { ForSome (F.told f.old).files (IsOpen files.old) }
+    requires is_open { ForSome (F.told folder.old).files (IsOpen files.old) }
     ensures entry { IfOk result (λ places. (kind_of places.places.entry ≡ blocks_256) × (block_count places.places.entry ≡ storage.entry_blocks name_len) × IsTrue (is_address places.places.entry) × IsTrue (stands_among files.new places.places.entry)) }
     ensures node { IfOk result (λ places. (kind_of places.places.node ≡ rankings) × IsTrue (is_address places.places.node) × IsTrue (stands_among files.new places.places.node)) }
     ensures long { IfOk result (λ places. IsLongPlace files.new name_len places.places.long_key) }
-    ensures holds { IfOk result (λ places. ForSome (F.told f.new).files (HoldsLongKey places.places.long_key name_len)) }
+    ensures holds { IfOk result (λ places. ForSome (F.told folder.new).files (HoldsLongKey places.places.long_key name_len)) }
     ensures apart { IfOk result (λ places. LiesApart places.places.entry places.places.long_key) }
     ensures streams { IfOk result (λ places. IsTrue (is_address places.stored) × IsTrue (is_address places.index)) }
     ensures keeps { KeepsStanding files.old files.new }
-    ensures taken { IfOk result (λ places. ForSome (F.told f.old).files (λ from. LeavesRoom 5 from → ForSome (F.told f.new).files (TakesPart places (overwritten [] place piece.now) map.now from))) }
-    ensures is_open { OnOk result (ForSome (F.told f.new).files (IsOpen files.new)) }
-    ensures stops { ForSome (F.told f.old).files (λ from. LeavesRoom 5 from → Passes (F.told f.old) (F.told f.new) (StillFinds [] from)) }
-    ensures damaged { IfDamaged result (IsFailedCheck files.new (F.told f.new)) }
-    ensures untold { ForSome (F.told f.old).files (LeavesRoom 5) → IfDamaged result (λ _. (F.told f.old).files ≡ None) }
-    ensures silent { (F.told f.old).files ≡ None → (F.told f.new).files ≡ None }
-    ensures later { F.faults f.old ≤ F.faults f.new }
-    ensures device { IfDevice result (Rises (F.faults f.old) (F.faults f.new)) }
+    ensures taken { IfOk result (λ places. ForSome (F.told folder.old).files (λ from. LeavesRoom 5 from → ForSome (F.told folder.new).files (TakesPart places (overwritten [] place piece.now) map.now from))) }
+    ensures is_open { OnOk result (ForSome (F.told folder.new).files (IsOpen files.new)) }
+    ensures stops { ForSome (F.told folder.old).files (λ from. LeavesRoom 5 from → Passes (F.told folder.old) (F.told folder.new) (StillFinds [] from)) }
+    ensures damaged { IfDamaged result (IsFailedCheck files.new (F.told folder.new)) }
+    ensures untold { ForSome (F.told folder.old).files (LeavesRoom 5) → IfDamaged result (λ _. (F.told folder.old).files ≡ None) }
+    ensures silent { (F.told folder.old).files ≡ None → (F.told folder.new).files ≡ None }
+    ensures later { F.faults folder.old ≤ F.faults folder.new }
+    ensures device { IfDevice result (Rises (F.faults folder.old) (F.faults folder.new)) }
 {
-    let index = take_stream(f, files, 0, map)?;
-    let stored = take_stream(f, files, place, piece)?;
-    let places = take_places(f, files, name_len)?;
+    let index = take_stream(folder, files, 0, map)?;
+    let stored = take_stream(folder, files, place, piece)?;
+    let places = take_places(folder, files, name_len)?;
     Ok(PartPlaces {
         places,
         stored,
@@ -120,28 +120,28 @@ fn take_part<F: Folder>(
 
 // Writes the entry of a new part at its places, in front of the chain of its name, without streams yet.
 fn write_child<F: Folder>(
-    f: &mut F,
+    folder: &mut F,
     files: &BlockFiles,
     places: &Places,
     name: &[u8],
     moment: u64,
 ) -> Result<(), Fault>
     requires fits { FitsKey files.now (child_entry places.now 0) name.now }
-    requires holds { ForSome (F.told f.old).files (HoldsLongKey places.now.long_key (length name.now)) }
+    requires holds { ForSome (F.told folder.old).files (HoldsLongKey places.now.long_key (length name.now)) }
     requires apart { LiesApart places.now.entry places.now.long_key }
-    requires is_open { ForSome (F.told f.old).files (IsOpen files.now) }
-    ensures written { OnOk result (ForSome (F.told f.old).files (λ from. ForSome (F.told f.new).files (IsChildWritten places.now name.now moment from))) }
-    ensures stops { ForSome (F.told f.old).files (λ from. Passes (F.told f.old) (F.told f.new) (StillFinds (words_of_places places.now) from)) }
-    ensures checks { OnOk result (ForSome (F.told f.new).files (RecordChecks places.now.entry)) }
-    ensures is_open { ForSome (F.told f.new).files (IsOpen files.now) }
-    ensures damaged { IfDamaged result (IsFailedCheck files.now (F.told f.new)) }
-    ensures untold { IfDamaged result (λ _. (F.told f.old).files ≡ None) }
-    ensures silent { (F.told f.old).files ≡ None → (F.told f.new).files ≡ None }
-    ensures later { F.faults f.old ≤ F.faults f.new }
-    ensures device { IfDevice result (Rises (F.faults f.old) (F.faults f.new)) }
+    requires is_open { ForSome (F.told folder.old).files (IsOpen files.now) }
+    ensures written { OnOk result (ForSome (F.told folder.old).files (λ from. ForSome (F.told folder.new).files (IsChildWritten places.now name.now moment from))) }
+    ensures stops { ForSome (F.told folder.old).files (λ from. Passes (F.told folder.old) (F.told folder.new) (StillFinds (words_of_places places.now) from)) }
+    ensures checks { OnOk result (ForSome (F.told folder.new).files (RecordChecks places.now.entry)) }
+    ensures is_open { ForSome (F.told folder.new).files (IsOpen files.now) }
+    ensures damaged { IfDamaged result (IsFailedCheck files.now (F.told folder.new)) }
+    ensures untold { IfDamaged result (λ _. (F.told folder.old).files ≡ None) }
+    ensures silent { (F.told folder.old).files ≡ None → (F.told folder.new).files ≡ None }
+    ensures later { F.faults folder.old ≤ F.faults folder.new }
+    ensures device { IfDevice result (Rises (F.faults folder.old) (F.faults folder.new)) }
 {
     let hash = super_fast_hash(name);
-    let next = bucket(f, (hash % IndexHead::BUCKETS) as u16)?;
+    let next = bucket(folder, (hash % IndexHead::BUCKETS) as u16)?;
     let new = NewEntry {
         entry: places.entry,
         node: places.node,
@@ -150,12 +150,12 @@ fn write_child<F: Folder>(
         dirty: 0,
         next,
     };
-    write_entry(f, files, &new, name, moment)
+    write_entry(folder, files, &new, name, moment)
 }
 
 // Gives the record of a new part the sizes and the places of its data and of its index.
 fn name_streams<F: Folder>(
-    f: &mut F,
+    folder: &mut F,
     files: &BlockFiles,
     entry: Addr,
     size: u32,
@@ -164,23 +164,23 @@ fn name_streams<F: Folder>(
 ) -> Result<(), Fault>
     requires kind { kind_of entry ≡ blocks_256 }
     requires stands { IsTrue (stands_among files.now entry) }
-    requires is_open { ForSome (F.told f.old).files (IsOpen files.now) }
+    requires is_open { ForSome (F.told folder.old).files (IsOpen files.now) }
 
     // Of streams of these lengths it has them then.
-    ensures named { OnOk result (ForSome (F.told f.old).files (λ from. ForSome (F.told f.new).files (λ image. (bytes map : List ℕ) → length bytes ≡ size → length map ≡ part_index_length → RecordChecks entry from → HasStreamsNow entry (record { stored = bytes; index = map; stored_addr = stored; index_addr = index }) from image))) }
+    ensures named { OnOk result (ForSome (F.told folder.old).files (λ from. ForSome (F.told folder.new).files (λ image. (bytes map : List ℕ) → length bytes ≡ size → length map ≡ part_index_length → RecordChecks entry from → HasStreamsNow entry (record { stored = bytes; index = map; stored_addr = stored; index_addr = index }) from image))) }
 
     // At each word of the update of a record that checks nothing else has changed.
-    ensures stops { ForSome (F.told f.old).files (λ from. RecordChecks entry from → Passes (F.told f.old) (F.told f.new) (SameOutside (record_range entry) from)) }
-    ensures is_open { ForSome (F.told f.old).files (RecordChecks entry) → ForSome (F.told f.new).files (IsOpen files.now) }
-    ensures damaged { IfDamaged result (IsFailedCheck files.now (F.told f.new)) }
-    ensures untold { ForSome (F.told f.old).files (RecordChecks entry) → IfDamaged result (λ _. (F.told f.old).files ≡ None) }
+    ensures stops { ForSome (F.told folder.old).files (λ from. RecordChecks entry from → Passes (F.told folder.old) (F.told folder.new) (SameOutside (record_range entry) from)) }
+    ensures is_open { ForSome (F.told folder.old).files (RecordChecks entry) → ForSome (F.told folder.new).files (IsOpen files.now) }
+    ensures damaged { IfDamaged result (IsFailedCheck files.now (F.told folder.new)) }
+    ensures untold { ForSome (F.told folder.old).files (RecordChecks entry) → IfDamaged result (λ _. (F.told folder.old).files ≡ None) }
 
     // The addresses are words, whatever the answer.
     ensures words { (stored < 2 ^ 32) × (index < 2 ^ 32) }
 
-    ensures silent { (F.told f.old).files ≡ None → (F.told f.new).files ≡ None }
-    ensures later { F.faults f.old ≤ F.faults f.new }
-    ensures device { IfDevice result (Rises (F.faults f.old) (F.faults f.new)) }
+    ensures silent { (F.told folder.old).files ≡ None → (F.told folder.new).files ≡ None }
+    ensures later { F.faults folder.old ≤ F.faults folder.new }
+    ensures device { IfDevice result (Rises (F.faults folder.old) (F.faults folder.new)) }
 {
     let changes = [
         (EntryView::DATA_SIZE + 4, size),
@@ -188,12 +188,12 @@ fn name_streams<F: Folder>(
         (EntryView::DATA_ADDR + 4, stored.word()),
         (EntryView::DATA_ADDR + 8, index.word()),
     ];
-    files.update_sealed(f, entry, &changes)
+    files.update_sealed(folder, entry, &changes)
 }
 
 // Writes the record of a new part, whose streams are stored, with its two streams.
 fn write_part<F: Folder>(
-    f: &mut F,
+    folder: &mut F,
     files: &BlockFiles,
     places: &PartPlaces,
     name: &[u8],
@@ -201,26 +201,26 @@ fn write_part<F: Folder>(
     moment: u64,
 ) -> Result<(), Fault>
     requires fits { FitsKey files.now (child_entry places.now.places 0) name.now }
-    requires holds { ForSome (F.told f.old).files (HoldsLongKey places.now.places.long_key (length name.now)) }
+    requires holds { ForSome (F.told folder.old).files (HoldsLongKey places.now.places.long_key (length name.now)) }
     requires apart { LiesApart places.now.places.entry places.now.places.long_key }
     requires streams { IsTrue (is_address places.now.stored) × IsTrue (is_address places.now.index) }
-    requires is_open { ForSome (F.told f.old).files (IsOpen files.now) }
+    requires is_open { ForSome (F.told folder.old).files (IsOpen files.now) }
 
     // Where these are the bytes of a part of this name, each state that was kept with its words unlinked is kept so, and the part is there.
-    ensures written { OnOk result (ForSome (F.told f.old).files (λ from. ForSome (F.told f.new).files (λ image. (bytes index : List ℕ) (role : Role) → ArePartStreams places.now name.now bytes index role from → length bytes ≡ size → WritesPart places.now name.now bytes index role from image))) }
+    ensures written { OnOk result (ForSome (F.told folder.old).files (λ from. ForSome (F.told folder.new).files (λ image. (bytes index : List ℕ) (role : Role) → ArePartStreams places.now name.now bytes index role from → length bytes ≡ size → WritesPart places.now name.now bytes index role from image))) }
 
     // At each word the old durable contents are recovered.
-    ensures stops { ForSome (F.told f.old).files (λ from. Passes (F.told f.old) (F.told f.new) (StillFinds (words_of_part places.now) from)) }
-    ensures is_open { ForSome (F.told f.new).files (IsOpen files.now) }
-    ensures damaged { IfDamaged result (IsFailedCheck files.now (F.told f.new)) }
-    ensures untold { IfDamaged result (λ _. (F.told f.old).files ≡ None) }
-    ensures silent { (F.told f.old).files ≡ None → (F.told f.new).files ≡ None }
-    ensures later { F.faults f.old ≤ F.faults f.new }
-    ensures device { IfDevice result (Rises (F.faults f.old) (F.faults f.new)) }
+    ensures stops { ForSome (F.told folder.old).files (λ from. Passes (F.told folder.old) (F.told folder.new) (StillFinds (words_of_part places.now) from)) }
+    ensures is_open { ForSome (F.told folder.new).files (IsOpen files.now) }
+    ensures damaged { IfDamaged result (IsFailedCheck files.now (F.told folder.new)) }
+    ensures untold { IfDamaged result (λ _. (F.told folder.old).files ≡ None) }
+    ensures silent { (F.told folder.old).files ≡ None → (F.told folder.new).files ≡ None }
+    ensures later { F.faults folder.old ≤ F.faults folder.new }
+    ensures device { IfDevice result (Rises (F.faults folder.old) (F.faults folder.new)) }
 {
-    write_child(f, files, &places.places, name, moment)?;
+    write_child(folder, files, &places.places, name, moment)?;
     name_streams(
-        f,
+        folder,
         files,
         places.places.entry,
         size,
@@ -230,36 +230,41 @@ fn write_part<F: Folder>(
 }
 
 // Puts the node of a new part in front of the LRU list, and then its record in front of its chain.
-fn list_part<F: Folder>(f: &mut F, files: &BlockFiles, entry: Addr, node: Addr) -> Result<(), Fault>
+fn list_part<F: Folder>(
+    folder: &mut F,
+    files: &BlockFiles,
+    entry: Addr,
+    node: Addr,
+) -> Result<(), Fault>
     requires stands { IsTrue (is_record_among files.now entry) }
     requires node { IsTrue (is_node_among files.now node) }
-    requires is_open { ForSome (F.told f.old).files (IsOpen files.now) }
-    ensures listed { OnOk result (ForSome (F.told f.old).files (λ from. ForEachPartToBeListed entry node from (λ state objects layout unlinked key n was seen loaded. ForSome (F.told f.new).files (IsPartListed state layout key n was seen loaded from)))) }
-    ensures stops { ForSome (F.told f.old).files (λ from. ForEachPartToBeListed entry node from (λ state objects layout unlinked key n was seen loaded. Passes (F.told f.old) (F.told f.new) (Finds (rest state)))) }
-    ensures is_open { ForSome (F.told f.new).files (IsOpen files.now) }
-    ensures damaged { IfDamaged result (IsFailedCheck files.now (F.told f.new)) }
-    ensures untold { ForSome (F.told f.old).files (λ from. ForEachPartToBeListed entry node from (λ state objects layout unlinked key n was seen loaded. IfDamaged result (λ _. (F.told f.old).files ≡ None))) }
-    ensures silent { (F.told f.old).files ≡ None → (F.told f.new).files ≡ None }
-    ensures later { F.faults f.old ≤ F.faults f.new }
-    ensures device { IfDevice result (Rises (F.faults f.old) (F.faults f.new)) }
+    requires is_open { ForSome (F.told folder.old).files (IsOpen files.now) }
+    ensures listed { OnOk result (ForSome (F.told folder.old).files (λ from. ForEachPartToBeListed entry node from (λ state objects layout unlinked key n was seen loaded. ForSome (F.told folder.new).files (IsPartListed state layout key n was seen loaded from)))) }
+    ensures stops { ForSome (F.told folder.old).files (λ from. ForEachPartToBeListed entry node from (λ state objects layout unlinked key n was seen loaded. Passes (F.told folder.old) (F.told folder.new) (Finds (rest state)))) }
+    ensures is_open { ForSome (F.told folder.new).files (IsOpen files.now) }
+    ensures damaged { IfDamaged result (IsFailedCheck files.now (F.told folder.new)) }
+    ensures untold { ForSome (F.told folder.old).files (λ from. ForEachPartToBeListed entry node from (λ state objects layout unlinked key n was seen loaded. IfDamaged result (λ _. (F.told folder.old).files ≡ None))) }
+    ensures silent { (F.told folder.old).files ≡ None → (F.told folder.new).files ≡ None }
+    ensures later { F.faults folder.old ≤ F.faults folder.new }
+    ensures device { IfDevice result (Rises (F.faults folder.old) (F.faults folder.new)) }
 {
-    insert_front(f, files, node)?;
-    link_front(f, files, entry)
+    insert_front(folder, files, node)?;
+    link_front(folder, files, entry)
 }
 
 // Where the index of a parent lies.
-fn index_place<F: Folder>(f: &mut F, files: &BlockFiles, parent: Addr) -> Result<Addr, Fault>
+fn index_place<F: Folder>(folder: &mut F, files: &BlockFiles, parent: Addr) -> Result<Addr, Fault>
     requires kind { kind_of parent ≡ blocks_256 }
     requires stands { IsTrue (stands_among files.now parent) }
-    ensures place { IfOk result (λ addr. ForSome (F.told f.old).files (λ image. addr ≡ address_word image parent 2)) }
+    ensures place { IfOk result (λ addr. ForSome (F.told folder.old).files (λ image. addr ≡ address_word image parent 2)) }
     ensures stores { IfOk result (λ addr. stores files.now parent_index_length addr ≡ true) }
-    ensures stays { Stays (F.told f.old) (F.told f.new) }
-    ensures damaged { IfDamaged result (IsFailedCheck files.now (F.told f.new)) }
-    ensures untold { ForSome (F.told f.old).files (Agrees files.now) → ForSome (F.told f.old).files (HasIndexPlace files.now parent) → IfDamaged result (λ _. (F.told f.old).files ≡ None) }
-    ensures later { F.faults f.old ≤ F.faults f.new }
-    ensures device { IfDevice result (Rises (F.faults f.old) (F.faults f.new)) }
+    ensures stays { Stays (F.told folder.old) (F.told folder.new) }
+    ensures damaged { IfDamaged result (IsFailedCheck files.now (F.told folder.new)) }
+    ensures untold { ForSome (F.told folder.old).files (Agrees files.now) → ForSome (F.told folder.old).files (HasIndexPlace files.now parent) → IfDamaged result (λ _. (F.told folder.old).files ≡ None) }
+    ensures later { F.faults folder.old ≤ F.faults folder.new }
+    ensures device { IfDevice result (Rises (F.faults folder.old) (F.faults folder.new)) }
 {
-    let head = read_head(f, files, parent)?;
+    let head = read_head(folder, files, parent)?;
     let word = head.addrs[2];
     let Some(addr) = Addr::from_word(word) else {
         return Err(record_damage(parent, EntryView::DATA_ADDR + 8, word));
@@ -271,29 +276,34 @@ fn index_place<F: Folder>(f: &mut F, files: &BlockFiles, parent: Addr) -> Result
 }
 
 // Sets the bit of a part in its parent's index; nothing is written where it is set already.
-fn note_part<F: Folder>(f: &mut F, files: &BlockFiles, parent: Addr, part: u32) -> Result<(), Fault>
+fn note_part<F: Folder>(
+    folder: &mut F,
+    files: &BlockFiles,
+    parent: Addr,
+    part: u32,
+) -> Result<(), Fault>
     requires kind { kind_of parent ≡ blocks_256 }
     requires stands { IsTrue (stands_among files.now parent) }
     requires part { part < part_count }
-    requires is_open { ForSome (F.told f.old).files (IsOpen files.now) }
-    ensures noted { OnOk result (ForSome (F.told f.old).files (λ from. ForSome (F.told f.new).files (IsBitNoted parent part from))) }
-    ensures stops { ForSome (F.told f.old).files (λ from. Passes (F.told f.old) (F.told f.new) (IsBeingNoted files.now parent part from)) }
-    ensures is_open { ForSome (F.told f.new).files (IsOpen files.now) }
-    ensures damaged { IfDamaged result (IsFailedCheck files.now (F.told f.new)) }
-    ensures untold { ForSome (F.told f.old).files (HasIndexPlace files.now parent) → IfDamaged result (λ _. (F.told f.old).files ≡ None) }
-    ensures silent { (F.told f.old).files ≡ None → (F.told f.new).files ≡ None }
-    ensures later { F.faults f.old ≤ F.faults f.new }
-    ensures device { IfDevice result (Rises (F.faults f.old) (F.faults f.new)) }
+    requires is_open { ForSome (F.told folder.old).files (IsOpen files.now) }
+    ensures noted { OnOk result (ForSome (F.told folder.old).files (λ from. ForSome (F.told folder.new).files (IsBitNoted parent part from))) }
+    ensures stops { ForSome (F.told folder.old).files (λ from. Passes (F.told folder.old) (F.told folder.new) (IsBeingNoted files.now parent part from)) }
+    ensures is_open { ForSome (F.told folder.new).files (IsOpen files.now) }
+    ensures damaged { IfDamaged result (IsFailedCheck files.now (F.told folder.new)) }
+    ensures untold { ForSome (F.told folder.old).files (HasIndexPlace files.now parent) → IfDamaged result (λ _. (F.told folder.old).files ≡ None) }
+    ensures silent { (F.told folder.old).files ≡ None → (F.told folder.new).files ≡ None }
+    ensures later { F.faults folder.old ≤ F.faults folder.new }
+    ensures device { IfDevice result (Rises (F.faults folder.old) (F.faults folder.new)) }
 {
-    let addr = index_place(f, files, parent)?;
+    let addr = index_place(folder, files, parent)?;
     let at = place_of_part(part);
     let mut byte = [0u8; 1];
-    read_data(f, files, addr, at, &mut byte)?;
+    read_data(folder, files, addr, at, &mut byte)?;
     let was = byte[0];
     if has_part_bit(was, part) {
         return Ok(());
     }
-    write_data(f, files, addr, at, &[with_part_bit(was, part)])?;
+    write_data(folder, files, addr, at, &[with_part_bit(was, part)])?;
     Ok(())
 }
 
@@ -320,7 +330,7 @@ fn first_index(child: &ChildName, place: u32, count: u32) -> [u8; 192]
 /// streams by one sealed update. Then its node comes in front of the LRU list, its record in front of its chain, and at
 /// last its parent gets its bit, where it hasn't. The counters of the index stay.
 pub(crate) fn make_part<F: Folder>(
-    f: &mut F,
+    folder: &mut F,
     files: &mut BlockFiles,
     parent: Addr,
     child: &ChildName,
@@ -339,34 +349,41 @@ pub(crate) fn make_part<F: Folder>(
     requires part { child.now.part < part_count }
     requires some { 1 ≤ length piece.now }
     requires most { place + length piece.now ≤ part_size }
-    requires is_open { ForSome (F.told f.old).files (IsOpen files.old) }
+    requires is_open { ForSome (F.told folder.old).files (IsOpen files.old) }
 
     // Of each dirty object with such a parent, which lacks the part of this name, the state with the piece written is kept in the end, but for the counters.
-    ensures written { OnOk result (ForSome (F.told f.old).files (λ from. ForEachLacking parent child.now name.now from (λ state layout unlinked number object node. ForSome (F.told f.new).files (KeepsParentThen (with_piece_written state number object child.now.part place piece.now) layout unlinked number (with_piece object child.now.part place piece.now) node parent (cast_unsigned w64 child.now.signature) from)))) }
+    ensures written { OnOk result (ForSome (F.told folder.old).files (λ from. ForEachLacking parent child.now name.now from (λ state layout unlinked number object node. ForSome (F.told folder.new).files (KeepsParentThen (with_piece_written state number object child.now.part place piece.now) layout unlinked number (with_piece object child.now.part place piece.now) node parent (cast_unsigned w64 child.now.signature) from)))) }
 
     // At each word the old durable contents are recovered: a dirty object isn't durable.
-    ensures stops { ForSome (F.told f.old).files (λ from. ForEachLacking parent child.now name.now from (λ state layout unlinked number object node. Passes (F.told f.old) (F.told f.new) (Finds (rest state)))) }
+    ensures stops { ForSome (F.told folder.old).files (λ from. ForEachLacking parent child.now name.now from (λ state layout unlinked number object node. Passes (F.told folder.old) (F.told folder.new) (Finds (rest state)))) }
 
     // It is whole, in the list and in its chain, before its parent's bit is set.
-    ensures ordered { OnOk result (ForSome (F.told f.old).files (λ from. ForEachLacking parent child.now name.now from (λ state layout unlinked number object node. IsWholeBeforeItsBit files.new state layout object.key name.now child.now.part parent (F.told f.old) (F.told f.new)))) }
+    ensures ordered { OnOk result (ForSome (F.told folder.old).files (λ from. ForEachLacking parent child.now name.now from (λ state layout unlinked number object node. IsWholeBeforeItsBit files.new state layout object.key name.now child.now.part parent (F.told folder.old) (F.told folder.new)))) }
 
     // What was valid still is.
     ensures keeps { KeepsStanding files.old files.new }
-    ensures is_open { OnOk result (ForSome (F.told f.new).files (IsOpen files.new)) }
+    ensures is_open { OnOk result (ForSome (F.told folder.new).files (IsOpen files.new)) }
 
     // Corruption is a check that fails on what is read here; nothing is written after it.
-    ensures damaged { IfDamaged result (IsFailedCheck files.new (F.told f.new)) }
+    ensures damaged { IfDamaged result (IsFailedCheck files.new (F.told folder.new)) }
 
     // An observable folder, with such an object, reports no corruption.
-    ensures untold { ForSome (F.told f.old).files (λ from. ForEachLacking parent child.now name.now from (λ state layout unlinked number object node. IfDamaged result (λ _. (F.told f.old).files ≡ None))) }
+    ensures untold { ForSome (F.told folder.old).files (λ from. ForEachLacking parent child.now name.now from (λ state layout unlinked number object node. IfDamaged result (λ _. (F.told folder.old).files ≡ None))) }
 
-    ensures silent { (F.told f.old).files ≡ None → (F.told f.new).files ≡ None }
-    ensures later { F.faults f.old ≤ F.faults f.new }
-    ensures device { IfDevice result (Rises (F.faults f.old) (F.faults f.new)) }
+    ensures silent { (F.told folder.old).files ≡ None → (F.told folder.new).files ≡ None }
+    ensures later { F.faults folder.old ≤ F.faults folder.new }
+    ensures device { IfDevice result (Rises (F.faults folder.old) (F.faults folder.new)) }
 {
     let index = first_index(child, place, piece.len() as u32);
-    let places = take_part(f, files, name.len() as u32, place, piece, &index)?;
-    write_part(f, files, &places, name, place + piece.len() as u32, moment)?;
-    list_part(f, files, places.places.entry, places.places.node)?;
-    note_part(f, files, parent, child.part)
+    let places = take_part(folder, files, name.len() as u32, place, piece, &index)?;
+    write_part(
+        folder,
+        files,
+        &places,
+        name,
+        place + piece.len() as u32,
+        moment,
+    )?;
+    list_part(folder, files, places.places.entry, places.places.node)?;
+    note_part(folder, files, parent, child.part)
 }

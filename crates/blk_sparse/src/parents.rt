@@ -22,7 +22,7 @@ ghost use Rattle.blk_object.specs.FailedChecks.{IsFailedCheck};
 ghost use Rattle.blk_object.specs.Freeing.{IsPlaceAmong, words_at};
 ghost use Rattle.blk_object.specs.Owning.{LoadsWith};
 ghost use Rattle.blk_object.specs.RemovingObjects.{FindsEither, IsOwnedBy};
-ghost use Rattle.blk_sparse.specs.Dropping.{HasNoBit, IsCalledAtFront, IsWholeOut};
+ghost use Rattle.blk_sparse.specs.Dropping.{HasNoBit, IsCalledOverPrefix, IsWholeDropped};
 ghost use Rattle.blk_sparse.specs.Parents.{AreGoneBeside, ArePartsTold, ForEachHeldParent, ForEachParent, ForEachRest, IsGoneWhole, IsGroupTold, IsHeldWhole, LoadsAsParent};
 
 use crate::dropping::{Gone, IndexedParts, drop_indexed_with};
@@ -42,17 +42,17 @@ use blk_stream::read;
 /// were charged.
 ///
 /// Its places and its charge were read before, as `read_owned` gives them. Its record is in its chain after the record
-/// before, or is the first; and it names this node. The index is read into `room`, and then the names of parts are made
+/// before, or is the first; and it names this node. The index is read into `buffer`, and then the names of parts are made
 /// there. This takes as many folder calls as `take_main` and `drop_parts_with`, two more, and seven for each place of the
 /// main item.
 pub fn remove_parent_with<F: Folder, E: FnMut(u32)>(
-    f: &mut F,
+    folder: &mut F,
     files: &BlockFiles,
     found: &Found,
     node: Addr,
     key: &[u8],
     owned: &Owned,
-    room: &mut [u8],
+    buffer: &mut [u8],
     each: &mut E,
 ) -> Result<Gone, Fault>
     requires node { IsTrue (is_node_among files.now node) }
@@ -62,43 +62,43 @@ pub fn remove_parent_with<F: Folder, E: FnMut(u32)>(
     requires stands_before { IfSome found.now.before (λ before. IsTrue (stands_among files.now before)) }
     requires some { 1 ≤ length key.now }
     requires short { length key.now ≤ longest_key }
-    requires room { longest_name ≤ length room.old }
+    requires buffer { longest_name ≤ length buffer.old }
     requires places { All (IsPlaceAmong files.now) owned.now.places }
     requires light { owned.now.charge < 2 ^ 34 }
     requires callable { E.IsAlwaysCallable each.old }
-    requires is_open { ForSome (F.told f.old).files (IsOpen files.now) }
+    requires is_open { ForSome (F.told folder.old).files (IsOpen files.now) }
 
     // Where these are its places and its charge, and there is such an object in a state that is kept, the state with it doomed is kept in the end, in the same session. How many items went is told, and what they were charged.
-    ensures removed { OnOk result (ForSome (F.told f.old).files (λ from. IsOwnedBy found.now.entry owned.now from → ForEachParent key.now node found.now.entry found.now.before from (λ state layout unlinked number object. ForSome (F.told f.new).files (IsGoneWhole state layout unlinked number object)))) }
-    ensures gone { IfOk result (λ gone. ForSome (F.told f.old).files (λ from. IsOwnedBy found.now.entry owned.now from → ForEachParent key.now node found.now.entry found.now.before from (λ state layout unlinked number object. IsGroupTold state layout key.now gone))) }
-    ensures session { OnOk result (ForSome (F.told f.old).files (λ from. IsOwnedBy found.now.entry owned.now from → ForEachParent key.now node found.now.entry found.now.before from (λ state layout unlinked number object. ForSome (F.told f.new).files (SameSession from)))) }
+    ensures removed { OnOk result (ForSome (F.told folder.old).files (λ from. IsOwnedBy found.now.entry owned.now from → ForEachParent key.now node found.now.entry found.now.before from (λ state layout unlinked number object. ForSome (F.told folder.new).files (IsGoneWhole state layout unlinked number object)))) }
+    ensures gone { IfOk result (λ gone. ForSome (F.told folder.old).files (λ from. IsOwnedBy found.now.entry owned.now from → ForEachParent key.now node found.now.entry found.now.before from (λ state layout unlinked number object. IsGroupTold state layout key.now gone))) }
+    ensures session { OnOk result (ForSome (F.told folder.old).files (λ from. IsOwnedBy found.now.entry owned.now from → ForEachParent key.now node found.now.entry found.now.before from (λ state layout unlinked number object. ForSome (F.told folder.new).files (SameSession from)))) }
 
     // `each` was called with the numbers of its parts, in the order of the LRU list, once each; or with a prefix of
     // them.
-    ensures each { OnOk result (ForSome (F.told f.old).files (λ from. IsOwnedBy found.now.entry owned.now from → ForEachParent key.now node found.now.entry found.now.before from (λ state layout unlinked number object. FoldsTo (λ p x q. E.step p x tt q) each.old (parts_among key.now state.uses) each.new))) }
-    ensures front { ForSome (F.told f.old).files (λ from. IsOwnedBy found.now.entry owned.now from → ForEachParent key.now node found.now.entry found.now.before from (λ state layout unlinked number object. IsCalledAtFront E (λ p x q. E.step p x tt q) (parts_among key.now state.uses) each.old each.new)) }
+    ensures each { OnOk result (ForSome (F.told folder.old).files (λ from. IsOwnedBy found.now.entry owned.now from → ForEachParent key.now node found.now.entry found.now.before from (λ state layout unlinked number object. FoldsTo (λ p x q. E.step p x tt q) each.old (parts_among key.now state.uses) each.new))) }
+    ensures front { ForSome (F.told folder.old).files (λ from. IsOwnedBy found.now.entry owned.now from → ForEachParent key.now node found.now.entry found.now.before from (λ state layout unlinked number object. IsCalledOverPrefix E (λ p x q. E.step p x tt q) (parts_among key.now state.uses) each.old each.new)) }
 
     // On every folder it was called with some numbers.
     ensures calls { (numbers : List ℕ) × FoldsTo (λ p x q. E.step p x tt q) each.old numbers each.new }
 
     // At each word the old durable contents are recovered, or those with the object doomed.
-    ensures stops { ForSome (F.told f.old).files (λ from. IsOwnedBy found.now.entry owned.now from → ForEachParent key.now node found.now.entry found.now.before from (λ state layout unlinked number object. Passes (F.told f.old) (F.told f.new) (FindsEither state (doomed number state (Some object))))) }
+    ensures stops { ForSome (F.told folder.old).files (λ from. IsOwnedBy found.now.entry owned.now from → ForEachParent key.now node found.now.entry found.now.before from (λ state layout unlinked number object. Passes (F.told folder.old) (F.told folder.new) (FindsEither state (doomed number state (Some object))))) }
 
-    ensures is_open { ForSome (F.told f.new).files (IsOpen files.now) }
+    ensures is_open { ForSome (F.told folder.new).files (IsOpen files.now) }
 
     // Corruption is a check that fails on what is read here; nothing is written after it.
-    ensures damaged { IfDamaged result (IsFailedCheck files.now (F.told f.new)) }
+    ensures damaged { IfDamaged result (IsFailedCheck files.now (F.told folder.new)) }
 
     // An observable folder, with such an object, reports no corruption.
-    ensures untold { ForSome (F.told f.old).files (λ from. IsOwnedBy found.now.entry owned.now from → ForEachParent key.now node found.now.entry found.now.before from (λ state layout unlinked number object. IfDamaged result (λ _. (F.told f.old).files ≡ None))) }
+    ensures untold { ForSome (F.told folder.old).files (λ from. IsOwnedBy found.now.entry owned.now from → ForEachParent key.now node found.now.entry found.now.before from (λ state layout unlinked number object. IfDamaged result (λ _. (F.told folder.old).files ≡ None))) }
 
-    ensures silent { (F.told f.old).files ≡ None → (F.told f.new).files ≡ None }
-    ensures later { F.faults f.old ≤ F.faults f.new }
-    ensures device { IfDevice result (Rises (F.faults f.old) (F.faults f.new)) }
+    ensures silent { (F.told folder.old).files ≡ None → (F.told folder.new).files ≡ None }
+    ensures later { F.faults folder.old ≤ F.faults folder.new }
+    ensures device { IfDevice result (Rises (F.faults folder.old) (F.faults folder.new)) }
 {
-    let indexed = read_index(f, files, found.entry)?;
-    take_main(f, files, found, node, owned.charge)?;
-    drop_and_free(f, files, key, indexed, owned, room, each)
+    let indexed = read_index(folder, files, found.entry)?;
+    take_main(folder, files, found, node, owned.charge)?;
+    drop_and_free(folder, files, key, indexed, owned, buffer, each)
 }
 
 /// Dooms an object with an index, a parent, which a handle names: its main item is taken out and counted no longer, with
@@ -107,16 +107,16 @@ pub fn remove_parent_with<F: Folder, E: FnMut(u32)>(
 /// last handle is closed. How many parts went is given, and what they were charged.
 ///
 /// Its record is in its chain after the record before, or is the first; and it names this node. The index is read into
-/// `room`, and then the names of parts are made there. This takes as many folder calls as `take_main` and
+/// `buffer`, and then the names of parts are made there. This takes as many folder calls as `take_main` and
 /// `drop_parts_with`, two more, and four for the record.
 pub fn doom_parent<F: Folder>(
-    f: &mut F,
+    folder: &mut F,
     files: &BlockFiles,
     found: &Found,
     node: Addr,
     key: &[u8],
     charge: u64,
-    room: &mut [u8],
+    buffer: &mut [u8],
 ) -> Result<Gone, Fault>
     requires node { IsTrue (is_node_among files.now node) }
     requires kind { kind_of found.now.entry ≡ blocks_256 }
@@ -125,78 +125,82 @@ pub fn doom_parent<F: Folder>(
     requires stands_before { IfSome found.now.before (λ before. IsTrue (stands_among files.now before)) }
     requires some { 1 ≤ length key.now }
     requires short { length key.now ≤ longest_key }
-    requires room { longest_name ≤ length room.old }
-    requires is_open { ForSome (F.told f.old).files (IsOpen files.now) }
+    requires buffer { longest_name ≤ length buffer.old }
+    requires is_open { ForSome (F.told folder.old).files (IsOpen files.now) }
 
     // Where there is such an object in a state that is kept, and this is its charge, the state with it doomed is kept in the end, in the same session. How many parts went is told, and what they were charged.
-    ensures doomed { OnOk result (ForSome (F.told f.old).files (λ from. ForEachHeldParent key.now node found.now.entry found.now.before charge from (λ state layout unlinked number object. ForSome (F.told f.new).files (IsHeldWhole state layout unlinked number object)))) }
-    ensures gone { IfOk result (λ gone. ForSome (F.told f.old).files (λ from. ForEachHeldParent key.now node found.now.entry found.now.before charge from (λ state layout unlinked number object. ArePartsTold state layout key.now gone))) }
-    ensures session { OnOk result (ForSome (F.told f.old).files (λ from. ForEachHeldParent key.now node found.now.entry found.now.before charge from (λ state layout unlinked number object. ForSome (F.told f.new).files (SameSession from)))) }
+    ensures doomed { OnOk result (ForSome (F.told folder.old).files (λ from. ForEachHeldParent key.now node found.now.entry found.now.before charge from (λ state layout unlinked number object. ForSome (F.told folder.new).files (IsHeldWhole state layout unlinked number object)))) }
+    ensures gone { IfOk result (λ gone. ForSome (F.told folder.old).files (λ from. ForEachHeldParent key.now node found.now.entry found.now.before charge from (λ state layout unlinked number object. ArePartsTold state layout key.now gone))) }
+    ensures session { OnOk result (ForSome (F.told folder.old).files (λ from. ForEachHeldParent key.now node found.now.entry found.now.before charge from (λ state layout unlinked number object. ForSome (F.told folder.new).files (SameSession from)))) }
 
     // At each word the old durable contents are recovered, or those with the object doomed.
-    ensures stops { ForSome (F.told f.old).files (λ from. ForEachHeldParent key.now node found.now.entry found.now.before charge from (λ state layout unlinked number object. Passes (F.told f.old) (F.told f.new) (FindsEither state (doomed number state (Some object))))) }
+    ensures stops { ForSome (F.told folder.old).files (λ from. ForEachHeldParent key.now node found.now.entry found.now.before charge from (λ state layout unlinked number object. Passes (F.told folder.old) (F.told folder.new) (FindsEither state (doomed number state (Some object))))) }
 
-    ensures is_open { ForSome (F.told f.new).files (IsOpen files.now) }
+    ensures is_open { ForSome (F.told folder.new).files (IsOpen files.now) }
 
     // Corruption is a check that fails on what is read here; nothing is written after it.
-    ensures damaged { IfDamaged result (IsFailedCheck files.now (F.told f.new)) }
+    ensures damaged { IfDamaged result (IsFailedCheck files.now (F.told folder.new)) }
 
     // An observable folder, with such an object, reports no corruption.
-    ensures untold { ForSome (F.told f.old).files (λ from. ForEachHeldParent key.now node found.now.entry found.now.before charge from (λ state layout unlinked number object. IfDamaged result (λ _. (F.told f.old).files ≡ None))) }
+    ensures untold { ForSome (F.told folder.old).files (λ from. ForEachHeldParent key.now node found.now.entry found.now.before charge from (λ state layout unlinked number object. IfDamaged result (λ _. (F.told folder.old).files ≡ None))) }
 
-    ensures silent { (F.told f.old).files ≡ None → (F.told f.new).files ≡ None }
-    ensures later { F.faults f.old ≤ F.faults f.new }
-    ensures device { IfDevice result (Rises (F.faults f.old) (F.faults f.new)) }
+    ensures silent { (F.told folder.old).files ≡ None → (F.told folder.new).files ≡ None }
+    ensures later { F.faults folder.old ≤ F.faults folder.new }
+    ensures device { IfDevice result (Rises (F.faults folder.old) (F.faults folder.new)) }
 {
-    let indexed = read_index(f, files, found.entry)?;
-    take_main(f, files, found, node, charge)?;
-    let parts = drop_indexed_with(f, files, key, indexed, room, &mut |_| ())?;
-    doom_record(f, files, found.entry)?;
+    let indexed = read_index(folder, files, found.entry)?;
+    take_main(folder, files, found, node, charge)?;
+    let parts = drop_indexed_with(folder, files, key, indexed, buffer, &mut |_| ())?;
+    doom_record(folder, files, found.entry)?;
     Ok(parts)
 }
 
 /// Reads the signature of the index of a parent, by two folder calls.
 ///
 /// A failed check is one of `read`, or a third stream that begins otherwise than an index.
-pub fn read_signature<F: Folder>(f: &mut F, files: &BlockFiles, entry: Addr) -> Result<i64, Fault>
+pub fn read_signature<F: Folder>(
+    folder: &mut F,
+    files: &BlockFiles,
+    entry: Addr,
+) -> Result<i64, Fault>
     requires kind { kind_of entry ≡ blocks_256 }
     requires stands { IsTrue (stands_among files.now entry) }
 
     // It is that of what a node names with this record, where that is a parent.
-    ensures signature { IfOk result (λ signature. ForSome (F.told f.old).files (λ image. (loaded : Loaded) (index : ParentIndex) → LoadsWith entry loaded image → loaded.role ≡ IsParent index → index.signature ≡ cast_unsigned w64 signature)) }
+    ensures signature { IfOk result (λ signature. ForSome (F.told folder.old).files (λ image. (loaded : Loaded) (index : ParentIndex) → LoadsWith entry loaded image → loaded.role ≡ IsParent index → index.signature ≡ cast_unsigned w64 signature)) }
     ensures small { IfOk result (λ signature. cast_unsigned w64 signature < signatures) }
-    ensures stays { Stays (F.told f.old) (F.told f.new) }
+    ensures stays { Stays (F.told folder.old) (F.told folder.new) }
 
     // Corruption is a check that fails on what is read here. An observable folder gives none where this is a parent's record.
-    ensures damaged { IfDamaged result (IsFailedCheck files.now (F.told f.new)) }
-    ensures untold { ForSome (F.told f.old).files (Agrees files.now) → ForSome (F.told f.old).files (LoadsAsParent entry) → IfDamaged result (λ _. (F.told f.old).files ≡ None) }
+    ensures damaged { IfDamaged result (IsFailedCheck files.now (F.told folder.new)) }
+    ensures untold { ForSome (F.told folder.old).files (Agrees files.now) → ForSome (F.told folder.old).files (LoadsAsParent entry) → IfDamaged result (λ _. (F.told folder.old).files ≡ None) }
 
-    ensures later { F.faults f.old ≤ F.faults f.new }
-    ensures device { IfDevice result (Rises (F.faults f.old) (F.faults f.new)) }
+    ensures later { F.faults folder.old ≤ F.faults folder.new }
+    ensures device { IfDevice result (Rises (F.faults folder.old) (F.faults folder.new)) }
 {
-    let indexed = read_index(f, files, entry)?;
+    let indexed = read_index(folder, files, entry)?;
     Ok(indexed.signature)
 }
 
 // Reads what the index of a parent says of its parts, by two folder calls.
 pub(crate) fn read_index<F: Folder>(
-    f: &mut F,
+    folder: &mut F,
     files: &BlockFiles,
     entry: Addr,
 ) -> Result<IndexedParts, Fault>
     requires kind { kind_of entry ≡ blocks_256 }
     requires stands { IsTrue (stands_among files.now entry) }
-    ensures signature { IfOk result (λ indexed. ForSome (F.told f.old).files (λ image. (loaded : Loaded) (index : ParentIndex) → LoadsWith entry loaded image → loaded.role ≡ IsParent index → index.signature ≡ cast_unsigned w64 indexed.signature)) }
+    ensures signature { IfOk result (λ indexed. ForSome (F.told folder.old).files (λ image. (loaded : Loaded) (index : ParentIndex) → LoadsWith entry loaded image → loaded.role ≡ IsParent index → index.signature ≡ cast_unsigned w64 indexed.signature)) }
     ensures small { IfOk result (λ indexed. cast_unsigned w64 indexed.signature < signatures) }
-    ensures none { IfOk result (λ indexed. ForSome (F.told f.old).files (λ image. (loaded : Loaded) (index : ParentIndex) → LoadsWith entry loaded image → loaded.role ≡ IsParent index → indexed.any ≡ false → HasNoBit index)) }
-    ensures stays { Stays (F.told f.old) (F.told f.new) }
-    ensures damaged { IfDamaged result (IsFailedCheck files.now (F.told f.new)) }
-    ensures untold { ForSome (F.told f.old).files (Agrees files.now) → ForSome (F.told f.old).files (LoadsAsParent entry) → IfDamaged result (λ _. (F.told f.old).files ≡ None) }
-    ensures later { F.faults f.old ≤ F.faults f.new }
-    ensures device { IfDevice result (Rises (F.faults f.old) (F.faults f.new)) }
+    ensures none { IfOk result (λ indexed. ForSome (F.told folder.old).files (λ image. (loaded : Loaded) (index : ParentIndex) → LoadsWith entry loaded image → loaded.role ≡ IsParent index → indexed.any ≡ false → HasNoBit index)) }
+    ensures stays { Stays (F.told folder.old) (F.told folder.new) }
+    ensures damaged { IfDamaged result (IsFailedCheck files.now (F.told folder.new)) }
+    ensures untold { ForSome (F.told folder.old).files (Agrees files.now) → ForSome (F.told folder.old).files (LoadsAsParent entry) → IfDamaged result (λ _. (F.told folder.old).files ≡ None) }
+    ensures later { F.faults folder.old ≤ F.faults folder.new }
+    ensures device { IfDevice result (Rises (F.faults folder.old) (F.faults folder.new)) }
 {
     let mut bytes = [0u8; ParentMap::LEN];
-    let len = read(f, files, entry, INDEX, 0, &mut bytes)?;
+    let len = read(folder, files, entry, INDEX, 0, &mut bytes)?;
     match ParentHead::read(&bytes[..len]) {
         Some(head) => Ok(IndexedParts {
             signature: head.signature,
@@ -216,12 +220,12 @@ fn has_bits(map: &[u8]) -> bool
 // Drops the parts of an object whose main item is out, and then frees the main item's places. How many items went is
 // given, the main one too, and what they were charged.
 fn drop_and_free<F: Folder, E: FnMut(u32)>(
-    f: &mut F,
+    folder: &mut F,
     files: &BlockFiles,
     key: &[u8],
     indexed: IndexedParts,
     owned: &Owned,
-    room: &mut [u8],
+    buffer: &mut [u8],
     each: &mut E,
 ) -> Result<Gone, Fault>
     requires some { 1 ≤ length key.now }
@@ -229,25 +233,25 @@ fn drop_and_free<F: Folder, E: FnMut(u32)>(
     requires signature { cast_unsigned w64 indexed.signature < signatures }
     requires places { All (IsPlaceAmong files.now) owned.now.places }
     requires light { owned.now.charge < 2 ^ 34 }
-    requires room { longest_name ≤ length room.old }
+    requires buffer { longest_name ≤ length buffer.old }
     requires callable { E.IsAlwaysCallable each.old }
-    requires is_open { ForSome (F.told f.old).files (IsOpen files.now) }
-    ensures out { OnOk result (ForSome (F.told f.old).files (λ from. ForEachRest (words_at owned.now.places) key.now indexed from (λ state layout keep unlinked number object. ForSome (F.told f.new).files (IsWholeOut state layout unlinked key.now)))) }
-    ensures gone { IfOk result (λ gone. ForSome (F.told f.old).files (λ from. ForEachRest (words_at owned.now.places) key.now indexed from (λ state layout keep unlinked number object. AreGoneBeside layout (map (part key.now) (parts_among key.now (filter keep state.uses))) owned.now.charge gone))) }
-    ensures session { OnOk result (ForSome (F.told f.old).files (λ from. ForEachRest (words_at owned.now.places) key.now indexed from (λ state layout keep unlinked number object. ForSome (F.told f.new).files (SameSession from)))) }
-    ensures each { OnOk result (ForSome (F.told f.old).files (λ from. ForEachRest (words_at owned.now.places) key.now indexed from (λ state layout keep unlinked number object. FoldsTo (λ p x q. E.step p x tt q) each.old (parts_among key.now (filter keep state.uses)) each.new))) }
-    ensures front { ForSome (F.told f.old).files (λ from. ForEachRest (words_at owned.now.places) key.now indexed from (λ state layout keep unlinked number object. IsCalledAtFront E (λ p x q. E.step p x tt q) (parts_among key.now (filter keep state.uses)) each.old each.new)) }
+    requires is_open { ForSome (F.told folder.old).files (IsOpen files.now) }
+    ensures out { OnOk result (ForSome (F.told folder.old).files (λ from. ForEachRest (words_at owned.now.places) key.now indexed from (λ state layout keep unlinked number object. ForSome (F.told folder.new).files (IsWholeDropped state layout unlinked key.now)))) }
+    ensures gone { IfOk result (λ gone. ForSome (F.told folder.old).files (λ from. ForEachRest (words_at owned.now.places) key.now indexed from (λ state layout keep unlinked number object. AreGoneBeside layout (map (part key.now) (parts_among key.now (filter keep state.uses))) owned.now.charge gone))) }
+    ensures session { OnOk result (ForSome (F.told folder.old).files (λ from. ForEachRest (words_at owned.now.places) key.now indexed from (λ state layout keep unlinked number object. ForSome (F.told folder.new).files (SameSession from)))) }
+    ensures each { OnOk result (ForSome (F.told folder.old).files (λ from. ForEachRest (words_at owned.now.places) key.now indexed from (λ state layout keep unlinked number object. FoldsTo (λ p x q. E.step p x tt q) each.old (parts_among key.now (filter keep state.uses)) each.new))) }
+    ensures front { ForSome (F.told folder.old).files (λ from. ForEachRest (words_at owned.now.places) key.now indexed from (λ state layout keep unlinked number object. IsCalledOverPrefix E (λ p x q. E.step p x tt q) (parts_among key.now (filter keep state.uses)) each.old each.new)) }
     ensures calls { (numbers : List ℕ) × FoldsTo (λ p x q. E.step p x tt q) each.old numbers each.new }
-    ensures stops { ForSome (F.told f.old).files (λ from. ForEachRest (words_at owned.now.places) key.now indexed from (λ state layout keep unlinked number object. Passes (F.told f.old) (F.told f.new) (Finds (rest (doomed number state (Some object)))))) }
-    ensures is_open { ForSome (F.told f.new).files (IsOpen files.now) }
-    ensures damaged { IfDamaged result (IsFailedCheck files.now (F.told f.new)) }
-    ensures untold { ForSome (F.told f.old).files (λ from. ForEachRest (words_at owned.now.places) key.now indexed from (λ state layout keep unlinked number object. IfDamaged result (λ _. (F.told f.old).files ≡ None))) }
-    ensures silent { (F.told f.old).files ≡ None → (F.told f.new).files ≡ None }
-    ensures later { F.faults f.old ≤ F.faults f.new }
-    ensures device { IfDevice result (Rises (F.faults f.old) (F.faults f.new)) }
+    ensures stops { ForSome (F.told folder.old).files (λ from. ForEachRest (words_at owned.now.places) key.now indexed from (λ state layout keep unlinked number object. Passes (F.told folder.old) (F.told folder.new) (Finds (rest (doomed number state (Some object)))))) }
+    ensures is_open { ForSome (F.told folder.new).files (IsOpen files.now) }
+    ensures damaged { IfDamaged result (IsFailedCheck files.now (F.told folder.new)) }
+    ensures untold { ForSome (F.told folder.old).files (λ from. ForEachRest (words_at owned.now.places) key.now indexed from (λ state layout keep unlinked number object. IfDamaged result (λ _. (F.told folder.old).files ≡ None))) }
+    ensures silent { (F.told folder.old).files ≡ None → (F.told folder.new).files ≡ None }
+    ensures later { F.faults folder.old ≤ F.faults folder.new }
+    ensures device { IfDevice result (Rises (F.faults folder.old) (F.faults folder.new)) }
 {
-    let parts = drop_indexed_with(f, files, key, indexed, room, each)?;
-    free_owned(f, files, owned)?;
+    let parts = drop_indexed_with(folder, files, key, indexed, buffer, each)?;
+    free_owned(folder, files, owned)?;
     Ok(Gone {
         items: parts.items + 1,
         bytes: parts.bytes + owned.charge,

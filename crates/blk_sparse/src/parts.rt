@@ -20,33 +20,33 @@ use blk_io::{Fault, Folder};
 use blk_lru::touch;
 use blk_ranges::child_name;
 
-// The record of a part of an object with a key and a signature, which is found by its name. The name is made in `room`.
+// The record of a part of an object with a key and a signature, which is found by its name. The name is made in `buffer`.
 pub(crate) fn find_part<F: Folder>(
-    f: &mut F,
+    folder: &mut F,
     files: &BlockFiles,
     key: &[u8],
     signature: i64,
     number: u32,
-    room: &mut [u8],
+    buffer: &mut [u8],
 ) -> Result<Option<Addr>, Fault>
     requires some { 1 ≤ length key.now }
     requires short { length key.now ≤ longest_key }
     requires signature { cast_unsigned w64 signature < signatures }
     requires number { number < part_count }
-    requires room { longest_name ≤ length room.old }
-    requires is_open { ForSome (F.told f.old).files (IsOpen files.now) }
-    ensures part { IfOk result (λ part. ForSome (F.told f.old).files (λ from. ForEachOfKey key.now (cast_unsigned w64 signature) from (λ state layout unlinked at object node entry. IsPartFound layout object number part))) }
+    requires buffer { longest_name ≤ length buffer.old }
+    requires is_open { ForSome (F.told folder.old).files (IsOpen files.now) }
+    ensures part { IfOk result (λ part. ForSome (F.told folder.old).files (λ from. ForEachOfKey key.now (cast_unsigned w64 signature) from (λ state layout unlinked at object node entry. IsPartFound layout object number part))) }
     ensures kind { IfOk result (λ part. IfSome part (λ entry. kind_of entry ≡ blocks_256)) }
     ensures stands { IfOk result (λ part. IfSome part (λ entry. IsTrue (stands_among files.now entry))) }
-    ensures room { length room.new ≡ length room.old }
-    ensures stays { Stays (F.told f.old) (F.told f.new) }
-    ensures damaged { IfDamaged result (IsFailedCheck files.now (F.told f.new)) }
-    ensures untold { ForSome (F.told f.old).files (λ from. ForEachOfKey key.now (cast_unsigned w64 signature) from (λ state layout unlinked at object node entry. IfDamaged result (λ _. (F.told f.old).files ≡ None))) }
-    ensures later { F.faults f.old ≤ F.faults f.new }
-    ensures device { IfDevice result (Rises (F.faults f.old) (F.faults f.new)) }
+    ensures buffer { length buffer.new ≡ length buffer.old }
+    ensures stays { Stays (F.told folder.old) (F.told folder.new) }
+    ensures damaged { IfDamaged result (IsFailedCheck files.now (F.told folder.new)) }
+    ensures untold { ForSome (F.told folder.old).files (λ from. ForEachOfKey key.now (cast_unsigned w64 signature) from (λ state layout unlinked at object node entry. IfDamaged result (λ _. (F.told folder.old).files ≡ None))) }
+    ensures later { F.faults folder.old ≤ F.faults folder.new }
+    ensures device { IfDevice result (Rises (F.faults folder.old) (F.faults folder.new)) }
 {
-    let len = child_name(key, signature, number, room);
-    match find(f, files, &room[..len], true)? {
+    let len = child_name(key, signature, number, buffer);
+    match find(folder, files, &buffer[..len], true)? {
         Some(found) => Ok(Some(found.entry)),
         None => Ok(None),
     }
@@ -54,25 +54,25 @@ pub(crate) fn find_part<F: Folder>(
 
 // Moves the node that a record names to the front of the LRU list, and sets its times to a moment.
 pub(crate) fn use_entry<F: Folder>(
-    f: &mut F,
+    folder: &mut F,
     files: &BlockFiles,
     entry: Addr,
     moment: u64,
 ) -> Result<(), Fault>
     requires kind { kind_of entry ≡ blocks_256 }
     requires stands { IsTrue (stands_among files.now entry) }
-    requires is_open { ForSome (F.told f.old).files (IsOpen files.now) }
-    ensures used { OnOk result (ForSome (F.told f.old).files (λ from. ForEachListedAt entry from (λ state layout unlinked item. ForSome (F.told f.new).files (IsUsed state layout unlinked item from)))) }
-    ensures stops { ForSome (F.told f.old).files (λ from. ForEachListedAt entry from (λ state layout unlinked item. Passes (F.told f.old) (F.told f.new) (FindsBeforeOrAfter state item))) }
-    ensures is_open { ForSome (F.told f.new).files (IsOpen files.now) }
-    ensures damaged { IfDamaged result (IsFailedCheck files.now (F.told f.new)) }
-    ensures untold { ForSome (F.told f.old).files (λ from. ForEachListedAt entry from (λ state layout unlinked item. IfDamaged result (λ _. (F.told f.old).files ≡ None))) }
-    ensures silent { (F.told f.old).files ≡ None → (F.told f.new).files ≡ None }
-    ensures later { F.faults f.old ≤ F.faults f.new }
-    ensures device { IfDevice result (Rises (F.faults f.old) (F.faults f.new)) }
+    requires is_open { ForSome (F.told folder.old).files (IsOpen files.now) }
+    ensures used { OnOk result (ForSome (F.told folder.old).files (λ from. ForEachListedAt entry from (λ state layout unlinked item. ForSome (F.told folder.new).files (IsUsed state layout unlinked item from)))) }
+    ensures stops { ForSome (F.told folder.old).files (λ from. ForEachListedAt entry from (λ state layout unlinked item. Passes (F.told folder.old) (F.told folder.new) (FindsBeforeOrAfter state item))) }
+    ensures is_open { ForSome (F.told folder.new).files (IsOpen files.now) }
+    ensures damaged { IfDamaged result (IsFailedCheck files.now (F.told folder.new)) }
+    ensures untold { ForSome (F.told folder.old).files (λ from. ForEachListedAt entry from (λ state layout unlinked item. IfDamaged result (λ _. (F.told folder.old).files ≡ None))) }
+    ensures silent { (F.told folder.old).files ≡ None → (F.told folder.new).files ≡ None }
+    ensures later { F.faults folder.old ≤ F.faults folder.new }
+    ensures device { IfDevice result (Rises (F.faults folder.old) (F.faults folder.new)) }
 {
-    let node = node_of(f, files, entry)?;
+    let node = node_of(folder, files, entry)?;
     // That the word is one of an address is known once it is read.
     let _word = node.word();
-    touch(f, files, node, moment)
+    touch(folder, files, node, moment)
 }

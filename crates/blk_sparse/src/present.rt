@@ -31,7 +31,7 @@ use blk_stream::read;
 /// Nothing is changed, and no part is used. The key is read from the parent's record into the front of `name`, and the
 /// names of the parts are made after the longest key.
 pub fn read_present<F: Folder>(
-    f: &mut F,
+    folder: &mut F,
     files: &BlockFiles,
     parent: &Parent,
     name: &mut [u8],
@@ -44,56 +44,64 @@ pub fn read_present<F: Folder>(
     requires name { longest_key + longest_name ≤ length name.old }
     requires few { length out.old ≤ part_size }
     requires inside { offset + length out.old ≤ largest_offset }
-    requires is_open { ForSome (F.told f.old).files (IsOpen files.now) }
+    requires is_open { ForSome (F.told folder.old).files (IsOpen files.now) }
 
     // They are those of each object that a kept state has so.
-    ensures bytes { IfOk result (λ n. ForSome (F.told f.old).files (λ from. ForEachKeptParent parent.now.node parent.now.entry (cast_unsigned w64 parent.now.signature) from (λ state layout unlinked number object. take n out.new ≡ sparse_bytes object offset (length out.old)))) }
+    ensures bytes { IfOk result (λ n. ForSome (F.told folder.old).files (λ from. ForEachKeptParent parent.now.node parent.now.entry (cast_unsigned w64 parent.now.signature) from (λ state layout unlinked number object. take n out.new ≡ sparse_bytes object offset (length out.old)))) }
     ensures within { IfOk result (λ n. n ≤ length out.old) }
     ensures long { length out.new ≡ length out.old }
 
-    ensures stays { Stays (F.told f.old) (F.told f.new) }
+    ensures stays { Stays (F.told folder.old) (F.told folder.new) }
     ensures name { length name.new ≡ length name.old }
 
     // Corruption is a check that fails on what is read here; nothing is written after it.
-    ensures damaged { IfDamaged result (IsFailedCheck files.now (F.told f.new)) }
+    ensures damaged { IfDamaged result (IsFailedCheck files.now (F.told folder.new)) }
 
     // An observable folder, with such an object, reports no corruption.
-    ensures untold { ForSome (F.told f.old).files (λ from. ForEachKeptParent parent.now.node parent.now.entry (cast_unsigned w64 parent.now.signature) from (λ state layout unlinked number object. IfDamaged result (λ _. (F.told f.old).files ≡ None))) }
+    ensures untold { ForSome (F.told folder.old).files (λ from. ForEachKeptParent parent.now.node parent.now.entry (cast_unsigned w64 parent.now.signature) from (λ state layout unlinked number object. IfDamaged result (λ _. (F.told folder.old).files ≡ None))) }
 
-    ensures later { F.faults f.old ≤ F.faults f.new }
-    ensures device { IfDevice result (Rises (F.faults f.old) (F.faults f.new)) }
+    ensures later { F.faults folder.old ≤ F.faults folder.new }
+    ensures device { IfDevice result (Rises (F.faults folder.old) (F.faults folder.new)) }
 {
-    let len = read_key(f, files, parent.entry, name)?;
-    let (key, room) = name.split_at_mut(LONGEST_KEY as usize);
-    bytes_covered(f, files, &key[..len], parent.signature, room, offset, out)
+    let len = read_key(folder, files, parent.entry, name)?;
+    let (key, buffer) = name.split_at_mut(LONGEST_KEY as usize);
+    bytes_covered(
+        folder,
+        files,
+        &key[..len],
+        parent.signature,
+        buffer,
+        offset,
+        out,
+    )
 }
 
 // Reads the bytes of an object with a key.
 fn bytes_covered<F: Folder>(
-    f: &mut F,
+    folder: &mut F,
     files: &BlockFiles,
     key: &[u8],
     signature: i64,
-    room: &mut [u8],
+    buffer: &mut [u8],
     offset: u64,
     out: &mut [u8],
 ) -> Result<usize, Fault>
     requires some { 1 ≤ length key.now }
     requires short { length key.now ≤ longest_key }
     requires signature { cast_unsigned w64 signature < signatures }
-    requires room { longest_name ≤ length room.old }
+    requires buffer { longest_name ≤ length buffer.old }
     requires few { length out.old ≤ part_size }
     requires inside { offset + length out.old ≤ largest_offset }
-    requires is_open { ForSome (F.told f.old).files (IsOpen files.now) }
-    ensures bytes { IfOk result (λ n. ForSome (F.told f.old).files (λ from. ForEachOfKey key.now (cast_unsigned w64 signature) from (λ state layout unlinked at object node entry. take n out.new ≡ sparse_bytes object offset (length out.old)))) }
+    requires is_open { ForSome (F.told folder.old).files (IsOpen files.now) }
+    ensures bytes { IfOk result (λ n. ForSome (F.told folder.old).files (λ from. ForEachOfKey key.now (cast_unsigned w64 signature) from (λ state layout unlinked at object node entry. take n out.new ≡ sparse_bytes object offset (length out.old)))) }
     ensures within { IfOk result (λ n. n ≤ length out.old) }
     ensures long { length out.new ≡ length out.old }
-    ensures room { length room.new ≡ length room.old }
-    ensures stays { Stays (F.told f.old) (F.told f.new) }
-    ensures damaged { IfDamaged result (IsFailedCheck files.now (F.told f.new)) }
-    ensures untold { ForSome (F.told f.old).files (λ from. ForEachOfKey key.now (cast_unsigned w64 signature) from (λ state layout unlinked at object node entry. IfDamaged result (λ _. (F.told f.old).files ≡ None))) }
-    ensures later { F.faults f.old ≤ F.faults f.new }
-    ensures device { IfDevice result (Rises (F.faults f.old) (F.faults f.new)) }
+    ensures buffer { length buffer.new ≡ length buffer.old }
+    ensures stays { Stays (F.told folder.old) (F.told folder.new) }
+    ensures damaged { IfDamaged result (IsFailedCheck files.now (F.told folder.new)) }
+    ensures untold { ForSome (F.told folder.old).files (λ from. ForEachOfKey key.now (cast_unsigned w64 signature) from (λ state layout unlinked at object node entry. IfDamaged result (λ _. (F.told folder.old).files ≡ None))) }
+    ensures later { F.faults folder.old ≤ F.faults folder.new }
+    ensures device { IfDevice result (Rises (F.faults folder.old) (F.faults folder.new)) }
 {
     if out.is_empty() {
         return Ok(0);
@@ -101,22 +109,22 @@ fn bytes_covered<F: Folder>(
     let (first, place) = child_of(offset);
     let cut = ((PART_SIZE - place) as usize).min(out.len());
     let (front, behind) = out.split_at_mut(cut);
-    let len = bytes_of_part(f, files, key, signature, first, room, place, front)?;
+    let len = bytes_of_part(folder, files, key, signature, first, buffer, place, front)?;
     if len < cut || behind.is_empty() {
         return Ok(len);
     }
-    let more = bytes_of_part(f, files, key, signature, first + 1, room, 0, behind)?;
+    let more = bytes_of_part(folder, files, key, signature, first + 1, buffer, 0, behind)?;
     Ok(len + more)
 }
 
 // Reads the bytes of a part of an object from a place on, up to the first that is not present.
 fn bytes_of_part<F: Folder>(
-    f: &mut F,
+    folder: &mut F,
     files: &BlockFiles,
     key: &[u8],
     signature: i64,
     number: u32,
-    room: &mut [u8],
+    buffer: &mut [u8],
     place: u32,
     out: &mut [u8],
 ) -> Result<usize, Fault>
@@ -124,28 +132,28 @@ fn bytes_of_part<F: Folder>(
     requires short { length key.now ≤ longest_key }
     requires signature { cast_unsigned w64 signature < signatures }
     requires number { number < part_count }
-    requires room { longest_name ≤ length room.old }
+    requires buffer { longest_name ≤ length buffer.old }
     requires inside { place + length out.old ≤ part_size }
-    requires is_open { ForSome (F.told f.old).files (IsOpen files.now) }
-    ensures bytes { IfOk result (λ n. ForSome (F.told f.old).files (λ from. ForEachOfKey key.now (cast_unsigned w64 signature) from (λ state layout unlinked at object node entry. take n out.new ≡ part_bytes object number place (length out.old)))) }
+    requires is_open { ForSome (F.told folder.old).files (IsOpen files.now) }
+    ensures bytes { IfOk result (λ n. ForSome (F.told folder.old).files (λ from. ForEachOfKey key.now (cast_unsigned w64 signature) from (λ state layout unlinked at object node entry. take n out.new ≡ part_bytes object number place (length out.old)))) }
     ensures within { IfOk result (λ n. n ≤ length out.old) }
     ensures long { length out.new ≡ length out.old }
-    ensures room { length room.new ≡ length room.old }
-    ensures stays { Stays (F.told f.old) (F.told f.new) }
-    ensures damaged { IfDamaged result (IsFailedCheck files.now (F.told f.new)) }
-    ensures untold { ForSome (F.told f.old).files (λ from. ForEachOfKey key.now (cast_unsigned w64 signature) from (λ state layout unlinked at object node entry. IfDamaged result (λ _. (F.told f.old).files ≡ None))) }
-    ensures later { F.faults f.old ≤ F.faults f.new }
-    ensures device { IfDevice result (Rises (F.faults f.old) (F.faults f.new)) }
+    ensures buffer { length buffer.new ≡ length buffer.old }
+    ensures stays { Stays (F.told folder.old) (F.told folder.new) }
+    ensures damaged { IfDamaged result (IsFailedCheck files.now (F.told folder.new)) }
+    ensures untold { ForSome (F.told folder.old).files (λ from. ForEachOfKey key.now (cast_unsigned w64 signature) from (λ state layout unlinked at object node entry. IfDamaged result (λ _. (F.told folder.old).files ≡ None))) }
+    ensures later { F.faults folder.old ≤ F.faults folder.new }
+    ensures device { IfDevice result (Rises (F.faults folder.old) (F.faults folder.new)) }
 {
-    match find_part(f, files, key, signature, number, room)? {
-        Some(part) => bytes_there(f, files, part, place, out),
+    match find_part(folder, files, key, signature, number, buffer)? {
+        Some(part) => bytes_there(folder, files, part, place, out),
         None => Ok(0),
     }
 }
 
 // Reads the bytes of a part that there is.
 fn bytes_there<F: Folder>(
-    f: &mut F,
+    folder: &mut F,
     files: &BlockFiles,
     part: Addr,
     place: u32,
@@ -154,20 +162,20 @@ fn bytes_there<F: Folder>(
     requires kind { kind_of part ≡ blocks_256 }
     requires stands { IsTrue (stands_among files.now part) }
     requires inside { place + length out.old ≤ part_size }
-    ensures bytes { IfOk result (λ n. ForSome (F.told f.old).files (λ from. ForEachPartRead part from (λ object number. take n out.new ≡ part_bytes object number place (length out.old)))) }
+    ensures bytes { IfOk result (λ n. ForSome (F.told folder.old).files (λ from. ForEachPartRead part from (λ object number. take n out.new ≡ part_bytes object number place (length out.old)))) }
     ensures within { IfOk result (λ n. n ≤ length out.old) }
     ensures long { length out.new ≡ length out.old }
-    ensures stays { Stays (F.told f.old) (F.told f.new) }
-    ensures damaged { IfDamaged result (IsFailedCheck files.now (F.told f.new)) }
-    ensures untold { ForSome (F.told f.old).files (Agrees files.now) → ForSome (F.told f.old).files (LoadsAsPart part) → IfDamaged result (λ _. (F.told f.old).files ≡ None) }
-    ensures later { F.faults f.old ≤ F.faults f.new }
-    ensures device { IfDevice result (Rises (F.faults f.old) (F.faults f.new)) }
+    ensures stays { Stays (F.told folder.old) (F.told folder.new) }
+    ensures damaged { IfDamaged result (IsFailedCheck files.now (F.told folder.new)) }
+    ensures untold { ForSome (F.told folder.old).files (Agrees files.now) → ForSome (F.told folder.old).files (LoadsAsPart part) → IfDamaged result (λ _. (F.told folder.old).files ≡ None) }
+    ensures later { F.faults folder.old ≤ F.faults folder.new }
+    ensures device { IfDevice result (Rises (F.faults folder.old) (F.faults folder.new)) }
 {
-    let map = read_map(f, files, part)?;
+    let map = read_map(folder, files, part)?;
     let (start, len) = map.present_run(place, place + out.len() as u32);
     if start != place {
         return Ok(0);
     }
     let piece = &mut out[..len as usize];
-    read(f, files, part, DATA, u64::from(place), piece)
+    read(folder, files, part, DATA, u64::from(place), piece)
 }

@@ -30,7 +30,7 @@ use blk_ranges::{LONGEST_KEY, child_of};
 /// longest key. For each covered part there are the calls of `find`, and where there is the part one more and those of
 /// `touch`.
 pub fn use_parts<F: Folder>(
-    f: &mut F,
+    folder: &mut F,
     files: &BlockFiles,
     parent: &Parent,
     name: &mut [u8],
@@ -44,34 +44,34 @@ pub fn use_parts<F: Folder>(
     requires name { longest_key + longest_name ≤ length name.old }
     requires few { count ≤ part_size }
     requires inside { offset + count ≤ largest_offset }
-    requires is_open { ForSome (F.told f.old).files (IsOpen files.now) }
+    requires is_open { ForSome (F.told folder.old).files (IsOpen files.now) }
 
     // Each state that was kept, with such an object, is kept with these parts in front in the end, by the same layout.
-    ensures used { OnOk result (ForSome (F.told f.old).files (λ from. ForEachKeptParent parent.now.node parent.now.entry (cast_unsigned w64 parent.now.signature) from (λ state layout unlinked number object. ForSome (F.told f.new).files (KeepsParentUsed state layout unlinked number object parent.now.node parent.now.entry (cast_unsigned w64 parent.now.signature) (parts_used object offset count) from)))) }
+    ensures used { OnOk result (ForSome (F.told folder.old).files (λ from. ForEachKeptParent parent.now.node parent.now.entry (cast_unsigned w64 parent.now.signature) from (λ state layout unlinked number object. ForSome (F.told folder.new).files (KeepsParentUsed state layout unlinked number object parent.now.node parent.now.entry (cast_unsigned w64 parent.now.signature) (parts_used object offset count) from)))) }
 
     // At each word the durable contents with the first of them in front are recovered.
-    ensures stops { ForSome (F.told f.old).files (λ from. ForEachKeptParent parent.now.node parent.now.entry (cast_unsigned w64 parent.now.signature) from (λ state layout unlinked number object. Passes (F.told f.old) (F.told f.new) (FindsUsed state (parts_used object offset count)))) }
+    ensures stops { ForSome (F.told folder.old).files (λ from. ForEachKeptParent parent.now.node parent.now.entry (cast_unsigned w64 parent.now.signature) from (λ state layout unlinked number object. Passes (F.told folder.old) (F.told folder.new) (FindsUsed state (parts_used object offset count)))) }
 
-    ensures is_open { ForSome (F.told f.new).files (IsOpen files.now) }
+    ensures is_open { ForSome (F.told folder.new).files (IsOpen files.now) }
 
     // Corruption is a check that fails on what is read here; nothing is written after it.
-    ensures damaged { IfDamaged result (IsFailedCheck files.now (F.told f.new)) }
+    ensures damaged { IfDamaged result (IsFailedCheck files.now (F.told folder.new)) }
 
     // An observable folder, with such an object, reports no corruption.
-    ensures untold { ForSome (F.told f.old).files (λ from. ForEachKeptParent parent.now.node parent.now.entry (cast_unsigned w64 parent.now.signature) from (λ state layout unlinked number object. IfDamaged result (λ _. (F.told f.old).files ≡ None))) }
+    ensures untold { ForSome (F.told folder.old).files (λ from. ForEachKeptParent parent.now.node parent.now.entry (cast_unsigned w64 parent.now.signature) from (λ state layout unlinked number object. IfDamaged result (λ _. (F.told folder.old).files ≡ None))) }
 
-    ensures silent { (F.told f.old).files ≡ None → (F.told f.new).files ≡ None }
-    ensures later { F.faults f.old ≤ F.faults f.new }
-    ensures device { IfDevice result (Rises (F.faults f.old) (F.faults f.new)) }
+    ensures silent { (F.told folder.old).files ≡ None → (F.told folder.new).files ≡ None }
+    ensures later { F.faults folder.old ≤ F.faults folder.new }
+    ensures device { IfDevice result (Rises (F.faults folder.old) (F.faults folder.new)) }
 {
-    let len = read_key(f, files, parent.entry, name)?;
-    let (key, room) = name.split_at_mut(LONGEST_KEY as usize);
+    let len = read_key(folder, files, parent.entry, name)?;
+    let (key, buffer) = name.split_at_mut(LONGEST_KEY as usize);
     use_covered(
-        f,
+        folder,
         files,
         &key[..len],
         parent.signature,
-        room,
+        buffer,
         offset,
         count,
         moment,
@@ -80,11 +80,11 @@ pub fn use_parts<F: Folder>(
 
 // Uses the parts of an object with a key that a range covers and that there are.
 fn use_covered<F: Folder>(
-    f: &mut F,
+    folder: &mut F,
     files: &BlockFiles,
     key: &[u8],
     signature: i64,
-    room: &mut [u8],
+    buffer: &mut [u8],
     offset: u64,
     count: u64,
     moment: u64,
@@ -92,59 +92,59 @@ fn use_covered<F: Folder>(
     requires some { 1 ≤ length key.now }
     requires short { length key.now ≤ longest_key }
     requires signature { cast_unsigned w64 signature < signatures }
-    requires room { longest_name ≤ length room.old }
+    requires buffer { longest_name ≤ length buffer.old }
     requires few { count ≤ part_size }
     requires inside { offset + count ≤ largest_offset }
-    requires is_open { ForSome (F.told f.old).files (IsOpen files.now) }
-    ensures used { OnOk result (ForSome (F.told f.old).files (λ from. ForEachOfKey key.now (cast_unsigned w64 signature) from (λ state layout unlinked at object node entry. ForSome (F.told f.new).files (KeepsParentUsed state layout unlinked at object node entry (cast_unsigned w64 signature) (parts_used object offset count) from)))) }
-    ensures stops { ForSome (F.told f.old).files (λ from. ForEachOfKey key.now (cast_unsigned w64 signature) from (λ state layout unlinked at object node entry. Passes (F.told f.old) (F.told f.new) (FindsUsed state (parts_used object offset count)))) }
-    ensures is_open { ForSome (F.told f.new).files (IsOpen files.now) }
-    ensures damaged { IfDamaged result (IsFailedCheck files.now (F.told f.new)) }
-    ensures untold { ForSome (F.told f.old).files (λ from. ForEachOfKey key.now (cast_unsigned w64 signature) from (λ state layout unlinked at object node entry. IfDamaged result (λ _. (F.told f.old).files ≡ None))) }
-    ensures silent { (F.told f.old).files ≡ None → (F.told f.new).files ≡ None }
-    ensures later { F.faults f.old ≤ F.faults f.new }
-    ensures device { IfDevice result (Rises (F.faults f.old) (F.faults f.new)) }
+    requires is_open { ForSome (F.told folder.old).files (IsOpen files.now) }
+    ensures used { OnOk result (ForSome (F.told folder.old).files (λ from. ForEachOfKey key.now (cast_unsigned w64 signature) from (λ state layout unlinked at object node entry. ForSome (F.told folder.new).files (KeepsParentUsed state layout unlinked at object node entry (cast_unsigned w64 signature) (parts_used object offset count) from)))) }
+    ensures stops { ForSome (F.told folder.old).files (λ from. ForEachOfKey key.now (cast_unsigned w64 signature) from (λ state layout unlinked at object node entry. Passes (F.told folder.old) (F.told folder.new) (FindsUsed state (parts_used object offset count)))) }
+    ensures is_open { ForSome (F.told folder.new).files (IsOpen files.now) }
+    ensures damaged { IfDamaged result (IsFailedCheck files.now (F.told folder.new)) }
+    ensures untold { ForSome (F.told folder.old).files (λ from. ForEachOfKey key.now (cast_unsigned w64 signature) from (λ state layout unlinked at object node entry. IfDamaged result (λ _. (F.told folder.old).files ≡ None))) }
+    ensures silent { (F.told folder.old).files ≡ None → (F.told folder.new).files ≡ None }
+    ensures later { F.faults folder.old ≤ F.faults folder.new }
+    ensures device { IfDevice result (Rises (F.faults folder.old) (F.faults folder.new)) }
 {
     if count == 0 {
         return Ok(());
     }
     let (first, _) = child_of(offset);
     let (last, _) = child_of(offset + count - 1);
-    use_part(f, files, key, signature, first, room, moment)?;
+    use_part(folder, files, key, signature, first, buffer, moment)?;
     if last == first {
         return Ok(());
     }
-    use_part(f, files, key, signature, last, room, moment)
+    use_part(folder, files, key, signature, last, buffer, moment)
 }
 
 // Uses a part of an object with a key, if there is the part.
 fn use_part<F: Folder>(
-    f: &mut F,
+    folder: &mut F,
     files: &BlockFiles,
     key: &[u8],
     signature: i64,
     number: u32,
-    room: &mut [u8],
+    buffer: &mut [u8],
     moment: u64,
 ) -> Result<(), Fault>
     requires some { 1 ≤ length key.now }
     requires short { length key.now ≤ longest_key }
     requires signature { cast_unsigned w64 signature < signatures }
     requires number { number < part_count }
-    requires room { longest_name ≤ length room.old }
-    requires is_open { ForSome (F.told f.old).files (IsOpen files.now) }
-    ensures used { OnOk result (ForSome (F.told f.old).files (λ from. ForEachOfKey key.now (cast_unsigned w64 signature) from (λ state layout unlinked at object node entry. ForSome (F.told f.new).files (KeepsParentUsed state layout unlinked at object node entry (cast_unsigned w64 signature) (parts_of object (existing_parts object (number ∷ []))) from)))) }
-    ensures stops { ForSome (F.told f.old).files (λ from. ForEachOfKey key.now (cast_unsigned w64 signature) from (λ state layout unlinked at object node entry. Passes (F.told f.old) (F.told f.new) (FindsUsed state (parts_of object (existing_parts object (number ∷ [])))))) }
-    ensures room { length room.new ≡ length room.old }
-    ensures is_open { ForSome (F.told f.new).files (IsOpen files.now) }
-    ensures damaged { IfDamaged result (IsFailedCheck files.now (F.told f.new)) }
-    ensures untold { ForSome (F.told f.old).files (λ from. ForEachOfKey key.now (cast_unsigned w64 signature) from (λ state layout unlinked at object node entry. IfDamaged result (λ _. (F.told f.old).files ≡ None))) }
-    ensures silent { (F.told f.old).files ≡ None → (F.told f.new).files ≡ None }
-    ensures later { F.faults f.old ≤ F.faults f.new }
-    ensures device { IfDevice result (Rises (F.faults f.old) (F.faults f.new)) }
+    requires buffer { longest_name ≤ length buffer.old }
+    requires is_open { ForSome (F.told folder.old).files (IsOpen files.now) }
+    ensures used { OnOk result (ForSome (F.told folder.old).files (λ from. ForEachOfKey key.now (cast_unsigned w64 signature) from (λ state layout unlinked at object node entry. ForSome (F.told folder.new).files (KeepsParentUsed state layout unlinked at object node entry (cast_unsigned w64 signature) (parts_of object (existing_parts object (number ∷ []))) from)))) }
+    ensures stops { ForSome (F.told folder.old).files (λ from. ForEachOfKey key.now (cast_unsigned w64 signature) from (λ state layout unlinked at object node entry. Passes (F.told folder.old) (F.told folder.new) (FindsUsed state (parts_of object (existing_parts object (number ∷ [])))))) }
+    ensures buffer { length buffer.new ≡ length buffer.old }
+    ensures is_open { ForSome (F.told folder.new).files (IsOpen files.now) }
+    ensures damaged { IfDamaged result (IsFailedCheck files.now (F.told folder.new)) }
+    ensures untold { ForSome (F.told folder.old).files (λ from. ForEachOfKey key.now (cast_unsigned w64 signature) from (λ state layout unlinked at object node entry. IfDamaged result (λ _. (F.told folder.old).files ≡ None))) }
+    ensures silent { (F.told folder.old).files ≡ None → (F.told folder.new).files ≡ None }
+    ensures later { F.faults folder.old ≤ F.faults folder.new }
+    ensures device { IfDevice result (Rises (F.faults folder.old) (F.faults folder.new)) }
 {
-    match find_part(f, files, key, signature, number, room)? {
-        Some(part) => use_entry(f, files, part, moment),
+    match find_part(folder, files, key, signature, number, buffer)? {
+        Some(part) => use_entry(folder, files, part, moment),
         None => Ok(()),
     }
 }

@@ -35,7 +35,7 @@ pub struct Run {
 /// names of the parts are made after the longest key. For each covered part there are the calls of `find`, and where
 /// there is the part two more.
 pub fn find_run<F: Folder>(
-    f: &mut F,
+    folder: &mut F,
     files: &BlockFiles,
     parent: &Parent,
     name: &mut [u8],
@@ -48,52 +48,60 @@ pub fn find_run<F: Folder>(
     requires name { longest_key + longest_name ≤ length name.old }
     requires few { count ≤ part_size }
     requires inside { offset + count ≤ largest_offset }
-    requires is_open { ForSome (F.told f.old).files (IsOpen files.now) }
+    requires is_open { ForSome (F.told folder.old).files (IsOpen files.now) }
 
     // It is that of each object that a kept state has so.
-    ensures run { IfOk result (λ run. ForSome (F.told f.old).files (λ from. ForEachKeptParent parent.now.node parent.now.entry (cast_unsigned w64 parent.now.signature) from (λ state layout unlinked number object. (run.start, run.length) ≡ present_run object offset count))) }
+    ensures run { IfOk result (λ run. ForSome (F.told folder.old).files (λ from. ForEachKeptParent parent.now.node parent.now.entry (cast_unsigned w64 parent.now.signature) from (λ state layout unlinked number object. (run.start, run.length) ≡ present_run object offset count))) }
 
-    ensures stays { Stays (F.told f.old) (F.told f.new) }
+    ensures stays { Stays (F.told folder.old) (F.told folder.new) }
     ensures name { length name.new ≡ length name.old }
 
     // Corruption is a check that fails on what is read here; nothing is written after it.
-    ensures damaged { IfDamaged result (IsFailedCheck files.now (F.told f.new)) }
+    ensures damaged { IfDamaged result (IsFailedCheck files.now (F.told folder.new)) }
 
     // An observable folder, with such an object, reports no corruption.
-    ensures untold { ForSome (F.told f.old).files (λ from. ForEachKeptParent parent.now.node parent.now.entry (cast_unsigned w64 parent.now.signature) from (λ state layout unlinked number object. IfDamaged result (λ _. (F.told f.old).files ≡ None))) }
+    ensures untold { ForSome (F.told folder.old).files (λ from. ForEachKeptParent parent.now.node parent.now.entry (cast_unsigned w64 parent.now.signature) from (λ state layout unlinked number object. IfDamaged result (λ _. (F.told folder.old).files ≡ None))) }
 
-    ensures later { F.faults f.old ≤ F.faults f.new }
-    ensures device { IfDevice result (Rises (F.faults f.old) (F.faults f.new)) }
+    ensures later { F.faults folder.old ≤ F.faults folder.new }
+    ensures device { IfDevice result (Rises (F.faults folder.old) (F.faults folder.new)) }
 {
-    let len = read_key(f, files, parent.entry, name)?;
-    let (key, room) = name.split_at_mut(LONGEST_KEY as usize);
-    run_covered(f, files, &key[..len], parent.signature, room, offset, count)
+    let len = read_key(folder, files, parent.entry, name)?;
+    let (key, buffer) = name.split_at_mut(LONGEST_KEY as usize);
+    run_covered(
+        folder,
+        files,
+        &key[..len],
+        parent.signature,
+        buffer,
+        offset,
+        count,
+    )
 }
 
 // The first run of an object with a key.
 fn run_covered<F: Folder>(
-    f: &mut F,
+    folder: &mut F,
     files: &BlockFiles,
     key: &[u8],
     signature: i64,
-    room: &mut [u8],
+    buffer: &mut [u8],
     offset: u64,
     count: u64,
 ) -> Result<Run, Fault>
     requires some { 1 ≤ length key.now }
     requires short { length key.now ≤ longest_key }
     requires signature { cast_unsigned w64 signature < signatures }
-    requires room { longest_name ≤ length room.old }
+    requires buffer { longest_name ≤ length buffer.old }
     requires few { count ≤ part_size }
     requires inside { offset + count ≤ largest_offset }
-    requires is_open { ForSome (F.told f.old).files (IsOpen files.now) }
-    ensures run { IfOk result (λ run. ForSome (F.told f.old).files (λ from. ForEachOfKey key.now (cast_unsigned w64 signature) from (λ state layout unlinked number object node entry. (run.start, run.length) ≡ present_run object offset count))) }
-    ensures room { length room.new ≡ length room.old }
-    ensures stays { Stays (F.told f.old) (F.told f.new) }
-    ensures damaged { IfDamaged result (IsFailedCheck files.now (F.told f.new)) }
-    ensures untold { ForSome (F.told f.old).files (λ from. ForEachOfKey key.now (cast_unsigned w64 signature) from (λ state layout unlinked number object node entry. IfDamaged result (λ _. (F.told f.old).files ≡ None))) }
-    ensures later { F.faults f.old ≤ F.faults f.new }
-    ensures device { IfDevice result (Rises (F.faults f.old) (F.faults f.new)) }
+    requires is_open { ForSome (F.told folder.old).files (IsOpen files.now) }
+    ensures run { IfOk result (λ run. ForSome (F.told folder.old).files (λ from. ForEachOfKey key.now (cast_unsigned w64 signature) from (λ state layout unlinked number object node entry. (run.start, run.length) ≡ present_run object offset count))) }
+    ensures buffer { length buffer.new ≡ length buffer.old }
+    ensures stays { Stays (F.told folder.old) (F.told folder.new) }
+    ensures damaged { IfDamaged result (IsFailedCheck files.now (F.told folder.new)) }
+    ensures untold { ForSome (F.told folder.old).files (λ from. ForEachOfKey key.now (cast_unsigned w64 signature) from (λ state layout unlinked number object node entry. IfDamaged result (λ _. (F.told folder.old).files ≡ None))) }
+    ensures later { F.faults folder.old ≤ F.faults folder.new }
+    ensures device { IfDevice result (Rises (F.faults folder.old) (F.faults folder.new)) }
 {
     if count == 0 {
         return Ok(Run {
@@ -103,7 +111,7 @@ fn run_covered<F: Folder>(
     }
     let (first, place) = child_of(offset);
     let cut = (PART_SIZE - place).min(count as u32);
-    let one = run_of_part(f, files, key, signature, first, room, place, cut)?;
+    let one = run_of_part(folder, files, key, signature, first, buffer, place, cut)?;
     let one = Run {
         start: offset - u64::from(place) + one.start,
         length: one.length,
@@ -112,7 +120,7 @@ fn run_covered<F: Folder>(
         return Ok(one);
     }
     let behind = count as u32 - cut;
-    let two = run_of_part(f, files, key, signature, first + 1, room, 0, behind)?;
+    let two = run_of_part(folder, files, key, signature, first + 1, buffer, 0, behind)?;
     let border = offset + u64::from(cut);
     let two = Run {
         start: border + two.start,
@@ -149,12 +157,12 @@ fn joined(asked: u64, border: u64, one: Run, two: Run) -> Run
 
 // The first run of a part of an object among `count` bytes from a place on; the place and 0 where there is none.
 fn run_of_part<F: Folder>(
-    f: &mut F,
+    folder: &mut F,
     files: &BlockFiles,
     key: &[u8],
     signature: i64,
     number: u32,
-    room: &mut [u8],
+    buffer: &mut [u8],
     place: u32,
     count: u32,
 ) -> Result<Run, Fault>
@@ -162,22 +170,22 @@ fn run_of_part<F: Folder>(
     requires short { length key.now ≤ longest_key }
     requires signature { cast_unsigned w64 signature < signatures }
     requires number { number < part_count }
-    requires room { longest_name ≤ length room.old }
+    requires buffer { longest_name ≤ length buffer.old }
     requires inside { place + count ≤ part_size }
-    requires is_open { ForSome (F.told f.old).files (IsOpen files.now) }
-    ensures run { IfOk result (λ run. ForSome (F.told f.old).files (λ from. ForEachOfKey key.now (cast_unsigned w64 signature) from (λ state layout unlinked at object node entry. (run.start, run.length) ≡ part_run object number place count))) }
+    requires is_open { ForSome (F.told folder.old).files (IsOpen files.now) }
+    ensures run { IfOk result (λ run. ForSome (F.told folder.old).files (λ from. ForEachOfKey key.now (cast_unsigned w64 signature) from (λ state layout unlinked at object node entry. (run.start, run.length) ≡ part_run object number place count))) }
     ensures from { IfOk result (λ run. place ≤ run.start) }
     ensures within { IfOk result (λ run. run.start + run.length ≤ place + count) }
-    ensures room { length room.new ≡ length room.old }
-    ensures stays { Stays (F.told f.old) (F.told f.new) }
-    ensures damaged { IfDamaged result (IsFailedCheck files.now (F.told f.new)) }
-    ensures untold { ForSome (F.told f.old).files (λ from. ForEachOfKey key.now (cast_unsigned w64 signature) from (λ state layout unlinked at object node entry. IfDamaged result (λ _. (F.told f.old).files ≡ None))) }
-    ensures later { F.faults f.old ≤ F.faults f.new }
-    ensures device { IfDevice result (Rises (F.faults f.old) (F.faults f.new)) }
+    ensures buffer { length buffer.new ≡ length buffer.old }
+    ensures stays { Stays (F.told folder.old) (F.told folder.new) }
+    ensures damaged { IfDamaged result (IsFailedCheck files.now (F.told folder.new)) }
+    ensures untold { ForSome (F.told folder.old).files (λ from. ForEachOfKey key.now (cast_unsigned w64 signature) from (λ state layout unlinked at object node entry. IfDamaged result (λ _. (F.told folder.old).files ≡ None))) }
+    ensures later { F.faults folder.old ≤ F.faults folder.new }
+    ensures device { IfDevice result (Rises (F.faults folder.old) (F.faults folder.new)) }
 {
-    match find_part(f, files, key, signature, number, room)? {
+    match find_part(folder, files, key, signature, number, buffer)? {
         Some(part) => {
-            let map = read_map(f, files, part)?;
+            let map = read_map(folder, files, part)?;
             let (start, length) = map.present_run(place, place + count);
             Ok(Run {
                 start: u64::from(start),

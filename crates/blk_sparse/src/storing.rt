@@ -40,7 +40,7 @@ pub struct Target {
 ///
 /// The key is read from the record into the front of `name`, and the names of the parts are made after the longest key.
 pub fn store_sparse<F: Folder>(
-    f: &mut F,
+    folder: &mut F,
     files: &mut BlockFiles,
     target: &Target,
     name: &mut [u8],
@@ -56,31 +56,31 @@ pub fn store_sparse<F: Folder>(
     requires name { longest_key + longest_name ≤ length name.old }
     requires few { length bytes.now ≤ part_size }
     requires inside { offset + length bytes.now ≤ largest_offset }
-    requires is_open { ForSome (F.told f.old).files (IsOpen files.old) }
+    requires is_open { ForSome (F.told folder.old).files (IsOpen files.old) }
 
     // Each state that was kept, with such an object, is kept with the bytes, and with its items in front.
-    ensures stored { OnOk result (ForSome (F.told f.old).files (λ from. ForEachToStore target.now offset bytes.now entries charge from (λ state layout number object. ForSome (F.told f.new).files (IsKeptWithBytes state layout number object target.now offset bytes.now from)))) }
+    ensures stored { OnOk result (ForSome (F.told folder.old).files (λ from. ForEachToStore target.now offset bytes.now entries charge from (λ state layout number object. ForSome (F.told folder.new).files (IsKeptWithBytes state layout number object target.now offset bytes.now from)))) }
 
     // At each word the old durable contents are recovered: a dirty object isn't durable.
-    ensures stops { ForSome (F.told f.old).files (λ from. ForEachToStore target.now offset bytes.now entries charge from (λ state layout number object. Passes (F.told f.old) (F.told f.new) (Finds (rest state)))) }
+    ensures stops { ForSome (F.told folder.old).files (λ from. ForEachToStore target.now offset bytes.now entries charge from (λ state layout number object. Passes (F.told folder.old) (F.told folder.new) (Finds (rest state)))) }
 
     // What was valid still is.
     ensures keeps { KeepsStanding files.old files.new }
-    ensures is_open { OnOk result (ForSome (F.told f.new).files (IsOpen files.new)) }
+    ensures is_open { OnOk result (ForSome (F.told folder.new).files (IsOpen files.new)) }
 
     // Corruption is a check that fails on what is read here; nothing is written after it.
-    ensures damaged { IfDamaged result (IsFailedCheck files.new (F.told f.new)) }
+    ensures damaged { IfDamaged result (IsFailedCheck files.new (F.told folder.new)) }
 
     // An observable folder, with such an object, reports no corruption.
-    ensures untold { ForSome (F.told f.old).files (λ from. ForEachToStore target.now offset bytes.now entries charge from (λ state layout number object. IfDamaged result (λ _. (F.told f.old).files ≡ None))) }
+    ensures untold { ForSome (F.told folder.old).files (λ from. ForEachToStore target.now offset bytes.now entries charge from (λ state layout number object. IfDamaged result (λ _. (F.told folder.old).files ≡ None))) }
 
-    ensures silent { (F.told f.old).files ≡ None → (F.told f.new).files ≡ None }
-    ensures later { F.faults f.old ≤ F.faults f.new }
-    ensures device { IfDevice result (Rises (F.faults f.old) (F.faults f.new)) }
+    ensures silent { (F.told folder.old).files ≡ None → (F.told folder.new).files ≡ None }
+    ensures later { F.faults folder.old ≤ F.faults folder.new }
+    ensures device { IfDevice result (Rises (F.faults folder.old) (F.faults folder.new)) }
 {
-    use_and_begin(f, files, target, moment)?;
+    use_and_begin(folder, files, target, moment)?;
     write_and_count(
-        f,
+        folder,
         files,
         &target.parent,
         name,
@@ -94,7 +94,7 @@ pub fn store_sparse<F: Folder>(
 
 // Uses the main item of an object, which becomes sparse where it is plain.
 fn use_and_begin<F: Folder>(
-    f: &mut F,
+    folder: &mut F,
     files: &mut BlockFiles,
     target: &Target,
     moment: u64,
@@ -102,27 +102,27 @@ fn use_and_begin<F: Folder>(
     requires kind { kind_of target.now.parent.entry ≡ blocks_256 }
     requires stands { IsTrue (stands_among files.old target.now.parent.entry) }
     requires signature { signature_to target.now < signatures }
-    requires is_open { ForSome (F.told f.old).files (IsOpen files.old) }
-    ensures begun { OnOk result (ForSome (F.told f.old).files (λ from. ForEachTarget [] target.now from (λ state layout unlinked number object. ForSome (F.told f.new).files (KeepsParentThen (with_parent_used state number object (signature_to target.now)) layout unlinked number (with_signature object (signature_to target.now)) target.now.parent.node target.now.parent.entry (signature_to target.now) from)))) }
-    ensures stops { ForSome (F.told f.old).files (λ from. ForEachTarget [] target.now from (λ state layout unlinked number object. Passes (F.told f.old) (F.told f.new) (Finds (rest state)))) }
+    requires is_open { ForSome (F.told folder.old).files (IsOpen files.old) }
+    ensures begun { OnOk result (ForSome (F.told folder.old).files (λ from. ForEachTarget [] target.now from (λ state layout unlinked number object. ForSome (F.told folder.new).files (KeepsParentThen (with_parent_used state number object (signature_to target.now)) layout unlinked number (with_signature object (signature_to target.now)) target.now.parent.node target.now.parent.entry (signature_to target.now) from)))) }
+    ensures stops { ForSome (F.told folder.old).files (λ from. ForEachTarget [] target.now from (λ state layout unlinked number object. Passes (F.told folder.old) (F.told folder.new) (Finds (rest state)))) }
     ensures keeps { KeepsStanding files.old files.new }
-    ensures is_open { OnOk result (ForSome (F.told f.new).files (IsOpen files.new)) }
-    ensures damaged { IfDamaged result (IsFailedCheck files.new (F.told f.new)) }
-    ensures untold { ForSome (F.told f.old).files (λ from. ForEachTarget [] target.now from (λ state layout unlinked number object. IfDamaged result (λ _. (F.told f.old).files ≡ None))) }
-    ensures silent { (F.told f.old).files ≡ None → (F.told f.new).files ≡ None }
-    ensures later { F.faults f.old ≤ F.faults f.new }
-    ensures device { IfDevice result (Rises (F.faults f.old) (F.faults f.new)) }
+    ensures is_open { OnOk result (ForSome (F.told folder.new).files (IsOpen files.new)) }
+    ensures damaged { IfDamaged result (IsFailedCheck files.new (F.told folder.new)) }
+    ensures untold { ForSome (F.told folder.old).files (λ from. ForEachTarget [] target.now from (λ state layout unlinked number object. IfDamaged result (λ _. (F.told folder.old).files ≡ None))) }
+    ensures silent { (F.told folder.old).files ≡ None → (F.told folder.new).files ≡ None }
+    ensures later { F.faults folder.old ≤ F.faults folder.new }
+    ensures device { IfDevice result (Rises (F.faults folder.old) (F.faults folder.new)) }
 {
-    use_entry(f, files, target.parent.entry, moment)?;
+    use_entry(folder, files, target.parent.entry, moment)?;
     if target.plain {
-        return begin(f, files, target.parent.entry, target.parent.signature);
+        return begin(folder, files, target.parent.entry, target.parent.signature);
     }
     Ok(())
 }
 
 // Writes bytes to an object with parts, and counts so many items more, and so much more charge, in the index.
 fn write_and_count<F: Folder>(
-    f: &mut F,
+    folder: &mut F,
     files: &mut BlockFiles,
     parent: &Parent,
     name: &mut [u8],
@@ -138,17 +138,17 @@ fn write_and_count<F: Folder>(
     requires name { longest_key + longest_name ≤ length name.old }
     requires few { length bytes.now ≤ part_size }
     requires inside { offset + length bytes.now ≤ largest_offset }
-    requires is_open { ForSome (F.told f.old).files (IsOpen files.old) }
-    ensures counted { OnOk result (ForSome (F.told f.old).files (λ from. ForEachGrowing (covered_parts offset (length bytes.now)) parent.now.node parent.now.entry (cast_unsigned w64 parent.now.signature) from (λ state layout unlinked number object. (counted : State) (laid : Layout) → CountsAfter counted laid (with_bytes_written state number object offset bytes.now) entries charge from → ForSome (F.told f.new).files (IsCountedThen (with_bytes_written state number object offset bytes.now) layout unlinked number (with_bytes object offset bytes.now) parent.now.node parent.now.entry (cast_unsigned w64 parent.now.signature) from)))) }
-    ensures stops { ForSome (F.told f.old).files (λ from. ForEachGrowing (covered_parts offset (length bytes.now)) parent.now.node parent.now.entry (cast_unsigned w64 parent.now.signature) from (λ state layout unlinked number object. Passes (F.told f.old) (F.told f.new) (Finds (rest state)))) }
+    requires is_open { ForSome (F.told folder.old).files (IsOpen files.old) }
+    ensures counted { OnOk result (ForSome (F.told folder.old).files (λ from. ForEachGrowing (covered_parts offset (length bytes.now)) parent.now.node parent.now.entry (cast_unsigned w64 parent.now.signature) from (λ state layout unlinked number object. (counted : State) (laid : Layout) → CountsAfter counted laid (with_bytes_written state number object offset bytes.now) entries charge from → ForSome (F.told folder.new).files (IsCountedThen (with_bytes_written state number object offset bytes.now) layout unlinked number (with_bytes object offset bytes.now) parent.now.node parent.now.entry (cast_unsigned w64 parent.now.signature) from)))) }
+    ensures stops { ForSome (F.told folder.old).files (λ from. ForEachGrowing (covered_parts offset (length bytes.now)) parent.now.node parent.now.entry (cast_unsigned w64 parent.now.signature) from (λ state layout unlinked number object. Passes (F.told folder.old) (F.told folder.new) (Finds (rest state)))) }
     ensures keeps { KeepsStanding files.old files.new }
-    ensures is_open { OnOk result (ForSome (F.told f.new).files (IsOpen files.new)) }
-    ensures damaged { IfDamaged result (IsFailedCheck files.new (F.told f.new)) }
-    ensures untold { ForSome (F.told f.old).files (λ from. ForEachGrowing (covered_parts offset (length bytes.now)) parent.now.node parent.now.entry (cast_unsigned w64 parent.now.signature) from (λ state layout unlinked number object. IfDamaged result (λ _. (F.told f.old).files ≡ None))) }
-    ensures silent { (F.told f.old).files ≡ None → (F.told f.new).files ≡ None }
-    ensures later { F.faults f.old ≤ F.faults f.new }
-    ensures device { IfDevice result (Rises (F.faults f.old) (F.faults f.new)) }
+    ensures is_open { OnOk result (ForSome (F.told folder.new).files (IsOpen files.new)) }
+    ensures damaged { IfDamaged result (IsFailedCheck files.new (F.told folder.new)) }
+    ensures untold { ForSome (F.told folder.old).files (λ from. ForEachGrowing (covered_parts offset (length bytes.now)) parent.now.node parent.now.entry (cast_unsigned w64 parent.now.signature) from (λ state layout unlinked number object. IfDamaged result (λ _. (F.told folder.old).files ≡ None))) }
+    ensures silent { (F.told folder.old).files ≡ None → (F.told folder.new).files ≡ None }
+    ensures later { F.faults folder.old ≤ F.faults folder.new }
+    ensures device { IfDevice result (Rises (F.faults folder.old) (F.faults folder.new)) }
 {
-    write(f, files, parent, name, offset, bytes, moment)?;
-    count_more(f, files, entries, charge)
+    write(folder, files, parent, name, offset, bytes, moment)?;
+    count_more(folder, files, entries, charge)
 }

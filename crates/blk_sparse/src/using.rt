@@ -25,7 +25,7 @@ use blk_io::{Fault, Folder};
 ///
 /// One folder call reads the parent's node, and then there are those of `touch` and of `range`.
 pub fn use_range<F: Folder>(
-    f: &mut F,
+    folder: &mut F,
     files: &BlockFiles,
     parent: &Parent,
     name: &mut [u8],
@@ -39,29 +39,29 @@ pub fn use_range<F: Folder>(
     requires name { longest_key + longest_name ≤ length name.old }
     requires few { count ≤ part_size }
     requires inside { offset + count ≤ largest_offset }
-    requires is_open { ForSome (F.told f.old).files (IsOpen files.now) }
+    requires is_open { ForSome (F.told folder.old).files (IsOpen files.now) }
 
     // It is that of each object that a kept state has so.
-    ensures run { IfOk result (λ run. ForSome (F.told f.old).files (λ from. ForEachKeptParent parent.now.node parent.now.entry (cast_unsigned w64 parent.now.signature) from (λ state layout unlinked number object. (run.0, run.1) ≡ present_run object offset count))) }
+    ensures run { IfOk result (λ run. ForSome (F.told folder.old).files (λ from. ForEachKeptParent parent.now.node parent.now.entry (cast_unsigned w64 parent.now.signature) from (λ state layout unlinked number object. (run.0, run.1) ≡ present_run object offset count))) }
 
     // Each state that was kept, with such an object, is kept with these items in front in the end, by the same layout.
-    ensures used { OnOk result (ForSome (F.told f.old).files (λ from. ForEachKeptParent parent.now.node parent.now.entry (cast_unsigned w64 parent.now.signature) from (λ state layout unlinked number object. ForSome (F.told f.new).files (KeepsParentUsed state layout unlinked number object parent.now.node parent.now.entry (cast_unsigned w64 parent.now.signature) (main object.key ∷ parts_used object offset count) from)))) }
+    ensures used { OnOk result (ForSome (F.told folder.old).files (λ from. ForEachKeptParent parent.now.node parent.now.entry (cast_unsigned w64 parent.now.signature) from (λ state layout unlinked number object. ForSome (F.told folder.new).files (KeepsParentUsed state layout unlinked number object parent.now.node parent.now.entry (cast_unsigned w64 parent.now.signature) (main object.key ∷ parts_used object offset count) from)))) }
 
     // At each word the durable contents with the first of them in front are recovered.
-    ensures stops { ForSome (F.told f.old).files (λ from. ForEachKeptParent parent.now.node parent.now.entry (cast_unsigned w64 parent.now.signature) from (λ state layout unlinked number object. Passes (F.told f.old) (F.told f.new) (FindsUsed state (main object.key ∷ parts_used object offset count)))) }
+    ensures stops { ForSome (F.told folder.old).files (λ from. ForEachKeptParent parent.now.node parent.now.entry (cast_unsigned w64 parent.now.signature) from (λ state layout unlinked number object. Passes (F.told folder.old) (F.told folder.new) (FindsUsed state (main object.key ∷ parts_used object offset count)))) }
 
-    ensures is_open { ForSome (F.told f.new).files (IsOpen files.now) }
+    ensures is_open { ForSome (F.told folder.new).files (IsOpen files.now) }
 
     // Corruption is a check that fails on what is read here; nothing is written after it.
-    ensures damaged { IfDamaged result (IsFailedCheck files.now (F.told f.new)) }
+    ensures damaged { IfDamaged result (IsFailedCheck files.now (F.told folder.new)) }
 
     // An observable folder, with such an object, reports no corruption.
-    ensures untold { ForSome (F.told f.old).files (λ from. ForEachKeptParent parent.now.node parent.now.entry (cast_unsigned w64 parent.now.signature) from (λ state layout unlinked number object. IfDamaged result (λ _. (F.told f.old).files ≡ None))) }
+    ensures untold { ForSome (F.told folder.old).files (λ from. ForEachKeptParent parent.now.node parent.now.entry (cast_unsigned w64 parent.now.signature) from (λ state layout unlinked number object. IfDamaged result (λ _. (F.told folder.old).files ≡ None))) }
 
-    ensures silent { (F.told f.old).files ≡ None → (F.told f.new).files ≡ None }
-    ensures later { F.faults f.old ≤ F.faults f.new }
-    ensures device { IfDevice result (Rises (F.faults f.old) (F.faults f.new)) }
+    ensures silent { (F.told folder.old).files ≡ None → (F.told folder.new).files ≡ None }
+    ensures later { F.faults folder.old ≤ F.faults folder.new }
+    ensures device { IfDevice result (Rises (F.faults folder.old) (F.faults folder.new)) }
 {
-    use_entry(f, files, parent.entry, moment)?;
-    range(f, files, parent, name, offset, count, moment)
+    use_entry(folder, files, parent.entry, moment)?;
+    range(folder, files, parent, name, offset, count, moment)
 }

@@ -27,11 +27,11 @@ use blk_ranges::{ChildName, LONGEST_KEY, PART_SIZE, child_name, child_of};
 
 // Writes a piece to a part of an object with a key: to the part that there is, or to one that is made.
 pub(crate) fn write_piece<F: Folder>(
-    f: &mut F,
+    folder: &mut F,
     files: &mut BlockFiles,
     parent: &Parent,
     key: &[u8],
-    room: &mut [u8],
+    buffer: &mut [u8],
     number: u32,
     place: u32,
     piece: &[u8],
@@ -42,50 +42,50 @@ pub(crate) fn write_piece<F: Folder>(
     requires signature { cast_unsigned w64 parent.now.signature < signatures }
     requires some_key { 1 ≤ length key.now }
     requires short_key { length key.now ≤ longest_key }
-    requires room { longest_name ≤ length room.old }
+    requires buffer { longest_name ≤ length buffer.old }
     requires number { number < part_count }
     requires some { 1 ≤ length piece.now }
     requires inside { place + length piece.now ≤ part_size }
-    requires is_open { ForSome (F.told f.old).files (IsOpen files.old) }
+    requires is_open { ForSome (F.told folder.old).files (IsOpen files.old) }
 
     // Each state that was kept, with such an object, is kept with the piece written and the part in front, but for the counters.
-    ensures written { OnOk result (ForSome (F.told f.old).files (λ from. ForEachGrowingOfKey (number ∷ []) key.now parent.now.entry (cast_unsigned w64 parent.now.signature) from (λ state layout unlinked at object node. ForSome (F.told f.new).files (KeepsParentThen (with_piece_written state at object number place piece.now) layout unlinked at (with_piece object number place piece.now) node parent.now.entry (cast_unsigned w64 parent.now.signature) from)))) }
+    ensures written { OnOk result (ForSome (F.told folder.old).files (λ from. ForEachGrowingOfKey (number ∷ []) key.now parent.now.entry (cast_unsigned w64 parent.now.signature) from (λ state layout unlinked at object node. ForSome (F.told folder.new).files (KeepsParentThen (with_piece_written state at object number place piece.now) layout unlinked at (with_piece object number place piece.now) node parent.now.entry (cast_unsigned w64 parent.now.signature) from)))) }
 
     // At each word the old durable contents are recovered: a dirty object isn't durable.
-    ensures stops { ForSome (F.told f.old).files (λ from. ForEachGrowingOfKey (number ∷ []) key.now parent.now.entry (cast_unsigned w64 parent.now.signature) from (λ state layout unlinked at object node. Passes (F.told f.old) (F.told f.new) (Finds (rest state)))) }
+    ensures stops { ForSome (F.told folder.old).files (λ from. ForEachGrowingOfKey (number ∷ []) key.now parent.now.entry (cast_unsigned w64 parent.now.signature) from (λ state layout unlinked at object node. Passes (F.told folder.old) (F.told folder.new) (Finds (rest state)))) }
 
     // Of a part that there is the data comes before its map, and one that is made is whole before its parent's bit is set.
-    ensures ordered { OnOk result (ForSome (F.told f.old).files (λ from. ForEachGrowingOfKey (number ∷ []) key.now parent.now.entry (cast_unsigned w64 parent.now.signature) from (λ state layout unlinked at object node. IsPieceInOrder files.new state layout unlinked at object parent.now.entry (cast_unsigned w64 parent.now.signature) number place piece.now (F.told f.old) (F.told f.new)))) }
+    ensures ordered { OnOk result (ForSome (F.told folder.old).files (λ from. ForEachGrowingOfKey (number ∷ []) key.now parent.now.entry (cast_unsigned w64 parent.now.signature) from (λ state layout unlinked at object node. IsPieceInOrder files.new state layout unlinked at object parent.now.entry (cast_unsigned w64 parent.now.signature) number place piece.now (F.told folder.old) (F.told folder.new)))) }
 
-    ensures room { length room.new ≡ length room.old }
+    ensures buffer { length buffer.new ≡ length buffer.old }
     ensures keeps { KeepsStanding files.old files.new }
-    ensures is_open { OnOk result (ForSome (F.told f.new).files (IsOpen files.new)) }
+    ensures is_open { OnOk result (ForSome (F.told folder.new).files (IsOpen files.new)) }
 
     // Corruption is a check that fails on what is read here; nothing is written after it.
-    ensures damaged { IfDamaged result (IsFailedCheck files.new (F.told f.new)) }
+    ensures damaged { IfDamaged result (IsFailedCheck files.new (F.told folder.new)) }
 
     // An observable folder, with such an object, reports no corruption.
-    ensures untold { ForSome (F.told f.old).files (λ from. ForEachGrowingOfKey (number ∷ []) key.now parent.now.entry (cast_unsigned w64 parent.now.signature) from (λ state layout unlinked at object node. IfDamaged result (λ _. (F.told f.old).files ≡ None))) }
+    ensures untold { ForSome (F.told folder.old).files (λ from. ForEachGrowingOfKey (number ∷ []) key.now parent.now.entry (cast_unsigned w64 parent.now.signature) from (λ state layout unlinked at object node. IfDamaged result (λ _. (F.told folder.old).files ≡ None))) }
 
-    ensures silent { (F.told f.old).files ≡ None → (F.told f.new).files ≡ None }
-    ensures later { F.faults f.old ≤ F.faults f.new }
-    ensures device { IfDevice result (Rises (F.faults f.old) (F.faults f.new)) }
+    ensures silent { (F.told folder.old).files ≡ None → (F.told folder.new).files ≡ None }
+    ensures later { F.faults folder.old ≤ F.faults folder.new }
+    ensures device { IfDevice result (Rises (F.faults folder.old) (F.faults folder.new)) }
 {
-    if let Some(part) = find_part(f, files, key, parent.signature, number, room)? {
-        return change_part(f, files, part, place, piece, moment);
+    if let Some(part) = find_part(folder, files, key, parent.signature, number, buffer)? {
+        return change_part(folder, files, part, place, piece, moment);
     }
-    let len = child_name(key, parent.signature, number, room);
+    let len = child_name(key, parent.signature, number, buffer);
     let child = ChildName {
         key_len: key.len(),
         signature: parent.signature,
         part: number,
     };
     make_part(
-        f,
+        folder,
         files,
         parent.entry,
         &child,
-        &room[..len],
+        &buffer[..len],
         place,
         piece,
         moment,
@@ -94,11 +94,11 @@ pub(crate) fn write_piece<F: Folder>(
 
 // Writes bytes to an object with a key from an offset on: to one part, or to two.
 fn write_covered<F: Folder>(
-    f: &mut F,
+    folder: &mut F,
     files: &mut BlockFiles,
     parent: &Parent,
     key: &[u8],
-    room: &mut [u8],
+    buffer: &mut [u8],
     offset: u64,
     bytes: &[u8],
     moment: u64,
@@ -108,30 +108,44 @@ fn write_covered<F: Folder>(
     requires signature { cast_unsigned w64 parent.now.signature < signatures }
     requires some_key { 1 ≤ length key.now }
     requires short_key { length key.now ≤ longest_key }
-    requires room { longest_name ≤ length room.old }
+    requires buffer { longest_name ≤ length buffer.old }
     requires some { 1 ≤ length bytes.now }
     requires few { length bytes.now ≤ part_size }
     requires inside { offset + length bytes.now ≤ largest_offset }
-    requires is_open { ForSome (F.told f.old).files (IsOpen files.old) }
-    ensures written { OnOk result (ForSome (F.told f.old).files (λ from. ForEachGrowingOfKey (covered_parts offset (length bytes.now)) key.now parent.now.entry (cast_unsigned w64 parent.now.signature) from (λ state layout unlinked at object node. ForSome (F.told f.new).files (KeepsParentThen (with_bytes_written state at object offset bytes.now) layout unlinked at (with_bytes object offset bytes.now) node parent.now.entry (cast_unsigned w64 parent.now.signature) from)))) }
-    ensures stops { ForSome (F.told f.old).files (λ from. ForEachGrowingOfKey (covered_parts offset (length bytes.now)) key.now parent.now.entry (cast_unsigned w64 parent.now.signature) from (λ state layout unlinked at object node. Passes (F.told f.old) (F.told f.new) (Finds (rest state)))) }
-    ensures ordered { OnOk result (ForSome (F.told f.old).files (λ from. ForEachGrowingOfKey (covered_parts offset (length bytes.now)) key.now parent.now.entry (cast_unsigned w64 parent.now.signature) from (λ state layout unlinked at object node. AreInOrder (covered_parts offset (length bytes.now)) state layout unlinked at object parent.now.entry (cast_unsigned w64 parent.now.signature) offset bytes.now (F.told f.old) (F.told f.new)))) }
+    requires is_open { ForSome (F.told folder.old).files (IsOpen files.old) }
+    ensures written { OnOk result (ForSome (F.told folder.old).files (λ from. ForEachGrowingOfKey (covered_parts offset (length bytes.now)) key.now parent.now.entry (cast_unsigned w64 parent.now.signature) from (λ state layout unlinked at object node. ForSome (F.told folder.new).files (KeepsParentThen (with_bytes_written state at object offset bytes.now) layout unlinked at (with_bytes object offset bytes.now) node parent.now.entry (cast_unsigned w64 parent.now.signature) from)))) }
+    ensures stops { ForSome (F.told folder.old).files (λ from. ForEachGrowingOfKey (covered_parts offset (length bytes.now)) key.now parent.now.entry (cast_unsigned w64 parent.now.signature) from (λ state layout unlinked at object node. Passes (F.told folder.old) (F.told folder.new) (Finds (rest state)))) }
+    ensures ordered { OnOk result (ForSome (F.told folder.old).files (λ from. ForEachGrowingOfKey (covered_parts offset (length bytes.now)) key.now parent.now.entry (cast_unsigned w64 parent.now.signature) from (λ state layout unlinked at object node. AreInOrder (covered_parts offset (length bytes.now)) state layout unlinked at object parent.now.entry (cast_unsigned w64 parent.now.signature) offset bytes.now (F.told folder.old) (F.told folder.new)))) }
     ensures keeps { KeepsStanding files.old files.new }
-    ensures is_open { OnOk result (ForSome (F.told f.new).files (IsOpen files.new)) }
-    ensures damaged { IfDamaged result (IsFailedCheck files.new (F.told f.new)) }
-    ensures untold { ForSome (F.told f.old).files (λ from. ForEachGrowingOfKey (covered_parts offset (length bytes.now)) key.now parent.now.entry (cast_unsigned w64 parent.now.signature) from (λ state layout unlinked at object node. IfDamaged result (λ _. (F.told f.old).files ≡ None))) }
-    ensures silent { (F.told f.old).files ≡ None → (F.told f.new).files ≡ None }
-    ensures later { F.faults f.old ≤ F.faults f.new }
-    ensures device { IfDevice result (Rises (F.faults f.old) (F.faults f.new)) }
+    ensures is_open { OnOk result (ForSome (F.told folder.new).files (IsOpen files.new)) }
+    ensures damaged { IfDamaged result (IsFailedCheck files.new (F.told folder.new)) }
+    ensures untold { ForSome (F.told folder.old).files (λ from. ForEachGrowingOfKey (covered_parts offset (length bytes.now)) key.now parent.now.entry (cast_unsigned w64 parent.now.signature) from (λ state layout unlinked at object node. IfDamaged result (λ _. (F.told folder.old).files ≡ None))) }
+    ensures silent { (F.told folder.old).files ≡ None → (F.told folder.new).files ≡ None }
+    ensures later { F.faults folder.old ≤ F.faults folder.new }
+    ensures device { IfDevice result (Rises (F.faults folder.old) (F.faults folder.new)) }
 {
     let (number, place) = child_of(offset);
     let left = (PART_SIZE - place) as usize;
     if bytes.len() <= left {
-        return write_piece(f, files, parent, key, room, number, place, bytes, moment);
+        return write_piece(
+            folder, files, parent, key, buffer, number, place, bytes, moment,
+        );
     }
     let (front, back) = bytes.split_at(left);
-    write_piece(f, files, parent, key, room, number, place, front, moment)?;
-    write_piece(f, files, parent, key, room, number + 1, 0, back, moment)
+    write_piece(
+        folder, files, parent, key, buffer, number, place, front, moment,
+    )?;
+    write_piece(
+        folder,
+        files,
+        parent,
+        key,
+        buffer,
+        number + 1,
+        0,
+        back,
+        moment,
+    )
 }
 
 /// Writes bytes to an object with parts, which is dirty, from an offset on. Each part that the range covers gets its
@@ -184,6 +198,6 @@ pub fn write<F: Folder>(
         return Ok(());
     }
     let len = read_key(f, files, parent.entry, name)?;
-    let (key, room) = name.split_at_mut(LONGEST_KEY as usize);
-    write_covered(f, files, parent, &key[..len], room, offset, bytes, moment)
+    let (key, buffer) = name.split_at_mut(LONGEST_KEY as usize);
+    write_covered(f, files, parent, &key[..len], buffer, offset, bytes, moment)
 }

@@ -22,7 +22,7 @@ use Rattle.blk_entry.specs.Keys.{data_at, data_file, data_start, IsInFile, IsIns
 use Rattle.blk_entry.specs.Steps.{data_steps}
 use Rattle.blk_entry.proofs.NewImages.{same_kind}
 use Rattle.blk_stream.specs.declared.places.Stored.{Stored}
-use Rattle.blk_stream.specs.Copying.{AreOldBytes, IsCopied, IsCutOld, IsCutFront, ShareNoData, data_byte, old_spans, span_of}
+use Rattle.blk_stream.specs.Copying.{AreOldBytes, IsCopied, IsCutOld, IsCutPrefix, ShareNoData, data_byte, old_spans, span_of}
 use Rattle.blk_stream.proofs.PlacesFreed.{blocky_of}
 use Rattle.blk_stream.proofs.Naming.{apart_place}
 use Rattle.blk_stream.proofs.InsideSteps.{apart_file}
@@ -221,7 +221,7 @@ pub both_spans : (other old size offset count : ℕ) (from mid image : Image) �
 both_spans other old size offset count from mid image one two = outside-trans (old_spans other old size offset count) from mid image one two
 
 -- a read of some of them that gave fewer
-pub cut_old : (told : Told) (old : Stored) (w size : ℕ) (damage : Damage) → old.addr ≡ Some w → size ≤ old.size → IsCutFront told w size damage → IsCutOld told old damage
+pub cut_old : (told : Told) (old : Stored) (w size : ℕ) (damage : Damage) → old.addr ≡ Some w → size ≤ old.size → IsCutPrefix told w size damage → IsCutOld told old damage
 cut_old told old w size damage is few cut = record {
   word = w;
   is = is;

@@ -16,7 +16,7 @@ use Rattle.spec_format.specs.Records.{entry_checks}
 use Rattle.spec_format.specs.Sealed.{IsMidUpdate, RecordChecks, record_at, seal_place, sealed_steps, steps_over}
 use Rattle.spec_format.proofs.SealedRecords.{entry_seal, moments}
 use Rattle.spec_folder.specs.View.{entry_at}
-use Rattle.law_folder.proofs.updates.Fronts.{AreSmall}
+use Rattle.law_folder.proofs.updates.Prefixes.{AreSmall}
 use Rattle.blk_disk.specs.declared.tables.BlockFiles.{BlockFiles}
 use Rattle.blk_disk.specs.Tables.{Agrees, stands_among}
 use Rattle.blk_entry.specs.Keys.{IsInside, data_file, data_start}

@@ -15,7 +15,7 @@ use Rattle.spec_format.proofs.Bodies.{entry_body-in, range-add}
 use Rattle.spec_format.proofs.SealedFields.{record_word, updated_seal}
 use Rattle.spec_format.proofs.SealedRecords.{entry_bytes, entry_seal, length-record, seal_last}
 use Rattle.spec_folder.specs.View.{entry_at}
-use Rattle.law_folder.proofs.updates.Fronts.{AreSmall, entry_checks-by, entry_checks-front, small-range, small-take, small-words}
+use Rattle.law_folder.proofs.updates.Prefixes.{AreSmall, entry_checks-by, entry_checks-prefix, small-range, small-take, small-words}
 use Rattle.law_folder.proofs.updates.Updates.{entry-here}
 use Rattle.blk_stream.specs.Stages.{KeepsSeal}
 
@@ -52,7 +52,7 @@ shown_small image w kind small good =
     let s : seal_place w ≡ 92 = entry_seal w kind in
     let seal : word_at (byte image (Block (file_selector w))) (place w + 92) ≡ word_at (content (record_at image w)) 92 = sym (record_word image w 92 (omega (arith, s, seal_last (kind_of w)))) in
     entry_checks-by (entry_at image w) (entry_in (content (record_at image w)) 0) seal (entry-here image w kind)
-    ∙ entry_checks-front (record_at image w) (subst (λ (n : ℕ). AreSmall (take n (record_at image w))) s small) (omega (arith, s, length-record w image))
+    ∙ entry_checks-prefix (record_at image w) (subst (λ (n : ℕ). AreSmall (take n (record_at image w))) s small) (omega (arith, s, length-record w image))
     ∙ subst (λ (n : ℕ). checks n (record_at image w) ≡ true) s good
 
 -- so it is where its bytes are those of a record that are small

@@ -37,7 +37,7 @@ use Rattle.blk_stream.specs.Changing.{HasWords, NamesInProgress, stream_words}
 use Rattle.blk_stream.specs.Freeing.{MayBeFreed, leaving_of}
 use Rattle.blk_stream.specs.Moving.{CanBeFilled, FillsInProgress, HasPlaceLength, IsPlaceFilled, LeavesPlace, LeavesPlaceInProgress, data_at_place}
 use Rattle.blk_stream.specs.Placing.{GainsPlace, IsNewPlace, gained_by}
-use Rattle.blk_stream.specs.Stages.{FillsByStage, HasLeft, IsFilled, IsWrittenByStage, LeavesByStage, NamesShown, WritesByStage}
+use Rattle.blk_stream.specs.Stages.{FillsByStage, HasLeftPlace, IsFilled, IsWrittenByStage, LeavesByStage, NamesShown, WritesByStage}
 use Rattle.blk_stream.specs.Writing.{have_one_storage, size_after}
 use Rattle.blk_stream.specs.Written.{CanBeWritten, HoldsStream, StreamIsWritten, WritesStream, places_of_entry}
 use Rattle.blk_stream.proofs.Apart.{new_apart, new_blocks_apart}
@@ -368,7 +368,7 @@ module _ (files kept : BlockFiles) (entry i size : ℕ) (old : Stored) (kind : k
         let mid = mid_here from there can in
         inr (inr (record { place = place; filled = mid.image; fills = fills_by from there (can_here from there can) mid.image mid.is; written = λ cut is. subst (λ (v : ℕ). data_at mid.image v 0 size ≡ stream_after cut (stream_bytes from entry i) offset bytes) w_is (written_there from there can cut is); long = subst (λ (v : ℕ). HasPlaceLength v size mid.image) w_is mid.holds.long; fits = subst (λ (v : ℕ). may_keep kept size v ≡ true) w_is fits; leaves = subst (λ (v : ℕ). LeavesByStage entry i (address_word from entry i) size v mid.image image) w_is leaves }))
 
-    moved : (from : Image) (there : a.files ≡ Some from) (can : CanBeWritten files entry i size from) (image : Image) → HasLeft entry i (address_word from entry i) size w (mid_here from there can).image image → IsWrittenByStage files kept entry i size offset bytes from image
+    moved : (from : Image) (there : a.files ≡ Some from) (can : CanBeWritten files entry i size from) (image : Image) → HasLeftPlace entry i (address_word from entry i) size w (mid_here from there can).image image → IsWrittenByStage files kept entry i size offset bytes from image
     moved from there can image left =
         let mid = mid_here from there can in
         inr (record {
@@ -379,7 +379,7 @@ module _ (files kept : BlockFiles) (entry i size : ℕ) (old : Stored) (kind : k
           written = λ cut is. subst (λ (v : ℕ). data_at mid.image v 0 size ≡ stream_after cut (stream_bytes from entry i) offset bytes) w_is (written_there from there can cut is);
           long = subst (λ (v : ℕ). HasPlaceLength v size mid.image) w_is mid.holds.long;
           fits = subst (λ (v : ℕ). may_keep kept size v ≡ true) w_is fits;
-          left = subst (λ (v : ℕ). HasLeft entry i (address_word from entry i) size v mid.image image) w_is left;
+          left = subst (λ (v : ℕ). HasLeftPlace entry i (address_word from entry i) size v mid.image image) w_is left;
         })
 
     -- an old place goes
@@ -393,10 +393,10 @@ module _ (files kept : BlockFiles) (entry i size : ℕ) (old : Stored) (kind : k
           let word : (image : Image) → LeavesByStage entry i addr size w mid.image image → WritesByStage files kept entry i size offset bytes from image = λ image h. naming from there can image (subst (λ (v : ℕ). LeavesByStage entry i v size w mid.image image) (word_now from there) h) in
           passes_then (filling from there can) (passes_weaker (stages mid.image mid.is (read_here from there can mid.image mid.holds) (checks_here from there can mid.image mid.holds) (real addr addr_is)) word word)
 
-      pub leave_staged : ForSome m.files (λ B. record_bytes ≡ record_at B entry → RecordChecks entry B → addr ≢ 0 → ForSome b.files (HasLeft entry i addr size w B)) → ForSome a.files (λ from. CanBeWritten files entry i size from → ForSome b.files (IsWrittenByStage files kept entry i size offset bytes from))
+      pub leave_staged : ForSome m.files (λ B. record_bytes ≡ record_at B entry → RecordChecks entry B → addr ≢ 0 → ForSome b.files (HasLeftPlace entry i addr size w B)) → ForSome a.files (λ from. CanBeWritten files entry i size from → ForSome b.files (IsWrittenByStage files kept entry i size offset bytes from))
       leave_staged left from there can image now =
           let mid = mid_here from there can in
-          moved from there can image (subst (λ (v : ℕ). HasLeft entry i v size w mid.image image) (word_now from there) (left mid.image mid.is (read_here from there can mid.image mid.holds) (checks_here from there can mid.image mid.holds) (real addr addr_is) image now))
+          moved from there can image (subst (λ (v : ℕ). HasLeftPlace entry i v size w mid.image image) (word_now from there) (left mid.image mid.is (read_here from there can mid.image mid.holds) (checks_here from there can mid.image mid.holds) (real addr addr_is) image now))
 
     -- there was none
     module _ (none : old.addr ≡ None) where

@@ -32,7 +32,7 @@ abbrev pub IsCopied : ℕ → ℕ → ℕ → ℕ → Image → Image → Type 0
 IsCopied one other start end from image = (k : ℕ) → start ≤ k → k < end → data_byte image other k ≡ data_byte from one k
 
 -- a read of some of the first bytes of data gave too few
-pub record IsCutFront (told : Told) (w size : ℕ) (damage : Damage) : Type 0 where
+pub record IsCutPrefix (told : Told) (w size : ℕ) (damage : Damage) : Type 0 where
   pub at : ℕ
   pub count : ℕ
   pub within : at + count ≤ size
@@ -53,7 +53,7 @@ IsOldThere old image = (w : ℕ) → old.addr ≡ Some w → IsInFile w 0 old.si
 pub record IsCutOld (told : Told) (old : Stored) (damage : Damage) : Type 0 where
   pub word : ℕ
   pub is : old.addr ≡ Some word
-  pub cut : IsCutFront told word old.size damage
+  pub cut : IsCutPrefix told word old.size damage
 
 -- what is copied of so many old bytes to a place of data of a size, where some bytes are written from an offset on: those before them, and those after
 abbrev pub old_spans : ℕ → ℕ → ℕ → ℕ → ℕ → Footprint

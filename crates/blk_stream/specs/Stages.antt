@@ -128,7 +128,7 @@ abbrev pub FreesOld : ℕ → Image → Image → Type 0
 FreesOld old from image = ((old ≡ 0) × (image ≡ from)) ⊎ ((old ≢ 0) × FreesPlace old from image)
 
 -- it has them, and the old place, if there is one, is freed
-pub record HasLeft (entry i old size word : ℕ) (from image : Image) : Type 0 where
+pub record HasLeftPlace (entry i old size word : ℕ) (from image : Image) : Type 0 where
   pub named : Image
   pub names : NamesPlace entry i size word from named
   pub frees : FreesOld old named image
@@ -172,7 +172,7 @@ pub record HasMoved (files kept : BlockFiles) (entry i size offset : ℕ) (bytes
   pub written : (cut : Bool) → size ≡ size_after cut (size_word from entry i) offset (length bytes) → data_at filled (unwrap_or place 0) 0 size ≡ stream_after cut (stream_bytes from entry i) offset bytes
   pub long : HasPlaceLength (unwrap_or place 0) size filled
   pub fits : may_keep kept size (unwrap_or place 0) ≡ true
-  pub left : HasLeft entry i (address_word from entry i) size (unwrap_or place 0) filled image
+  pub left : HasLeftPlace entry i (address_word from entry i) size (unwrap_or place 0) filled image
 
 -- in the end: it was written where it lies, or to a new place
 abbrev pub IsWrittenByStage : BlockFiles → BlockFiles → (entry i size offset : ℕ) → List ℕ → Image → Image → Type 0

@@ -17,7 +17,7 @@ use Rattle.blk_entry.specs.Keys.{IsHeadDamage, data_at}
 use Rattle.blk_alloc.specs.Owning.{IsCause}
 use Rattle.blk_stream.specs.Streams.{HasStreamPlace, HasStreams, IsMisplacedStream, address_word, size_word, stream_bytes}
 use Rattle.blk_stream.specs.Changing.{HasWords, stream_words}
-use Rattle.blk_stream.specs.Copying.{IsCutFront}
+use Rattle.blk_stream.specs.Copying.{IsCutPrefix}
 use Rattle.blk_stream.specs.Dropping.{KeepsStream}
 use Rattle.blk_stream.specs.Freeing.{MayBeFreed, is_block_of, leaving_of, left_by}
 use Rattle.blk_stream.specs.Owned.{KeepsOwned}
@@ -101,5 +101,5 @@ abbrev pub IsWriteDamage : BlockFiles → BlockFiles → Told → Told → ℕ �
 IsWriteDamage files kept before after entry i damage =
     (Stays before after × ((kept ≡ files) × (IsHeadDamage before entry damage ⊎ IsMisplacedStream files entry i damage)))
     ⊎ ((size : ℕ) × IsPlaceRefusal files kept size before after damage)
-    ⊎ ((w : ℕ) × (size : ℕ) × IsCutFront after w size damage)
+    ⊎ ((w : ℕ) × (size : ℕ) × IsCutPrefix after w size damage)
     ⊎ ((w : ℕ) × (stands_among kept w ≡ true) × IsCause after (file_selector w) (first_block w) (block_count w) false damage)

@@ -17,7 +17,7 @@ use blk_io::{Failed, Folder};
 
 // The record, whose bytes were read, names another place for a stream.
 pub(crate) fn name_place<F: Folder>(
-    f: &mut F,
+    folder: &mut F,
     files: &BlockFiles,
     entry: Addr,
     stream: u8,
@@ -29,20 +29,20 @@ pub(crate) fn name_place<F: Folder>(
     requires kind { kind_of entry ≡ blocks_256 }
     requires stands { IsTrue (stands_among files.now entry) }
     requires long { length bytes.old ≡ entry_size }
-    requires agrees { ForSome (F.told f.old).files (Agrees files.now) }
-    ensures named { OnOk result (ForSome (F.told f.old).files (λ from. bytes.old ≡ record_at from entry → ForSome (F.told f.new).files (HasWords entry stream size word))) }
-    ensures read { OnOk result (ForSome (F.told f.old).files (λ from. bytes.old ≡ record_at from entry → ForSome (F.told f.new).files (λ image. bytes.new ≡ record_at image entry))) }
-    ensures sealed { OnOk result (ForSome (F.told f.old).files (λ from. bytes.old ≡ record_at from entry → ForSome (F.told f.new).files (λ image. entry_is_sealed (entry_at image entry) ≡ true))) }
+    requires agrees { ForSome (F.told folder.old).files (Agrees files.now) }
+    ensures named { OnOk result (ForSome (F.told folder.old).files (λ from. bytes.old ≡ record_at from entry → ForSome (F.told folder.new).files (HasWords entry stream size word))) }
+    ensures read { OnOk result (ForSome (F.told folder.old).files (λ from. bytes.old ≡ record_at from entry → ForSome (F.told folder.new).files (λ image. bytes.new ≡ record_at image entry))) }
+    ensures sealed { OnOk result (ForSome (F.told folder.old).files (λ from. bytes.old ≡ record_at from entry → ForSome (F.told folder.new).files (λ image. entry_is_sealed (entry_at image entry) ≡ true))) }
     ensures long { length bytes.new ≡ entry_size }
-    ensures stops { ForSome (F.told f.old).files (λ from. bytes.old ≡ record_at from entry → RecordChecks entry from → Passes (F.told f.old) (F.told f.new) (NamesInProgress entry stream from)) }
-    ensures stages { ForSome (F.told f.old).files (λ from. bytes.old ≡ record_at from entry → RecordChecks entry from → Passes (F.told f.old) (F.told f.new) (NamesShown entry stream from)) }
-    ensures agrees { ForSome (F.told f.new).files (Agrees files.now) }
-    ensures silent { (F.told f.old).files ≡ None → (F.told f.new).files ≡ None }
-    ensures later { F.faults f.old ≤ F.faults f.new }
-    ensures failed { OnErr result (Rises (F.faults f.old) (F.faults f.new)) }
+    ensures stops { ForSome (F.told folder.old).files (λ from. bytes.old ≡ record_at from entry → RecordChecks entry from → Passes (F.told folder.old) (F.told folder.new) (NamesInProgress entry stream from)) }
+    ensures stages { ForSome (F.told folder.old).files (λ from. bytes.old ≡ record_at from entry → RecordChecks entry from → Passes (F.told folder.old) (F.told folder.new) (NamesShown entry stream from)) }
+    ensures agrees { ForSome (F.told folder.new).files (Agrees files.now) }
+    ensures silent { (F.told folder.old).files ≡ None → (F.told folder.new).files ≡ None }
+    ensures later { F.faults folder.old ≤ F.faults folder.new }
+    ensures failed { OnErr result (Rises (F.faults folder.old) (F.faults folder.new)) }
 {
     files.update_record(
-        f,
+        folder,
         entry,
         bytes,
         &[(size_at(stream), size), (addr_at(stream), word)],

@@ -7,7 +7,7 @@ ghost use Rattle.blk_io.specs.Faults.{IfDamaged, IfDevice};
 ghost use Rattle.blk_disk.specs.Tables.{Agrees};
 ghost use Rattle.blk_entry.specs.Keys.{IsCut, IsInFile, IsInside, data_at};
 ghost use Rattle.blk_entry.specs.Steps.{data_steps};
-ghost use Rattle.blk_stream.specs.Copying.{AreOldBytes, HasOldPlace, IsCopied, IsCutOld, IsCutFront, IsOldThere, ShareNoData, old_spans, span_of};
+ghost use Rattle.blk_stream.specs.Copying.{AreOldBytes, HasOldPlace, IsCopied, IsCutOld, IsCutPrefix, IsOldThere, ShareNoData, old_spans, span_of};
 
 use crate::places::Stored;
 use blk_addr::Addr;
@@ -20,7 +20,7 @@ const PIECE: u32 = 4096;
 
 // Copies data from one place on and before another to the same places of another address, in pieces of at most 4096 bytes.
 pub(crate) fn copy<F: Folder>(
-    f: &mut F,
+    folder: &mut F,
     files: &BlockFiles,
     from: Addr,
     to: Addr,
@@ -29,22 +29,22 @@ pub(crate) fn copy<F: Folder>(
 ) -> Result<(), Fault>
     requires from_inside { IsInside files.now from 0 end }
     requires to_inside { IsInside files.now to 0 end }
-    requires agrees { ForSome (F.told f.old).files (Agrees files.now) }
-    requires to_there { ForSome (F.told f.old).files (IsInFile to 0 end) }
-    ensures copied { OnOk result (ForSome (F.told f.old).files (λ old. ShareNoData from to → ForSome (F.told f.new).files (IsCopied from to start end old))) }
-    ensures stops { ForSome (F.told f.old).files (λ old. Passes (F.told f.old) (F.told f.new) (SameOutside (span_of to start end) old)) }
-    ensures silent { (F.told f.old).files ≡ None → (F.told f.new).files ≡ None }
-    ensures agrees { ForSome (F.told f.new).files (Agrees files.now) }
-    ensures damaged { IfDamaged result (IsCutFront (F.told f.new) from end) }
-    ensures untold { ForSome (F.told f.old).files (IsInFile from 0 end) → IfDamaged result (λ _. (F.told f.old).files ≡ None) }
-    ensures later { F.faults f.old ≤ F.faults f.new }
-    ensures device { IfDevice result (Rises (F.faults f.old) (F.faults f.new)) }
+    requires agrees { ForSome (F.told folder.old).files (Agrees files.now) }
+    requires to_there { ForSome (F.told folder.old).files (IsInFile to 0 end) }
+    ensures copied { OnOk result (ForSome (F.told folder.old).files (λ old. ShareNoData from to → ForSome (F.told folder.new).files (IsCopied from to start end old))) }
+    ensures stops { ForSome (F.told folder.old).files (λ old. Passes (F.told folder.old) (F.told folder.new) (SameOutside (span_of to start end) old)) }
+    ensures silent { (F.told folder.old).files ≡ None → (F.told folder.new).files ≡ None }
+    ensures agrees { ForSome (F.told folder.new).files (Agrees files.now) }
+    ensures damaged { IfDamaged result (IsCutPrefix (F.told folder.new) from end) }
+    ensures untold { ForSome (F.told folder.old).files (IsInFile from 0 end) → IfDamaged result (λ _. (F.told folder.old).files ≡ None) }
+    ensures later { F.faults folder.old ≤ F.faults folder.new }
+    ensures device { IfDevice result (Rises (F.faults folder.old) (F.faults folder.new)) }
 {
     let mut buffer = [0u8; PIECE as usize];
     let mut at = start;
     while at < end {
         let n = (end - at).min(PIECE);
-        copy_piece(f, files, from, to, at, &mut buffer[..n as usize])?;
+        copy_piece(folder, files, from, to, at, &mut buffer[..n as usize])?;
         at += n;
     }
     Ok(())
@@ -52,7 +52,7 @@ pub(crate) fn copy<F: Folder>(
 
 // Copies a piece of data, by one read and one write.
 fn copy_piece<F: Folder>(
-    f: &mut F,
+    folder: &mut F,
     files: &BlockFiles,
     from: Addr,
     to: Addr,
@@ -61,25 +61,25 @@ fn copy_piece<F: Folder>(
 ) -> Result<(), Fault>
     requires from_inside { IsInside files.now from at (length piece.old) }
     requires to_inside { IsInside files.now to at (length piece.old) }
-    requires agrees { ForSome (F.told f.old).files (Agrees files.now) }
-    requires to_there { ForSome (F.told f.old).files (IsInFile to at (length piece.old)) }
-    ensures steps { OnOk result (ForSome (F.told f.old).files (λ old. Applies (F.told f.old) (F.told f.new) (data_steps to at (data_at old from at (length piece.old))))) }
-    ensures prefix { MakesPartOf (F.told f.old) (F.told f.new) (λ old. data_steps to at (data_at old from at (length piece.old))) }
-    ensures agrees { ForSome (F.told f.new).files (Agrees files.now) }
-    ensures damaged { IfDamaged result (IsCut (F.told f.new) from at (length piece.old)) }
-    ensures untold { ForSome (F.told f.old).files (IsInFile from at (length piece.old)) → IfDamaged result (λ _. (F.told f.old).files ≡ None) }
-    ensures later { F.faults f.old ≤ F.faults f.new }
-    ensures device { IfDevice result (Rises (F.faults f.old) (F.faults f.new)) }
+    requires agrees { ForSome (F.told folder.old).files (Agrees files.now) }
+    requires to_there { ForSome (F.told folder.old).files (IsInFile to at (length piece.old)) }
+    ensures steps { OnOk result (ForSome (F.told folder.old).files (λ old. Applies (F.told folder.old) (F.told folder.new) (data_steps to at (data_at old from at (length piece.old))))) }
+    ensures prefix { MakesPartOf (F.told folder.old) (F.told folder.new) (λ old. data_steps to at (data_at old from at (length piece.old))) }
+    ensures agrees { ForSome (F.told folder.new).files (Agrees files.now) }
+    ensures damaged { IfDamaged result (IsCut (F.told folder.new) from at (length piece.old)) }
+    ensures untold { ForSome (F.told folder.old).files (IsInFile from at (length piece.old)) → IfDamaged result (λ _. (F.told folder.old).files ≡ None) }
+    ensures later { F.faults folder.old ≤ F.faults folder.new }
+    ensures device { IfDevice result (Rises (F.faults folder.old) (F.faults folder.new)) }
     ensures long { length piece.new ≡ length piece.old }
 {
-    read_data(f, files, from, at, piece)?;
-    write_data(f, files, to, at, piece)?;
+    read_data(folder, files, from, at, piece)?;
+    write_data(folder, files, to, at, piece)?;
     Ok(())
 }
 
 // Copies of the old bytes of a stream what stays to a new place of data of a size: those before the bytes that are written, and those after them.
 pub(crate) fn copy_old<F: Folder>(
-    f: &mut F,
+    folder: &mut F,
     files: &BlockFiles,
     old: Stored,
     to: Addr,
@@ -90,20 +90,20 @@ pub(crate) fn copy_old<F: Folder>(
     requires old { HasOldPlace files.now old }
     requires inside { IsInside files.now to 0 size }
     requires few { offset + count ≤ size }
-    requires agrees { ForSome (F.told f.old).files (Agrees files.now) }
-    requires there { ForSome (F.told f.old).files (IsInFile to 0 size) }
-    ensures copied { OnOk result (ForSome (F.told f.old).files (λ from. ShareNoData (unwrap_or old.addr 0) to → ForSome (F.told f.new).files (AreOldBytes (unwrap_or old.addr 0) to old.size size offset count from))) }
-    ensures stops { ForSome (F.told f.old).files (λ from. Passes (F.told f.old) (F.told f.new) (SameOutside (old_spans to old.size size offset count) from)) }
-    ensures silent { (F.told f.old).files ≡ None → (F.told f.new).files ≡ None }
-    ensures agrees { ForSome (F.told f.new).files (Agrees files.now) }
-    ensures damaged { IfDamaged result (IsCutOld (F.told f.new) old) }
-    ensures untold { ForSome (F.told f.old).files (IsOldThere old) → IfDamaged result (λ _. (F.told f.old).files ≡ None) }
-    ensures later { F.faults f.old ≤ F.faults f.new }
-    ensures device { IfDevice result (Rises (F.faults f.old) (F.faults f.new)) }
+    requires agrees { ForSome (F.told folder.old).files (Agrees files.now) }
+    requires there { ForSome (F.told folder.old).files (IsInFile to 0 size) }
+    ensures copied { OnOk result (ForSome (F.told folder.old).files (λ from. ShareNoData (unwrap_or old.addr 0) to → ForSome (F.told folder.new).files (AreOldBytes (unwrap_or old.addr 0) to old.size size offset count from))) }
+    ensures stops { ForSome (F.told folder.old).files (λ from. Passes (F.told folder.old) (F.told folder.new) (SameOutside (old_spans to old.size size offset count) from)) }
+    ensures silent { (F.told folder.old).files ≡ None → (F.told folder.new).files ≡ None }
+    ensures agrees { ForSome (F.told folder.new).files (Agrees files.now) }
+    ensures damaged { IfDamaged result (IsCutOld (F.told folder.new) old) }
+    ensures untold { ForSome (F.told folder.old).files (IsOldThere old) → IfDamaged result (λ _. (F.told folder.old).files ≡ None) }
+    ensures later { F.faults folder.old ≤ F.faults folder.new }
+    ensures device { IfDevice result (Rises (F.faults folder.old) (F.faults folder.new)) }
 {
     let Some(from) = old.addr else {
         return Ok(());
     };
-    copy(f, files, from, to, 0, offset.min(old.size))?;
-    copy(f, files, from, to, offset + count, size.min(old.size))
+    copy(folder, files, from, to, 0, offset.min(old.size))?;
+    copy(folder, files, from, to, offset + count, size.min(old.size))
 }

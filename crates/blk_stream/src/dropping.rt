@@ -52,7 +52,7 @@ pub fn drop_streams<F: Folder>(f: &mut F, files: &BlockFiles, entry: Addr) -> Re
 
 // Makes a stream empty, by the bytes of its record, which were read: the record names its place no longer, and then the place is freed.
 fn drop_stream<F: Folder>(
-    f: &mut F,
+    folder: &mut F,
     files: &BlockFiles,
     entry: Addr,
     stream: u8,
@@ -62,21 +62,21 @@ fn drop_stream<F: Folder>(
     requires kind { kind_of entry ≡ blocks_256 }
     requires stands { IsTrue (stands_among files.now entry) }
     requires long { length bytes.old ≡ entry_size }
-    requires agrees { ForSome (F.told f.old).files (Agrees files.now) }
-    ensures dropped { OnOk result (ForSome (F.told f.old).files (λ from. bytes.old ≡ record_at from entry → RecordChecks entry from → ForSome (F.told f.new).files (DropsStream entry stream from))) }
-    ensures read { OnOk result (ForSome (F.told f.old).files (λ from. bytes.old ≡ record_at from entry → ForSome (F.told f.new).files (λ image. bytes.new ≡ record_at image entry))) }
+    requires agrees { ForSome (F.told folder.old).files (Agrees files.now) }
+    ensures dropped { OnOk result (ForSome (F.told folder.old).files (λ from. bytes.old ≡ record_at from entry → RecordChecks entry from → ForSome (F.told folder.new).files (DropsStream entry stream from))) }
+    ensures read { OnOk result (ForSome (F.told folder.old).files (λ from. bytes.old ≡ record_at from entry → ForSome (F.told folder.new).files (λ image. bytes.new ≡ record_at image entry))) }
     ensures long { length bytes.new ≡ entry_size }
-    ensures stops { ForSome (F.told f.old).files (λ from. bytes.old ≡ record_at from entry → RecordChecks entry from → Passes (F.told f.old) (F.told f.new) (DropsStreamInProgress entry stream from)) }
-    ensures agrees { ForSome (F.told f.new).files (Agrees files.now) }
-    ensures damaged { IfDamaged result (IsStreamDropDamage files.now (F.told f.new) entry stream) }
-    ensures untold { ForSome (F.told f.old).files (λ from. bytes.old ≡ record_at from entry × RecordChecks entry from × StreamCanBeDropped files.now entry stream from) → IfDamaged result (λ _. (F.told f.old).files ≡ None) }
-    ensures silent { (F.told f.old).files ≡ None → (F.told f.new).files ≡ None }
-    ensures later { F.faults f.old ≤ F.faults f.new }
-    ensures device { IfDevice result (Rises (F.faults f.old) (F.faults f.new)) }
+    ensures stops { ForSome (F.told folder.old).files (λ from. bytes.old ≡ record_at from entry → RecordChecks entry from → Passes (F.told folder.old) (F.told folder.new) (DropsStreamInProgress entry stream from)) }
+    ensures agrees { ForSome (F.told folder.new).files (Agrees files.now) }
+    ensures damaged { IfDamaged result (IsStreamDropDamage files.now (F.told folder.new) entry stream) }
+    ensures untold { ForSome (F.told folder.old).files (λ from. bytes.old ≡ record_at from entry × RecordChecks entry from × StreamCanBeDropped files.now entry stream from) → IfDamaged result (λ _. (F.told folder.old).files ≡ None) }
+    ensures silent { (F.told folder.old).files ≡ None → (F.told folder.new).files ≡ None }
+    ensures later { F.faults folder.old ≤ F.faults folder.new }
+    ensures device { IfDevice result (Rises (F.faults folder.old) (F.faults folder.new)) }
 {
     let old = stored_in(files, entry, stream, bytes)?;
     let Some(addr) = old.addr else {
         return Ok(());
     };
-    leave_place(f, files, entry, stream, bytes, addr, 0, 0)
+    leave_place(folder, files, entry, stream, bytes, addr, 0, 0)
 }

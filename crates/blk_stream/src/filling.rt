@@ -12,7 +12,7 @@ ghost use Rattle.blk_stream.specs.Inside.{HasStreamLength, data_of};
 ghost use Rattle.blk_stream.specs.Filling.{FillsPlace};
 
 use crate::copying::copy_old;
-use crate::inside::{make_room, write_some};
+use crate::inside::{extend_data, write_some};
 use crate::places::{Stored, is_of};
 use blk_addr::{Addr, Kind};
 use blk_disk::BlockFiles;
@@ -21,7 +21,7 @@ use blk_io::{Fault, Folder};
 // Fills a new place of data of a size: an external file, which has no bytes, gets its length; then come the old bytes before the written ones and after
 // them, with zeros where they begin past the old end, and then the written ones.
 pub(crate) fn fill<F: Folder>(
-    f: &mut F,
+    folder: &mut F,
     files: &BlockFiles,
     old: Stored,
     addr: Addr,
@@ -32,20 +32,20 @@ pub(crate) fn fill<F: Folder>(
     requires old { HasOldPlace files.now old }
     requires inside { IsInside files.now addr 0 size }
     requires few { offset + length bytes.now ≤ size }
-    requires agrees { ForSome (F.told f.old).files (Agrees files.now) }
-    ensures filled { OnOk result (ForSome (F.told f.old).files (λ from. ShareNoData (unwrap_or old.addr 0) addr → HasStreamLength addr 0 from → ForSome (F.told f.new).files (FillsPlace (unwrap_or old.addr 0) addr old.size size offset bytes.now from))) }
-    ensures stops { ForSome (F.told f.old).files (λ from. Passes (F.told f.old) (F.told f.new) (SameOutside (data_of addr) from)) }
-    ensures agrees { ForSome (F.told f.new).files (Agrees files.now) }
-    ensures damaged { IfDamaged result (IsCutOld (F.told f.new) old) }
-    ensures untold { ForSome (F.told f.old).files (IsOldThere old) → ShareNoFile (unwrap_or old.addr 0) addr → IfDamaged result (λ _. (F.told f.old).files ≡ None) }
-    ensures silent { (F.told f.old).files ≡ None → (F.told f.new).files ≡ None }
-    ensures later { F.faults f.old ≤ F.faults f.new }
-    ensures device { IfDevice result (Rises (F.faults f.old) (F.faults f.new)) }
+    requires agrees { ForSome (F.told folder.old).files (Agrees files.now) }
+    ensures filled { OnOk result (ForSome (F.told folder.old).files (λ from. ShareNoData (unwrap_or old.addr 0) addr → HasStreamLength addr 0 from → ForSome (F.told folder.new).files (FillsPlace (unwrap_or old.addr 0) addr old.size size offset bytes.now from))) }
+    ensures stops { ForSome (F.told folder.old).files (λ from. Passes (F.told folder.old) (F.told folder.new) (SameOutside (data_of addr) from)) }
+    ensures agrees { ForSome (F.told folder.new).files (Agrees files.now) }
+    ensures damaged { IfDamaged result (IsCutOld (F.told folder.new) old) }
+    ensures untold { ForSome (F.told folder.old).files (IsOldThere old) → ShareNoFile (unwrap_or old.addr 0) addr → IfDamaged result (λ _. (F.told folder.old).files ≡ None) }
+    ensures silent { (F.told folder.old).files ≡ None → (F.told folder.new).files ≡ None }
+    ensures later { F.faults folder.old ≤ F.faults folder.new }
+    ensures device { IfDevice result (Rises (F.faults folder.old) (F.faults folder.new)) }
 {
     let start = room_start(addr, old.size);
-    make_room(f, files, addr, start, size, offset)?;
-    copy_old(f, files, old, addr, size, offset, bytes.len() as u32)?;
-    write_some(f, files, addr, offset, bytes)?;
+    extend_data(folder, files, addr, start, size, offset)?;
+    copy_old(folder, files, old, addr, size, offset, bytes.len() as u32)?;
+    write_some(folder, files, addr, offset, bytes)?;
     Ok(())
 }
 

@@ -16,43 +16,47 @@ use blk_disk::BlockFiles;
 use blk_io::{Failed, Fault, Folder};
 
 // Frees the place of data: its blocks, or its file.
-pub(crate) fn free_place<F: Folder>(f: &mut F, files: &BlockFiles, addr: Addr) -> Result<(), Fault>
+pub(crate) fn free_place<F: Folder>(
+    folder: &mut F,
+    files: &BlockFiles,
+    addr: Addr,
+) -> Result<(), Fault>
     requires stands { kind_of addr ≢ external → IsTrue (stands_among files.now addr) }
-    requires agrees { ForSome (F.told f.old).files (Agrees files.now) }
-    ensures freed { OnOk result (ForSome (F.told f.old).files (λ from. ForSome (F.told f.new).files (IsPlaceFreed addr from))) }
-    ensures frees { OnOk result (ForSome (F.told f.old).files (λ from. ForSome (F.told f.new).files (FreesPlace addr from))) }
-    ensures stops { ForSome (F.told f.old).files (λ from. Passes (F.told f.old) (F.told f.new) (SameOutside (freeing_of addr) from)) }
-    ensures stages { ForSome (F.told f.old).files (λ from. Passes (F.told f.old) (F.told f.new) (FreesPlaceInProgress addr from)) }
-    ensures agrees { ForSome (F.told f.new).files (Agrees files.now) }
-    ensures cause { IfDamaged result (λ damage. (kind_of addr ≢ external) × IsCause (F.told f.old) (file_selector addr) (first_block addr) (block_count addr) false damage) }
-    ensures unwritten { IfDamaged result (λ _. Stays (F.told f.old) (F.told f.new)) }
-    ensures untold { ForSome (F.told f.old).files (MayBeFreed addr) → IfDamaged result (λ _. (F.told f.old).files ≡ None) }
-    ensures silent { (F.told f.old).files ≡ None → (F.told f.new).files ≡ None }
-    ensures later { F.faults f.old ≤ F.faults f.new }
-    ensures device { IfDevice result (Rises (F.faults f.old) (F.faults f.new)) }
+    requires agrees { ForSome (F.told folder.old).files (Agrees files.now) }
+    ensures freed { OnOk result (ForSome (F.told folder.old).files (λ from. ForSome (F.told folder.new).files (IsPlaceFreed addr from))) }
+    ensures frees { OnOk result (ForSome (F.told folder.old).files (λ from. ForSome (F.told folder.new).files (FreesPlace addr from))) }
+    ensures stops { ForSome (F.told folder.old).files (λ from. Passes (F.told folder.old) (F.told folder.new) (SameOutside (freeing_of addr) from)) }
+    ensures stages { ForSome (F.told folder.old).files (λ from. Passes (F.told folder.old) (F.told folder.new) (FreesPlaceInProgress addr from)) }
+    ensures agrees { ForSome (F.told folder.new).files (Agrees files.now) }
+    ensures cause { IfDamaged result (λ damage. (kind_of addr ≢ external) × IsCause (F.told folder.old) (file_selector addr) (first_block addr) (block_count addr) false damage) }
+    ensures unwritten { IfDamaged result (λ _. Stays (F.told folder.old) (F.told folder.new)) }
+    ensures untold { ForSome (F.told folder.old).files (MayBeFreed addr) → IfDamaged result (λ _. (F.told folder.old).files ≡ None) }
+    ensures silent { (F.told folder.old).files ≡ None → (F.told folder.new).files ≡ None }
+    ensures later { F.faults folder.old ≤ F.faults folder.new }
+    ensures device { IfDevice result (Rises (F.faults folder.old) (F.faults folder.new)) }
 {
     if is_of(addr, Kind::External) {
-        delete_file(f, files, addr)?;
+        delete_file(folder, files, addr)?;
         Ok(())
     } else {
-        blk_alloc::free(f, files, addr)
+        blk_alloc::free(folder, files, addr)
     }
 }
 
 // Removes an external file.
-fn delete_file<F: Folder>(f: &mut F, files: &BlockFiles, addr: Addr) -> Result<(), Failed>
+fn delete_file<F: Folder>(folder: &mut F, files: &BlockFiles, addr: Addr) -> Result<(), Failed>
     requires kind { kind_of addr ≡ external }
-    requires agrees { ForSome (F.told f.old).files (Agrees files.now) }
-    ensures freed { OnOk result (ForSome (F.told f.old).files (λ from. ForSome (F.told f.new).files (IsPlaceFreed addr from))) }
-    ensures frees { OnOk result (ForSome (F.told f.old).files (λ from. ForSome (F.told f.new).files (FreesPlace addr from))) }
-    ensures stops { ForSome (F.told f.old).files (λ from. Passes (F.told f.old) (F.told f.new) (SameOutside (freeing_of addr) from)) }
-    ensures stages { ForSome (F.told f.old).files (λ from. Passes (F.told f.old) (F.told f.new) (FreesPlaceInProgress addr from)) }
-    ensures agrees { ForSome (F.told f.new).files (Agrees files.now) }
-    ensures silent { (F.told f.old).files ≡ None → (F.told f.new).files ≡ None }
-    ensures later { F.faults f.old ≤ F.faults f.new }
-    ensures failed { OnErr result (Rises (F.faults f.old) (F.faults f.new)) }
+    requires agrees { ForSome (F.told folder.old).files (Agrees files.now) }
+    ensures freed { OnOk result (ForSome (F.told folder.old).files (λ from. ForSome (F.told folder.new).files (IsPlaceFreed addr from))) }
+    ensures frees { OnOk result (ForSome (F.told folder.old).files (λ from. ForSome (F.told folder.new).files (FreesPlace addr from))) }
+    ensures stops { ForSome (F.told folder.old).files (λ from. Passes (F.told folder.old) (F.told folder.new) (SameOutside (freeing_of addr) from)) }
+    ensures stages { ForSome (F.told folder.old).files (λ from. Passes (F.told folder.old) (F.told folder.new) (FreesPlaceInProgress addr from)) }
+    ensures agrees { ForSome (F.told folder.new).files (Agrees files.now) }
+    ensures silent { (F.told folder.old).files ≡ None → (F.told folder.new).files ≡ None }
+    ensures later { F.faults folder.old ≤ F.faults folder.new }
+    ensures failed { OnErr result (Rises (F.faults folder.old) (F.faults folder.new)) }
 {
     // The block files are asked for by the contract alone: what they say of the folder is known once they are named.
     let _files = files;
-    blk_external::delete(f, addr)
+    blk_external::delete(folder, addr)
 }

@@ -23,7 +23,7 @@ const MOST_IN_BLOCKS: usize = 16384;
 
 // Writes bytes of a stream from an offset on, which gets a new size in the same place: the bytes, and then the size in the record, whose bytes were read.
 pub(crate) fn write_inside<F: Folder>(
-    f: &mut F,
+    folder: &mut F,
     files: &BlockFiles,
     entry: Addr,
     stream: u8,
@@ -40,25 +40,25 @@ pub(crate) fn write_inside<F: Folder>(
     requires record_size { length record_bytes.old ≡ entry_size }
     requires inside { IsInside files.now addr 0 size }
     requires few { offset + length bytes.now ≤ size }
-    requires agrees { ForSome (F.told f.old).files (Agrees files.now) }
-    requires external { ForSome (F.told f.old).files (IsInFile addr 0 old) }
-    ensures steps { OnOk result (Applies (F.told f.old) (F.told f.new) (inside_steps record_bytes.old entry stream addr old size offset bytes.now)) }
-    ensures prefix { AppliesPrefix (F.told f.old) (F.told f.new) (inside_steps record_bytes.old entry stream addr old size offset bytes.now) }
-    ensures written { OnOk result (ForSome (F.told f.old).files (λ from. record_bytes.old ≡ record_at from entry → RecordChecks entry from → HasStreamLength addr old from → (kind_of addr ≢ external → ShareNoBlock entry addr) → ForSome (F.told f.new).files (WritesInside entry stream addr old size offset bytes.now from))) }
-    ensures stops { ForSome (F.told f.old).files (λ from. record_bytes.old ≡ record_at from entry → RecordChecks entry from → (kind_of addr ≢ external → ShareNoBlock entry addr) → Passes (F.told f.old) (F.told f.new) (WritesInProgress entry stream addr from)) }
-    ensures stages { ForSome (F.told f.old).files (λ from. record_bytes.old ≡ record_at from entry → RecordChecks entry from → (kind_of addr ≢ external → ShareNoBlock entry addr) → HasPlaceFile addr from → Passes (F.told f.old) (F.told f.new) (WritesKeepingFiles entry stream addr from)) }
-    ensures sealed { OnOk result (ForSome (F.told f.old).files (λ from. record_bytes.old ≡ record_at from entry → RecordChecks entry from → (kind_of addr ≢ external → ShareNoBlock entry addr) → ForSome (F.told f.new).files (KeepsSeal entry from))) }
-    ensures agrees { ForSome (F.told f.new).files (Agrees files.now) }
-    ensures later { F.faults f.old ≤ F.faults f.new }
-    ensures failed { OnErr result (Rises (F.faults f.old) (F.faults f.new)) }
+    requires agrees { ForSome (F.told folder.old).files (Agrees files.now) }
+    requires external { ForSome (F.told folder.old).files (IsInFile addr 0 old) }
+    ensures steps { OnOk result (Applies (F.told folder.old) (F.told folder.new) (inside_steps record_bytes.old entry stream addr old size offset bytes.now)) }
+    ensures prefix { AppliesPrefix (F.told folder.old) (F.told folder.new) (inside_steps record_bytes.old entry stream addr old size offset bytes.now) }
+    ensures written { OnOk result (ForSome (F.told folder.old).files (λ from. record_bytes.old ≡ record_at from entry → RecordChecks entry from → HasStreamLength addr old from → (kind_of addr ≢ external → ShareNoBlock entry addr) → ForSome (F.told folder.new).files (WritesInside entry stream addr old size offset bytes.now from))) }
+    ensures stops { ForSome (F.told folder.old).files (λ from. record_bytes.old ≡ record_at from entry → RecordChecks entry from → (kind_of addr ≢ external → ShareNoBlock entry addr) → Passes (F.told folder.old) (F.told folder.new) (WritesInProgress entry stream addr from)) }
+    ensures stages { ForSome (F.told folder.old).files (λ from. record_bytes.old ≡ record_at from entry → RecordChecks entry from → (kind_of addr ≢ external → ShareNoBlock entry addr) → HasPlaceFile addr from → Passes (F.told folder.old) (F.told folder.new) (WritesKeepingFiles entry stream addr from)) }
+    ensures sealed { OnOk result (ForSome (F.told folder.old).files (λ from. record_bytes.old ≡ record_at from entry → RecordChecks entry from → (kind_of addr ≢ external → ShareNoBlock entry addr) → ForSome (F.told folder.new).files (KeepsSeal entry from))) }
+    ensures agrees { ForSome (F.told folder.new).files (Agrees files.now) }
+    ensures later { F.faults folder.old ≤ F.faults folder.new }
+    ensures failed { OnErr result (Rises (F.faults folder.old) (F.faults folder.new)) }
 {
-    write_here(f, files, addr, old, size, offset, bytes)?;
-    write_size(f, files, entry, stream, record_bytes, old, size)
+    write_here(folder, files, addr, old, size, offset, bytes)?;
+    write_size(folder, files, entry, stream, record_bytes, old, size)
 }
 
 // Writes bytes of data from an offset on, which gets a new size in the same place: zeros before them, where they begin past the old end.
 fn write_here<F: Folder>(
-    f: &mut F,
+    folder: &mut F,
     files: &BlockFiles,
     addr: Addr,
     old: u32,
@@ -68,43 +68,43 @@ fn write_here<F: Folder>(
 ) -> Result<(), Failed>
     requires inside { IsInside files.now addr 0 size }
     requires few { offset + length bytes.now ≤ size }
-    requires agrees { ForSome (F.told f.old).files (Agrees files.now) }
-    requires external { ForSome (F.told f.old).files (IsInFile addr 0 old) }
-    ensures steps { OnOk result (Applies (F.told f.old) (F.told f.new) (here_steps addr old size offset bytes.now)) }
-    ensures prefix { AppliesPrefix (F.told f.old) (F.told f.new) (here_steps addr old size offset bytes.now) }
-    ensures agrees { ForSome (F.told f.new).files (Agrees files.now) }
-    ensures later { F.faults f.old ≤ F.faults f.new }
-    ensures failed { OnErr result (Rises (F.faults f.old) (F.faults f.new)) }
+    requires agrees { ForSome (F.told folder.old).files (Agrees files.now) }
+    requires external { ForSome (F.told folder.old).files (IsInFile addr 0 old) }
+    ensures steps { OnOk result (Applies (F.told folder.old) (F.told folder.new) (here_steps addr old size offset bytes.now)) }
+    ensures prefix { AppliesPrefix (F.told folder.old) (F.told folder.new) (here_steps addr old size offset bytes.now) }
+    ensures agrees { ForSome (F.told folder.new).files (Agrees files.now) }
+    ensures later { F.faults folder.old ≤ F.faults folder.new }
+    ensures failed { OnErr result (Rises (F.faults folder.old) (F.faults folder.new)) }
 {
-    make_room(f, files, addr, old, size, offset)?;
-    write_some(f, files, addr, offset, bytes)?;
-    erase_end(f, files, addr, old, size)
+    extend_data(folder, files, addr, old, size, offset)?;
+    write_some(folder, files, addr, offset, bytes)?;
+    erase_end(folder, files, addr, old, size)
 }
 
 // Writes zeros into the rest of its blocks where data is cut, in a folder that erases. Nothing is done where the files are told.
 fn erase_end<F: Folder>(
-    f: &mut F,
+    folder: &mut F,
     files: &BlockFiles,
     addr: Addr,
     old: u32,
     size: u32,
 ) -> Result<(), Failed>
     requires inside { IsInside files.now addr 0 size }
-    requires agrees { ForSome (F.told f.old).files (Agrees files.now) }
-    ensures stays { Stays (F.told f.old) (F.told f.new) }
-    ensures later { F.faults f.old ≤ F.faults f.new }
-    ensures failed { OnErr result (Rises (F.faults f.old) (F.faults f.new)) }
+    requires agrees { ForSome (F.told folder.old).files (Agrees files.now) }
+    ensures stays { Stays (F.told folder.old) (F.told folder.new) }
+    ensures later { F.faults folder.old ≤ F.faults folder.new }
+    ensures failed { OnErr result (Rises (F.faults folder.old) (F.faults folder.new)) }
 {
-    if size >= old || is_of(addr, Kind::External) || !f.erases() {
+    if size >= old || is_of(addr, Kind::External) || !folder.erases() {
         return Ok(());
     }
-    write_gap(f, files, addr, size, room_of(addr) as u32)
+    write_gap(folder, files, addr, size, room_of(addr) as u32)
 }
 
 // Gives data the space for bytes at an offset: an external file its new length, and blocks zeros between their old end and the
 // offset.
-pub(crate) fn make_room<F: Folder>(
-    f: &mut F,
+pub(crate) fn extend_data<F: Folder>(
+    folder: &mut F,
     files: &BlockFiles,
     addr: Addr,
     old: u32,
@@ -113,51 +113,51 @@ pub(crate) fn make_room<F: Folder>(
 ) -> Result<(), Failed>
     requires inside { IsInside files.now addr 0 size }
     requires few { offset ≤ size }
-    requires agrees { ForSome (F.told f.old).files (Agrees files.now) }
-    requires external { ForSome (F.told f.old).files (IsInFile addr 0 old) }
-    ensures steps { OnOk result (Applies (F.told f.old) (F.told f.new) (room_steps addr old size offset)) }
-    ensures prefix { AppliesPrefix (F.told f.old) (F.told f.new) (room_steps addr old size offset) }
-    ensures external { OnOk result (ForSome (F.told f.new).files (IsInFile addr 0 size)) }
-    ensures agrees { ForSome (F.told f.new).files (Agrees files.now) }
-    ensures later { F.faults f.old ≤ F.faults f.new }
-    ensures failed { OnErr result (Rises (F.faults f.old) (F.faults f.new)) }
+    requires agrees { ForSome (F.told folder.old).files (Agrees files.now) }
+    requires external { ForSome (F.told folder.old).files (IsInFile addr 0 old) }
+    ensures steps { OnOk result (Applies (F.told folder.old) (F.told folder.new) (room_steps addr old size offset)) }
+    ensures prefix { AppliesPrefix (F.told folder.old) (F.told folder.new) (room_steps addr old size offset) }
+    ensures external { OnOk result (ForSome (F.told folder.new).files (IsInFile addr 0 size)) }
+    ensures agrees { ForSome (F.told folder.new).files (Agrees files.now) }
+    ensures later { F.faults folder.old ≤ F.faults folder.new }
+    ensures failed { OnErr result (Rises (F.faults folder.old) (F.faults folder.new)) }
 {
     if is_of(addr, Kind::External) {
-        set_size(f, files, addr, old, size)
+        set_size(folder, files, addr, old, size)
     } else {
-        write_gap(f, files, addr, old, offset)
+        write_gap(folder, files, addr, old, offset)
     }
 }
 
 // Gives an external file another length.
 fn set_size<F: Folder>(
-    f: &mut F,
+    folder: &mut F,
     files: &BlockFiles,
     addr: Addr,
     old: u32,
     size: u32,
 ) -> Result<(), Failed>
     requires kind { kind_of addr ≡ external }
-    requires agrees { ForSome (F.told f.old).files (Agrees files.now) }
-    requires external { ForSome (F.told f.old).files (IsInFile addr 0 old) }
-    ensures steps { OnOk result (Applies (F.told f.old) (F.told f.new) (length_steps addr old size)) }
-    ensures prefix { AppliesPrefix (F.told f.old) (F.told f.new) (length_steps addr old size) }
-    ensures external { OnOk result (ForSome (F.told f.new).files (IsInFile addr 0 size)) }
-    ensures agrees { ForSome (F.told f.new).files (Agrees files.now) }
-    ensures later { F.faults f.old ≤ F.faults f.new }
-    ensures failed { OnErr result (Rises (F.faults f.old) (F.faults f.new)) }
+    requires agrees { ForSome (F.told folder.old).files (Agrees files.now) }
+    requires external { ForSome (F.told folder.old).files (IsInFile addr 0 old) }
+    ensures steps { OnOk result (Applies (F.told folder.old) (F.told folder.new) (length_steps addr old size)) }
+    ensures prefix { AppliesPrefix (F.told folder.old) (F.told folder.new) (length_steps addr old size) }
+    ensures external { OnOk result (ForSome (F.told folder.new).files (IsInFile addr 0 size)) }
+    ensures agrees { ForSome (F.told folder.new).files (Agrees files.now) }
+    ensures later { F.faults folder.old ≤ F.faults folder.new }
+    ensures failed { OnErr result (Rises (F.faults folder.old) (F.faults folder.new)) }
 {
     // The block files are asked for by the contract alone: what they say of the folder is known once they are named.
     let _files = files;
     if size == old {
         return Ok(());
     }
-    blk_external::resize(f, addr, u64::from(size))
+    blk_external::resize(folder, addr, u64::from(size))
 }
 
 // Writes zeros into blocks from one place on and before another.
 pub(crate) fn write_gap<F: Folder>(
-    f: &mut F,
+    folder: &mut F,
     files: &BlockFiles,
     addr: Addr,
     start: u32,
@@ -166,47 +166,47 @@ pub(crate) fn write_gap<F: Folder>(
     requires kind { kind_of addr ≢ external }
     requires stands { IsTrue (stands_among files.now addr) }
     requires inside { end ≤ byte_size addr }
-    requires agrees { ForSome (F.told f.old).files (Agrees files.now) }
-    ensures steps { OnOk result (Applies (F.told f.old) (F.told f.new) (gap_steps addr start end)) }
-    ensures prefix { AppliesPrefix (F.told f.old) (F.told f.new) (gap_steps addr start end) }
-    ensures agrees { ForSome (F.told f.new).files (Agrees files.now) }
-    ensures later { F.faults f.old ≤ F.faults f.new }
-    ensures failed { OnErr result (Rises (F.faults f.old) (F.faults f.new)) }
+    requires agrees { ForSome (F.told folder.old).files (Agrees files.now) }
+    ensures steps { OnOk result (Applies (F.told folder.old) (F.told folder.new) (gap_steps addr start end)) }
+    ensures prefix { AppliesPrefix (F.told folder.old) (F.told folder.new) (gap_steps addr start end) }
+    ensures agrees { ForSome (F.told folder.new).files (Agrees files.now) }
+    ensures later { F.faults folder.old ≤ F.faults folder.new }
+    ensures failed { OnErr result (Rises (F.faults folder.old) (F.faults folder.new)) }
 {
     if end <= start {
         return Ok(());
     }
     let zeros = [0u8; MOST_IN_BLOCKS];
     let gap = &zeros[..(end - start) as usize];
-    files.write_block(f, addr, start, gap)
+    files.write_block(folder, addr, start, gap)
 }
 
 // Writes bytes of data, if there are any.
 pub(crate) fn write_some<F: Folder>(
-    f: &mut F,
+    folder: &mut F,
     files: &BlockFiles,
     addr: Addr,
     at: u32,
     bytes: &[u8],
 ) -> Result<(), Failed>
     requires inside { IsInside files.now addr at (length bytes.now) }
-    requires agrees { ForSome (F.told f.old).files (Agrees files.now) }
-    requires external { ForSome (F.told f.old).files (IsInFile addr at (length bytes.now)) }
-    ensures steps { OnOk result (Applies (F.told f.old) (F.told f.new) (data_steps addr at bytes.now)) }
-    ensures prefix { AppliesPrefix (F.told f.old) (F.told f.new) (data_steps addr at bytes.now) }
-    ensures agrees { ForSome (F.told f.new).files (Agrees files.now) }
-    ensures later { F.faults f.old ≤ F.faults f.new }
-    ensures failed { OnErr result (Rises (F.faults f.old) (F.faults f.new)) }
+    requires agrees { ForSome (F.told folder.old).files (Agrees files.now) }
+    requires external { ForSome (F.told folder.old).files (IsInFile addr at (length bytes.now)) }
+    ensures steps { OnOk result (Applies (F.told folder.old) (F.told folder.new) (data_steps addr at bytes.now)) }
+    ensures prefix { AppliesPrefix (F.told folder.old) (F.told folder.new) (data_steps addr at bytes.now) }
+    ensures agrees { ForSome (F.told folder.new).files (Agrees files.now) }
+    ensures later { F.faults folder.old ≤ F.faults folder.new }
+    ensures failed { OnErr result (Rises (F.faults folder.old) (F.faults folder.new)) }
 {
     if bytes.is_empty() {
         return Ok(());
     }
-    write_data(f, files, addr, at, bytes)
+    write_data(folder, files, addr, at, bytes)
 }
 
 // The record, whose bytes were read, gets another size of a stream, if it is another.
 fn write_size<F: Folder>(
-    f: &mut F,
+    folder: &mut F,
     files: &BlockFiles,
     entry: Addr,
     stream: u8,
@@ -218,15 +218,15 @@ fn write_size<F: Folder>(
     requires kind { kind_of entry ≡ blocks_256 }
     requires stands { IsTrue (stands_among files.now entry) }
     requires record_size { length record_bytes.old ≡ entry_size }
-    requires agrees { ForSome (F.told f.old).files (Agrees files.now) }
-    ensures steps { OnOk result (Applies (F.told f.old) (F.told f.new) (size_steps record_bytes.old entry stream old size)) }
-    ensures prefix { AppliesPrefix (F.told f.old) (F.told f.new) (size_steps record_bytes.old entry stream old size) }
-    ensures agrees { ForSome (F.told f.new).files (Agrees files.now) }
-    ensures later { F.faults f.old ≤ F.faults f.new }
-    ensures failed { OnErr result (Rises (F.faults f.old) (F.faults f.new)) }
+    requires agrees { ForSome (F.told folder.old).files (Agrees files.now) }
+    ensures steps { OnOk result (Applies (F.told folder.old) (F.told folder.new) (size_steps record_bytes.old entry stream old size)) }
+    ensures prefix { AppliesPrefix (F.told folder.old) (F.told folder.new) (size_steps record_bytes.old entry stream old size) }
+    ensures agrees { ForSome (F.told folder.new).files (Agrees files.now) }
+    ensures later { F.faults folder.old ≤ F.faults folder.new }
+    ensures failed { OnErr result (Rises (F.faults folder.old) (F.faults folder.new)) }
 {
     if size == old {
         return Ok(());
     }
-    files.update_record(f, entry, record_bytes, &[(size_at(stream), size)])
+    files.update_record(folder, entry, record_bytes, &[(size_at(stream), size)])
 }

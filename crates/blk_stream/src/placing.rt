@@ -18,36 +18,36 @@ use blk_io::{Fault, Folder};
 
 // A new place for data of a size: blocks, or an external file without bytes.
 pub(crate) fn new_place<F: Folder>(
-    f: &mut F,
+    folder: &mut F,
     files: &mut BlockFiles,
     size: u32,
 ) -> Result<Addr, Fault>
     requires some { 0 < size }
-    requires agrees { ForSome (F.told f.old).files (Agrees files.old) }
-    requires complete { ForSome (F.told f.old).files HasWholeIndex }
+    requires agrees { ForSome (F.told folder.old).files (Agrees files.old) }
+    requires complete { ForSome (F.told folder.old).files HasWholeIndex }
     ensures stores { IfOk result (λ addr. keys.stores files.new size addr ≡ true) }
     ensures long { IfOk result (λ addr. kind_of addr ≢ external → HasItsBlocks files.new (file_selector addr)) }
     ensures keeps { KeepsStanding files.old files.new }
     ensures links { IfOk result (λ addr. KeepsOtherLinks files.old files.new addr) }
-    ensures placed { IfOk result (λ addr. ForSome (F.told f.old).files (λ from. CanBePlaced files.old size from → ForSome (F.told f.new).files (IsNewPlace files.old addr from))) }
-    ensures takes { IfOk result (λ addr. ForSome (F.told f.old).files (λ from. CanBePlaced files.old size from → ForSome (F.told f.new).files (TakesPlace files.old files.new addr from))) }
-    ensures agrees { OnOk result (ForSome (F.told f.new).files (Agrees files.new)) }
-    ensures stops { ForSome (F.told f.old).files (λ from. CanBePlaced files.old size from → Passes (F.told f.old) (F.told f.new) (PlacesInProgress files.old size from)) }
-    ensures stages { ForSome (F.told f.old).files (λ from. CanBePlaced files.old size from → Passes (F.told f.old) (F.told f.new) (TakesInProgress from)) }
-    ensures cause { IfDamaged result (IsPlaceRefusal files.old files.new size (F.told f.old) (F.told f.new)) }
-    ensures untold { ForSome (F.told f.old).files (CanBePlaced files.old size) → IfDamaged result (λ _. (F.told f.old).files ≡ None) }
-    ensures silent { (F.told f.old).files ≡ None → (F.told f.new).files ≡ None }
-    ensures later { F.faults f.old ≤ F.faults f.new }
-    ensures device { IfDevice result (Rises (F.faults f.old) (F.faults f.new)) }
+    ensures placed { IfOk result (λ addr. ForSome (F.told folder.old).files (λ from. CanBePlaced files.old size from → ForSome (F.told folder.new).files (IsNewPlace files.old addr from))) }
+    ensures takes { IfOk result (λ addr. ForSome (F.told folder.old).files (λ from. CanBePlaced files.old size from → ForSome (F.told folder.new).files (TakesPlace files.old files.new addr from))) }
+    ensures agrees { OnOk result (ForSome (F.told folder.new).files (Agrees files.new)) }
+    ensures stops { ForSome (F.told folder.old).files (λ from. CanBePlaced files.old size from → Passes (F.told folder.old) (F.told folder.new) (PlacesInProgress files.old size from)) }
+    ensures stages { ForSome (F.told folder.old).files (λ from. CanBePlaced files.old size from → Passes (F.told folder.old) (F.told folder.new) (TakesInProgress from)) }
+    ensures cause { IfDamaged result (IsPlaceRefusal files.old files.new size (F.told folder.old) (F.told folder.new)) }
+    ensures untold { ForSome (F.told folder.old).files (CanBePlaced files.old size) → IfDamaged result (λ _. (F.told folder.old).files ≡ None) }
+    ensures silent { (F.told folder.old).files ≡ None → (F.told folder.new).files ≡ None }
+    ensures later { F.faults folder.old ≤ F.faults folder.new }
+    ensures device { IfDevice result (Rises (F.faults folder.old) (F.faults folder.new)) }
 {
     let kind = kind_for(size);
     if is_external(kind) {
-        let addr = blk_external::create(f)?;
+        let addr = blk_external::create(folder)?;
         // That the word is one of an address is known once it is read.
         let _word = addr.word();
         return Ok(addr);
     }
-    blk_alloc::allocate(f, files, kind, blocks_for(size))
+    blk_alloc::allocate(folder, files, kind, blocks_for(size))
 }
 
 // Whether a kind is that of external files.

@@ -25,38 +25,38 @@ use blk_io::{Fault, Folder};
 ///
 /// A failed check is a cause of `allocate` or `create`.
 pub fn store_new<F: Folder>(
-    f: &mut F,
+    folder: &mut F,
     files: &mut BlockFiles,
     offset: u32,
     bytes: &[u8],
 ) -> Result<Addr, Fault>
     requires some { 1 ≤ length bytes.now }
     requires most { offset + length bytes.now ≤ most_stream_bytes }
-    requires agrees { ForSome (F.told f.old).files (Agrees files.old) }
-    requires complete { ForSome (F.told f.old).files HasWholeIndex }
+    requires agrees { ForSome (F.told folder.old).files (Agrees files.old) }
+    requires complete { ForSome (F.told folder.old).files HasWholeIndex }
     ensures fits { IfOk result (λ addr. may_keep files.new (offset + length bytes.now) addr ≡ true) }
 
     // Where there is space for them they are stored there.
-    ensures stored { IfOk result (λ addr. ForSome (F.told f.old).files (λ from. CanBePlaced files.old (offset + length bytes.now) from → ForSome (F.told f.new).files (λ image. (store_of image).stored (offset + length bytes.now) addr ≡ Some (overwritten [] offset bytes.now)))) }
+    ensures stored { IfOk result (λ addr. ForSome (F.told folder.old).files (λ from. CanBePlaced files.old (offset + length bytes.now) from → ForSome (F.told folder.new).files (λ image. (store_of image).stored (offset + length bytes.now) addr ≡ Some (overwritten [] offset bytes.now)))) }
 
     // A place was taken and then filled; at each word it is being taken or filled.
-    ensures staged { IfOk result (λ addr. ForSome (F.told f.old).files (λ from. CanBePlaced files.old (offset + length bytes.now) from → ForSome (F.told f.new).files (IsFilled files.old files.new (Some addr) from))) }
-    ensures stages { ForSome (F.told f.old).files (λ from. CanBePlaced files.old (offset + length bytes.now) from → Passes (F.told f.old) (F.told f.new) (FillsByStage files.old files.new from)) }
+    ensures staged { IfOk result (λ addr. ForSome (F.told folder.old).files (λ from. CanBePlaced files.old (offset + length bytes.now) from → ForSome (F.told folder.new).files (IsFilled files.old files.new (Some addr) from))) }
+    ensures stages { ForSome (F.told folder.old).files (λ from. CanBePlaced files.old (offset + length bytes.now) from → Passes (F.told folder.old) (F.told folder.new) (FillsByStage files.old files.new from)) }
 
     ensures keeps { KeepsStanding files.old files.new }
-    ensures agrees { OnOk result (ForSome (F.told f.new).files (Agrees files.new)) }
-    ensures damaged { IfDamaged result (IsPlaceRefusal files.old files.new (offset + length bytes.now) (F.told f.old) (F.told f.new)) }
-    ensures untold { ForSome (F.told f.old).files (CanBePlaced files.old (offset + length bytes.now)) → IfDamaged result (λ _. (F.told f.old).files ≡ None) }
-    ensures silent { (F.told f.old).files ≡ None → (F.told f.new).files ≡ None }
-    ensures later { F.faults f.old ≤ F.faults f.new }
-    ensures device { IfDevice result (Rises (F.faults f.old) (F.faults f.new)) }
+    ensures agrees { OnOk result (ForSome (F.told folder.new).files (Agrees files.new)) }
+    ensures damaged { IfDamaged result (IsPlaceRefusal files.old files.new (offset + length bytes.now) (F.told folder.old) (F.told folder.new)) }
+    ensures untold { ForSome (F.told folder.old).files (CanBePlaced files.old (offset + length bytes.now)) → IfDamaged result (λ _. (F.told folder.old).files ≡ None) }
+    ensures silent { (F.told folder.old).files ≡ None → (F.told folder.new).files ≡ None }
+    ensures later { F.faults folder.old ≤ F.faults folder.new }
+    ensures device { IfDevice result (Rises (F.faults folder.old) (F.faults folder.new)) }
 {
     let none = Stored {
         size: 0,
         addr: None,
     };
     let size = offset + bytes.len() as u32;
-    let addr = new_place(f, files, size)?;
-    fill(f, files, none, addr, size, offset, bytes)?;
+    let addr = new_place(folder, files, size)?;
+    fill(folder, files, none, addr, size, offset, bytes)?;
     Ok(addr)
 }

@@ -97,7 +97,7 @@ pub fn write<F: Folder>(
 
 // Writes bytes over a stream, by the bytes of its record and where it lies, which were read.
 fn write_stored<F: Folder>(
-    f: &mut F,
+    folder: &mut F,
     files: &mut BlockFiles,
     entry: Addr,
     stream: u8,
@@ -115,27 +115,27 @@ fn write_stored<F: Folder>(
     requires none { old.addr ≡ None → old.size ≡ 0 }
     requires some { (addr : ℕ) → old.addr ≡ Some addr → addr ≢ 0 }
     requires most { offset + length bytes.now ≤ most_stream_bytes }
-    requires agrees { ForSome (F.told f.old).files (Agrees files.old) }
-    requires complete { ForSome (F.told f.old).files HasWholeIndex }
-    requires there { ForSome (F.told f.old).files (IsInFile (unwrap_or old.addr 0) 0 old.size) }
-    ensures written { OnOk result (ForSome (F.told f.old).files (λ from. IsStreamRead record_bytes.old entry stream old.size (unwrap_or old.addr 0) from → CanBeWritten files.old entry stream (writes.size_after cut old.size offset (length bytes.now)) from → ForSome (F.told f.new).files (StreamIsWritten files.old files.new entry stream offset cut bytes.now from))) }
-    ensures staged { OnOk result (ForSome (F.told f.old).files (λ from. IsStreamRead record_bytes.old entry stream old.size (unwrap_or old.addr 0) from → CanBeWritten files.old entry stream (writes.size_after cut old.size offset (length bytes.now)) from → ForSome (F.told f.new).files (IsWrittenByStage files.old files.new entry stream (writes.size_after cut old.size offset (length bytes.now)) offset bytes.now from))) }
-    ensures sealed { OnOk result (ForSome (F.told f.old).files (λ from. IsStreamRead record_bytes.old entry stream old.size (unwrap_or old.addr 0) from → CanBeWritten files.old entry stream (writes.size_after cut old.size offset (length bytes.now)) from → ForSome (F.told f.new).files (KeepsSeal entry from))) }
+    requires agrees { ForSome (F.told folder.old).files (Agrees files.old) }
+    requires complete { ForSome (F.told folder.old).files HasWholeIndex }
+    requires there { ForSome (F.told folder.old).files (IsInFile (unwrap_or old.addr 0) 0 old.size) }
+    ensures written { OnOk result (ForSome (F.told folder.old).files (λ from. IsStreamRead record_bytes.old entry stream old.size (unwrap_or old.addr 0) from → CanBeWritten files.old entry stream (writes.size_after cut old.size offset (length bytes.now)) from → ForSome (F.told folder.new).files (StreamIsWritten files.old files.new entry stream offset cut bytes.now from))) }
+    ensures staged { OnOk result (ForSome (F.told folder.old).files (λ from. IsStreamRead record_bytes.old entry stream old.size (unwrap_or old.addr 0) from → CanBeWritten files.old entry stream (writes.size_after cut old.size offset (length bytes.now)) from → ForSome (F.told folder.new).files (IsWrittenByStage files.old files.new entry stream (writes.size_after cut old.size offset (length bytes.now)) offset bytes.now from))) }
+    ensures sealed { OnOk result (ForSome (F.told folder.old).files (λ from. IsStreamRead record_bytes.old entry stream old.size (unwrap_or old.addr 0) from → CanBeWritten files.old entry stream (writes.size_after cut old.size offset (length bytes.now)) from → ForSome (F.told folder.new).files (KeepsSeal entry from))) }
     ensures keeps { KeepsStanding files.old files.new }
-    ensures agrees { OnOk result (ForSome (F.told f.new).files (Agrees files.new)) }
-    ensures stops { ForSome (F.told f.old).files (λ from. IsStreamRead record_bytes.old entry stream old.size (unwrap_or old.addr 0) from → CanBeWritten files.old entry stream (writes.size_after cut old.size offset (length bytes.now)) from → Passes (F.told f.old) (F.told f.new) (WritesStream files.old entry stream (writes.size_after cut old.size offset (length bytes.now)) offset cut bytes.now from)) }
-    ensures stages { ForSome (F.told f.old).files (λ from. IsStreamRead record_bytes.old entry stream old.size (unwrap_or old.addr 0) from → CanBeWritten files.old entry stream (writes.size_after cut old.size offset (length bytes.now)) from → Passes (F.told f.old) (F.told f.new) (WritesByStage files.old files.new entry stream (writes.size_after cut old.size offset (length bytes.now)) offset bytes.now from)) }
-    ensures damaged { IfDamaged result (IsWriteDamage files.old files.new (F.told f.old) (F.told f.new) entry stream) }
-    ensures untold { ForSome (F.told f.old).files (λ from. IsStreamRead record_bytes.old entry stream old.size (unwrap_or old.addr 0) from × CanBeWritten files.old entry stream (writes.size_after cut old.size offset (length bytes.now)) from) → IfDamaged result (λ _. (F.told f.old).files ≡ None) }
-    ensures silent { (F.told f.old).files ≡ None → (F.told f.new).files ≡ None }
-    ensures later { F.faults f.old ≤ F.faults f.new }
-    ensures device { IfDevice result (Rises (F.faults f.old) (F.faults f.new)) }
+    ensures agrees { OnOk result (ForSome (F.told folder.new).files (Agrees files.new)) }
+    ensures stops { ForSome (F.told folder.old).files (λ from. IsStreamRead record_bytes.old entry stream old.size (unwrap_or old.addr 0) from → CanBeWritten files.old entry stream (writes.size_after cut old.size offset (length bytes.now)) from → Passes (F.told folder.old) (F.told folder.new) (WritesStream files.old entry stream (writes.size_after cut old.size offset (length bytes.now)) offset cut bytes.now from)) }
+    ensures stages { ForSome (F.told folder.old).files (λ from. IsStreamRead record_bytes.old entry stream old.size (unwrap_or old.addr 0) from → CanBeWritten files.old entry stream (writes.size_after cut old.size offset (length bytes.now)) from → Passes (F.told folder.old) (F.told folder.new) (WritesByStage files.old files.new entry stream (writes.size_after cut old.size offset (length bytes.now)) offset bytes.now from)) }
+    ensures damaged { IfDamaged result (IsWriteDamage files.old files.new (F.told folder.old) (F.told folder.new) entry stream) }
+    ensures untold { ForSome (F.told folder.old).files (λ from. IsStreamRead record_bytes.old entry stream old.size (unwrap_or old.addr 0) from × CanBeWritten files.old entry stream (writes.size_after cut old.size offset (length bytes.now)) from) → IfDamaged result (λ _. (F.told folder.old).files ≡ None) }
+    ensures silent { (F.told folder.old).files ≡ None → (F.told folder.new).files ≡ None }
+    ensures later { F.faults folder.old ≤ F.faults folder.new }
+    ensures device { IfDevice result (Rises (F.faults folder.old) (F.faults folder.new)) }
 {
     let place = old.addr;
     let size = size_after(cut, old.size, offset, bytes.len() as u32);
     if !have_one_storage(old.size, size) {
         return write_moved(
-            f,
+            folder,
             files,
             entry,
             stream,
@@ -149,7 +149,7 @@ fn write_stored<F: Folder>(
     match place {
         Some(addr) => {
             write_inside(
-                f,
+                folder,
                 files,
                 entry,
                 stream,

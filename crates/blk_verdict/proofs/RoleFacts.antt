@@ -31,8 +31,8 @@ head_by : (f g : ℕ → ℕ) → g ≡ (λ i. if nat_lt i 64 then f i else 0) �
 unfolding words_at
 head_by f g e = ap read_parent_head e
 
-front_content : (bytes : List ℕ) (i : ℕ) → 64 ≤ length bytes → content (take 64 bytes) i ≡ (if nat_lt i 64 then content bytes i else 0)
-front_content bytes i long = by_test (nat_lt i 64) refl
+prefix_content : (bytes : List ℕ) (i : ℕ) → 64 ≤ length bytes → content (take 64 bytes) i ≡ (if nat_lt i 64 then content bytes i else 0)
+prefix_content bytes i long = by_test (nat_lt i 64) refl
   where
     by_test : (t : Bool) → nat_lt i 64 ≡ t → content (take 64 bytes) i ≡ (if t then content bytes i else 0)
     by_test true e = get_or-take 64 bytes i 0 (grind (arith, nat_tests))
@@ -43,8 +43,8 @@ front_content bytes i long = by_test (nat_lt i 64) refl
         behind (x ∷ xs) zero e = absurd (omega (arith, e))
         behind (x ∷ xs) (suc i) e = behind xs i (omega (arith, e))
 
-front_head : (bytes : List ℕ) → 64 ≤ length bytes → read_parent_head (content (take 64 bytes)) ≡ read_parent_head (content bytes)
-front_head bytes long = head_by (content bytes) (content (take 64 bytes)) (λ j i. front_content bytes i long j)
+prefix_head : (bytes : List ℕ) → 64 ≤ length bytes → read_parent_head (content (take 64 bytes)) ≡ read_parent_head (content bytes)
+prefix_head bytes long = head_by (content bytes) (content (take 64 bytes)) (λ j i. prefix_content bytes i long j)
 
 -- A parent.
 
@@ -89,7 +89,7 @@ parent_read key fields streams window o none size is said = by_head o (said ∙ 
     window_size = let h : length window ≡ 64 = ap length is ∙ (let e : length (take 64 (stream 2 streams)) ≡ 64 = omega (arith, length-take 64 (stream 2 streams), long) in e) in grind (arith, nat_tests)
 
     seen : (if nat_le 64 (length window) then read_parent_head (content window) else None) ≡ read_parent_head (content (stream 2 streams))
-    seen = ap (λ (t : Bool). if t then read_parent_head (content window) else None) window_size ∙ ap (λ (l : List ℕ). read_parent_head (content l)) is ∙ front_head (stream 2 streams) long
+    seen = ap (λ (t : Bool). if t then read_parent_head (content window) else None) window_size ∙ ap (λ (l : List ℕ). read_parent_head (content l)) is ∙ prefix_head (stream 2 streams) long
 
     index : read_parent_index (stream 2 streams) ≡ option_map (with_bits (content (stream 2 streams))) (read_parent_head (content (stream 2 streams)))
     index = index-read (stream 2 streams) ∙ ap (λ (t : Bool). if t then option_map (with_bits (content (stream 2 streams))) (read_parent_head (content (stream 2 streams))) else None) (eq-eqb _ _ size)

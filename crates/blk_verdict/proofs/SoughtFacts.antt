@@ -20,7 +20,7 @@ use Rattle.blk_entry.specs.Keys.{stores}
 use Rattle.blk_ranges.specs.ParentMaps.{head_fields, head_signature}
 use Rattle.blk_ranges.specs.declared.parent_map.ParentHead.{ParentHead}
 use Rattle.blk_verdict.specs.Kept.{HasPartNumber, IsLoadedFrom, is_parent_said, is_part_said, is_role_sought, is_sought}
-use Rattle.blk_verdict.specs.Readable.{HasIndex}
+use Rattle.blk_verdict.specs.Readable.{HasReadableIndex}
 use Rattle.blk_verdict.specs.Roles.{IsRole}
 use Rattle.blk_verdict.specs.declared.fitting.Sought.{Sought}
 use Rattle.blk_verdict.specs.declared.fitting.Sought.TheVariants.{Part as part, Whole as whole, ParentOf as parent_of}
@@ -119,7 +119,7 @@ none_alike image sought given loaded said one known is none = none_by_hash image
 -- The bit of a part.
 
 -- the index of a parent that is sought is stored
-pub index_stored : (files : BlockFiles) (sizes addrs : List ℕ) (signature : ℕ) (role : Role) → is_parent_said signature role ≡ true → HasIndex files sizes addrs role → stores files 8256 (slice_index addrs 2) ≡ true
+pub index_stored : (files : BlockFiles) (sizes addrs : List ℕ) (signature : ℕ) (role : Role) → is_parent_said signature role ≡ true → HasReadableIndex files sizes addrs role → stores files 8256 (slice_index addrs 2) ≡ true
 index_stored files sizes addrs signature Plain is has = absurd (clash is)
   where
     clash : false ≡ true → ⊥

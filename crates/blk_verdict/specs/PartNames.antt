@@ -13,14 +13,14 @@ use Rattle.blk_verdict.specs.declared.loading.Verdict.{Verdict}
 use Rattle.blk_verdict.specs.declared.loading.Verdict.TheVariants as verdict
 
 -- the first of some bytes are the key that an image has where the words of a record say
-abbrev pub IsKeyInFront : Image → ℕ → RecordWords → List ℕ → Type 0
-IsKeyInFront image entry words bytes = (key : List ℕ) → stored_key (store_of image) entry (fields_said words) ≡ Some key → take words.key_len bytes ≡ key
+abbrev pub IsKeyInPrefix : Image → ℕ → RecordWords → List ℕ → Type 0
+IsKeyInPrefix image entry words bytes = (key : List ℕ) → stored_key (store_of image) entry (fields_said words) ≡ Some key → take words.key_len bytes ≡ key
 
 -- where a loaded record is a part's, these bytes are the key that an image has of it
 abbrev pub IsNameOf : Image → Loaded → List ℕ → Type 0
 IsNameOf image said bytes = is_part_said said.role ≡ true → (key : List ℕ) → IsKeyOf image said key → bytes ≡ key
 
 -- where a node is loaded, the first of some bytes are so
-abbrev pub IsNameInFront : Image → Verdict → List ℕ → Type 0
-IsNameInFront image (verdict.Loaded said) bytes = IsNameOf image said (take said.key_len bytes)
-IsNameInFront image (verdict.Dropped reason) bytes = Unit {0}
+abbrev pub IsNameInPrefix : Image → Verdict → List ℕ → Type 0
+IsNameInPrefix image (verdict.Loaded said) bytes = IsNameOf image said (take said.key_len bytes)
+IsNameInPrefix image (verdict.Dropped reason) bytes = Unit {0}

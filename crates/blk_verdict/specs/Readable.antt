@@ -14,22 +14,22 @@ use Rattle.blk_verdict.specs.declared.roles.Role.{Role}
 use Rattle.blk_verdict.specs.declared.roles.Role.TheVariants.{Plain, Parent, Part}
 
 -- the index of a parent is stored, with the length of one, where the sizes and the address words of its streams say
-abbrev pub HasIndex : BlockFiles → List ℕ → List ℕ → Role → Type 0
-HasIndex files sizes addrs Plain = Unit {0}
-HasIndex files sizes addrs (Parent head) = (slice_index sizes 2 ≡ parent_index_length) × (stores files parent_index_length (slice_index addrs 2) ≡ true)
-HasIndex files sizes addrs (Part said) = Unit {0}
+abbrev pub HasReadableIndex : BlockFiles → List ℕ → List ℕ → Role → Type 0
+HasReadableIndex files sizes addrs Plain = Unit {0}
+HasReadableIndex files sizes addrs (Parent head) = (slice_index sizes 2 ≡ parent_index_length) × (stores files parent_index_length (slice_index addrs 2) ≡ true)
+HasReadableIndex files sizes addrs (Part said) = Unit {0}
 
 -- so it is where there is a role
 abbrev pub HasIndexIf : BlockFiles → List ℕ → List ℕ → Option Role → Type 0
 HasIndexIf files sizes addrs None = Unit {0}
-HasIndexIf files sizes addrs (Some role) = HasIndex files sizes addrs role
+HasIndexIf files sizes addrs (Some role) = HasReadableIndex files sizes addrs role
 
 -- the record is valid, its key has a place, and the index of a parent is stored
 pub record IsReadable (files : BlockFiles) (loaded : Loaded) : Type 0 where
   pub kind : kind_of loaded.entry ≡ blocks_256
   pub stands : stands_among files loaded.entry ≡ true
   pub placed : IsPlaced files loaded.entry loaded.key_len loaded.long_key
-  pub index : HasIndex files loaded.sizes loaded.addrs loaded.role
+  pub index : HasReadableIndex files loaded.sizes loaded.addrs loaded.role
 
 -- so it is for a node that is loaded
 abbrev pub IsReadableIf : BlockFiles → Verdict → Type 0

@@ -8,7 +8,7 @@ ghost use Rattle.blk_io.specs.Faults.{IfDamaged, IfDevice};
 ghost use Rattle.blk_disk.specs.Tables.{Agrees};
 ghost use Rattle.blk_verdict.specs.Keyed.{HasItsKey};
 ghost use Rattle.blk_verdict.specs.Kept.{HasPartNumber, IsLoadedFrom, is_parent_said, is_part_said, is_role_sought, is_sought};
-ghost use Rattle.blk_verdict.specs.Readable.{HasIndex, IsReadable};
+ghost use Rattle.blk_verdict.specs.Readable.{HasReadableIndex, IsReadable};
 ghost use Rattle.blk_verdict.specs.Reads.{IsCutRead};
 ghost use Rattle.blk_verdict.specs.declared.fitting.Sought.TheVariants as variant;
 
@@ -81,7 +81,7 @@ fn is_parent(role: Role, signature: i64) -> bool
 //
 // One folder call reads its key, where its role and the length of the key are right, and one more the bit of a part.
 pub(crate) fn fits<F: Folder>(
-    f: &mut F,
+    folder: &mut F,
     files: &BlockFiles,
     kept: &Loaded,
     sought: Sought,
@@ -89,42 +89,42 @@ pub(crate) fn fits<F: Folder>(
 ) -> Result<bool, Fault>
     requires readable { IsReadable files.now kept.now }
     requires part { HasPartNumber sought }
-    ensures fits { IfOk result (λ fits. ForSome (F.told f.old).files (λ image. Agrees files.now image → (loaded : shown.Loaded) → IsLoadedFrom image loaded kept.now → fits ≡ is_sought sought key.now loaded)) }
-    ensures stays { Stays (F.told f.old) (F.told f.new) }
-    ensures short { IfDamaged result (IsCutRead files.now (F.told f.old)) }
-    ensures untold { ForSome (F.told f.old).files (Agrees files.now) → ForSome (F.told f.old).files (λ image. HasItsKey image kept.now) → IfDamaged result (λ _. (F.told f.old).files ≡ None) }
-    ensures later { F.faults f.old ≤ F.faults f.new }
-    ensures device { IfDevice result (Rises (F.faults f.old) (F.faults f.new)) }
+    ensures fits { IfOk result (λ fits. ForSome (F.told folder.old).files (λ image. Agrees files.now image → (loaded : shown.Loaded) → IsLoadedFrom image loaded kept.now → fits ≡ is_sought sought key.now loaded)) }
+    ensures stays { Stays (F.told folder.old) (F.told folder.new) }
+    ensures short { IfDamaged result (IsCutRead files.now (F.told folder.old)) }
+    ensures untold { ForSome (F.told folder.old).files (Agrees files.now) → ForSome (F.told folder.old).files (λ image. HasItsKey image kept.now) → IfDamaged result (λ _. (F.told folder.old).files ≡ None) }
+    ensures later { F.faults folder.old ≤ F.faults folder.new }
+    ensures device { IfDevice result (Rises (F.faults folder.old) (F.faults folder.new)) }
 {
     if !sought.admits(kept.role) {
         return Ok(false);
     }
-    if !has_this_key(f, files, kept, key)? {
+    if !has_this_key(folder, files, kept, key)? {
         return Ok(false);
     }
-    has_bit(f, files, kept, sought)
+    has_bit(folder, files, kept, sought)
 }
 
 // Whether a kept record of a role that is sought has the bit of a part, where it is to have one.
 fn has_bit<F: Folder>(
-    f: &mut F,
+    folder: &mut F,
     files: &BlockFiles,
     kept: &Loaded,
     sought: Sought,
 ) -> Result<bool, Fault>
-    requires index { HasIndex files.now kept.now.sizes kept.now.addrs kept.now.role }
+    requires index { HasReadableIndex files.now kept.now.sizes kept.now.addrs kept.now.role }
     requires role { is_role_sought sought kept.now.role ≡ true }
     requires part { HasPartNumber sought }
-    ensures fits { IfOk result (λ has. ForSome (F.told f.old).files (λ image. (key : List ℕ) (loaded : shown.Loaded) → IsLoadedFrom image loaded kept.now → loaded.key ≡ key → has ≡ is_sought sought key loaded)) }
-    ensures stays { Stays (F.told f.old) (F.told f.new) }
-    ensures short { IfDamaged result (IsCutRead files.now (F.told f.old)) }
-    ensures untold { ForSome (F.told f.old).files (Agrees files.now) → IfDamaged result (λ _. (F.told f.old).files ≡ None) }
-    ensures later { F.faults f.old ≤ F.faults f.new }
-    ensures device { IfDevice result (Rises (F.faults f.old) (F.faults f.new)) }
+    ensures fits { IfOk result (λ has. ForSome (F.told folder.old).files (λ image. (key : List ℕ) (loaded : shown.Loaded) → IsLoadedFrom image loaded kept.now → loaded.key ≡ key → has ≡ is_sought sought key loaded)) }
+    ensures stays { Stays (F.told folder.old) (F.told folder.new) }
+    ensures short { IfDamaged result (IsCutRead files.now (F.told folder.old)) }
+    ensures untold { ForSome (F.told folder.old).files (Agrees files.now) → IfDamaged result (λ _. (F.told folder.old).files ≡ None) }
+    ensures later { F.faults folder.old ≤ F.faults folder.new }
+    ensures device { IfDevice result (Rises (F.faults folder.old) (F.faults folder.new)) }
 {
     match sought {
         Sought::Part => Ok(true),
         Sought::Whole => Ok(true),
-        Sought::ParentOf(name) => has_part(f, files, kept.addrs[2], name.part),
+        Sought::ParentOf(name) => has_part(folder, files, kept.addrs[2], name.part),
     }
 }

@@ -25,7 +25,7 @@ use blk_io::Folder;
 //
 // The folder calls are those of `load_walked` and, where it finds no reason, those of `KeptSoFar::admit`.
 pub(crate) fn judge_walked<F: Folder>(
-    f: &mut F,
+    folder: &mut F,
     files: &BlockFiles,
     lists: &Lists,
     kept: &mut KeptSoFar,
@@ -34,21 +34,21 @@ pub(crate) fn judge_walked<F: Folder>(
 ) -> Result<Option<Reason>, ScanFault>
     requires order { IsKeptInOrder files.now kept.old }
     requires room { length name.old ≡ most_key }
-    ensures answer { IfOk result (λ reason. ForSome (F.told f.old).files (λ image. Agrees files.now image → AreListsOf image lists.now → IsSaidAt image node.now → (so_far : List shown.Loaded) → AreShown image so_far kept.old.kept.items → IsSameAnswer (audit.verdict (store_of image) shown.held_rule so_far node.now.addr) reason)) }
-    ensures shown { OnOk result (ForSome (F.told f.old).files (λ image. Agrees files.now image → AreListsOf image lists.now → IsSaidAt image node.now → (so_far : List shown.Loaded) → AreShown image so_far kept.old.kept.items → AreShown image (audit.with_verdict so_far (audit.verdict (store_of image) shown.held_rule so_far node.now.addr)) kept.new.kept.items)) }
-    ensures keys { OnOk result (ForSome (F.told f.old).files (λ image. Agrees files.now image → AreListsOf image lists.now → IsSaidAt image node.now → HaveKeys image kept.old.kept.items → HaveKeys image kept.new.kept.items)) }
+    ensures answer { IfOk result (λ reason. ForSome (F.told folder.old).files (λ image. Agrees files.now image → AreListsOf image lists.now → IsSaidAt image node.now → (so_far : List shown.Loaded) → AreShown image so_far kept.old.kept.items → IsSameAnswer (audit.verdict (store_of image) shown.held_rule so_far node.now.addr) reason)) }
+    ensures shown { OnOk result (ForSome (F.told folder.old).files (λ image. Agrees files.now image → AreListsOf image lists.now → IsSaidAt image node.now → (so_far : List shown.Loaded) → AreShown image so_far kept.old.kept.items → AreShown image (audit.with_verdict so_far (audit.verdict (store_of image) shown.held_rule so_far node.now.addr)) kept.new.kept.items)) }
+    ensures keys { OnOk result (ForSome (F.told folder.old).files (λ image. Agrees files.now image → AreListsOf image lists.now → IsSaidAt image node.now → HaveKeys image kept.old.kept.items → HaveKeys image kept.new.kept.items)) }
     ensures kept { IfOk result (KeepsAtMostOne kept.old.kept.items kept.new.kept.items) }
     ensures order { OnOk result (IsKeptInOrder files.now kept.new) }
-    ensures stays { Stays (F.told f.old) (F.told f.new) }
-    ensures short { IfScanDamaged result (IsCutRead files.now (F.told f.old)) }
-    ensures untold { ForSome (F.told f.old).files (λ image. Agrees files.now image) → ForSome (F.told f.old).files (λ image. AreListsOf image lists.now × IsSaidAt image node.now) → ForSome (F.told f.old).files (λ image. HaveKeys image kept.old.kept.items) → IfScanDamaged result (λ _. (F.told f.old).files ≡ None) }
-    ensures later { F.faults f.old ≤ F.faults f.new }
-    ensures device { IfScanDevice result (Rises (F.faults f.old) (F.faults f.new)) }
+    ensures stays { Stays (F.told folder.old) (F.told folder.new) }
+    ensures short { IfScanDamaged result (IsCutRead files.now (F.told folder.old)) }
+    ensures untold { ForSome (F.told folder.old).files (λ image. Agrees files.now image) → ForSome (F.told folder.old).files (λ image. AreListsOf image lists.now × IsSaidAt image node.now) → ForSome (F.told folder.old).files (λ image. HaveKeys image kept.old.kept.items) → IfScanDamaged result (λ _. (F.told folder.old).files ≡ None) }
+    ensures later { F.faults folder.old ≤ F.faults folder.new }
+    ensures device { IfScanDevice result (Rises (F.faults folder.old) (F.faults folder.new)) }
 {
-    match load_walked(f, files, lists, node, name)? {
+    match load_walked(folder, files, lists, node, name)? {
         Verdict::Loaded(loaded) => {
             let key = &name[..loaded.key_len as usize];
-            kept.admit(f, files, loaded, key)
+            kept.admit(folder, files, loaded, key)
         }
         Verdict::Dropped(reason) => Ok(Some(reason)),
     }

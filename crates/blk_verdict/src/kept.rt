@@ -93,24 +93,24 @@ impl KeptSoFar {
     // memory, the kept records are of no more use.
     pub(crate) fn admit<F: Folder>(
         &mut self,
-        f: &mut F,
+        folder: &mut F,
         files: &BlockFiles,
         loaded: Loaded,
         key: &[u8],
     ) -> Result<Option<Reason>, ScanFault>
         requires order { IsKeptInOrder files.now self.old }
         requires readable { IsReadable files.now loaded }
-        ensures answer { IfOk result (λ reason. ForSome (F.told f.old).files (λ image. Agrees files.now image → (kept : List shown.Loaded) (given : shown.Loaded) → AreShown image kept self.old.kept.items → IsLoadedFrom image given loaded → IsNameOf image loaded key.now → IsSameAnswer (audit.admit kept given) reason)) }
-        ensures shown { IfOk result (λ reason. ForSome (F.told f.old).files (λ image. Agrees files.now image → (kept : List shown.Loaded) (given : shown.Loaded) → AreShown image kept self.old.kept.items → IsLoadedFrom image given loaded → IsNameOf image loaded key.now → AreShown image (audit.with_verdict kept (audit.admit kept given)) self.new.kept.items)) }
+        ensures answer { IfOk result (λ reason. ForSome (F.told folder.old).files (λ image. Agrees files.now image → (kept : List shown.Loaded) (given : shown.Loaded) → AreShown image kept self.old.kept.items → IsLoadedFrom image given loaded → IsNameOf image loaded key.now → IsSameAnswer (audit.admit kept given) reason)) }
+        ensures shown { IfOk result (λ reason. ForSome (F.told folder.old).files (λ image. Agrees files.now image → (kept : List shown.Loaded) (given : shown.Loaded) → AreShown image kept self.old.kept.items → IsLoadedFrom image given loaded → IsNameOf image loaded key.now → AreShown image (audit.with_verdict kept (audit.admit kept given)) self.new.kept.items)) }
         ensures kept { IfOk result (λ reason. self.new.kept.items ≡ kept_with self.old.kept.items loaded reason) }
         ensures order { OnOk result (IsKeptInOrder files.now self.new) }
-        ensures stays { Stays (F.told f.old) (F.told f.new) }
-        ensures short { IfScanDamaged result (IsCutRead files.now (F.told f.old)) }
-        ensures untold { ForSome (F.told f.old).files (Agrees files.now) → ForSome (F.told f.old).files (λ image. HaveKeys image (loaded ∷ self.old.kept.items)) → IfScanDamaged result (λ _. (F.told f.old).files ≡ None) }
-        ensures later { F.faults f.old ≤ F.faults f.new }
-        ensures device { IfScanDevice result (Rises (F.faults f.old) (F.faults f.new)) }
+        ensures stays { Stays (F.told folder.old) (F.told folder.new) }
+        ensures short { IfScanDamaged result (IsCutRead files.now (F.told folder.old)) }
+        ensures untold { ForSome (F.told folder.old).files (Agrees files.now) → ForSome (F.told folder.old).files (λ image. HaveKeys image (loaded ∷ self.old.kept.items)) → IfScanDamaged result (λ _. (F.told folder.old).files ≡ None) }
+        ensures later { F.faults folder.old ≤ F.faults folder.new }
+        ensures device { IfScanDevice result (Rises (F.faults folder.old) (F.faults folder.new)) }
     {
-        let reason = self.reason_for(f, files, &loaded, key)?;
+        let reason = self.reason_for(folder, files, &loaded, key)?;
         if reason.is_none() {
             self.keep(loaded)?;
         }
@@ -120,28 +120,28 @@ impl KeptSoFar {
     // The first of the reasons that holds for a loaded record.
     fn reason_for<F: Folder>(
         &self,
-        f: &mut F,
+        folder: &mut F,
         files: &BlockFiles,
         loaded: &Loaded,
         key: &[u8],
     ) -> Result<Option<Reason>, Fault>
         requires order { IsKeptInOrder files.now self.now }
         requires readable { IsReadable files.now loaded.now }
-        ensures answer { IfOk result (λ reason. ForSome (F.told f.old).files (λ image. Agrees files.now image → (kept : List shown.Loaded) (given : shown.Loaded) → AreShown image kept self.now.kept.items → IsLoadedFrom image given loaded.now → IsNameOf image loaded.now key.now → IsSameAnswer (audit.admit kept given) reason)) }
+        ensures answer { IfOk result (λ reason. ForSome (F.told folder.old).files (λ image. Agrees files.now image → (kept : List shown.Loaded) (given : shown.Loaded) → AreShown image kept self.now.kept.items → IsLoadedFrom image given loaded.now → IsNameOf image loaded.now key.now → IsSameAnswer (audit.admit kept given) reason)) }
         ensures apart { result ≡ Ok None → repeats (claims_of_all (addresses_of_all self.now.kept.items ++ addresses_of loaded.now)) ≡ false }
-        ensures stays { Stays (F.told f.old) (F.told f.new) }
-        ensures short { IfDamaged result (IsCutRead files.now (F.told f.old)) }
-        ensures untold { ForSome (F.told f.old).files (Agrees files.now) → ForSome (F.told f.old).files (λ image. HaveKeys image (loaded.now ∷ self.now.kept.items)) → IfDamaged result (λ _. (F.told f.old).files ≡ None) }
-        ensures later { F.faults f.old ≤ F.faults f.new }
-        ensures device { IfDevice result (Rises (F.faults f.old) (F.faults f.new)) }
+        ensures stays { Stays (F.told folder.old) (F.told folder.new) }
+        ensures short { IfDamaged result (IsCutRead files.now (F.told folder.old)) }
+        ensures untold { ForSome (F.told folder.old).files (Agrees files.now) → ForSome (F.told folder.old).files (λ image. HaveKeys image (loaded.now ∷ self.now.kept.items)) → IfDamaged result (λ _. (F.told folder.old).files ≡ None) }
+        ensures later { F.faults folder.old ≤ F.faults folder.new }
+        ensures device { IfDevice result (Rises (F.faults folder.old) (F.faults folder.new)) }
     {
         if self.collides(loaded) {
             return Ok(Some(Reason::Claimed));
         }
-        if self.shares_key(f, files, loaded, key)? {
+        if self.shares_key(folder, files, loaded, key)? {
             return Ok(Some(Reason::Name));
         }
-        if self.is_orphan(f, files, loaded, key)? {
+        if self.is_orphan(folder, files, loaded, key)? {
             return Ok(Some(Reason::Parent));
         }
         Ok(None)
@@ -159,31 +159,31 @@ impl KeptSoFar {
     // it.
     fn shares_key<F: Folder>(
         &self,
-        f: &mut F,
+        folder: &mut F,
         files: &BlockFiles,
         loaded: &Loaded,
         key: &[u8],
     ) -> Result<bool, Fault>
         requires order { IsKeptInOrder files.now self.now }
         requires readable { IsReadable files.now loaded.now }
-        ensures shares { IfOk result (λ shares. ForSome (F.told f.old).files (λ image. Agrees files.now image → (kept : List shown.Loaded) (given : shown.Loaded) → AreShown image kept self.now.kept.items → IsLoadedFrom image given loaded.now → IsNameOf image loaded.now key.now → shares ≡ audit.shares_key kept given)) }
-        ensures stays { Stays (F.told f.old) (F.told f.new) }
-        ensures short { IfDamaged result (IsCutRead files.now (F.told f.old)) }
-        ensures untold { ForSome (F.told f.old).files (Agrees files.now) → ForSome (F.told f.old).files (λ image. HaveKeys image (loaded.now ∷ self.now.kept.items)) → IfDamaged result (λ _. (F.told f.old).files ≡ None) }
-        ensures later { F.faults f.old ≤ F.faults f.new }
-        ensures device { IfDevice result (Rises (F.faults f.old) (F.faults f.new)) }
+        ensures shares { IfOk result (λ shares. ForSome (F.told folder.old).files (λ image. Agrees files.now image → (kept : List shown.Loaded) (given : shown.Loaded) → AreShown image kept self.now.kept.items → IsLoadedFrom image given loaded.now → IsNameOf image loaded.now key.now → shares ≡ audit.shares_key kept given)) }
+        ensures stays { Stays (F.told folder.old) (F.told folder.new) }
+        ensures short { IfDamaged result (IsCutRead files.now (F.told folder.old)) }
+        ensures untold { ForSome (F.told folder.old).files (Agrees files.now) → ForSome (F.told folder.old).files (λ image. HaveKeys image (loaded.now ∷ self.now.kept.items)) → IfDamaged result (λ _. (F.told folder.old).files ≡ None) }
+        ensures later { F.faults folder.old ≤ F.faults folder.new }
+        ensures device { IfDevice result (Rises (F.faults folder.old) (F.faults folder.new)) }
     {
         let sought = Sought::alike(loaded.role);
         if !self.may_have(loaded.hash, loaded.key_len, sought) {
             return Ok(false);
         }
-        self.has_key_of(f, files, loaded, sought, key)
+        self.has_key_of(folder, files, loaded, sought, key)
     }
 
     // Whether one of the kept records is what is sought, with the key of a record. Of a part this is the key.
     fn has_key_of<F: Folder>(
         &self,
-        f: &mut F,
+        folder: &mut F,
         files: &BlockFiles,
         loaded: &Loaded,
         sought: Sought,
@@ -193,24 +193,24 @@ impl KeptSoFar {
         requires readable { IsReadable files.now loaded.now }
         requires short { loaded.now.key_len ≤ most_key }
         requires part { HasPartNumber sought }
-        ensures has { IfOk result (λ has. ForSome (F.told f.old).files (λ image. Agrees files.now image → (kept : List shown.Loaded) (given : shown.Loaded) → AreShown image kept self.now.kept.items → IsLoadedFrom image given loaded.now → IsNameOf image loaded.now key.now → has ≡ list_any (is_sought sought given.key) kept)) }
-        ensures stays { Stays (F.told f.old) (F.told f.new) }
-        ensures short { IfDamaged result (IsCutRead files.now (F.told f.old)) }
-        ensures untold { ForSome (F.told f.old).files (Agrees files.now) → ForSome (F.told f.old).files (λ image. HaveKeys image (loaded.now ∷ self.now.kept.items)) → IfDamaged result (λ _. (F.told f.old).files ≡ None) }
-        ensures later { F.faults f.old ≤ F.faults f.new }
-        ensures device { IfDevice result (Rises (F.faults f.old) (F.faults f.new)) }
+        ensures has { IfOk result (λ has. ForSome (F.told folder.old).files (λ image. Agrees files.now image → (kept : List shown.Loaded) (given : shown.Loaded) → AreShown image kept self.now.kept.items → IsLoadedFrom image given loaded.now → IsNameOf image loaded.now key.now → has ≡ list_any (is_sought sought given.key) kept)) }
+        ensures stays { Stays (F.told folder.old) (F.told folder.new) }
+        ensures short { IfDamaged result (IsCutRead files.now (F.told folder.old)) }
+        ensures untold { ForSome (F.told folder.old).files (Agrees files.now) → ForSome (F.told folder.old).files (λ image. HaveKeys image (loaded.now ∷ self.now.kept.items)) → IfDamaged result (λ _. (F.told folder.old).files ≡ None) }
+        ensures later { F.faults folder.old ≤ F.faults folder.new }
+        ensures device { IfDevice result (Rises (F.faults folder.old) (F.faults folder.new)) }
     {
         match loaded.role {
-            Role::Plain => self.has_stored_key(f, files, loaded, sought),
-            Role::Parent(_) => self.has_stored_key(f, files, loaded, sought),
-            Role::Part(_) => self.has(f, files, loaded.hash, sought, key),
+            Role::Plain => self.has_stored_key(folder, files, loaded, sought),
+            Role::Parent(_) => self.has_stored_key(folder, files, loaded, sought),
+            Role::Part(_) => self.has(folder, files, loaded.hash, sought, key),
         }
     }
 
     // The same, where the key of the record is read.
     fn has_stored_key<F: Folder>(
         &self,
-        f: &mut F,
+        folder: &mut F,
         files: &BlockFiles,
         loaded: &Loaded,
         sought: Sought,
@@ -219,56 +219,56 @@ impl KeptSoFar {
         requires readable { IsReadable files.now loaded.now }
         requires short { loaded.now.key_len ≤ most_key }
         requires part { HasPartNumber sought }
-        ensures has { IfOk result (λ has. ForSome (F.told f.old).files (λ image. Agrees files.now image → (kept : List shown.Loaded) (given : shown.Loaded) → AreShown image kept self.now.kept.items → IsLoadedFrom image given loaded.now → has ≡ list_any (is_sought sought given.key) kept)) }
-        ensures stays { Stays (F.told f.old) (F.told f.new) }
-        ensures short { IfDamaged result (IsCutRead files.now (F.told f.old)) }
-        ensures untold { ForSome (F.told f.old).files (Agrees files.now) → ForSome (F.told f.old).files (λ image. HaveKeys image (loaded.now ∷ self.now.kept.items)) → IfDamaged result (λ _. (F.told f.old).files ≡ None) }
-        ensures later { F.faults f.old ≤ F.faults f.new }
-        ensures device { IfDevice result (Rises (F.faults f.old) (F.faults f.new)) }
+        ensures has { IfOk result (λ has. ForSome (F.told folder.old).files (λ image. Agrees files.now image → (kept : List shown.Loaded) (given : shown.Loaded) → AreShown image kept self.now.kept.items → IsLoadedFrom image given loaded.now → has ≡ list_any (is_sought sought given.key) kept)) }
+        ensures stays { Stays (F.told folder.old) (F.told folder.new) }
+        ensures short { IfDamaged result (IsCutRead files.now (F.told folder.old)) }
+        ensures untold { ForSome (F.told folder.old).files (Agrees files.now) → ForSome (F.told folder.old).files (λ image. HaveKeys image (loaded.now ∷ self.now.kept.items)) → IfDamaged result (λ _. (F.told folder.old).files ≡ None) }
+        ensures later { F.faults folder.old ≤ F.faults folder.new }
+        ensures device { IfDevice result (Rises (F.faults folder.old) (F.faults folder.new)) }
     {
         let mut buffer = [0u8; LONGEST_NAME as usize];
         let key = &mut buffer[..loaded.key_len as usize];
-        read_key_of(f, files, loaded, key)?;
-        self.has(f, files, loaded.hash, sought, key)
+        read_key_of(folder, files, loaded, key)?;
+        self.has(folder, files, loaded.hash, sought, key)
     }
 
     // Whether a record is a part, whose key this is, and no kept record is its parent with its bit.
     fn is_orphan<F: Folder>(
         &self,
-        f: &mut F,
+        folder: &mut F,
         files: &BlockFiles,
         loaded: &Loaded,
         key: &[u8],
     ) -> Result<bool, Fault>
         requires order { IsKeptInOrder files.now self.now }
-        ensures orphan { IfOk result (λ orphan. ForSome (F.told f.old).files (λ image. Agrees files.now image → (kept : List shown.Loaded) (given : shown.Loaded) → AreShown image kept self.now.kept.items → IsLoadedFrom image given loaded.now → IsNameOf image loaded.now key.now → orphan ≡ audit.is_orphan kept given)) }
-        ensures stays { Stays (F.told f.old) (F.told f.new) }
-        ensures short { IfDamaged result (IsCutRead files.now (F.told f.old)) }
-        ensures untold { ForSome (F.told f.old).files (Agrees files.now) → ForSome (F.told f.old).files (λ image. HaveKeys image self.now.kept.items) → IfDamaged result (λ _. (F.told f.old).files ≡ None) }
-        ensures later { F.faults f.old ≤ F.faults f.new }
-        ensures device { IfDevice result (Rises (F.faults f.old) (F.faults f.new)) }
+        ensures orphan { IfOk result (λ orphan. ForSome (F.told folder.old).files (λ image. Agrees files.now image → (kept : List shown.Loaded) (given : shown.Loaded) → AreShown image kept self.now.kept.items → IsLoadedFrom image given loaded.now → IsNameOf image loaded.now key.now → orphan ≡ audit.is_orphan kept given)) }
+        ensures stays { Stays (F.told folder.old) (F.told folder.new) }
+        ensures short { IfDamaged result (IsCutRead files.now (F.told folder.old)) }
+        ensures untold { ForSome (F.told folder.old).files (Agrees files.now) → ForSome (F.told folder.old).files (λ image. HaveKeys image self.now.kept.items) → IfDamaged result (λ _. (F.told folder.old).files ≡ None) }
+        ensures later { F.faults folder.old ≤ F.faults folder.new }
+        ensures device { IfDevice result (Rises (F.faults folder.old) (F.faults folder.new)) }
     {
         match loaded.role {
             Role::Plain => Ok(false),
             Role::Parent(_) => Ok(false),
-            Role::Part(_) => self.lacks_parent(f, files, key),
+            Role::Part(_) => self.lacks_parent(folder, files, key),
         }
     }
 
     // Whether no kept record is the parent of a part with this key, with its bit.
     fn lacks_parent<F: Folder>(
         &self,
-        f: &mut F,
+        folder: &mut F,
         files: &BlockFiles,
         key: &[u8],
     ) -> Result<bool, Fault>
         requires order { IsKeptInOrder files.now self.now }
-        ensures orphan { IfOk result (λ orphan. ForSome (F.told f.old).files (λ image. Agrees files.now image → (kept : List shown.Loaded) (given : shown.Loaded) (node : ℕ) → AreShown image kept self.now.kept.items → shown.load (store_of image) shown.held_rule node ≡ Ok given → key.now ≡ given.key → shown.is_part given ≡ true → orphan ≡ audit.is_orphan kept given)) }
-        ensures stays { Stays (F.told f.old) (F.told f.new) }
-        ensures short { IfDamaged result (IsCutRead files.now (F.told f.old)) }
-        ensures untold { ForSome (F.told f.old).files (Agrees files.now) → ForSome (F.told f.old).files (λ image. HaveKeys image self.now.kept.items) → IfDamaged result (λ _. (F.told f.old).files ≡ None) }
-        ensures later { F.faults f.old ≤ F.faults f.new }
-        ensures device { IfDevice result (Rises (F.faults f.old) (F.faults f.new)) }
+        ensures orphan { IfOk result (λ orphan. ForSome (F.told folder.old).files (λ image. Agrees files.now image → (kept : List shown.Loaded) (given : shown.Loaded) (node : ℕ) → AreShown image kept self.now.kept.items → shown.load (store_of image) shown.held_rule node ≡ Ok given → key.now ≡ given.key → shown.is_part given ≡ true → orphan ≡ audit.is_orphan kept given)) }
+        ensures stays { Stays (F.told folder.old) (F.told folder.new) }
+        ensures short { IfDamaged result (IsCutRead files.now (F.told folder.old)) }
+        ensures untold { ForSome (F.told folder.old).files (Agrees files.now) → ForSome (F.told folder.old).files (λ image. HaveKeys image self.now.kept.items) → IfDamaged result (λ _. (F.told folder.old).files ≡ None) }
+        ensures later { F.faults folder.old ≤ F.faults folder.new }
+        ensures device { IfDevice result (Rises (F.faults folder.old) (F.faults folder.new)) }
     {
         let Some(name) = read_child_name(key) else {
             return Ok(true);
@@ -276,7 +276,7 @@ impl KeptSoFar {
         let behind = &key[KEY_OF_NAME..];
         let parent = &behind[..name.key_len];
         let hash = super_fast_hash(parent);
-        let found = self.has(f, files, hash, Sought::ParentOf(name), parent)?;
+        let found = self.has(folder, files, hash, Sought::ParentOf(name), parent)?;
         Ok(!found)
     }
 
@@ -301,7 +301,7 @@ impl KeptSoFar {
     // Whether one of the kept records is what is sought, with this key and its hash.
     fn has<F: Folder>(
         &self,
-        f: &mut F,
+        folder: &mut F,
         files: &BlockFiles,
         hash: u32,
         sought: Sought,
@@ -309,19 +309,19 @@ impl KeptSoFar {
     ) -> Result<bool, Fault>
         requires order { IsKeptInOrder files.now self.now }
         requires part { HasPartNumber sought }
-        ensures has { IfOk result (λ has. ForSome (F.told f.old).files (λ image. Agrees files.now image → hash ≡ hash_of key.now → (kept : List shown.Loaded) → AreShown image kept self.now.kept.items → has ≡ list_any (is_sought sought key.now) kept)) }
-        ensures stays { Stays (F.told f.old) (F.told f.new) }
-        ensures short { IfDamaged result (IsCutRead files.now (F.told f.old)) }
-        ensures untold { ForSome (F.told f.old).files (Agrees files.now) → ForSome (F.told f.old).files (λ image. HaveKeys image self.now.kept.items) → IfDamaged result (λ _. (F.told f.old).files ≡ None) }
-        ensures later { F.faults f.old ≤ F.faults f.new }
-        ensures device { IfDevice result (Rises (F.faults f.old) (F.faults f.new)) }
+        ensures has { IfOk result (λ has. ForSome (F.told folder.old).files (λ image. Agrees files.now image → hash ≡ hash_of key.now → (kept : List shown.Loaded) → AreShown image kept self.now.kept.items → has ≡ list_any (is_sought sought key.now) kept)) }
+        ensures stays { Stays (F.told folder.old) (F.told folder.new) }
+        ensures short { IfDamaged result (IsCutRead files.now (F.told folder.old)) }
+        ensures untold { ForSome (F.told folder.old).files (Agrees files.now) → ForSome (F.told folder.old).files (λ image. HaveKeys image self.now.kept.items) → IfDamaged result (λ _. (F.told folder.old).files ≡ None) }
+        ensures later { F.faults folder.old ≤ F.faults folder.new }
+        ensures device { IfDevice result (Rises (F.faults folder.old) (F.faults folder.new)) }
     {
         let mut place = self.by_hash.last(hash);
         while let Some(i) = place {
             let Some(kept) = self.at(i) else {
                 unreachable!();
             };
-            if fits(f, files, &kept, sought, key)? {
+            if fits(folder, files, &kept, sought, key)? {
                 return Ok(true);
             }
             place = self.by_hash.before(i);

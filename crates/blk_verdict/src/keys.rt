@@ -21,26 +21,26 @@ use blk_record::{EntryView, Record};
 
 // Whether the key of a record is stored as its length asks for; one folder call where it is an external file.
 pub(crate) fn has_key<F: Folder>(
-    f: &mut F,
+    folder: &mut F,
     files: &BlockFiles,
     words: &RecordWords,
 ) -> Result<bool, Failed>
     requires short { words.now.key_len ≤ most_key }
-    ensures key { IfOk result (λ has. ForSome (F.told f.old).files (λ image. (entry : ℕ) → Agrees files.now image → has ≡ is_some (stored_key (store_of image) entry (fields_said words.now)))) }
+    ensures key { IfOk result (λ has. ForSome (F.told folder.old).files (λ image. (entry : ℕ) → Agrees files.now image → has ≡ is_some (stored_key (store_of image) entry (fields_said words.now)))) }
     ensures holds { IfOk result (λ has. IsTrue has → is_short words.now.key_len ≡ false → may_hold files.now words.now.key_len words.now.long_key ≡ true) }
-    ensures stays { Stays (F.told f.old) (F.told f.new) }
-    ensures later { F.faults f.old ≤ F.faults f.new }
-    ensures failed { OnErr result (Rises (F.faults f.old) (F.faults f.new)) }
+    ensures stays { Stays (F.told folder.old) (F.told folder.new) }
+    ensures later { F.faults folder.old ≤ F.faults folder.new }
+    ensures failed { OnErr result (Rises (F.faults folder.old) (F.faults folder.new)) }
 {
     if words.key_len <= LONGEST_SHORT_KEY {
         return Ok(words.long_key == 0);
     }
-    is_stored(f, files, words.key_len + 1, words.long_key)
+    is_stored(folder, files, words.key_len + 1, words.long_key)
 }
 
 // Reads the key of a record into a buffer of its length, by one folder call.
 pub(crate) fn read_key<F: Folder>(
-    f: &mut F,
+    folder: &mut F,
     files: &BlockFiles,
     entry: Addr,
     words: &RecordWords,
@@ -50,18 +50,18 @@ pub(crate) fn read_key<F: Folder>(
     requires stands { IsTrue (stands_among files.now entry) }
     requires placed { IsPlaced files.now entry words.now.key_len words.now.long_key }
     requires size { length out.old ≡ words.now.key_len }
-    ensures key { OnOk result (ForSome (F.told f.old).files (λ image. (key : List ℕ) → stored_key (store_of image) entry (fields_said words.now) ≡ Some key → out.new ≡ key)) }
-    ensures stays { Stays (F.told f.old) (F.told f.new) }
-    ensures short { IfDamaged result (IsCutRead files.now (F.told f.old)) }
-    ensures untold { ForSome (F.told f.old).files (λ image. Agrees files.now image) → ForSome (F.told f.old).files (λ image. is_some (stored_key (store_of image) entry (fields_said words.now)) ≡ true) → IfDamaged result (λ _. (F.told f.old).files ≡ None) }
-    ensures later { F.faults f.old ≤ F.faults f.new }
-    ensures device { IfDevice result (Rises (F.faults f.old) (F.faults f.new)) }
+    ensures key { OnOk result (ForSome (F.told folder.old).files (λ image. (key : List ℕ) → stored_key (store_of image) entry (fields_said words.now) ≡ Some key → out.new ≡ key)) }
+    ensures stays { Stays (F.told folder.old) (F.told folder.new) }
+    ensures short { IfDamaged result (IsCutRead files.now (F.told folder.old)) }
+    ensures untold { ForSome (F.told folder.old).files (λ image. Agrees files.now image) → ForSome (F.told folder.old).files (λ image. is_some (stored_key (store_of image) entry (fields_said words.now)) ≡ true) → IfDamaged result (λ _. (F.told folder.old).files ≡ None) }
+    ensures later { F.faults folder.old ≤ F.faults folder.new }
+    ensures device { IfDevice result (Rises (F.faults folder.old) (F.faults folder.new)) }
 {
     if words.key_len <= LONGEST_SHORT_KEY {
-        return read_data(f, files, entry, EntryView::SIZE as u32, out);
+        return read_data(folder, files, entry, EntryView::SIZE as u32, out);
     }
     let Some(addr) = Addr::from_word(words.long_key) else {
         unreachable!();
     };
-    read_data(f, files, addr, 0, out)
+    read_data(folder, files, addr, 0, out)
 }

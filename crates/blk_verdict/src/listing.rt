@@ -26,43 +26,43 @@ use std::alloc::Global;
 /// none.
 pub fn unlisted<F: Folder>(
     alloc: Global,
-    f: &mut F,
+    folder: &mut F,
     files: &BlockFiles,
     lists: &Lists,
 ) -> Result<Vec<Addr>, ScanFault>
-    ensures unlisted { IfOk result (λ found. ForSome (F.told f.old).files (λ image. Agrees files.now image → AreListsOf image lists.now → map (λ contents. (contents, reason.Unlisted)) found.items ≡ audit.unlisted (completed (view_of image)))) }
-    ensures stays { Stays (F.told f.old) (F.told f.new) }
-    ensures damaged { IfScanDamaged result (IsRecordDamage files.now (F.told f.new)) }
-    ensures untold { ForSome (F.told f.old).files (Agrees files.now) → IfScanDamaged result (λ _. (F.told f.old).files ≡ None) }
-    ensures later { F.faults f.old ≤ F.faults f.new }
-    ensures device { IfScanDevice result (Rises (F.faults f.old) (F.faults f.new)) }
+    ensures unlisted { IfOk result (λ found. ForSome (F.told folder.old).files (λ image. Agrees files.now image → AreListsOf image lists.now → map (λ contents. (contents, reason.Unlisted)) found.items ≡ audit.unlisted (completed (view_of image)))) }
+    ensures stays { Stays (F.told folder.old) (F.told folder.new) }
+    ensures damaged { IfScanDamaged result (IsRecordDamage files.now (F.told folder.new)) }
+    ensures untold { ForSome (F.told folder.old).files (Agrees files.now) → IfScanDamaged result (λ _. (F.told folder.old).files ≡ None) }
+    ensures later { F.faults folder.old ≤ F.faults folder.new }
+    ensures device { IfScanDevice result (Rises (F.faults folder.old) (F.faults folder.new)) }
 {
     let mut found = Vec::new(alloc);
     for i in 0..lists.reached.count() {
-        add_if(f, files, lists, i, &mut found)?;
+        add_if(folder, files, lists, i, &mut found)?;
     }
     Ok(found)
 }
 
 // Adds one of the reached records, if it is unlisted.
 fn add_if<F: Folder>(
-    f: &mut F,
+    folder: &mut F,
     files: &BlockFiles,
     lists: &Lists,
     i: usize,
     found: &mut Vec<Addr>,
 ) -> Result<(), ScanFault>
-    ensures added { OnOk result (ForSome (F.told f.old).files (λ image. Agrees files.now image → AreListsOf image lists.now → (w : ℕ) → slice_get (words_reached lists.now.reached) i ≡ Some w → found.new.items ≡ found.old.items ++ filter (audit.is_unlisted (completed (view_of image))) (w ∷ []))) }
-    ensures stays { Stays (F.told f.old) (F.told f.new) }
-    ensures damaged { IfScanDamaged result (IsRecordDamage files.now (F.told f.new)) }
-    ensures untold { ForSome (F.told f.new).files (Agrees files.now) → IfScanDamaged result (λ _. (F.told f.new).files ≡ None) }
-    ensures later { F.faults f.old ≤ F.faults f.new }
-    ensures device { IfScanDevice result (Rises (F.faults f.old) (F.faults f.new)) }
+    ensures added { OnOk result (ForSome (F.told folder.old).files (λ image. Agrees files.now image → AreListsOf image lists.now → (w : ℕ) → slice_get (words_reached lists.now.reached) i ≡ Some w → found.new.items ≡ found.old.items ++ filter (audit.is_unlisted (completed (view_of image))) (w ∷ []))) }
+    ensures stays { Stays (F.told folder.old) (F.told folder.new) }
+    ensures damaged { IfScanDamaged result (IsRecordDamage files.now (F.told folder.new)) }
+    ensures untold { ForSome (F.told folder.new).files (Agrees files.now) → IfScanDamaged result (λ _. (F.told folder.new).files ≡ None) }
+    ensures later { F.faults folder.old ≤ F.faults folder.new }
+    ensures device { IfScanDevice result (Rises (F.faults folder.old) (F.faults folder.new)) }
 {
     let Some(entry) = lists.reached.at(i) else {
         return Ok(());
     };
-    let unlisted = is_unlisted(f, files, lists, entry.word())?;
+    let unlisted = is_unlisted(folder, files, lists, entry.word())?;
     if unlisted {
         push(found, entry)?;
     }
@@ -79,17 +79,17 @@ fn push(found: &mut Vec<Addr>, entry: Addr) -> Result<(), NoMemory>
 
 // Whether there is a record whose node is not walked or does not name it.
 fn is_unlisted<F: Folder>(
-    f: &mut F,
+    folder: &mut F,
     files: &BlockFiles,
     lists: &Lists,
     word: u32,
 ) -> Result<bool, Fault>
-    ensures unlisted { IfOk result (λ is. ForSome (F.told f.old).files (λ image. Agrees files.now image → AreListsOf image lists.now → is ≡ audit.is_unlisted (completed (view_of image)) word)) }
-    ensures stays { Stays (F.told f.old) (F.told f.new) }
-    ensures damaged { IfDamaged result (IsRecordDamage files.now (F.told f.new)) }
-    ensures untold { ForSome (F.told f.new).files (Agrees files.now) → IfDamaged result (λ _. (F.told f.new).files ≡ None) }
-    ensures later { F.faults f.old ≤ F.faults f.new }
-    ensures device { IfDevice result (Rises (F.faults f.old) (F.faults f.new)) }
+    ensures unlisted { IfOk result (λ is. ForSome (F.told folder.old).files (λ image. Agrees files.now image → AreListsOf image lists.now → is ≡ audit.is_unlisted (completed (view_of image)) word)) }
+    ensures stays { Stays (F.told folder.old) (F.told folder.new) }
+    ensures damaged { IfDamaged result (IsRecordDamage files.now (F.told folder.new)) }
+    ensures untold { ForSome (F.told folder.new).files (Agrees files.now) → IfDamaged result (λ _. (F.told folder.new).files ≡ None) }
+    ensures later { F.faults folder.old ≤ F.faults folder.new }
+    ensures device { IfDevice result (Rises (F.faults folder.old) (F.faults folder.new)) }
 {
     let Some(entry) = files.entry(word) else {
         return Ok(false);
@@ -97,7 +97,7 @@ fn is_unlisted<F: Folder>(
     if !lists.is_named(entry) {
         return Ok(true);
     }
-    let said = lists.record_at(f, files, entry)?;
+    let said = lists.record_at(folder, files, entry)?;
     let listed = lists.is_listed(entry, said.words.node);
     Ok(!listed)
 }

@@ -18,7 +18,7 @@ ghost use Rattle.blk_disk.specs.Tables.{Agrees, stands_among};
 ghost use Rattle.blk_audit.specs.Chaining.{reached_by};
 ghost use Rattle.blk_verdict.specs.Loading as loading;
 ghost use Rattle.blk_audit.specs.ReadLists.{IsSaidAt};
-ghost use Rattle.blk_verdict.specs.PartNames.{IsKeyInFront, IsNameInFront};
+ghost use Rattle.blk_verdict.specs.PartNames.{IsKeyInPrefix, IsNameInPrefix};
 ghost use Rattle.blk_verdict.specs.Readable.{IsReadableIf};
 ghost use Rattle.blk_verdict.specs.Reads.{IsCutRead};
 ghost use Rattle.blk_audit.specs.Records.{AreWordsOf, IsHashOfKey, IsRightWhereSaid, fields_said};
@@ -71,35 +71,35 @@ pub enum Verdict {
 /// One folder call reads the record, and one its key; the others are those of `load_walked`. `reached` says whether a chain
 /// reaches the contents. A failed check is a read that gave too few bytes; a folder whose files are those of `files` gives none.
 pub fn load<F: Folder>(
-    f: &mut F,
+    folder: &mut F,
     files: &BlockFiles,
     node: &WalkedNode,
     reached: bool,
 ) -> Result<Verdict, Fault>
-    ensures verdict { IfOk result (λ verdict. ForSome (F.told f.old).files (λ image. Agrees files.now image → IsSaidAt image node.now → reached ≡ is_among (reached_by (store_of image) table_length) node.now.contents → IsVerdict (shown.load (store_of image) held_rule node.now.addr) verdict)) }
+    ensures verdict { IfOk result (λ verdict. ForSome (F.told folder.old).files (λ image. Agrees files.now image → IsSaidAt image node.now → reached ≡ is_among (reached_by (store_of image) table_length) node.now.contents → IsVerdict (shown.load (store_of image) held_rule node.now.addr) verdict)) }
     ensures readable { IfOk result (IsReadableIf files.now) }
-    ensures stays { Stays (F.told f.old) (F.told f.new) }
-    ensures short { IfDamaged result (IsCutRead files.now (F.told f.old)) }
-    ensures untold { ForSome (F.told f.old).files (Agrees files.now) → IfDamaged result (λ _. (F.told f.old).files ≡ None) }
-    ensures later { F.faults f.old ≤ F.faults f.new }
-    ensures device { IfDevice result (Rises (F.faults f.old) (F.faults f.new)) }
+    ensures stays { Stays (F.told folder.old) (F.told folder.new) }
+    ensures short { IfDamaged result (IsCutRead files.now (F.told folder.old)) }
+    ensures untold { ForSome (F.told folder.old).files (Agrees files.now) → IfDamaged result (λ _. (F.told folder.old).files ≡ None) }
+    ensures later { F.faults folder.old ≤ F.faults folder.new }
+    ensures device { IfDevice result (Rises (F.faults folder.old) (F.faults folder.new)) }
 {
     let Some(entry) = files.entry(node.contents) else {
         return Ok(Verdict::Dropped(Reason::Contents));
     };
-    let words = read_words(f, files, entry)?;
+    let words = read_words(folder, files, entry)?;
     let said = ReadRecord {
         words,
         hash_is_right: false,
     };
     let mut name = [0u8; LONGEST_NAME as usize];
-    load_words(f, files, node, entry, &said, reached, &mut name)
+    load_words(folder, files, node, entry, &said, reached, &mut name)
 }
 
 // The verdict on a node that names a record that is there and was read before. Of a part the key is read into the front
 // of `name`.
 pub(crate) fn load_words<F: Folder>(
-    f: &mut F,
+    folder: &mut F,
     files: &BlockFiles,
     node: &WalkedNode,
     entry: Addr,
@@ -110,26 +110,26 @@ pub(crate) fn load_words<F: Folder>(
     requires kind { kind_of entry ≡ blocks_256 }
     requires stands { IsTrue (stands_among files.now entry) }
     requires room { length name.old ≡ most_key }
-    ensures verdict { IfOk result (λ verdict. ForSome (F.told f.old).files (λ image. Agrees files.now image → AreWordsOf image entry said.now.words → IsRightWhereSaid image entry said.now → (store_of image).node_fields node.now.addr ≡ Some (record { contents = entry; dirty = node.now.dirty }) → reached ≡ is_among (reached_by (store_of image) table_length) entry → IsVerdict (shown.load (store_of image) held_rule node.now.addr) verdict)) }
-    ensures named { IfOk result (λ verdict. ForSome (F.told f.old).files (λ image. Agrees files.now image → IsNameInFront image verdict name.new)) }
+    ensures verdict { IfOk result (λ verdict. ForSome (F.told folder.old).files (λ image. Agrees files.now image → AreWordsOf image entry said.now.words → IsRightWhereSaid image entry said.now → (store_of image).node_fields node.now.addr ≡ Some (record { contents = entry; dirty = node.now.dirty }) → reached ≡ is_among (reached_by (store_of image) table_length) entry → IsVerdict (shown.load (store_of image) held_rule node.now.addr) verdict)) }
+    ensures named { IfOk result (λ verdict. ForSome (F.told folder.old).files (λ image. Agrees files.now image → IsNameInPrefix image verdict name.new)) }
     ensures readable { IfOk result (IsReadableIf files.now) }
-    ensures stays { Stays (F.told f.old) (F.told f.new) }
-    ensures short { IfDamaged result (IsCutRead files.now (F.told f.old)) }
-    ensures untold { ForSome (F.told f.old).files (Agrees files.now) → IfDamaged result (λ _. (F.told f.old).files ≡ None) }
-    ensures later { F.faults f.old ≤ F.faults f.new }
-    ensures device { IfDevice result (Rises (F.faults f.old) (F.faults f.new)) }
+    ensures stays { Stays (F.told folder.old) (F.told folder.new) }
+    ensures short { IfDamaged result (IsCutRead files.now (F.told folder.old)) }
+    ensures untold { ForSome (F.told folder.old).files (Agrees files.now) → IfDamaged result (λ _. (F.told folder.old).files ≡ None) }
+    ensures later { F.faults folder.old ≤ F.faults folder.new }
+    ensures device { IfDevice result (Rises (F.faults folder.old) (F.faults folder.new)) }
 {
     // That the word is one of an address is known once it is read.
     let _word = entry.word();
     match reason_by_words(node.addr, entry, node.dirty, &said.words) {
         Some(reason) => Ok(Verdict::Dropped(reason)),
-        None => load_data(f, files, node.addr, entry, said, reached, name),
+        None => load_data(folder, files, node.addr, entry, said, reached, name),
     }
 }
 
 // The verdict on a node by the key of its record and what comes after that.
 fn load_data<F: Folder>(
-    f: &mut F,
+    folder: &mut F,
     files: &BlockFiles,
     node: Addr,
     entry: Addr,
@@ -141,17 +141,17 @@ fn load_data<F: Folder>(
     requires stands { IsTrue (stands_among files.now entry) }
     requires has { may_have entry said.now.words.key_len ≡ true }
     requires room { length name.old ≡ most_key }
-    ensures verdict { IfOk result (λ verdict. ForSome (F.told f.old).files (λ image. (dirty : ℕ) → Agrees files.now image → IsRightWhereSaid image entry said.now → reached ≡ is_among (chain (store_of image) (bucket_of_hash said.now.words.hash)).reached entry → IsVerdict (loading.load_data (store_of image) node entry dirty (fields_said said.now.words)) verdict)) }
-    ensures named { IfOk result (λ verdict. ForSome (F.told f.old).files (λ image. Agrees files.now image → IsNameInFront image verdict name.new)) }
+    ensures verdict { IfOk result (λ verdict. ForSome (F.told folder.old).files (λ image. (dirty : ℕ) → Agrees files.now image → IsRightWhereSaid image entry said.now → reached ≡ is_among (chain (store_of image) (bucket_of_hash said.now.words.hash)).reached entry → IsVerdict (loading.load_data (store_of image) node entry dirty (fields_said said.now.words)) verdict)) }
+    ensures named { IfOk result (λ verdict. ForSome (F.told folder.old).files (λ image. Agrees files.now image → IsNameInPrefix image verdict name.new)) }
     ensures readable { IfOk result (IsReadableIf files.now) }
-    ensures stays { Stays (F.told f.old) (F.told f.new) }
-    ensures short { IfDamaged result (IsCutRead files.now (F.told f.old)) }
-    ensures untold { ForSome (F.told f.old).files (Agrees files.now) → IfDamaged result (λ _. (F.told f.old).files ≡ None) }
-    ensures later { F.faults f.old ≤ F.faults f.new }
-    ensures device { IfDevice result (Rises (F.faults f.old) (F.faults f.new)) }
+    ensures stays { Stays (F.told folder.old) (F.told folder.new) }
+    ensures short { IfDamaged result (IsCutRead files.now (F.told folder.old)) }
+    ensures untold { ForSome (F.told folder.old).files (Agrees files.now) → IfDamaged result (λ _. (F.told folder.old).files ≡ None) }
+    ensures later { F.faults folder.old ≤ F.faults folder.new }
+    ensures device { IfDevice result (Rises (F.faults folder.old) (F.faults folder.new)) }
 {
-    if has_key(f, files, &said.words)? {
-        load_key(f, files, node, entry, said, reached, name)
+    if has_key(folder, files, &said.words)? {
+        load_key(folder, files, node, entry, said, reached, name)
     } else {
         Ok(Verdict::Dropped(Reason::KeyPlace))
     }
@@ -159,7 +159,7 @@ fn load_data<F: Folder>(
 
 // The verdict on a node by the key of its record, which is stored, and what comes after that.
 fn load_key<F: Folder>(
-    f: &mut F,
+    folder: &mut F,
     files: &BlockFiles,
     node: Addr,
     entry: Addr,
@@ -172,29 +172,29 @@ fn load_key<F: Folder>(
     requires placed { IsPlaced files.now entry said.now.words.key_len said.now.words.long_key }
     requires short { said.now.words.key_len ≤ most_key }
     requires room { length name.old ≡ most_key }
-    ensures verdict { IfOk result (λ verdict. ForSome (F.told f.old).files (λ image. (dirty : ℕ) → Agrees files.now image → is_some (stored_key (store_of image) entry (fields_said said.now.words)) ≡ true → IsRightWhereSaid image entry said.now → reached ≡ is_among (chain (store_of image) (bucket_of_hash said.now.words.hash)).reached entry → IsVerdict (loading.load_data (store_of image) node entry dirty (fields_said said.now.words)) verdict)) }
-    ensures named { IfOk result (λ verdict. ForSome (F.told f.old).files (λ image. Agrees files.now image → IsNameInFront image verdict name.new)) }
+    ensures verdict { IfOk result (λ verdict. ForSome (F.told folder.old).files (λ image. (dirty : ℕ) → Agrees files.now image → is_some (stored_key (store_of image) entry (fields_said said.now.words)) ≡ true → IsRightWhereSaid image entry said.now → reached ≡ is_among (chain (store_of image) (bucket_of_hash said.now.words.hash)).reached entry → IsVerdict (loading.load_data (store_of image) node entry dirty (fields_said said.now.words)) verdict)) }
+    ensures named { IfOk result (λ verdict. ForSome (F.told folder.old).files (λ image. Agrees files.now image → IsNameInPrefix image verdict name.new)) }
     ensures readable { IfOk result (IsReadableIf files.now) }
-    ensures stays { Stays (F.told f.old) (F.told f.new) }
-    ensures short { IfDamaged result (IsCutRead files.now (F.told f.old)) }
-    ensures untold { ForSome (F.told f.old).files (Agrees files.now) → ForSome (F.told f.old).files (λ image. is_some (stored_key (store_of image) entry (fields_said said.now.words)) ≡ true) → IfDamaged result (λ _. (F.told f.old).files ≡ None) }
-    ensures later { F.faults f.old ≤ F.faults f.new }
-    ensures device { IfDevice result (Rises (F.faults f.old) (F.faults f.new)) }
+    ensures stays { Stays (F.told folder.old) (F.told folder.new) }
+    ensures short { IfDamaged result (IsCutRead files.now (F.told folder.old)) }
+    ensures untold { ForSome (F.told folder.old).files (Agrees files.now) → ForSome (F.told folder.old).files (λ image. is_some (stored_key (store_of image) entry (fields_said said.now.words)) ≡ true) → IfDamaged result (λ _. (F.told folder.old).files ≡ None) }
+    ensures later { F.faults folder.old ≤ F.faults folder.new }
+    ensures device { IfDevice result (Rises (F.faults folder.old) (F.faults folder.new)) }
 {
-    let sum = key_sum(f, files, entry, said, name)?;
+    let sum = key_sum(folder, files, entry, said, name)?;
     if said.words.hash != sum {
         return Ok(Verdict::Dropped(Reason::Hash));
     }
     if !reached {
         return Ok(Verdict::Dropped(Reason::Chain));
     }
-    load_streams(f, files, node, entry, &said.words, name)
+    load_streams(folder, files, node, entry, &said.words, name)
 }
 
 // The hash of the key of a record. Where it is not known to be right, or the key is the name of a part, one folder call reads the
 // key into the front of `name`.
 fn key_sum<F: Folder>(
-    f: &mut F,
+    folder: &mut F,
     files: &BlockFiles,
     entry: Addr,
     said: &ReadRecord,
@@ -205,17 +205,17 @@ fn key_sum<F: Folder>(
     requires placed { IsPlaced files.now entry said.now.words.key_len said.now.words.long_key }
     requires short { said.now.words.key_len ≤ most_key }
     requires room { length name.old ≡ most_key }
-    ensures sum { IfOk result (λ sum. ForSome (F.told f.old).files (λ image. IsRightWhereSaid image entry said.now → IsHashOfKey image entry said.now.words sum)) }
-    ensures key { OnOk result (ForSome (F.told f.old).files (λ image. said.now.words.flags ≡ child → IsKeyInFront image entry said.now.words name.new)) }
-    ensures stays { Stays (F.told f.old) (F.told f.new) }
-    ensures short { IfDamaged result (IsCutRead files.now (F.told f.old)) }
-    ensures untold { ForSome (F.told f.old).files (Agrees files.now) → ForSome (F.told f.old).files (λ image. is_some (stored_key (store_of image) entry (fields_said said.now.words)) ≡ true) → IfDamaged result (λ _. (F.told f.old).files ≡ None) }
-    ensures later { F.faults f.old ≤ F.faults f.new }
-    ensures device { IfDevice result (Rises (F.faults f.old) (F.faults f.new)) }
+    ensures sum { IfOk result (λ sum. ForSome (F.told folder.old).files (λ image. IsRightWhereSaid image entry said.now → IsHashOfKey image entry said.now.words sum)) }
+    ensures key { OnOk result (ForSome (F.told folder.old).files (λ image. said.now.words.flags ≡ child → IsKeyInPrefix image entry said.now.words name.new)) }
+    ensures stays { Stays (F.told folder.old) (F.told folder.new) }
+    ensures short { IfDamaged result (IsCutRead files.now (F.told folder.old)) }
+    ensures untold { ForSome (F.told folder.old).files (Agrees files.now) → ForSome (F.told folder.old).files (λ image. is_some (stored_key (store_of image) entry (fields_said said.now.words)) ≡ true) → IfDamaged result (λ _. (F.told folder.old).files ≡ None) }
+    ensures later { F.faults folder.old ≤ F.faults folder.new }
+    ensures device { IfDevice result (Rises (F.faults folder.old) (F.faults folder.new)) }
 {
     match known_hash(said) {
         Some(sum) => Ok(sum),
-        None => read_sum(f, files, entry, &said.words, name),
+        None => read_sum(folder, files, entry, &said.words, name),
     }
 }
 
@@ -235,7 +235,7 @@ fn known_hash(said: &ReadRecord) -> Option<u32>
 
 // Reads the key of a record into the front of `name`, by one folder call, for its hash.
 fn read_sum<F: Folder>(
-    f: &mut F,
+    folder: &mut F,
     files: &BlockFiles,
     entry: Addr,
     words: &RecordWords,
@@ -246,23 +246,23 @@ fn read_sum<F: Folder>(
     requires placed { IsPlaced files.now entry words.now.key_len words.now.long_key }
     requires short { words.now.key_len ≤ most_key }
     requires room { length name.old ≡ most_key }
-    ensures sum { IfOk result (λ sum. ForSome (F.told f.old).files (λ image. IsHashOfKey image entry words.now sum)) }
-    ensures key { OnOk result (ForSome (F.told f.old).files (λ image. IsKeyInFront image entry words.now name.new)) }
-    ensures stays { Stays (F.told f.old) (F.told f.new) }
-    ensures short { IfDamaged result (IsCutRead files.now (F.told f.old)) }
-    ensures untold { ForSome (F.told f.old).files (Agrees files.now) → ForSome (F.told f.old).files (λ image. is_some (stored_key (store_of image) entry (fields_said words.now)) ≡ true) → IfDamaged result (λ _. (F.told f.old).files ≡ None) }
-    ensures later { F.faults f.old ≤ F.faults f.new }
-    ensures device { IfDevice result (Rises (F.faults f.old) (F.faults f.new)) }
+    ensures sum { IfOk result (λ sum. ForSome (F.told folder.old).files (λ image. IsHashOfKey image entry words.now sum)) }
+    ensures key { OnOk result (ForSome (F.told folder.old).files (λ image. IsKeyInPrefix image entry words.now name.new)) }
+    ensures stays { Stays (F.told folder.old) (F.told folder.new) }
+    ensures short { IfDamaged result (IsCutRead files.now (F.told folder.old)) }
+    ensures untold { ForSome (F.told folder.old).files (Agrees files.now) → ForSome (F.told folder.old).files (λ image. is_some (stored_key (store_of image) entry (fields_said words.now)) ≡ true) → IfDamaged result (λ _. (F.told folder.old).files ≡ None) }
+    ensures later { F.faults folder.old ≤ F.faults folder.new }
+    ensures device { IfDevice result (Rises (F.faults folder.old) (F.faults folder.new)) }
 {
     let key = &mut name[..words.key_len as usize];
-    read_key(f, files, entry, words, key)?;
+    read_key(folder, files, entry, words, key)?;
     Ok(super_fast_hash(key))
 }
 
 // The verdict on a node by the streams of its record. Of a part the key is in front of `name`; no other key is looked
 // at.
 fn load_streams<F: Folder>(
-    f: &mut F,
+    folder: &mut F,
     files: &BlockFiles,
     node: Addr,
     entry: Addr,
@@ -274,19 +274,19 @@ fn load_streams<F: Folder>(
     requires placed { IsPlaced files.now entry words.now.key_len words.now.long_key }
     requires short { words.now.key_len ≤ most_key }
     requires room { length name.now ≡ most_key }
-    ensures verdict { IfOk result (λ verdict. ForSome (F.told f.old).files (λ image. (dirty : ℕ) (stored : List ℕ) → Agrees files.now image → words.now.key_len ≡ length stored → words.now.hash ≡ hash_of stored → (words.now.flags ≡ child → stored ≡ take words.now.key_len name.now) → IsVerdict (loading.load_streams (store_of image) node entry dirty (fields_said words.now) stored) verdict)) }
-    ensures named { IfOk result (λ verdict. ForSome (F.told f.old).files (λ image. Agrees files.now image → (words.now.flags ≡ child → IsKeyInFront image entry words.now name.now) → IsNameInFront image verdict name.now)) }
+    ensures verdict { IfOk result (λ verdict. ForSome (F.told folder.old).files (λ image. (dirty : ℕ) (stored : List ℕ) → Agrees files.now image → words.now.key_len ≡ length stored → words.now.hash ≡ hash_of stored → (words.now.flags ≡ child → stored ≡ take words.now.key_len name.now) → IsVerdict (loading.load_streams (store_of image) node entry dirty (fields_said words.now) stored) verdict)) }
+    ensures named { IfOk result (λ verdict. ForSome (F.told folder.old).files (λ image. Agrees files.now image → (words.now.flags ≡ child → IsKeyInPrefix image entry words.now name.now) → IsNameInPrefix image verdict name.now)) }
     ensures readable { IfOk result (IsReadableIf files.now) }
-    ensures stays { Stays (F.told f.old) (F.told f.new) }
-    ensures short { IfDamaged result (IsCutRead files.now (F.told f.old)) }
-    ensures untold { ForSome (F.told f.old).files (Agrees files.now) → IfDamaged result (λ _. (F.told f.old).files ≡ None) }
-    ensures later { F.faults f.old ≤ F.faults f.new }
-    ensures device { IfDevice result (Rises (F.faults f.old) (F.faults f.new)) }
+    ensures stays { Stays (F.told folder.old) (F.told folder.new) }
+    ensures short { IfDamaged result (IsCutRead files.now (F.told folder.old)) }
+    ensures untold { ForSome (F.told folder.old).files (Agrees files.now) → IfDamaged result (λ _. (F.told folder.old).files ≡ None) }
+    ensures later { F.faults folder.old ≤ F.faults folder.new }
+    ensures device { IfDevice result (Rises (F.faults folder.old) (F.faults folder.new)) }
 {
-    if !has_streams(f, files, words)? {
+    if !has_streams(folder, files, words)? {
         return Ok(Verdict::Dropped(Reason::Streams));
     }
-    match read_role(f, files, words, &name[..words.key_len as usize])? {
+    match read_role(folder, files, words, &name[..words.key_len as usize])? {
         Some(role) => Ok(Verdict::Loaded(loaded_as(node, entry, role, words))),
         None => Ok(Verdict::Dropped(Reason::Sparse)),
     }

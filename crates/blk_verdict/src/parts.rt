@@ -21,24 +21,24 @@ use blk_ranges::{has_part_bit, place_of_part};
 /// One folder call reads the byte with the bit. A failed check is a read that gave too few bytes; a folder whose files
 /// are those of `files` gives none.
 pub fn has_part<F: Folder>(
-    f: &mut F,
+    folder: &mut F,
     files: &BlockFiles,
     word: u32,
     part: u32,
 ) -> Result<bool, Fault>
     requires stored { stores files.now parent_index_length word ≡ true }
     requires part { part < part_count }
-    ensures bit { IfOk result (λ has. ForSome (F.told f.old).files (λ image. (bytes : List ℕ) (index : ParentIndex) → stored_at image parent_index_length word ≡ Some bytes → read_parent_index bytes ≡ Some index → has ≡ index.has_part part)) }
-    ensures stays { Stays (F.told f.old) (F.told f.new) }
-    ensures short { IfDamaged result (IsCutRead files.now (F.told f.old)) }
-    ensures untold { ForSome (F.told f.old).files (Agrees files.now) → IfDamaged result (λ _. (F.told f.old).files ≡ None) }
-    ensures later { F.faults f.old ≤ F.faults f.new }
-    ensures device { IfDevice result (Rises (F.faults f.old) (F.faults f.new)) }
+    ensures bit { IfOk result (λ has. ForSome (F.told folder.old).files (λ image. (bytes : List ℕ) (index : ParentIndex) → stored_at image parent_index_length word ≡ Some bytes → read_parent_index bytes ≡ Some index → has ≡ index.has_part part)) }
+    ensures stays { Stays (F.told folder.old) (F.told folder.new) }
+    ensures short { IfDamaged result (IsCutRead files.now (F.told folder.old)) }
+    ensures untold { ForSome (F.told folder.old).files (Agrees files.now) → IfDamaged result (λ _. (F.told folder.old).files ≡ None) }
+    ensures later { F.faults folder.old ≤ F.faults folder.new }
+    ensures device { IfDevice result (Rises (F.faults folder.old) (F.faults folder.new)) }
 {
     let Some(addr) = Addr::from_word(word) else {
         unreachable!();
     };
     let mut byte = [0u8; 1];
-    read_data(f, files, addr, place_of_part(part), &mut byte)?;
+    read_data(folder, files, addr, place_of_part(part), &mut byte)?;
     Ok(has_part_bit(byte[0], part))
 }

@@ -55,27 +55,29 @@ pub struct Judged {
 /// folder failed in this call, and `Memory` when out of memory.
 pub fn judge_nodes<F: Folder>(
     alloc: Global,
-    f: &mut F,
+    folder: &mut F,
     files: &BlockFiles,
     lists: &Lists,
 ) -> Result<Judged, ScanFault>
-    ensures judged { IfOk result (λ judged. ForSome (F.told f.old).files (λ image. Agrees files.now image → AreListsOf image lists.now → AreTried image (completed_walk image) (audit.tried (store_of image) (completed_walk image)) judged.kept.kept.items judged.tried.items)) }
+    ensures judged { IfOk result (λ judged. ForSome (F.told folder.old).files (λ image. Agrees files.now image → AreListsOf image lists.now → AreTried image (completed_walk image) (audit.tried (store_of image) (completed_walk image)) judged.kept.kept.items judged.tried.items)) }
 
     // What came of each walked node is the verdict on it.
-    ensures answered { IfOk result (λ judged. ForSome (F.told f.old).files (λ image. Agrees files.now image → AreListsOf image lists.now → (node : ℕ) → is_among (completed_walk image) node ≡ true → IsAnswered (completed_walk image) judged.tried.items node (audit.verdict_on (audit.judged (store_of image) held_rule (completed_walk image)) node))) }
+    ensures answered { IfOk result (λ judged. ForSome (F.told folder.old).files (λ image. Agrees files.now image → AreListsOf image lists.now → (node : ℕ) → is_among (completed_walk image) node ≡ true → IsAnswered (completed_walk image) judged.tried.items node (audit.verdict_on (audit.judged (store_of image) held_rule (completed_walk image)) node))) }
 
     ensures order { IfOk result (λ judged. IsKeptInOrder files.now judged.kept) }
-    ensures stays { Stays (F.told f.old) (F.told f.new) }
-    ensures short { IfScanDamaged result (IsCutRead files.now (F.told f.old)) }
-    ensures untold { ForSome (F.told f.old).files (Agrees files.now) → ForSome (F.told f.old).files (λ image. AreListsOf image lists.now) → IfScanDamaged result (λ _. (F.told f.old).files ≡ None) }
-    ensures later { F.faults f.old ≤ F.faults f.new }
-    ensures device { IfScanDevice result (Rises (F.faults f.old) (F.faults f.new)) }
+    ensures stays { Stays (F.told folder.old) (F.told folder.new) }
+    ensures short { IfScanDamaged result (IsCutRead files.now (F.told folder.old)) }
+    ensures untold { ForSome (F.told folder.old).files (Agrees files.now) → ForSome (F.told folder.old).files (λ image. AreListsOf image lists.now) → IfScanDamaged result (λ _. (F.told folder.old).files ≡ None) }
+    ensures later { F.faults folder.old ≤ F.faults folder.new }
+    ensures device { IfScanDevice result (Rises (F.faults folder.old) (F.faults folder.new)) }
 {
     let mut kept = KeptSoFar::none(alloc);
     let mut tried = Vec::new(alloc);
     let mut name = [0u8; LONGEST_NAME as usize];
-    try_pass(f, files, lists, false, &mut kept, &mut tried, &mut name)?;
-    try_pass(f, files, lists, true, &mut kept, &mut tried, &mut name)?;
+    try_pass(
+        folder, files, lists, false, &mut kept, &mut tried, &mut name,
+    )?;
+    try_pass(folder, files, lists, true, &mut kept, &mut tried, &mut name)?;
     Ok(Judged { kept, tried })
 }
 
@@ -84,7 +86,7 @@ pub fn judge_nodes<F: Folder>(
 // The folder calls are those of `is_child` for each walked node, and those of `judge_walked` for each of the pass. Where
 // it does not succeed, what was tried and is kept is of no more use.
 pub(crate) fn try_pass<F: Folder>(
-    f: &mut F,
+    folder: &mut F,
     files: &BlockFiles,
     lists: &Lists,
     children: bool,
@@ -94,24 +96,24 @@ pub(crate) fn try_pass<F: Folder>(
 ) -> Result<(), ScanFault>
     requires order { IsKeptInOrder files.now kept.old }
     requires room { length name.old ≡ most_key }
-    ensures tried { OnOk result (ForSome (F.told f.old).files (λ image. Agrees files.now image → AreListsOf image lists.now → (before : List ℕ) → AreTried image (nodes_walked lists.now.walked) before kept.old.kept.items tried.old.items → AreTried image (nodes_walked lists.now.walked) (before ++ of_pass (store_of image) children (nodes_walked lists.now.walked)) kept.new.kept.items tried.new.items)) }
-    ensures keys { OnOk result (ForSome (F.told f.old).files (λ image. CanBeTried files.now lists.now kept.old.kept.items image → HaveKeys image kept.new.kept.items)) }
+    ensures tried { OnOk result (ForSome (F.told folder.old).files (λ image. Agrees files.now image → AreListsOf image lists.now → (before : List ℕ) → AreTried image (nodes_walked lists.now.walked) before kept.old.kept.items tried.old.items → AreTried image (nodes_walked lists.now.walked) (before ++ of_pass (store_of image) children (nodes_walked lists.now.walked)) kept.new.kept.items tried.new.items)) }
+    ensures keys { OnOk result (ForSome (F.told folder.old).files (λ image. CanBeTried files.now lists.now kept.old.kept.items image → HaveKeys image kept.new.kept.items)) }
     ensures order { OnOk result (IsKeptInOrder files.now kept.new) }
-    ensures stays { Stays (F.told f.old) (F.told f.new) }
-    ensures short { IfScanDamaged result (IsCutRead files.now (F.told f.old)) }
-    ensures untold { ForSome (F.told f.old).files (CanBeTried files.now lists.now kept.old.kept.items) → IfScanDamaged result (λ _. (F.told f.old).files ≡ None) }
-    ensures later { F.faults f.old ≤ F.faults f.new }
-    ensures device { IfScanDevice result (Rises (F.faults f.old) (F.faults f.new)) }
+    ensures stays { Stays (F.told folder.old) (F.told folder.new) }
+    ensures short { IfScanDamaged result (IsCutRead files.now (F.told folder.old)) }
+    ensures untold { ForSome (F.told folder.old).files (CanBeTried files.now lists.now kept.old.kept.items) → IfScanDamaged result (λ _. (F.told folder.old).files ≡ None) }
+    ensures later { F.faults folder.old ≤ F.faults folder.new }
+    ensures device { IfScanDevice result (Rises (F.faults folder.old) (F.faults folder.new)) }
 {
     for i in 0..lists.walked.count() {
-        try_at(f, files, lists, i, children, kept, tried, name)?;
+        try_at(folder, files, lists, i, children, kept, tried, name)?;
     }
     Ok(())
 }
 
 // Tries one of the walked nodes, if it is one of the pass.
 fn try_at<F: Folder>(
-    f: &mut F,
+    folder: &mut F,
     files: &BlockFiles,
     lists: &Lists,
     i: usize,
@@ -122,21 +124,21 @@ fn try_at<F: Folder>(
 ) -> Result<(), ScanFault>
     requires order { IsKeptInOrder files.now kept.old }
     requires room { length name.old ≡ most_key }
-    ensures tried { OnOk result (ForSome (F.told f.old).files (λ image. Agrees files.now image → AreListsOf image lists.now → (before : List ℕ) (w : ℕ) → slice_get (nodes_walked lists.now.walked) i ≡ Some w → AreTried image (nodes_walked lists.now.walked) before kept.old.kept.items tried.old.items → AreTried image (nodes_walked lists.now.walked) (before ++ of_pass (store_of image) children (w ∷ [])) kept.new.kept.items tried.new.items)) }
-    ensures keys { OnOk result (ForSome (F.told f.old).files (λ image. CanBeTried files.now lists.now kept.old.kept.items image → HaveKeys image kept.new.kept.items)) }
+    ensures tried { OnOk result (ForSome (F.told folder.old).files (λ image. Agrees files.now image → AreListsOf image lists.now → (before : List ℕ) (w : ℕ) → slice_get (nodes_walked lists.now.walked) i ≡ Some w → AreTried image (nodes_walked lists.now.walked) before kept.old.kept.items tried.old.items → AreTried image (nodes_walked lists.now.walked) (before ++ of_pass (store_of image) children (w ∷ [])) kept.new.kept.items tried.new.items)) }
+    ensures keys { OnOk result (ForSome (F.told folder.old).files (λ image. CanBeTried files.now lists.now kept.old.kept.items image → HaveKeys image kept.new.kept.items)) }
     ensures order { OnOk result (IsKeptInOrder files.now kept.new) }
-    ensures stays { Stays (F.told f.old) (F.told f.new) }
-    ensures short { IfScanDamaged result (IsCutRead files.now (F.told f.old)) }
-    ensures untold { ForSome (F.told f.old).files (CanBeTried files.now lists.now kept.old.kept.items) → IfScanDamaged result (λ _. (F.told f.old).files ≡ None) }
-    ensures later { F.faults f.old ≤ F.faults f.new }
-    ensures device { IfScanDevice result (Rises (F.faults f.old) (F.faults f.new)) }
+    ensures stays { Stays (F.told folder.old) (F.told folder.new) }
+    ensures short { IfScanDamaged result (IsCutRead files.now (F.told folder.old)) }
+    ensures untold { ForSome (F.told folder.old).files (CanBeTried files.now lists.now kept.old.kept.items) → IfScanDamaged result (λ _. (F.told folder.old).files ≡ None) }
+    ensures later { F.faults folder.old ≤ F.faults folder.new }
+    ensures device { IfScanDevice result (Rises (F.faults folder.old) (F.faults folder.new)) }
 {
     let Some(here) = lists.node(i) else {
         return Ok(());
     };
-    let child = is_child(f, files, lists, &here)?;
+    let child = is_child(folder, files, lists, &here)?;
     if is_of_pass(children, child) {
-        let reason = judge_walked(f, files, lists, kept, &here, name)?;
+        let reason = judge_walked(folder, files, lists, kept, &here, name)?;
         push(tried, Tried { place: i, reason })?;
     }
     Ok(())

@@ -46,24 +46,24 @@ pub enum Role {
 // What a record with three streams is, if its index is right; a parent or a part takes one folder call. Of a part
 // this is the key; no other key is looked at.
 pub(crate) fn read_role<F: Folder>(
-    f: &mut F,
+    folder: &mut F,
     files: &BlockFiles,
     words: &RecordWords,
     key: &[u8],
 ) -> Result<Option<Role>, Fault>
     requires stored { stores files.now (slice_index words.now.sizes 2) (slice_index words.now.addrs 2) ≡ true }
-    ensures role { IfOk result (λ role. ForSome (F.told f.old).files (λ image. (stored : List ℕ) (streams : List (List ℕ)) → (words.now.flags ≡ child → stored ≡ key.now) → stored_streams (store_of image) (fields_said words.now) ≡ Some streams → IsRoleIf stored (entries.role_of (fields_said words.now) stored streams) role)) }
+    ensures role { IfOk result (λ role. ForSome (F.told folder.old).files (λ image. (stored : List ℕ) (streams : List (List ℕ)) → (words.now.flags ≡ child → stored ≡ key.now) → stored_streams (store_of image) (fields_said words.now) ≡ Some streams → IsRoleIf stored (entries.role_of (fields_said words.now) stored streams) role)) }
     ensures index { IfOk result (HasIndexIf files.now words.now.sizes words.now.addrs) }
-    ensures stays { Stays (F.told f.old) (F.told f.new) }
-    ensures short { IfDamaged result (IsCutRead files.now (F.told f.old)) }
-    ensures untold { ForSome (F.told f.old).files (Agrees files.now) → IfDamaged result (λ _. (F.told f.old).files ≡ None) }
-    ensures later { F.faults f.old ≤ F.faults f.new }
-    ensures device { IfDevice result (Rises (F.faults f.old) (F.faults f.new)) }
+    ensures stays { Stays (F.told folder.old) (F.told folder.new) }
+    ensures short { IfDamaged result (IsCutRead files.now (F.told folder.old)) }
+    ensures untold { ForSome (F.told folder.old).files (Agrees files.now) → IfDamaged result (λ _. (F.told folder.old).files ≡ None) }
+    ensures later { F.faults folder.old ≤ F.faults folder.new }
+    ensures device { IfDevice result (Rises (F.faults folder.old) (F.faults folder.new)) }
 {
     if words.flags == PARENT {
-        parent_role(f, files, words)
+        parent_role(folder, files, words)
     } else if words.flags == CHILD {
-        part_role(f, files, words, key)
+        part_role(folder, files, words, key)
     } else {
         Ok(Some(Role::Plain))
     }
@@ -71,24 +71,24 @@ pub(crate) fn read_role<F: Folder>(
 
 // A parent, where its index is right.
 fn parent_role<F: Folder>(
-    f: &mut F,
+    folder: &mut F,
     files: &BlockFiles,
     words: &RecordWords,
 ) -> Result<Option<Role>, Fault>
     requires stored { stores files.now (slice_index words.now.sizes 2) (slice_index words.now.addrs 2) ≡ true }
-    ensures role { IfOk result (λ role. ForSome (F.told f.old).files (λ image. (key : List ℕ) (streams : List (List ℕ)) → stored_streams (store_of image) (fields_said words.now) ≡ Some streams → IsRoleIf key (entries.parent_role (fields_said words.now) streams) role)) }
+    ensures role { IfOk result (λ role. ForSome (F.told folder.old).files (λ image. (key : List ℕ) (streams : List (List ℕ)) → stored_streams (store_of image) (fields_said words.now) ≡ Some streams → IsRoleIf key (entries.parent_role (fields_said words.now) streams) role)) }
     ensures index { IfOk result (HasIndexIf files.now words.now.sizes words.now.addrs) }
-    ensures stays { Stays (F.told f.old) (F.told f.new) }
-    ensures short { IfDamaged result (IsCutRead files.now (F.told f.old)) }
-    ensures untold { ForSome (F.told f.old).files (Agrees files.now) → IfDamaged result (λ _. (F.told f.old).files ≡ None) }
-    ensures later { F.faults f.old ≤ F.faults f.new }
-    ensures device { IfDevice result (Rises (F.faults f.old) (F.faults f.new)) }
+    ensures stays { Stays (F.told folder.old) (F.told folder.new) }
+    ensures short { IfDamaged result (IsCutRead files.now (F.told folder.old)) }
+    ensures untold { ForSome (F.told folder.old).files (Agrees files.now) → IfDamaged result (λ _. (F.told folder.old).files ≡ None) }
+    ensures later { F.faults folder.old ≤ F.faults folder.new }
+    ensures device { IfDevice result (Rises (F.faults folder.old) (F.faults folder.new)) }
 {
     if words.sizes[1] != 0 || words.sizes[2] != PARENT_INDEX {
         return Ok(None);
     }
     let mut bytes = [0u8; SparseHead::LEN];
-    read_front(f, files, words.sizes[2], words.addrs[2], &mut bytes)?;
+    read_front(folder, files, words.sizes[2], words.addrs[2], &mut bytes)?;
     match ParentHead::read(&bytes) {
         Some(head) => Ok(parent_with(head, words.key_len)),
         None => Ok(None),
@@ -108,19 +108,19 @@ fn parent_with(head: ParentHead, key_len: u32) -> Option<Role>
 
 // A part, where its key is a name, and its index goes with the name and its data.
 fn part_role<F: Folder>(
-    f: &mut F,
+    folder: &mut F,
     files: &BlockFiles,
     words: &RecordWords,
     key: &[u8],
 ) -> Result<Option<Role>, Fault>
     requires stored { stores files.now (slice_index words.now.sizes 2) (slice_index words.now.addrs 2) ≡ true }
-    ensures role { IfOk result (λ role. ForSome (F.told f.old).files (λ image. (streams : List (List ℕ)) → stored_streams (store_of image) (fields_said words.now) ≡ Some streams → IsRoleIf key.now (entries.part_role key.now streams) role)) }
+    ensures role { IfOk result (λ role. ForSome (F.told folder.old).files (λ image. (streams : List (List ℕ)) → stored_streams (store_of image) (fields_said words.now) ≡ Some streams → IsRoleIf key.now (entries.part_role key.now streams) role)) }
     ensures index { IfOk result (HasIndexIf files.now words.now.sizes words.now.addrs) }
-    ensures stays { Stays (F.told f.old) (F.told f.new) }
-    ensures short { IfDamaged result (IsCutRead files.now (F.told f.old)) }
-    ensures untold { ForSome (F.told f.old).files (Agrees files.now) → IfDamaged result (λ _. (F.told f.old).files ≡ None) }
-    ensures later { F.faults f.old ≤ F.faults f.new }
-    ensures device { IfDevice result (Rises (F.faults f.old) (F.faults f.new)) }
+    ensures stays { Stays (F.told folder.old) (F.told folder.new) }
+    ensures short { IfDamaged result (IsCutRead files.now (F.told folder.old)) }
+    ensures untold { ForSome (F.told folder.old).files (Agrees files.now) → IfDamaged result (λ _. (F.told folder.old).files ≡ None) }
+    ensures later { F.faults folder.old ≤ F.faults folder.new }
+    ensures device { IfDevice result (Rises (F.faults folder.old) (F.faults folder.new)) }
 {
     if words.sizes[0] != 0 || words.sizes[1] > PART_SIZE || words.sizes[2] != PART_INDEX {
         return Ok(None);
@@ -129,7 +129,7 @@ fn part_role<F: Folder>(
         return Ok(None);
     };
     let mut bytes = [0u8; PartMap::LEN];
-    read_front(f, files, words.sizes[2], words.addrs[2], &mut bytes)?;
+    read_front(folder, files, words.sizes[2], words.addrs[2], &mut bytes)?;
     match PartMap::read(&bytes) {
         Some(map) => Ok(part_with(&map, name, words.sizes[1])),
         None => Ok(None),
@@ -149,7 +149,7 @@ fn part_with(map: &PartMap, name: ChildName, size: u32) -> Option<Role>
 
 // Reads the front of data in blocks, which is stored as its address word says, by one folder call.
 fn read_front<F: Folder>(
-    f: &mut F,
+    folder: &mut F,
     files: &BlockFiles,
     size: u32,
     word: u32,
@@ -159,15 +159,15 @@ fn read_front<F: Folder>(
     requires blocks { size ≤ largest_in_4k }
     requires stored { stores files.now size word ≡ true }
     requires inside { length out.old ≤ size }
-    ensures front { OnOk result (ForSome (F.told f.old).files (λ image. (bytes : List ℕ) → stored_at image size word ≡ Some bytes → out.new ≡ take (length out.old) bytes)) }
-    ensures stays { Stays (F.told f.old) (F.told f.new) }
-    ensures short { IfDamaged result (IsCutRead files.now (F.told f.old)) }
-    ensures untold { ForSome (F.told f.old).files (Agrees files.now) → IfDamaged result (λ _. (F.told f.old).files ≡ None) }
-    ensures later { F.faults f.old ≤ F.faults f.new }
-    ensures device { IfDevice result (Rises (F.faults f.old) (F.faults f.new)) }
+    ensures front { OnOk result (ForSome (F.told folder.old).files (λ image. (bytes : List ℕ) → stored_at image size word ≡ Some bytes → out.new ≡ take (length out.old) bytes)) }
+    ensures stays { Stays (F.told folder.old) (F.told folder.new) }
+    ensures short { IfDamaged result (IsCutRead files.now (F.told folder.old)) }
+    ensures untold { ForSome (F.told folder.old).files (Agrees files.now) → IfDamaged result (λ _. (F.told folder.old).files ≡ None) }
+    ensures later { F.faults folder.old ≤ F.faults folder.new }
+    ensures device { IfDevice result (Rises (F.faults folder.old) (F.faults folder.new)) }
 {
     let Some(addr) = Addr::from_word(word) else {
         unreachable!();
     };
-    read_data(f, files, addr, 0, out)
+    read_data(folder, files, addr, 0, out)
 }

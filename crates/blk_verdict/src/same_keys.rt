@@ -22,18 +22,18 @@ use blk_io::{Fault, Folder};
 /// Only where its length is that of the key is the record's key read, by one folder call. A failed check is a read that
 /// gave too few bytes; a folder whose files are those of `files`, and that has the key, gives none.
 pub fn has_this_key<F: Folder>(
-    f: &mut F,
+    folder: &mut F,
     files: &BlockFiles,
     loaded: &Loaded,
     key: &[u8],
 ) -> Result<bool, Fault>
     requires readable { IsReadable files.now loaded.now }
-    ensures same { IfOk result (λ same. ForSome (F.told f.old).files (λ image. (stored : List ℕ) → Agrees files.now image → IsKeyOf image loaded.now stored → same ≡ bytes_eq stored key.now)) }
-    ensures stays { Stays (F.told f.old) (F.told f.new) }
-    ensures short { IfDamaged result (IsCutRead files.now (F.told f.old)) }
-    ensures untold { ForSome (F.told f.old).files (Agrees files.now) → ForSome (F.told f.old).files (λ image. HasItsKey image loaded.now) → IfDamaged result (λ _. (F.told f.old).files ≡ None) }
-    ensures later { F.faults f.old ≤ F.faults f.new }
-    ensures device { IfDevice result (Rises (F.faults f.old) (F.faults f.new)) }
+    ensures same { IfOk result (λ same. ForSome (F.told folder.old).files (λ image. (stored : List ℕ) → Agrees files.now image → IsKeyOf image loaded.now stored → same ≡ bytes_eq stored key.now)) }
+    ensures stays { Stays (F.told folder.old) (F.told folder.new) }
+    ensures short { IfDamaged result (IsCutRead files.now (F.told folder.old)) }
+    ensures untold { ForSome (F.told folder.old).files (Agrees files.now) → ForSome (F.told folder.old).files (λ image. HasItsKey image loaded.now) → IfDamaged result (λ _. (F.told folder.old).files ≡ None) }
+    ensures later { F.faults folder.old ≤ F.faults folder.new }
+    ensures device { IfDevice result (Rises (F.faults folder.old) (F.faults folder.new)) }
 {
     if loaded.key_len as usize != key.len() {
         return Ok(false);
@@ -41,12 +41,12 @@ pub fn has_this_key<F: Folder>(
     if key.len() > LONGEST_NAME as usize {
         return Ok(false);
     }
-    is_stored_key(f, files, loaded, key)
+    is_stored_key(folder, files, loaded, key)
 }
 
 // Whether the key of a record, which has the length of this one, is this one.
 fn is_stored_key<F: Folder>(
-    f: &mut F,
+    folder: &mut F,
     files: &BlockFiles,
     loaded: &Loaded,
     key: &[u8],
@@ -54,37 +54,37 @@ fn is_stored_key<F: Folder>(
     requires readable { IsReadable files.now loaded.now }
     requires len { loaded.now.key_len ≡ length key.now }
     requires short { length key.now ≤ most_key }
-    ensures same { IfOk result (λ same. ForSome (F.told f.old).files (λ image. (stored : List ℕ) → IsKeyOf image loaded.now stored → same ≡ bytes_eq stored key.now)) }
-    ensures stays { Stays (F.told f.old) (F.told f.new) }
-    ensures short { IfDamaged result (IsCutRead files.now (F.told f.old)) }
-    ensures untold { ForSome (F.told f.old).files (Agrees files.now) → ForSome (F.told f.old).files (λ image. HasItsKey image loaded.now) → IfDamaged result (λ _. (F.told f.old).files ≡ None) }
-    ensures later { F.faults f.old ≤ F.faults f.new }
-    ensures device { IfDevice result (Rises (F.faults f.old) (F.faults f.new)) }
+    ensures same { IfOk result (λ same. ForSome (F.told folder.old).files (λ image. (stored : List ℕ) → IsKeyOf image loaded.now stored → same ≡ bytes_eq stored key.now)) }
+    ensures stays { Stays (F.told folder.old) (F.told folder.new) }
+    ensures short { IfDamaged result (IsCutRead files.now (F.told folder.old)) }
+    ensures untold { ForSome (F.told folder.old).files (Agrees files.now) → ForSome (F.told folder.old).files (λ image. HasItsKey image loaded.now) → IfDamaged result (λ _. (F.told folder.old).files ≡ None) }
+    ensures later { F.faults folder.old ≤ F.faults folder.new }
+    ensures device { IfDevice result (Rises (F.faults folder.old) (F.faults folder.new)) }
 {
     let mut buffer = [0u8; LONGEST_NAME as usize];
     let stored = &mut buffer[..key.len()];
-    read_key_of(f, files, loaded, stored)?;
+    read_key_of(folder, files, loaded, stored)?;
     Ok(*stored == *key)
 }
 
 // Reads the key of a record that is loaded into a buffer of its length, by one folder call.
 pub(crate) fn read_key_of<F: Folder>(
-    f: &mut F,
+    folder: &mut F,
     files: &BlockFiles,
     loaded: &Loaded,
     out: &mut [u8],
 ) -> Result<(), Fault>
     requires readable { IsReadable files.now loaded.now }
     requires size { length out.old ≡ loaded.now.key_len }
-    ensures key { OnOk result (ForSome (F.told f.old).files (λ image. (key : List ℕ) → IsKeyOf image loaded.now key → out.new ≡ key)) }
-    ensures stays { Stays (F.told f.old) (F.told f.new) }
-    ensures short { IfDamaged result (IsCutRead files.now (F.told f.old)) }
-    ensures untold { ForSome (F.told f.old).files (Agrees files.now) → ForSome (F.told f.old).files (λ image. HasItsKey image loaded.now) → IfDamaged result (λ _. (F.told f.old).files ≡ None) }
-    ensures later { F.faults f.old ≤ F.faults f.new }
-    ensures device { IfDevice result (Rises (F.faults f.old) (F.faults f.new)) }
+    ensures key { OnOk result (ForSome (F.told folder.old).files (λ image. (key : List ℕ) → IsKeyOf image loaded.now key → out.new ≡ key)) }
+    ensures stays { Stays (F.told folder.old) (F.told folder.new) }
+    ensures short { IfDamaged result (IsCutRead files.now (F.told folder.old)) }
+    ensures untold { ForSome (F.told folder.old).files (Agrees files.now) → ForSome (F.told folder.old).files (λ image. HasItsKey image loaded.now) → IfDamaged result (λ _. (F.told folder.old).files ≡ None) }
+    ensures later { F.faults folder.old ≤ F.faults folder.new }
+    ensures device { IfDevice result (Rises (F.faults folder.old) (F.faults folder.new)) }
 {
     let words = words_of(loaded);
-    read_key(f, files, loaded.entry, &words, out)
+    read_key(folder, files, loaded.entry, &words, out)
 }
 
 // The words that are kept of a record.

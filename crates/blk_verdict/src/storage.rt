@@ -18,16 +18,16 @@ use blk_io::{Failed, Folder};
 ///
 /// One folder call asks for the length of an external file; none is made for blocks.
 pub(crate) fn is_stored<F: Folder>(
-    f: &mut F,
+    folder: &mut F,
     files: &BlockFiles,
     size: u32,
     word: u32,
 ) -> Result<bool, Failed>
-    ensures stored { IfOk result (λ there. ForSome (F.told f.old).files (λ image. Agrees files.now image → there ≡ is_some (stored_at image size word))) }
+    ensures stored { IfOk result (λ there. ForSome (F.told folder.old).files (λ image. Agrees files.now image → there ≡ is_some (stored_at image size word))) }
     ensures stores { IfOk result (λ there. IsTrue there → keys.stores files.now size word ≡ true) }
-    ensures stays { Stays (F.told f.old) (F.told f.new) }
-    ensures later { F.faults f.old ≤ F.faults f.new }
-    ensures failed { OnErr result (Rises (F.faults f.old) (F.faults f.new)) }
+    ensures stays { Stays (F.told folder.old) (F.told folder.new) }
+    ensures later { F.faults folder.old ≤ F.faults folder.new }
+    ensures failed { OnErr result (Rises (F.faults folder.old) (F.faults folder.new)) }
 {
     if size == 0 {
         return Ok(word == 0);
@@ -36,7 +36,7 @@ pub(crate) fn is_stored<F: Folder>(
         return Ok(false);
     };
     if is_external(addr) {
-        has_length(f, addr, size)
+        has_length(folder, addr, size)
     } else {
         Ok(true)
     }
@@ -63,15 +63,15 @@ fn is_external(addr: Addr) -> bool
 }
 
 // Whether an external file has a length above 0.
-fn has_length<F: Folder>(f: &mut F, addr: Addr, size: u32) -> Result<bool, Failed>
+fn has_length<F: Folder>(folder: &mut F, addr: Addr, size: u32) -> Result<bool, Failed>
     requires kind { kind_of addr ≡ external }
     requires some { 0 < size }
-    ensures length { IfOk result (λ has. ForSome (F.told f.old).files (λ image. has ≡ (length_of image (outside (external_number addr)) == size))) }
-    ensures stays { Stays (F.told f.old) (F.told f.new) }
-    ensures later { F.faults f.old ≤ F.faults f.new }
-    ensures failed { OnErr result (Rises (F.faults f.old) (F.faults f.new)) }
+    ensures length { IfOk result (λ has. ForSome (F.told folder.old).files (λ image. has ≡ (length_of image (outside (external_number addr)) == size))) }
+    ensures stays { Stays (F.told folder.old) (F.told folder.new) }
+    ensures later { F.faults folder.old ≤ F.faults folder.new }
+    ensures failed { OnErr result (Rises (F.faults folder.old) (F.faults folder.new)) }
 {
-    match f.length(file_of(addr))? {
+    match folder.length(file_of(addr))? {
         Some(length) => Ok(length == u64::from(size)),
         None => Ok(false),
     }

@@ -20,43 +20,43 @@ const MOST_BYTES: u32 = blk_model::MOST_BYTES as u32;
 // Whether the three streams of a record are stored as their sizes ask for, and it has no fourth; one folder call for
 // each that is an external file.
 pub(crate) fn has_streams<F: Folder>(
-    f: &mut F,
+    folder: &mut F,
     files: &BlockFiles,
     words: &RecordWords,
 ) -> Result<bool, Failed>
-    ensures streams { IfOk result (λ has. ForSome (F.told f.old).files (λ image. Agrees files.now image → has ≡ is_some (stored_streams (store_of image) (fields_said words.now)))) }
+    ensures streams { IfOk result (λ has. ForSome (F.told folder.old).files (λ image. Agrees files.now image → has ≡ is_some (stored_streams (store_of image) (fields_said words.now)))) }
     ensures stores { IfOk result (λ has. IsTrue has → stores files.now (slice_index words.now.sizes 2) (slice_index words.now.addrs 2) ≡ true) }
-    ensures stays { Stays (F.told f.old) (F.told f.new) }
-    ensures later { F.faults f.old ≤ F.faults f.new }
-    ensures failed { OnErr result (Rises (F.faults f.old) (F.faults f.new)) }
+    ensures stays { Stays (F.told folder.old) (F.told folder.new) }
+    ensures later { F.faults folder.old ≤ F.faults folder.new }
+    ensures failed { OnErr result (Rises (F.faults folder.old) (F.faults folder.new)) }
 {
     if words.sizes[3] != 0 || words.addrs[3] != 0 {
         return Ok(false);
     }
-    if !has_stream(f, files, words.sizes[0], words.addrs[0])? {
+    if !has_stream(folder, files, words.sizes[0], words.addrs[0])? {
         return Ok(false);
     }
-    if !has_stream(f, files, words.sizes[1], words.addrs[1])? {
+    if !has_stream(folder, files, words.sizes[1], words.addrs[1])? {
         return Ok(false);
     }
-    has_stream(f, files, words.sizes[2], words.addrs[2])
+    has_stream(folder, files, words.sizes[2], words.addrs[2])
 }
 
 // Whether a stream with this size and this address word is stored.
 fn has_stream<F: Folder>(
-    f: &mut F,
+    folder: &mut F,
     files: &BlockFiles,
     size: u32,
     word: u32,
 ) -> Result<bool, Failed>
-    ensures stream { IfOk result (λ has. ForSome (F.told f.old).files (λ image. Agrees files.now image → has ≡ is_stream image size word)) }
+    ensures stream { IfOk result (λ has. ForSome (F.told folder.old).files (λ image. Agrees files.now image → has ≡ is_stream image size word)) }
     ensures stores { IfOk result (λ has. IsTrue has → stores files.now size word ≡ true) }
-    ensures stays { Stays (F.told f.old) (F.told f.new) }
-    ensures later { F.faults f.old ≤ F.faults f.new }
-    ensures failed { OnErr result (Rises (F.faults f.old) (F.faults f.new)) }
+    ensures stays { Stays (F.told folder.old) (F.told folder.new) }
+    ensures later { F.faults folder.old ≤ F.faults folder.new }
+    ensures failed { OnErr result (Rises (F.faults folder.old) (F.faults folder.new)) }
 {
     if size > MOST_BYTES {
         return Ok(false);
     }
-    is_stored(f, files, size, word)
+    is_stored(folder, files, size, word)
 }

@@ -12,7 +12,7 @@ ghost use Rattle.blk_disk.specs.Tables.{Agrees};
 ghost use Rattle.blk_audit.specs.Faults.{IsRecordDamage};
 ghost use Rattle.blk_audit.specs.ReadLists.{AreListsOf, IsSaidAt};
 ghost use Rattle.blk_entry.specs.Keys.{most_key};
-ghost use Rattle.blk_verdict.specs.PartNames.{IsNameInFront};
+ghost use Rattle.blk_verdict.specs.PartNames.{IsNameInPrefix};
 ghost use Rattle.blk_verdict.specs.Readable.{IsReadableIf};
 ghost use Rattle.blk_verdict.specs.Reads.{IsCutRead};
 ghost use Rattle.blk_verdict.specs.Verdicts.{IsVerdict};
@@ -32,28 +32,28 @@ use blk_record::CHILD;
 /// parent or a part. No other byte of the streams is read. A failed check is a read that gave too few bytes; a folder
 /// whose files are those of `files` gives none.
 pub fn load_walked<F: Folder>(
-    f: &mut F,
+    folder: &mut F,
     files: &BlockFiles,
     lists: &Lists,
     node: &WalkedNode,
     name: &mut [u8],
 ) -> Result<Verdict, Fault>
     requires room { length name.old ≡ most_key }
-    ensures verdict { IfOk result (λ verdict. ForSome (F.told f.old).files (λ image. Agrees files.now image → AreListsOf image lists.now → IsSaidAt image node.now → IsVerdict (shown.load (store_of image) held_rule node.now.addr) verdict)) }
-    ensures named { IfOk result (λ verdict. ForSome (F.told f.old).files (λ image. Agrees files.now image → IsNameInFront image verdict name.new)) }
+    ensures verdict { IfOk result (λ verdict. ForSome (F.told folder.old).files (λ image. Agrees files.now image → AreListsOf image lists.now → IsSaidAt image node.now → IsVerdict (shown.load (store_of image) held_rule node.now.addr) verdict)) }
+    ensures named { IfOk result (λ verdict. ForSome (F.told folder.old).files (λ image. Agrees files.now image → IsNameInPrefix image verdict name.new)) }
     ensures readable { IfOk result (IsReadableIf files.now) }
-    ensures stays { Stays (F.told f.old) (F.told f.new) }
-    ensures short { IfDamaged result (IsCutRead files.now (F.told f.old)) }
-    ensures untold { ForSome (F.told f.old).files (Agrees files.now) → IfDamaged result (λ _. (F.told f.old).files ≡ None) }
-    ensures later { F.faults f.old ≤ F.faults f.new }
-    ensures device { IfDevice result (Rises (F.faults f.old) (F.faults f.new)) }
+    ensures stays { Stays (F.told folder.old) (F.told folder.new) }
+    ensures short { IfDamaged result (IsCutRead files.now (F.told folder.old)) }
+    ensures untold { ForSome (F.told folder.old).files (Agrees files.now) → IfDamaged result (λ _. (F.told folder.old).files ≡ None) }
+    ensures later { F.faults folder.old ≤ F.faults folder.new }
+    ensures device { IfDevice result (Rises (F.faults folder.old) (F.faults folder.new)) }
 {
     let Some(entry) = files.entry(node.contents) else {
         return Ok(Verdict::Dropped(Reason::Contents));
     };
-    let said = lists.record_at(f, files, entry)?;
+    let said = lists.record_at(folder, files, entry)?;
     let reached = lists.reached.contains(entry.word());
-    load_words(f, files, node, entry, &said, reached, name)
+    load_words(folder, files, node, entry, &said, reached, name)
 }
 
 /// Whether a walked node names a record that checks and is a part's; such nodes are judged after the others.
@@ -61,22 +61,22 @@ pub fn load_walked<F: Folder>(
 /// One folder call reads a record that was not read with the lists; no other call is made. A failed check is a read
 /// that gave too few bytes; a folder whose files are those of `files` gives none.
 pub fn is_child<F: Folder>(
-    f: &mut F,
+    folder: &mut F,
     files: &BlockFiles,
     lists: &Lists,
     node: &WalkedNode,
 ) -> Result<bool, Fault>
-    ensures child { IfOk result (λ is. ForSome (F.told f.old).files (λ image. Agrees files.now image → AreListsOf image lists.now → IsSaidAt image node.now → is ≡ audit.is_child (store_of image) node.now.addr)) }
-    ensures stays { Stays (F.told f.old) (F.told f.new) }
-    ensures damaged { IfDamaged result (IsRecordDamage files.now (F.told f.new)) }
-    ensures untold { ForSome (F.told f.new).files (Agrees files.now) → IfDamaged result (λ _. (F.told f.new).files ≡ None) }
-    ensures later { F.faults f.old ≤ F.faults f.new }
-    ensures device { IfDevice result (Rises (F.faults f.old) (F.faults f.new)) }
+    ensures child { IfOk result (λ is. ForSome (F.told folder.old).files (λ image. Agrees files.now image → AreListsOf image lists.now → IsSaidAt image node.now → is ≡ audit.is_child (store_of image) node.now.addr)) }
+    ensures stays { Stays (F.told folder.old) (F.told folder.new) }
+    ensures damaged { IfDamaged result (IsRecordDamage files.now (F.told folder.new)) }
+    ensures untold { ForSome (F.told folder.new).files (Agrees files.now) → IfDamaged result (λ _. (F.told folder.new).files ≡ None) }
+    ensures later { F.faults folder.old ≤ F.faults folder.new }
+    ensures device { IfDevice result (Rises (F.faults folder.old) (F.faults folder.new)) }
 {
     let Some(entry) = files.entry(node.contents) else {
         return Ok(false);
     };
-    let said = lists.record_at(f, files, entry)?;
+    let said = lists.record_at(folder, files, entry)?;
     let is = is_part(&said.words);
     Ok(is)
 }

@@ -6,7 +6,7 @@ use Rattle.spec_image.specs.Bytes.{range_at}
 use Rattle.spec_image.specs.Image.{File, Image, byte, length_of}
 use Rattle.spec_image.specs.Told.{GivesBytes}
 use Rattle.spec_image.proofs.Words.{length-range}
-use Rattle.blk_window.specs.Held.{Page, is_page, page_in, is_held, without, used, dropped, Agrees, IsUsed, page_at}
+use Rattle.blk_window.specs.Held.{Page, is_page, page_in, is_held, without, used, dropped, HoldsFileBytes, IsPageUsed, page_at}
 use Rattle.blk_window.specs.Slots.{Copies}
 use Rattle.blk_window.proofs.Lists.{pick, none_of}
 use Rattle.blk_window.proofs.HeldLists.{named}
@@ -72,10 +72,10 @@ without_absent file number (x ∷ held) e =
     ap (λ b. if b then held else x ∷ without file number held) parts.0 ∙ ap (λ l. x ∷ l) (without_absent file number held parts.1)
 
 -- the page that is found is the one that is used
-pub used_found : (file : File) (number : ℕ) (held : List Page) (p : Page) → page_in file number held ≡ Some p → IsUsed file number held p
+pub used_found : (file : File) (number : ℕ) (held : List Page) (p : Page) → page_in file number held ≡ Some p → IsPageUsed file number held p
 used_found file number held p e = record { named = found_page file number held p e; same = λ one there. some_page (sym e ∙ there) }
 
-pub used_new : (file : File) (number : ℕ) (held : List Page) (p : Page) → is_held file number held ≡ false → is_page file number p ≡ true → IsUsed file number held p
+pub used_new : (file : File) (number : ℕ) (held : List Page) (p : Page) → is_held file number held ≡ false → is_page file number p ≡ true → IsPageUsed file number held p
 used_new file number held p missing is = record { named = is; same = λ one there. none_some (sym (not_found file number held missing) ∙ there) }
 
 -- a new page in front of those that are left
@@ -108,7 +108,7 @@ unfolding range_at
 no_bytes f i = refl
 
 -- a page that agrees with the files gives their bytes
-pub gives_bytes : (image : Image) (file : File) (place : ℕ) (page : Page) (old new : List ℕ) (n : ℕ) → Agrees image page → is_page file (page_at place) page ≡ true → place % 4096 + length old ≤ 4096 → Copies page (place % 4096) old new n
+pub gives_bytes : (image : Image) (file : File) (place : ℕ) (page : Page) (old new : List ℕ) (n : ℕ) → HoldsFileBytes image page → is_page file (page_at place) page ≡ true → place % 4096 + length old ≤ 4096 → Copies page (place % 4096) old new n
     → GivesBytes image file place old new n
 gives_bytes image file place page old new n agrees is within copies =
     let name = named file (page_at place) page is in

@@ -12,10 +12,10 @@ use Rattle.spec_image.specs.Footprint.{SameOutside, range}
 use Rattle.spec_image.proofs.Cuts.{after-words}
 use Rattle.spec_image.proofs.Footprints.{words_inside, same_file_outside}
 use Rattle.spec_image.proofs.Images.{with_file-other, with_file-same, same_file-swap, same_file-true, bytes-written}
-use Rattle.spec_image.proofs.Runs.{along_front}
+use Rattle.spec_image.proofs.Runs.{along_prefix}
 use Rattle.spec_image.proofs.Splices.{length-spliced, spliced-none}
 use Rattle.spec_image.proofs.Words.{range-is, length-range}
-use Rattle.blk_window.specs.Held.{Page, Agrees, unless_of, reaches, overwritten, written, rewritten}
+use Rattle.blk_window.specs.Held.{Page, HoldsFileBytes, unless_of, reaches, overwritten, written, rewritten}
 use Rattle.blk_window.proofs.Lists.{pick}
 use Rattle.blk_window.proofs.Overwriting.{take-spliced}
 
@@ -26,18 +26,18 @@ rest_of : (P : Page → Type 0) (p : Page) (held : List Page) → All P (p ∷ h
 rest_of P p held all = λ k d within. all (suc k) d (omega arith)
 
 -- a page agrees with each image that has the same file
-same_there : (image new : Image) (page : Page) → new page.file ≡ image page.file → Agrees image page → Agrees new page
+same_there : (image new : Image) (page : Page) → new page.file ≡ image page.file → HoldsFileBytes image page → HoldsFileBytes new page
 same_there image new page same agrees =
     agrees ∙ ap (λ (o : Option (List ℕ)). range_at (content (unwrap_or o [])) (4096 * page.number) (min 4096 (length (unwrap_or o []) - 4096 * page.number))) (sym same)
 
 -- the pages of other files agree as long as these files stay
-pub agree_unless : (file : File) (held : List Page) (image new : Image) → ((other : File) → same_file other file ≡ false → new other ≡ image other) → All (Agrees image) held → All (Agrees new) (filter_map (unless_of file) held)
+pub agree_unless : (file : File) (held : List Page) (image new : Image) → ((other : File) → same_file other file ≡ false → new other ≡ image other) → All (HoldsFileBytes image) held → All (HoldsFileBytes new) (filter_map (unless_of file) held)
 agree_unless file [] image new stays all = λ k d within. absurd (omega arith)
 agree_unless file (page ∷ held) image new stays all =
-    let more = agree_unless file held image new stays (rest_of (Agrees image) page held all) in
+    let more = agree_unless file held image new stays (rest_of (HoldsFileBytes image) page held all) in
     pick (same_file page.file file)
-    (λ hit. subst (All (Agrees new)) (ap (λ b. cons_option (if b then None else Some page) (filter_map (unless_of file) held)) (sym hit)) more)
-    (λ miss. subst (All (Agrees new)) (ap (λ b. cons_option (if b then None else Some page) (filter_map (unless_of file) held)) (sym miss)) (All-cons (Agrees new) page (filter_map (unless_of file) held) (same_there image new page (stays page.file miss) (first_of (Agrees image) page held all)) more))
+    (λ hit. subst (All (HoldsFileBytes new)) (ap (λ b. cons_option (if b then None else Some page) (filter_map (unless_of file) held)) (sym hit)) more)
+    (λ miss. subst (All (HoldsFileBytes new)) (ap (λ b. cons_option (if b then None else Some page) (filter_map (unless_of file) held)) (sym miss)) (All-cons (HoldsFileBytes new) page (filter_map (unless_of file) held) (same_there image new page (stays page.file miss) (first_of (HoldsFileBytes image) page held all)) more))
 
 -- what is after a place once bytes are written over
 drop-spliced : (s a : ℕ) (new old : List ℕ) → drop s (spliced a new old) ≡ spliced (a - s) (drop (s - a) new) (drop s old)
@@ -86,7 +86,7 @@ unfolding range_at
 nothing_there f i = refl
 
 -- a page of the file that was written agrees with what it holds now
-agrees_over : (file : File) (at : ℕ) (bytes : List ℕ) (image : Image) (page : Page) → same_file page.file file ≡ true → Agrees image page → Agrees (after (words file at bytes) image) (overwritten at bytes page)
+agrees_over : (file : File) (at : ℕ) (bytes : List ℕ) (image : Image) (page : Page) → same_file page.file file ≡ true → HoldsFileBytes image page → HoldsFileBytes (after (words file at bytes) image) (overwritten at bytes page)
 agrees_over file at bytes image page same agrees = of_file (same_file-true page.file file same)
   where
     start : ℕ
@@ -110,7 +110,7 @@ agrees_over file at bytes image page same agrees = of_file (same_file-true page.
         empty none = omega (arith, none)
     by_length (suc k) some = range-spliced at start m bytes old (omega (arith, some))
 
-    of_file : page.file ≡ file → Agrees (after (words file at bytes) image) (overwritten at bytes page)
+    of_file : page.file ≡ file → HoldsFileBytes (after (words file at bytes) image) (overwritten at bytes page)
     of_file is =
         ap (spliced (at - start) (drop (start - at) bytes)) (agrees ∙ ap (λ f. range_at (byte image f) start (min 4096 (length_of image f - start))) is)
         ∙ sym (by_length (length old - start) refl)
@@ -122,15 +122,15 @@ others_stay : (file : File) (at : ℕ) (bytes : List ℕ) (image : Image) (other
 others_stay file at bytes image other apart = ap (λ (i : Image). i other) (after-words file at bytes image) ∙ with_file-other image file other (written_over at bytes (image file)) (same_file-swap other file apart)
 
 -- after a write the pages that are left agree
-pub agree_written : (file : File) (at : ℕ) (bytes : List ℕ) (held : List Page) (image : Image) → All (Agrees image) held → All (Agrees (after (words file at bytes) image)) (filter_map (written file at bytes) held)
+pub agree_written : (file : File) (at : ℕ) (bytes : List ℕ) (held : List Page) (image : Image) → All (HoldsFileBytes image) held → All (HoldsFileBytes (after (words file at bytes) image)) (filter_map (written file at bytes) held)
 agree_written file at bytes [] image all = λ k d within. absurd (omega arith)
-agree_written file at bytes (page ∷ held) image all = by_page (agree_written file at bytes held image (rest_of (Agrees image) page held all)) (written file at bytes page) refl
+agree_written file at bytes (page ∷ held) image all = by_page (agree_written file at bytes held image (rest_of (HoldsFileBytes image) page held all)) (written file at bytes page) refl
   where
     new : Image
     new = after (words file at bytes) image
 
-    first : Agrees image page
-    first = first_of (Agrees image) page held all
+    first : HoldsFileBytes image page
+    first = first_of (HoldsFileBytes image) page held all
 
     inj : {a b : Page} → Some a ≡ Some b → a ≡ b
     inj e = cc
@@ -141,23 +141,23 @@ agree_written file at bytes (page ∷ held) image all = by_page (agree_written f
         clash : {p : Page} → None ≡ Some p → ⊥
         clash c = cc
 
-    one : (p : Page) → written file at bytes page ≡ Some p → Agrees new p
+    one : (p : Page) → written file at bytes page ≡ Some p → HoldsFileBytes new p
     one p is = pick (same_file page.file file)
         (λ hit. let e = sym (ap (λ b. if b then (if reaches (at + length bytes) page then Some (overwritten at bytes page) else None) else Some page) hit) ∙ is in
         pick (reaches (at + length bytes) page)
-        (λ whole. subst (Agrees new) (inj (sym (ap (λ b. if b then Some (overwritten at bytes page) else None) whole) ∙ e)) (agrees_over file at bytes image page hit first))
+        (λ whole. subst (HoldsFileBytes new) (inj (sym (ap (λ b. if b then Some (overwritten at bytes page) else None) whole) ∙ e)) (agrees_over file at bytes image page hit first))
         (λ cut. never (sym (ap (λ b. if b then Some (overwritten at bytes page) else None) cut) ∙ e)))
-        (λ miss. subst (Agrees new) (inj (sym (ap (λ b. if b then (if reaches (at + length bytes) page then Some (overwritten at bytes page) else None) else Some page) miss) ∙ is)) (same_there image new page (others_stay file at bytes image page.file miss) first))
+        (λ miss. subst (HoldsFileBytes new) (inj (sym (ap (λ b. if b then (if reaches (at + length bytes) page then Some (overwritten at bytes page) else None) else Some page) miss) ∙ is)) (same_there image new page (others_stay file at bytes image page.file miss) first))
 
-    by_page : All (Agrees new) (filter_map (written file at bytes) held) → (o : Option Page) → written file at bytes page ≡ o → All (Agrees new) (cons_option (written file at bytes page) (filter_map (written file at bytes) held))
-    by_page more None is = subst (λ o. All (Agrees new) (cons_option o (filter_map (written file at bytes) held))) (sym is) more
-    by_page more (Some p) is = subst (λ o. All (Agrees new) (cons_option o (filter_map (written file at bytes) held))) (sym is) (All-cons (Agrees new) p (filter_map (written file at bytes) held) (one p is) more)
+    by_page : All (HoldsFileBytes new) (filter_map (written file at bytes) held) → (o : Option Page) → written file at bytes page ≡ o → All (HoldsFileBytes new) (cons_option (written file at bytes page) (filter_map (written file at bytes) held))
+    by_page more None is = subst (λ o. All (HoldsFileBytes new) (cons_option o (filter_map (written file at bytes) held))) (sym is) more
+    by_page more (Some p) is = subst (λ o. All (HoldsFileBytes new) (cons_option o (filter_map (written file at bytes) held))) (sym is) (All-cons (HoldsFileBytes new) p (filter_map (written file at bytes) held) (one p is) more)
 
 -- where the range lies inside its file no page is dropped
-pub none_dropped : (file : File) (at : ℕ) (bytes : List ℕ) (held : List Page) (image : Image) → HasRange image file at (length bytes) → All (Agrees image) held → filter_map (written file at bytes) held ≡ map (rewritten file at bytes) held
+pub none_dropped : (file : File) (at : ℕ) (bytes : List ℕ) (held : List Page) (image : Image) → HasRange image file at (length bytes) → All (HoldsFileBytes image) held → filter_map (written file at bytes) held ≡ map (rewritten file at bytes) held
 none_dropped file at bytes [] image inside all = refl
 none_dropped file at bytes (page ∷ held) image inside all =
-    let more = none_dropped file at bytes held image inside (rest_of (Agrees image) page held all) in
+    let more = none_dropped file at bytes held image inside (rest_of (HoldsFileBytes image) page held all) in
     pick (same_file page.file file)
     (λ hit. ap (λ b. cons_option (if b then (if reaches (at + length bytes) page then Some (overwritten at bytes page) else None) else Some page) (filter_map (written file at bytes) held)) hit
     ∙ ap (λ b. cons_option (if b then Some (overwritten at bytes page) else None) (filter_map (written file at bytes) held)) (reached (same_file-true page.file file hit))
@@ -166,7 +166,7 @@ none_dropped file at bytes (page ∷ held) image inside all =
     ∙ ap (λ l. page ∷ l) more ∙ ap (λ b. (if b then overwritten at bytes page else page) ∷ map (rewritten file at bytes) held) (sym miss))
   where
     size : length page.bytes ≡ min 4096 (length_of image page.file - 4096 * page.number)
-    size = ap length (first_of (Agrees image) page held all) ∙ length-range (min 4096 (length_of image page.file - 4096 * page.number)) (4096 * page.number) (byte image page.file)
+    size = ap length (first_of (HoldsFileBytes image) page held all) ∙ length-range (min 4096 (length_of image page.file - 4096 * page.number)) (4096 * page.number) (byte image page.file)
 
     reached : page.file ≡ file → reaches (at + length bytes) page ≡ true
     reached is = by_size (ap (length_of image) is)
@@ -194,7 +194,7 @@ part_stays file at bytes made left image split other apart =
     same_file_outside (range file at (length bytes)) image (after made image) other inside outside refl
   where
     inside : SameOutside (range file at (length bytes)) image (after made image)
-    inside = along_front (SameOutside (range file at (length bytes)) image) made left image (subst (λ s. Along (SameOutside (range file at (length bytes)) image) image s) split (words_inside file at bytes image))
+    inside = along_prefix (SameOutside (range file at (length bytes)) image) made left image (subst (λ s. Along (SameOutside (range file at (length bytes)) image) image s) split (words_inside file at bytes image))
 
     outside : (i : ℕ) → (same_file file other && (nat_le at i && nat_lt i (at + length bytes))) ≡ false
     outside i = ap (λ b. b && (nat_le at i && nat_lt i (at + length bytes))) (same_file-swap other file apart)
@@ -221,7 +221,7 @@ one_stays file step stays (x ∷ y ∷ made) left image split other apart = absu
 -- the pages of other files agree where some of these steps were made
 pub agree_part : (file : File) (a b : Told) (steps : List TrailStep) (held : List Page)
     → ((made left : List TrailStep) (image : Image) → steps ≡ made ++ left → (other : File) → same_file other file ≡ false → after made image other ≡ image other)
-    → AppliesPrefix a b steps → ForSome a.files (λ image. All (Agrees image) held) → ForSome b.files (λ image. All (Agrees image) (filter_map (unless_of file) held))
+    → AppliesPrefix a b steps → ForSome a.files (λ image. All (HoldsFileBytes image) held) → ForSome b.files (λ image. All (HoldsFileBytes image) (filter_map (unless_of file) held))
 agree_part file a b steps held stays p all = λ new there.
     let old = before a b p.made new p.applies there in
-    subst (λ (i : Image). All (Agrees i) (filter_map (unless_of file) held)) (sym old.2) (agree_unless file held old.0 (after p.made old.0) (λ other apart. stays p.made p.left old.0 p.split other apart) (all old.0 old.1))
+    subst (λ (i : Image). All (HoldsFileBytes i) (filter_map (unless_of file) held)) (sym old.2) (agree_unless file held old.0 (after p.made old.0) (λ other apart. stays p.made p.left old.0 p.split other apart) (all old.0 old.1))

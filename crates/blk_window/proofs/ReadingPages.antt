@@ -6,7 +6,7 @@ use Rattle.std.proofs.lemmas.List.{length-append, take_all}
 use Rattle.std.proofs.lemmas.List.Elements.{All-append, All-cons}
 use Rattle.spec_image.specs.Image.{File, same_file}
 use Rattle.spec_image.proofs.Images.{same_file-refl}
-use Rattle.blk_window.specs.Held.{Page, is_page, is_full, page_in, is_held, without, used, dropped, page_at, pages_of, IsUsed, UsesEach, AreUpTo, ReadsThrough, FailsBehind, AreHeld, HoldsRange}
+use Rattle.blk_window.specs.Held.{Page, is_page, is_full, page_in, is_held, without, used, dropped, page_at, pages_of, IsPageUsed, UsesEach, AreUpTo, ReadsThrough, FailsBehind, AreHeld, HoldsRange}
 use Rattle.blk_window.specs.Reading.{ReadsPage}
 use Rattle.blk_window.proofs.Lists.{pick}
 use Rattle.blk_window.proofs.HeldLists.{named}
@@ -46,15 +46,15 @@ begins places file at n old some = record {
     at_least at n some = omega arith
 
 -- a page more is used after others
-uses_more : (places : ℕ) (file : File) (number : ℕ) (pages old between : List Page) (page : Page) (new : List Page) → UsesEach places file number pages old between → IsUsed file (number + length pages) between page → new ≡ used places page between
+uses_more : (places : ℕ) (file : File) (number : ℕ) (pages old between : List Page) (page : Page) (new : List Page) → UsesEach places file number pages old between → IsPageUsed file (number + length pages) between page → new ≡ used places page between
     → UsesEach places file number (pages ++ page ∷ []) old new
 uses_more places file number [] old between page new same is front =
-    (subst (λ l. IsUsed file number l page) same (subst (λ k. IsUsed file k between page) (no_more number) is), front ∙ ap (used places page) same)
+    (subst (λ l. IsPageUsed file number l page) same (subst (λ k. IsPageUsed file k between page) (no_more number) is), front ∙ ap (used places page) same)
   where
     no_more : (k : ℕ) → k + 0 ≡ k
     no_more k = omega arith
 uses_more places file number (x ∷ pages) old between page new each is front =
-    (each.0, uses_more places file (suc number) pages (used places x old) between page new each.1 (subst (λ k. IsUsed file k between page) (one_on number (length pages)) is) front)
+    (each.0, uses_more places file (suc number) pages (used places x old) between page new each.1 (subst (λ k. IsPageUsed file k between page) (one_on number (length pages)) is) front)
   where
     one_on : (k m : ℕ) → k + suc m ≡ suc k + m
     one_on k m = omega arith
@@ -118,7 +118,7 @@ pub goes_on : (places : ℕ) (file : File) (at n given m : ℕ) (old now new : L
 goes_on places file at n given m old now new p less all left r = record {
   pages = p.pages ++ r.page ∷ [];
   full = All-append (λ page. is_full page ≡ true) p.pages (r.page ∷ []) p.full (All-cons (λ page. is_full page ≡ true) r.page [] (filled r.page (at + given) (n - given) m r.many all (omega (arith, all, left))) (λ k d within. absurd (omega arith)));
-  uses = uses_more places file (page_at at) p.pages old now r.page new p.uses (subst (λ k. IsUsed file k now r.page) p.next r.is) r.front;
+  uses = uses_more places file (page_at at) p.pages old now r.page new p.uses (subst (λ k. IsPageUsed file k now r.page) p.next r.is) r.front;
   next = step ∙ sym (ap (λ k. page_at at + k) longer);
   more = subst (λ k. k < pages_of at n) (sym longer) (omega (arith, count_of at n (omega (arith, less)), p.next, step_of, reach));
 }
@@ -150,7 +150,7 @@ pub ends : (places : ℕ) (file : File) (at n given m : ℕ) (old now new : List
 ends places file at n given m old now new p less which r = record {
   pages = p.pages ++ r.page ∷ [];
   these = up_to (pages_of at n) p.pages r.page p.full (by_end which);
-  uses = uses_more places file (page_at at) p.pages old now r.page new p.uses (subst (λ k. IsUsed file k now r.page) p.next r.is) r.front;
+  uses = uses_more places file (page_at at) p.pages old now r.page new p.uses (subst (λ k. IsPageUsed file k now r.page) p.next r.is) r.front;
   last = λ before page is. ap (λ l. slice_get l 0) r.front ∙ ap Some (last_is p.pages before r.page page is);
 }
   where

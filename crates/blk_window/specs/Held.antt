@@ -28,8 +28,8 @@ abbrev pub is_full : Page → Bool
 is_full page = nat_le page_size (length page.bytes)
 
 -- its bytes are those that the file has there
-abbrev pub Agrees : Image → Page → Type 0
-Agrees image page = page.bytes ≡ range_at (byte image page.file) (start_of page) (min page_size (length_of image page.file - start_of page))
+abbrev pub HoldsFileBytes : Image → Page → Type 0
+HoldsFileBytes image page = page.bytes ≡ range_at (byte image page.file) (start_of page) (min page_size (length_of image page.file - start_of page))
 
 -- the page of this file with this number, where it is held
 abbrev pub page_in : File → ℕ → List Page → Option Page
@@ -53,14 +53,14 @@ abbrev pub dropped : ℕ → List Page → List Page
 dropped places held = take (places - 1) held
 
 -- a page has this name, and is the one that is held, where one is
-pub record IsUsed (file : File) (number : ℕ) (held : List Page) (page : Page) : Type 0 where
+pub record IsPageUsed (file : File) (number : ℕ) (held : List Page) (page : Page) : Type 0 where
   pub named : is_page file number page ≡ true
   pub same : ForSome (page_in file number held) (λ one. page ≡ one)
 
 -- these pages of a file were used one after another, by rising number from one on
 abbrev pub UsesEach : ℕ → File → ℕ → List Page → List Page → List Page → Type 0
 UsesEach places file number [] old new = new ≡ old
-UsesEach places file number (page ∷ pages) old new = IsUsed file number old page × UsesEach places file (suc number) pages (used places page old) new
+UsesEach places file number (page ∷ pages) old new = IsPageUsed file number old page × UsesEach places file (suc number) pages (used places page old) new
 
 -- of so many pages these are the ones up to and with the first that isn't full
 abbrev pub AreUpTo : ℕ → List Page → Type 0

@@ -15,5 +15,5 @@ abbrev pub places_of : Pages → ℕ
 places_of pages = pages.slots.cap
 
 -- the slot with this number is there and holds nothing
-abbrev pub IsFree : Pages → ℕ → Type 0
-IsFree pages slot = option_map seen (lookup (nat_eq slot) pages.slots.entries) ≡ Some None
+abbrev pub IsSlotFree : Pages → ℕ → Type 0
+IsSlotFree pages slot = option_map seen (lookup (nat_eq slot) pages.slots.entries) ≡ Some None

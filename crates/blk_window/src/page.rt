@@ -5,7 +5,7 @@ ghost use Rattle.spec_image.specs.Bytes.{spliced};
 ghost use Rattle.spec_image.specs.Image.{same_file};
 ghost use Rattle.spec_image.specs.Told.{Stays, Rises};
 ghost use Rattle.blk_io.specs.FileNames.{file_of};
-ghost use Rattle.blk_window.specs.Held.{Agrees, start_of, reaches, unless_of, written};
+ghost use Rattle.blk_window.specs.Held.{HoldsFileBytes, start_of, reaches, unless_of, written};
 
 use blk_io::{Failed, FileId, Folder};
 use std::alloc::{AllocError, Global};
@@ -137,7 +137,7 @@ impl Page {
     ) -> Result<(), Failed>
         requires { number < 2 ^ 52 }
         ensures shows { OnOk result (IsTrue (shows (file_of file) number self.new)) }
-        ensures agrees { OnOk result (ForSome (F.told inner.old).files (λ image. ForSome (seen self.new) (Agrees image))) }
+        ensures agrees { OnOk result (ForSome (F.told inner.old).files (λ image. ForSome (seen self.new) (HoldsFileBytes image))) }
         ensures stays { Stays (F.told inner.old) (F.told inner.new) }
         ensures later { F.faults inner.old ≤ F.faults inner.new }
         ensures failed { OnErr result (Rises (F.faults inner.old) (F.faults inner.new)) }

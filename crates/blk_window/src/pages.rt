@@ -31,7 +31,7 @@ pub struct Pages {
 
 impl Pages {
     ghost use Rattle.blk_window.specs.Slots.{seen, shows, held_in, giving_way, Copies};
-    ghost use Rattle.blk_window.specs.Pages.{held_of, places_of, IsFree};
+    ghost use Rattle.blk_window.specs.Pages.{held_of, places_of, IsSlotFree};
 
     /// So many slots, which hold nothing.
     pub fn new(alloc: Global, pages: u16) -> Result<Pages, AllocError>
@@ -118,7 +118,7 @@ impl Pages {
     /// Drops the page that is evicted for another where all slots hold one, and says which slot is free.
     pub fn make_room(&mut self) -> u16
         ensures held { held_of self.new ≡ dropped (places_of self.old) (held_of self.old) }
-        ensures free { IsFree self.new result }
+        ensures free { IsSlotFree self.new result }
         ensures places { places_of self.new ≡ places_of self.old }
     {
         let slot = self.giving_way();
@@ -130,7 +130,7 @@ impl Pages {
 
     /// Changes the page with a slot that is free. What it holds is in front then.
     pub fn put(&mut self, slot: u16, page: &mut Page)
-        requires free { IsFree self.old slot }
+        requires free { IsSlotFree self.old slot }
         ensures held { ForSome (seen page.old) (λ new. held_of self.new ≡ new ∷ held_of self.old) }
         ensures places { places_of self.new ≡ places_of self.old }
     {

@@ -8,7 +8,7 @@ ghost use Rattle.spec_image.specs.Order.{IsNextFile, IsAfter};
 ghost use Rattle.spec_image.specs.Told.{Applies, Stays, AppliesPrefix, Rises, GivesBytes};
 ghost use Rattle.blk_io.specs.FileNames.{file_of};
 ghost use Rattle.blk_io.specs.Untold.{untold};
-ghost use Rattle.blk_window.specs.Held.{Agrees, is_held, page_at, dropped, unless_of, written, rewritten, ReadsThrough, FailsBehind, HoldsRange};
+ghost use Rattle.blk_window.specs.Held.{HoldsFileBytes, is_held, page_at, dropped, unless_of, written, rewritten, ReadsThrough, FailsBehind, HoldsRange};
 ghost use Rattle.blk_window.specs.Pages.{held_of, places_of};
 ghost use Rattle.blk_window.specs.Reading.{ReadsPage};
 
@@ -24,7 +24,7 @@ pub struct Window<F: Folder> {
     pages: Pages,
     // A page is read into this one first.
     spare: Page,
-    ghost agrees: { ForSome (F.told inner).files (λ image. All (Agrees image) (held_of pages)) },
+    ghost agrees: { ForSome (F.told inner).files (λ image. All (HoldsFileBytes image) (held_of pages)) },
 }
 
 // The slots of a window, and one more.
@@ -74,7 +74,7 @@ impl<F: Folder> Window<F> {
 
     /// Each page that is held has the bytes that its file has there, where the files are told. There are no more of them than places.
     pub fn held_pages_agree(&self)
-        ensures agree { ForSome (F.told self.now.inner).files (λ image. All (Agrees image) (held_of self.now.pages)) }
+        ensures agree { ForSome (F.told self.now.inner).files (λ image. All (HoldsFileBytes image) (held_of self.now.pages)) }
         ensures few { length (held_of self.now.pages) ≤ places_of self.now.pages }
     {}
 

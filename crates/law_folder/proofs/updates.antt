@@ -1,9 +1,9 @@
 -- Single writes: sealed updates of nodes and records, and words of the index.
 pub mod Counting
-pub mod Fronts
 pub mod IndexWords
 pub mod NodeRecords
 pub mod Nodes
+pub mod Prefixes
 pub mod Records
 pub mod Sealing
 pub mod StillShown

@@ -23,7 +23,7 @@ use Rattle.law_folder.proofs.examples.ExampleFolders.{whole-is_kept, whole-is_so
 use Rattle.law_folder.proofs.examples.ExampleUses.{whole-writable}
 use Rattle.law_folder.proofs.examples.ExampleWrites.{small-zeros}
 use Rattle.spec_format.proofs.Finished.{whole_index}
-use Rattle.law_folder.proofs.updates.Fronts.{AreSmall, small-take, small-words}
+use Rattle.law_folder.proofs.updates.Prefixes.{AreSmall, small-take, small-words}
 use Rattle.law_folder.proofs.examples.SmallFolder.{cut_to, cut_is_well_formed, cut_is_walked, cut_is_kept}
 use Rattle.law_folder.proofs.examples.WholeFolder.{whole_folder, whole-is_well_formed, whole-linked}
 use Rattle.law_recovery.specs.ListRepair.{HoldsTheSame, HasRemoved, IsListMended, dropped_nodes, ended_image, all_but}

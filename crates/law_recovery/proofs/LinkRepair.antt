@@ -9,7 +9,7 @@ use Rattle.std.proofs.Common.{take, drop, refl}
 use Rattle.std.proofs.lemmas.List.{take-append-drop}
 use Rattle.spec_image.specs.Steps.{TrailStep}
 use Rattle.spec_image.specs.Told.{Along}
-use Rattle.spec_image.proofs.Runs.{along_front}
+use Rattle.spec_image.proofs.Runs.{along_prefix}
 use Rattle.spec_image.proofs.Cuts.{after-append}
 use Rattle.spec_image.proofs.Runs.{until-append, until_weaker2, until_last}
 use Rattle.spec_format.specs.BlockFiles.{IsWellFormed}
@@ -103,14 +103,14 @@ links-repaired image well ready =
     )
 
 -- after a prefix of the steps the same is held
-front-holds : (image : Image) (count : ℕ) → IsWellFormed image → IsWritable image → HoldsTheSame image (after (take count (link_repair_steps image)) image)
-front-holds image count well ready =
+prefix-holds : (image : Image) (count : ℕ) → IsWellFormed image → IsWritable image → HoldsTheSame image (after (take count (link_repair_steps image)) image)
+prefix-holds image count well ready =
     let steps : List TrailStep = link_repair_steps image in
-    along_front (HoldsTheSame image) (take count steps) (drop count steps) image (subst (Along (HoldsTheSame image) image) (sym (take-append-drop count steps)) (links-repaired image well ready).0)
+    along_prefix (HoldsTheSame image) (take count steps) (drop count steps) image (subst (Along (HoldsTheSame image) image) (sym (take-append-drop count steps)) (links-repaired image well ready).0)
 
 pub repairs-stopped : LinkRepairsMayBeStopped
 repairs-stopped image [] well ready = record { well_formed = well; writable = ready; kept_same = refl; found_same = refl }
 repairs-stopped image (count ∷ counts) well ready =
     let between : Image = after (take count (link_repair_steps image)) image in
-    let once : HoldsTheSame image between = front-holds image count well ready in
+    let once : HoldsTheSame image between = prefix-holds image count well ready in
     holds-trans image between (stopped_repair counts between) once (repairs-stopped between counts once.well_formed once.writable)

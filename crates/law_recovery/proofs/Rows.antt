@@ -24,7 +24,7 @@ use Rattle.spec_folder.specs.View.{RecordFields, store_of, stored_at, key_place_
 use Rattle.spec_folder.specs.Entries.{Role, IsPlain, IsParent, IsPart, is_key_length, longest_key_with, stored_key, stored_stream, stored_streams, stream, parent_role, part_role, role_of, is_covered}
 use Rattle.spec_folder.specs.Loads.{Rule, Loaded, load, is_part_role}
 use Rattle.spec_folder.specs.Found.{row_of_loaded}
-use Rattle.law_folder.proofs.updates.Fronts.{AreSmall, small-take, small-range}
+use Rattle.law_folder.proofs.updates.Prefixes.{AreSmall, small-take, small-range}
 use Rattle.law_folder.proofs.walks.Loads.{load-then}
 use Rattle.law_folder.proofs.walks.Shown.{role-part}
 

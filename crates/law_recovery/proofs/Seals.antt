@@ -17,7 +17,7 @@ use Rattle.spec_folder.specs.View.{entry_at}
 use Rattle.spec_folder.specs.Loads.{Loaded}
 use Rattle.spec_folder.specs.Sound as sound
 use Rattle.spec_folder.specs.Found.{kept}
-use Rattle.law_folder.proofs.updates.Fronts.{AreSmall, small-take, small-range, same-entry, front-words, front-range}
+use Rattle.law_folder.proofs.updates.Prefixes.{AreSmall, small-take, small-range, same-entry, prefix-words, prefix-range}
 use Rattle.law_folder.proofs.updates.Sealing.{sealed_bytes}
 use Rattle.law_folder.proofs.updates.Updates.{entry-here}
 use Rattle.law_recovery.specs.ChainRepair.{is_kept_record, IsStandingRecord}
@@ -34,8 +34,8 @@ entry-sealed_bytes image w bytes kind =
     let small : AreSmall (take 92 r) = small-take 92 r (small-range (record_size w) (place w) f (bytes (Block (file_selector w)))) in
     let seal : word_at f (place w + 92) ≡ word_at (content r) 92 = sym (record_word image w 92 (omega (arith, s, seal_last (kind_of w)))) in
     let here = ap entry_body (entry-here image w kind) in
-    let front = sym (ap entry_body (same-entry (content (take 92 r)) 0 (content r) 0 (front-words 92 r refl))) in
-    let body : entry_body (entry_in f (place w)) ≡ take 92 r = here ∙ front ∙ entry_body-in 0 (content (take 92 r)) small ∙ front-range 92 r (omega (arith, s, seal_last (kind_of w), length-record w image)) in
+    let front = sym (ap entry_body (same-entry (content (take 92 r)) 0 (content r) 0 (prefix-words 92 r refl))) in
+    let body : entry_body (entry_in f (place w)) ≡ take 92 r = here ∙ front ∙ entry_body-in 0 (content (take 92 r)) small ∙ prefix-range 92 r (omega (arith, s, seal_last (kind_of w), length-record w image)) in
     ap₂ (λ (x : ℕ) (l : List ℕ). x == hash l) seal body
 
 -- ---- all of them

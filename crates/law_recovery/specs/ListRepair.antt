@@ -62,14 +62,14 @@ ListsAreRepaired = (image : Image) → IsWellFormed image → IsWritable image �
 -- The end of the list.
 
 -- before the removals the list is whole and idle with the nodes that completing leaves
-pub record IsEnded (from image : Image) : Type 0 where
+pub record IsListEnded (from image : Image) : Type 0 where
   pub holds : HoldsTheSame from image
   pub rests : HasListAtRest (completed_walk from) image
   pub store : ShowsTheSame (store_of from) (store_of image)
   pub seals : KeepsRecordsSealed from image
 
 abbrev pub CompletedListsAreEnded : Type 0
-CompletedListsAreEnded = (image : Image) → IsWellFormed image → IsWritable image → IsEnded image (ended_image image)
+CompletedListsAreEnded = (image : Image) → IsWellFormed image → IsWritable image → IsListEnded image (ended_image image)
 
 -- an idle list is ended without a step
 abbrev pub ListsAtRestNeedNoEnd : Type 0

@@ -15,7 +15,7 @@ use Rattle.blk_model.proofs.PartValues.{empty_part_is}
 use Rattle.blk_model.proofs.Steps.{step_valid}
 use Rattle.blk_model.proofs.StopRows.{a, a_goes_first, b, c, codes_are_bytes, pair, pair_is_valid}
 use Rattle.law_folder.specs.CommandLaws.{marked}
-use Rattle.law_state.specs.CommandStates.{IsLast, MayLeave, Unsettles, amidst, in_order, with_names, with_room}
+use Rattle.law_state.specs.CommandStates.{IsLastHandle, MayLeave, Unsettles, amidst, in_order, with_names, with_room}
 use Rattle.law_state.specs.CommandEnds.{IsNamedBy, without_part}
 use Rattle.law_state.specs.PartStates.{with_value}
 use Rattle.law_state.proofs.CommandEnding.{closes-doomed, closes-free, closes-left, creates-left, dooms-left, empty-sparse-writes-end, only-uses-left, opens-left, sparse-writes-unsettle, trims-left, writes-unsettle}
@@ -91,7 +91,7 @@ making = (step pair 100 (to_create 6 c)).state
 making_is_valid : IsValidState making
 making_is_valid = step_valid pair 100 (to_create 6 c) pair_is_valid (omega arith, c_bytes)
 
-last_of_c : IsLast making 6 2 (new_object c)
+last_of_c : IsLastHandle making 6 2 (new_object c)
 unfolding computing
 last_of_c = record { names = refl; here = refl; live = refl; last = refl }
 

@@ -30,9 +30,9 @@ use Rattle.law_state.proofs.CommandEnding.{groups-turn}
 use Rattle.law_state.proofs.RestRoom.{others-go, room-left}
 use Rattle.law_state.proofs.RestGrowth.{kept, GrowsAlike, set-grows, push-grows, count-grows, charge-grows}
 
-front-loose : (stays : Item → Bool) (first others : List Group) → AllByRecursion (IsLoose stays) (first ++ others) → AllByRecursion (IsLoose stays) first
-front-loose stays [] others all = tt
-front-loose stays (group ∷ first) others all = (all.0, front-loose stays first others all.1)
+prefix-loose : (stays : Item → Bool) (first others : List Group) → AllByRecursion (IsLoose stays) (first ++ others) → AllByRecursion (IsLoose stays) first
+prefix-loose stays [] others all = tt
+prefix-loose stays (group ∷ first) others all = (all.0, prefix-loose stays first others all.1)
 
 -- a part that stays while its main item does isn't out
 part-stays : (stays : Item → Bool) (groups : List Group) (key : List ℕ) (n : ℕ) → AllByRecursion (IsLoose stays) groups → is_out groups (main key) ≡ false → stays (part key n) ≡ true → is_out groups (part key n) ≡ false
@@ -149,7 +149,7 @@ module _ (state : State) (valid : IsValidState state) (moment : ℕ) (group : Gr
       let covers = covered request state in
       let bytes = total (effect moment request state) - total state in
       let more = items (effect moment request state) - items state in
-      let loose = front-loose (is_pinned state covers) (group ∷ groups) others (subst (AllByRecursion (IsLoose (is_pinned state covers))) goes (room_for_is_loose moment request state)) in
+      let loose = prefix-loose (is_pinned state covers) (group ∷ groups) others (subst (AllByRecursion (IsLoose (is_pinned state covers))) goes (room_for_is_loose moment request state)) in
       let same : room_for moment request left ≡ room left covers bytes more =
       ap (λ (list : List Item). room left list (total (effect moment request left) - total left) (items (effect moment request left) - items left)) alike.covers
       ∙ ap (λ (b : ℕ). room left covers b (items (effect moment request left) - items left)) alike.bytes
@@ -209,7 +209,7 @@ module _ (state : State) (valid : IsValidState state) (moment : ℕ) (group : Gr
       let request = to_write handle stream offset cut bytes in
       let left = without (group ∷ groups) state in
       let p = none_comes (refusals moment request state) is.passes in
-      let loose = front-loose (is_pinned state []) (group ∷ groups) others (subst (AllByRecursion (IsLoose (is_pinned state []))) is.groups (room_for_is_loose moment request state)) in
+      let loose = prefix-loose (is_pinned state []) (group ∷ groups) others (subst (AllByRecursion (IsLoose (is_pinned state []))) is.groups (room_for_is_loose moment request state)) in
       let h = handled [] loose handle p.0 in
       let r = room-rest request others (write-alike handle stream offset cut bytes h) p.1.1.1.1.0 is.groups in
       record {
@@ -260,7 +260,7 @@ module _ (state : State) (valid : IsValidState state) (moment : ℕ) (group : Gr
       let ns = covered_parts offset (length bytes) in
       let covers = covered request state in
       let p = none_comes (refusals moment request state) is.passes in
-      let loose = front-loose (is_pinned state covers) (group ∷ groups) others (subst (AllByRecursion (IsLoose (is_pinned state covers))) is.groups (room_for_is_loose moment request state)) in
+      let loose = prefix-loose (is_pinned state covers) (group ∷ groups) others (subst (AllByRecursion (IsLoose (is_pinned state covers))) is.groups (room_for_is_loose moment request state)) in
       let h = handled covers loose handle p.0 in
       let main-in : is_out (group ∷ groups) (main object.key) ≡ false = live-stays object.live (is_out (group ∷ groups) (main object.key)) h.main-stays (not-false object.live p.1.1.1.0) in
       let stay : (key : List ℕ) (n : ℕ) → list_any (same_item (part key n)) covers ≡ true → is_out (group ∷ groups) (part key n) ≡ false =
@@ -278,7 +278,7 @@ module _ (state : State) (valid : IsValidState state) (moment : ℕ) (group : Gr
   trim-exact : (bytes : ℕ) (others : List Group) → EvictsFirst state moment (to_trim bytes) (group ∷ groups) others → evicted moment (to_trim bytes) (without (group ∷ groups) state) ≡ others
   unfolding evicted
   trim-exact bytes others is =
-      let loose = front-loose (is_pinned state []) (group ∷ groups) others (subst (AllByRecursion (IsLoose (is_pinned state []))) is.groups (evicted_are_loose (λ left. nat_le (total left) bytes) state [])) in
+      let loose = prefix-loose (is_pinned state []) (group ∷ groups) others (subst (AllByRecursion (IsLoose (is_pinned state []))) is.groups (evicted_are_loose (λ left. nat_le (total left) bytes) state [])) in
       others-go state valid [] group groups loose (λ left. nat_le (total left) bytes) others is.groups
 
   trim-rest : (bytes : ℕ) (others : List Group) → EvictsFirst state moment (to_trim bytes) (group ∷ groups) others → Rest state moment (to_trim bytes) (group ∷ groups) others

@@ -21,7 +21,7 @@ use Rattle.law_folder.specs.CommandLaws.{IsPlacedAsDoomed, IsPlacedAsLive, dirti
 use Rattle.law_folder.proofs.lists.WordTurns.{touches-go_on}
 use Rattle.law_folder.proofs.states.Tidying.{counter-same}
 use Rattle.law_state.specs.Commands.{MayStop}
-use Rattle.law_state.specs.CommandStates.{IsLast, Unsettles, with_room}
+use Rattle.law_state.specs.CommandStates.{IsLastHandle, Unsettles, with_room}
 use Rattle.law_state.specs.CommandEnds.{IsNamedBy}
 use Rattle.law_state.specs.Keeping.{Keeps, KeepsUncounted}
 use Rattle.law_state.specs.ObjectLaws.{layout_after}
@@ -108,7 +108,7 @@ unsettled-placed : unsettled_layout.at (nodes 2) ≡ Some (record the_plain { di
 unfolding put
 unsettled-placed = refl
 
-last_of_b : IsLast unsettled 6 0 unsettled_object
+last_of_b : IsLastHandle unsettled 6 0 unsettled_object
 unfolding computing
 last_of_b = record { names = refl; here = refl; live = refl; last = refl }
 

@@ -23,7 +23,7 @@ use Rattle.spec_folder.specs.ListImages.{IsWritable, steps_of_touch}
 use Rattle.spec_folder.specs.Removal.{is_of_another, without_items}
 use Rattle.spec_folder.specs.Sound.{words_of}
 use Rattle.law_folder.proofs.examples.ExampleWrites.{small-zeros}
-use Rattle.law_folder.proofs.updates.Fronts.{AreSmall, small-words}
+use Rattle.law_folder.proofs.updates.Prefixes.{AreSmall, small-words}
 use Rattle.law_state.specs.Arranging.{IsArranged, LeavesFiles}
 use Rattle.law_state.specs.Changes.{Finds}
 use Rattle.law_state.specs.Commands.{MayStop}

@@ -10,7 +10,7 @@ use Rattle.blk_model.specs.Request.{IsRequest, Request, to_close, to_create, to_
 use Rattle.blk_model.specs.Room.{Group, single, whole, without}
 use Rattle.blk_model.specs.Step.{reply, step}
 use Rattle.law_folder.specs.CommandLaws.{marked, turned}
-use Rattle.law_state.specs.CommandStates.{IsAffected, IsDoomOf, IsLast, MayLeave, Unsettles, amidst, in_order, with_names, with_room}
+use Rattle.law_state.specs.CommandStates.{IsAffected, IsDoomOf, IsLastHandle, MayLeave, Unsettles, amidst, in_order, with_names, with_room}
 
 -- Every command.
 
@@ -131,11 +131,11 @@ ClosesFreeTheName = (state : State) (moment handle number : ℕ) → IsValidStat
 
 -- one of the last handle of a live object makes it clean
 abbrev pub ClosesSettle : Type 0
-ClosesSettle = (state : State) (moment handle number : ℕ) (object : Object) → IsValidState state → IsLast state handle number object → (step state moment (to_close handle)).state ≡ turned state number object true (slice_set state.names handle None)
+ClosesSettle = (state : State) (moment handle number : ℕ) (object : Object) → IsValidState state → IsLastHandle state handle number object → (step state moment (to_close handle)).state ≡ turned state number object true (slice_set state.names handle None)
 
 -- a crash in it may leave the durable contents with the object clean
 abbrev pub ClosesMayLeave : Type 0
-ClosesMayLeave = (state : State) (moment handle number : ℕ) (object : Object) → IsValidState state → IsRequest (to_close handle) → IsLast state handle number object → MayLeave state moment (to_close handle) (rest (marked state number object true))
+ClosesMayLeave = (state : State) (moment handle number : ℕ) (object : Object) → IsValidState state → IsRequest (to_close handle) → IsLastHandle state handle number object → MayLeave state moment (to_close handle) (rest (marked state number object true))
 
 -- one of the last handle of a doomed object ends without it
 abbrev pub ClosesOfDoomedEnd : Type 0

@@ -55,7 +55,7 @@ pub record Unsettles (state : State) (moment : ℕ) (request : Request) (number 
   pub others : (other : ℕ) → other ≢ number → object_at (step state moment request).state other ≡ object_at (with_room state moment request) other
 
 -- a handle is the last one of a live object
-pub record IsLast (state : State) (handle number : ℕ) (object : Object) : Type 0 where
+pub record IsLastHandle (state : State) (handle number : ℕ) (object : Object) : Type 0 where
   pub names : named_by state handle ≡ Some number
   pub here : object_at state number ≡ Some object
   pub live : object.live ≡ true

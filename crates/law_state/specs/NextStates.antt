@@ -11,7 +11,7 @@ use Rattle.blk_model.specs.Step.{step}
 use Rattle.spec_folder.specs.Layout.{Layout}
 use Rattle.law_folder.specs.CommandLaws.{marked}
 use Rattle.law_state.specs.CommandEnds.{IsNamedBy, OnlyUses, after_write}
-use Rattle.law_state.specs.CommandStates.{IsDoomOf, IsLast, amidst, in_order, with_room}
+use Rattle.law_state.specs.CommandStates.{IsDoomOf, IsLastHandle, amidst, in_order, with_room}
 use Rattle.law_state.specs.Keeping.{Keeps}
 
 -- where a state is kept, by any layout with any words unlinked, the state after a request is kept by it
@@ -58,7 +58,7 @@ ClosesOfManyKeepNext = (state : State) (moment handle number : ℕ) → IsValidS
 
 -- one of the last handle of a live object, once that is clean
 abbrev pub ClosesKeepNext : Type 0
-ClosesKeepNext = (state : State) (moment handle number : ℕ) (object : Object) → IsValidState state → IsRequest (to_close handle) → IsLast state handle number object → KeepsNext (marked state number object true) state moment (to_close handle)
+ClosesKeepNext = (state : State) (moment handle number : ℕ) (object : Object) → IsValidState state → IsRequest (to_close handle) → IsLastHandle state handle number object → KeepsNext (marked state number object true) state moment (to_close handle)
 
 -- a Doom and a DoomKey, once the object is doomed
 abbrev pub DoomsKeepNext : Type 0

@@ -11,7 +11,7 @@ use Rattle.law_folder.specs.CommandLaws.{IsPlacedAsDoomed, dirtied}
 use Rattle.spec_folder.specs.Layout.{Layout}
 use Rattle.spec_folder.specs.Loads.{Loaded}
 use Rattle.spec_folder.specs.Sound.{words_of}
-use Rattle.law_state.specs.CommandStates.{IsLast, Unsettles, with_room}
+use Rattle.law_state.specs.CommandStates.{IsLastHandle, Unsettles, with_room}
 use Rattle.law_state.specs.Commands.{MayStop}
 use Rattle.law_state.specs.GoneLaws.{layout_without}
 use Rattle.law_state.specs.Keeping.{Keeps, KeepsUncounted}
@@ -51,12 +51,12 @@ DoomedReadsEnd = (state : State) (moment handle stream offset count number : ℕ
 
 -- while the dirty word of the object of its last handle becomes 0 it may crash
 abbrev pub ClosesMayStop : Type 0
-ClosesMayStop = (state : State) (layout : Layout) (unlinked : List ℕ) (from image : Image) (moment handle number : ℕ) (object : Object) (loaded : Loaded) → KeepsUncounted state layout unlinked from → IsRequest (to_close handle) → IsLast state handle number object
+ClosesMayStop = (state : State) (layout : Layout) (unlinked : List ℕ) (from image : Image) (moment handle number : ℕ) (object : Object) (loaded : Loaded) → KeepsUncounted state layout unlinked from → IsRequest (to_close handle) → IsLastHandle state handle number object
     → layout.at (layout.place (main object.key)) ≡ Some loaded → IsMarking from (layout.place (main object.key)) 0 image → MayStop state moment (to_close handle) image
 
 -- and once it is 0 the state after it is kept
 abbrev pub ClosesEndByMark : Type 0
-ClosesEndByMark = (state : State) (layout : Layout) (unlinked : List ℕ) (from image : Image) (moment handle number : ℕ) (object : Object) (loaded : Loaded) → Keeps state layout unlinked from → IsRequest (to_close handle) → IsLast state handle number object
+ClosesEndByMark = (state : State) (layout : Layout) (unlinked : List ℕ) (from image : Image) (moment handle number : ℕ) (object : Object) (loaded : Loaded) → Keeps state layout unlinked from → IsRequest (to_close handle) → IsLastHandle state handle number object
     → layout.at (layout.place (main object.key)) ≡ Some loaded → IsMarked from (layout.place (main object.key)) 0 image → Keeps (step state moment (to_close handle)).state (dirtied layout (layout.place (main object.key)) loaded 0) unlinked image
 
 -- one of the last handle of a doomed object unlinks the object's words, and nothing is written for that

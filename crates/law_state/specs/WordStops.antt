@@ -21,7 +21,7 @@ use Rattle.spec_folder.specs.View.{list_of, store_of}
 use Rattle.law_folder.specs.CommandLaws.{marked}
 use Rattle.law_state.specs.Changes.{Finds}
 use Rattle.law_state.specs.Commands.{MayStop}
-use Rattle.law_state.specs.CommandStates.{IsDoomOf, IsLast, IsUnsettled, KeepsOtherKeys, Unsettles, amidst, in_order, with_room}
+use Rattle.law_state.specs.CommandStates.{IsDoomOf, IsLastHandle, IsUnsettled, KeepsOtherKeys, Unsettles, amidst, in_order, with_room}
 use Rattle.law_state.specs.Keeping.{KeepsUncounted}
 
 -- Uses.
@@ -51,7 +51,7 @@ UnsettlingMayStop = (state : State) (moment : ℕ) (request : Request) (number :
 
 -- and a Close while it makes it clean
 abbrev pub SettlingMayStop : Type 0
-SettlingMayStop = (state : State) (moment handle number : ℕ) (object : Object) (image : Image) → IsValidState state → IsRequest (to_close handle) → IsLast state handle number object
+SettlingMayStop = (state : State) (moment handle number : ℕ) (object : Object) (image : Image) → IsValidState state → IsRequest (to_close handle) → IsLastHandle state handle number object
     → Finds (rest state) image ⊎ Finds (rest (marked state number object true)) image → MayStop state moment (to_close handle) image
 
 -- Removals.

@@ -3,14 +3,14 @@ use Rattle.std.proofs.Common.{◌≡◌, ℕ, zero, suc, List, [], ◌∷◌, �
 use Rattle.spec_image.specs.Image.{File, Image}
 use Rattle.spec_image.specs.Steps.{TrailStep, applied, after, word_step}
 use Rattle.spec_image.specs.Told.{Told, AppliesPrefix, Along, IsQuiet, Passes, CommitsAt, Commits}
-use Rattle.spec_image.proofs.Runs.{grows_none, quiet_front, some_inj, until_front}
+use Rattle.spec_image.proofs.Runs.{grows_none, quiet_prefix, some_inj, until_prefix}
 
 -- the steps from the first on commit at the same step
-commits_front : (count : ℕ) (P Q : Image → Type 0) (s t : List TrailStep) (image : Image) → CommitsAt count P Q image (s ++ t) → CommitsAt count P Q image s
-commits_front zero P Q s t image all = until_front Q Q s t image (λ i q. q) all
-commits_front (suc count) P Q [] [] image all = all
-commits_front (suc count) P Q [] (x ∷ t) image all = all.0
-commits_front (suc count) P Q (x ∷ s) t image all = (all.0, commits_front count P Q s t (applied x image) all.1)
+commits_over_prefix : (count : ℕ) (P Q : Image → Type 0) (s t : List TrailStep) (image : Image) → CommitsAt count P Q image (s ++ t) → CommitsAt count P Q image s
+commits_over_prefix zero P Q s t image all = until_prefix Q Q s t image (λ i q. q) all
+commits_over_prefix (suc count) P Q [] [] image all = all
+commits_over_prefix (suc count) P Q [] (x ∷ t) image all = all.0
+commits_over_prefix (suc count) P Q (x ∷ s) t image all = (all.0, commits_over_prefix count P Q s t (applied x image) all.1)
 
 -- a call that wrote nothing
 pub commits_none : (count : ℕ) (old new : Told) (from : Image) (P Q : Image → Type 0) → old.files ≡ Some from → new ≡ old → P from → Commits (suc count) old new P Q
@@ -26,10 +26,10 @@ pub commits_prefix : (count : ℕ) (old new : Told) (from : Image) (P Q : Image 
 commits_prefix count old new from P Q steps there quiet whole part = record {
   steps = part.made;
   applies = part.applies;
-  quiet = quiet_front part.made part.left (subst IsQuiet part.split quiet);
+  quiet = quiet_prefix part.made part.left (subst IsQuiet part.split quiet);
   commits = λ image here.
       subst (λ (i : Image). CommitsAt count P Q i part.made) (some_inj (sym there ∙ here))
-      (commits_front count P Q part.made part.left from (subst (CommitsAt count P Q from) part.split whole));
+      (commits_over_prefix count P Q part.made part.left from (subst (CommitsAt count P Q from) part.split whole));
 }
 
 -- one word, before which P holds and after which Q

@@ -4,9 +4,9 @@ use Rattle.spec_image.specs.Bytes.{content, half_at, word_at, long_at, word_byte
 use Rattle.spec_image.specs.Image.{Index, Block, External, Image, same_file, empty_image, has_file, bytes_of, length_of, byte, word, with_file}
 use Rattle.spec_image.specs.Steps.{TrailStep, Word, SetLength, Delete, Note, after, image_at, words, before_words, word_step, word_steps, with_word, with_words}
 use Rattle.spec_image.specs.Order.{file_rank, file_number}
-use Rattle.spec_image.specs.Notes.{AlongFrom, AtEachFront, AreTrue, notes_in}
+use Rattle.spec_image.specs.Notes.{AlongFrom, AtEachPrefix, AreTrue, notes_in}
 use Rattle.spec_image.specs.Told.{Told, PassesTo, Commits, Rises}
-use Rattle.spec_image.proofs.NotesLemmas.{at_each_front, are_true-append}
+use Rattle.spec_image.proofs.NotesLemmas.{at_each_prefix, are_true-append}
 use Rattle.spec_image.proofs.Runs.{passes_both, some_inj}
 use Rattle.spec_image.specs.Footprint.{nothing, range, one_word, size_of, whole, either}
 
@@ -163,8 +163,8 @@ noted_step_by_step : AlongFrom gone_when_noted [] small (Delete (External 1) ∷
 unfolding small
 noted_step_by_step = (λ before e. absurd (no_note before e), (λ before e. absurd (no_note_yet before e), λ before e. refl))
 
-noted_after_each_front : AtEachFront gone_when_noted small (Delete (External 1) ∷ Note 1 ∷ [])
-noted_after_each_front = at_each_front gone_when_noted small (Delete (External 1) ∷ Note 1 ∷ []) noted_step_by_step
+noted_after_each_prefix : AtEachPrefix gone_when_noted small (Delete (External 1) ∷ Note 1 ∷ [])
+noted_after_each_prefix = at_each_prefix gone_when_noted small (Delete (External 1) ∷ Note 1 ∷ []) noted_step_by_step
 
 -- A call that makes an index and writes a byte into it.
 

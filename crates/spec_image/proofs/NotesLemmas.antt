@@ -3,7 +3,7 @@ use Rattle.std.proofs.Common.{ℕ, ◌+◌, ◌≡◌, List, [], ◌∷◌, ◌+
 use Rattle.std.proofs.lemmas.List.{append-nil}
 use Rattle.spec_image.specs.Image.{Image}
 use Rattle.spec_image.specs.Steps.{TrailStep, Word, SetLength, Delete, Note, applied, after}
-use Rattle.spec_image.specs.Notes.{AlongFrom, AtEachFront, AreTrue, notes_in}
+use Rattle.spec_image.specs.Notes.{AlongFrom, AtEachPrefix, AreTrue, notes_in}
 use Rattle.spec_image.specs.Laws.{NotesGoOn}
 
 pub along_from-first : (P : List TrailStep → Image → Type 0) (made : List TrailStep) (image : Image) (s : List TrailStep) → AlongFrom P made image s → P made image
@@ -54,8 +54,8 @@ fronts P made image (y ∷ steps) (x ∷ prefix) suffix all split =
     subst (λ (z : TrailStep). P (made ++ z ∷ prefix) (after prefix (applied z image))) same here
 
 -- after each of the first steps it holds
-pub at_each_front : (P : List TrailStep → Image → Type 0) (image : Image) (steps : List TrailStep) → AlongFrom P [] image steps → AtEachFront P image steps
-at_each_front P image steps all prefix suffix split = fronts P [] image steps prefix suffix all split
+pub at_each_prefix : (P : List TrailStep → Image → Type 0) (image : Image) (steps : List TrailStep) → AlongFrom P [] image steps → AtEachPrefix P image steps
+at_each_prefix P image steps all prefix suffix split = fronts P [] image steps prefix suffix all split
 
 steps-of : (P : List TrailStep → Image → Type 0) (made : List TrailStep) (image : Image) (steps : List TrailStep)
     → ((prefix suffix : List TrailStep) → steps ≡ prefix ++ suffix → P (made ++ prefix) (after prefix image)) → AlongFrom P made image steps
@@ -70,7 +70,7 @@ steps-of P made image (x ∷ s) all = (
     more prefix suffix split = cc split
 
 -- and the other way round
-pub each_step : (P : List TrailStep → Image → Type 0) (image : Image) (steps : List TrailStep) → AtEachFront P image steps → AlongFrom P [] image steps
+pub each_step : (P : List TrailStep → Image → Type 0) (image : Image) (steps : List TrailStep) → AtEachPrefix P image steps → AlongFrom P [] image steps
 each_step P image steps all = steps-of P [] image steps all
 
 -- Notes, one run of steps after another.

@@ -47,10 +47,10 @@ pub part_whole : {a b : Told} {s : List TrailStep} → Applies a b s → Applies
 part_whole {a} {b} {s} all = record { made = s; left = []; split = sym (append-nil s); applies = all }
 
 -- each prefix of the steps leaves files that have P
-pub along_front : (P : Image → Type 0) (s t : List TrailStep) (image : Image) → Along P image (s ++ t) → P (after s image)
-along_front P [] [] image all = all
-along_front P [] (x ∷ t) image all = all.0
-along_front P (x ∷ s) t image all = along_front P s t (applied x image) all.1
+pub along_prefix : (P : Image → Type 0) (s t : List TrailStep) (image : Image) → Along P image (s ++ t) → P (after s image)
+along_prefix P [] [] image all = all
+along_prefix P [] (x ∷ t) image all = all.0
+along_prefix P (x ∷ s) t image all = along_prefix P s t (applied x image) all.1
 
 pub some_inj : {A : Type 0} {x y : A} → Some x ≡ Some y → x ≡ y
 some_inj e = cc
@@ -60,7 +60,7 @@ told_after P s t None b is all image there = absurd (elim_none (sym there ∙ is
   where
     elim_none : Some image ≡ None → ⊥
     elim_none e = cc
-told_after P s t (Some from) b is all image there = subst P (some_inj (sym is ∙ there)) (along_front P s t from (all from refl))
+told_after P s t (Some from) b is all image there = subst P (some_inj (sym is ∙ there)) (along_prefix P s t from (all from refl))
 
 -- a part of the steps leaves files that have P, where each prefix of them does
 pub told_part : {a b : Told} {s : List TrailStep} (P : Image → Type 0) → AppliesPrefix a b s → ForSome a.files (λ image. Along P image s) → ForSome b.files P
@@ -80,12 +80,12 @@ told_rel {a} {b} {s} P part all old there new now =
     told_part (P old) part (λ image is. subst (λ (i : Image). Along (P old) i s) (some_inj (sym there ∙ is)) (all old)) new now
 
 -- a prefix of quiet steps is quiet
-pub quiet_front : (s t : List TrailStep) → IsQuiet (s ++ t) → IsQuiet s
-quiet_front [] t quiet = tt
-quiet_front (Word f at bs ∷ s) t quiet = quiet_front s t quiet
-quiet_front (SetLength f n ∷ s) t quiet = quiet_front s t quiet
-quiet_front (Delete f ∷ s) t quiet = quiet_front s t quiet
-quiet_front (Note n ∷ s) t quiet = absurd quiet
+pub quiet_prefix : (s t : List TrailStep) → IsQuiet (s ++ t) → IsQuiet s
+quiet_prefix [] t quiet = tt
+quiet_prefix (Word f at bs ∷ s) t quiet = quiet_prefix s t quiet
+quiet_prefix (SetLength f n ∷ s) t quiet = quiet_prefix s t quiet
+quiet_prefix (Delete f ∷ s) t quiet = quiet_prefix s t quiet
+quiet_prefix (Note n ∷ s) t quiet = absurd quiet
 
 pub quiet-append : (s t : List TrailStep) → IsQuiet s → IsQuiet t → IsQuiet (s ++ t)
 quiet-append [] t first second = second
@@ -94,10 +94,10 @@ quiet-append (SetLength f n ∷ s) t first second = quiet-append s t first secon
 quiet-append (Delete f ∷ s) t first second = quiet-append s t first second
 quiet-append (Note n ∷ s) t first second = absurd first
 
-pub until_front : (P Q : Image → Type 0) (s t : List TrailStep) (image : Image) → ((image : Image) → P image → Q image) → Until P Q image (s ++ t) → Until P Q image s
-until_front P Q [] [] image weaker all = all
-until_front P Q [] (x ∷ t) image weaker all = weaker image all.0
-until_front P Q (x ∷ s) t image weaker all = (all.0, until_front P Q s t (applied x image) weaker all.1)
+pub until_prefix : (P Q : Image → Type 0) (s t : List TrailStep) (image : Image) → ((image : Image) → P image → Q image) → Until P Q image (s ++ t) → Until P Q image s
+until_prefix P Q [] [] image weaker all = all
+until_prefix P Q [] (x ∷ t) image weaker all = weaker image all.0
+until_prefix P Q (x ∷ s) t image weaker all = (all.0, until_prefix P Q s t (applied x image) weaker all.1)
 
 pub until-append : (P Q : Image → Type 0) (s t : List TrailStep) (image : Image) → Until P P image s → Until P Q (after s image) t → Until P Q image (s ++ t)
 until-append P Q [] t image first second = second
@@ -132,8 +132,8 @@ pub passes_part : {a b : Told} {s : List TrailStep} (P Q : Image → Type 0) →
 passes_part {a} {b} {s} P Q part quiet weaker all = record {
   steps = part.made;
   applies = part.applies;
-  quiet = quiet_front part.made part.left (subst IsQuiet part.split quiet);
-  along = λ image there. until_front P Q part.made part.left image weaker (subst (Until P Q image) part.split (all image there));
+  quiet = quiet_prefix part.made part.left (subst IsQuiet part.split quiet);
+  along = λ image there. until_prefix P Q part.made part.left image weaker (subst (Until P Q image) part.split (all image there));
 }
 
 -- one call after another

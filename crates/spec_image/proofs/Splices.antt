@@ -114,8 +114,8 @@ spliced-is (suc i) new (x ∷ old) fits =
     ap (λ (l : List ℕ). x ∷ l) (spliced-is i new old (omega arith)) ∙ ap (λ (k : ℕ). x ∷ (take i old ++ (new ++ drop k (x ∷ old)))) (sym e)
 
 -- bytes that were moved into the front of a buffer
-pub front_spliced : (n : ℕ) (new old : List ℕ) → length new ≡ n → n ≤ length old → (take n (spliced 0 new old) ≡ new) × (drop n (spliced 0 new old) ≡ drop n old)
-front_spliced n new old size fits =
+pub prefix_spliced : (n : ℕ) (new old : List ℕ) → length new ≡ n → n ≤ length old → (take n (spliced 0 new old) ≡ new) × (drop n (spliced 0 new old) ≡ drop n old)
+prefix_spliced n new old size fits =
     let behind : 0 + length new ≡ n = omega arith in
     let is : spliced 0 new old ≡ new ++ drop n old = spliced-is 0 new old (omega arith) ∙ ap (λ (m : ℕ). new ++ drop m old) behind in
     (ap (take n) is ∙ take_at new (drop n old) n size, ap (drop n) is ∙ drop_at new (drop n old) n size)

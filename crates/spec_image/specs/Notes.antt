@@ -9,8 +9,8 @@ AlongFrom P made image [] = P made image
 AlongFrom P made image (step ∷ steps) = P made image × AlongFrom P (made ++ step ∷ []) (applied step image) steps
 
 -- after each of the first steps P holds of these steps and of the files, where any number of them counts, none and all too
-abbrev pub AtEachFront : (List TrailStep → Image → Type 0) → Image → List TrailStep → Type 0
-AtEachFront P image steps = (prefix suffix : List TrailStep) → steps ≡ prefix ++ suffix → P prefix (after prefix image)
+abbrev pub AtEachPrefix : (List TrailStep → Image → Type 0) → Image → List TrailStep → Type 0
+AtEachPrefix P image steps = (prefix suffix : List TrailStep) → steps ≡ prefix ++ suffix → P prefix (after prefix image)
 
 -- how many notes there are
 abbrev pub notes_in : List TrailStep → ℕ

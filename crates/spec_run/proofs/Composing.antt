@@ -8,7 +8,7 @@ use Rattle.spec_image.specs.Told.{Told, Applies, Along, Passes, IsQuiet}
 use Rattle.spec_image.specs.Notes.{AlongFrom, notes_in}
 use Rattle.spec_image.proofs.Cuts.{after-append}
 use Rattle.spec_image.proofs.Runs.{grows_then, passes_end}
-use Rattle.spec_image.proofs.NotesLemmas.{along_from-last, along_from-append, along_from-one, at_each_front, notes_in-append, are_true-append}
+use Rattle.spec_image.proofs.NotesLemmas.{along_from-last, along_from-append, along_from-one, at_each_prefix, notes_in-append, are_true-append}
 use Rattle.spec_format.specs.BlockFiles.{IsWellFormed}
 use Rattle.spec_format.specs.Headers.{IsUnfinished}
 use Rattle.spec_format.proofs.Finished.{finished_whole}
@@ -188,7 +188,7 @@ stops_with {from} {opened} {commands} {done} {old} {mid} {new} more R there befo
     record {
       steps = s ++ t;
       applies = grows_then before.applies made.applies;
-      stops = at_each_front P from (s ++ t) (along_from-append P [] from s t first second);
+      stops = at_each_prefix P from (s ++ t) (along_from-append P [] from s t first second);
       notes = are_true-append 0 s t before.notes (quiet_true (0 + notes_in s) t made.quiet);
       few = omega (arith, count, all);
     }
@@ -201,7 +201,7 @@ stays from opened done more old new before =
     record {
       steps = before.steps;
       applies = before.applies;
-      stops = at_each_front (IsStopped from opened (done ++ more)) from before.steps (before.along (done ++ more) more refl);
+      stops = at_each_prefix (IsStopped from opened (done ++ more)) from before.steps (before.along (done ++ more) more refl);
       notes = before.notes;
       few = omega (arith, count, all);
     }

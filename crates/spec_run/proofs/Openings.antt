@@ -5,7 +5,7 @@ use Rattle.spec_image.specs.Steps.{TrailStep, applied, after}
 use Rattle.spec_image.specs.Told.{Along, IsQuiet}
 use Rattle.spec_image.specs.Notes.{AlongFrom, notes_in}
 use Rattle.spec_image.proofs.Cuts.{after-append}
-use Rattle.spec_image.proofs.NotesLemmas.{along_from-one, at_each_front, notes_in-append, are_true-append}
+use Rattle.spec_image.proofs.NotesLemmas.{along_from-one, at_each_prefix, notes_in-append, are_true-append}
 use Rattle.spec_format.specs.Headers.{IsUnfinished}
 use Rattle.blk_model.specs.State.{State}
 use Rattle.spec_folder.specs.StandsFor.{StandsFor}
@@ -104,7 +104,7 @@ failed from opened commands old new there usable (inl broken) =
     record {
       steps = broken.steps;
       applies = broken.applies;
-      stops = at_each_front P from broken.steps (opening_along from opened commands [] from broken.steps usable broken.unmarked refl broken.quiet (stopped_first from opened commands usable) broken.along);
+      stops = at_each_prefix P from broken.steps (opening_along from opened commands [] from broken.steps usable broken.unmarked refl broken.quiet (stopped_first from opened commands usable) broken.along);
       notes = quiet_true 0 broken.steps broken.quiet;
       few = omega (arith, unnoted);
     }

@@ -3,7 +3,7 @@ use Rattle.std.proofs.Common.{◌≡◌, ℕ, true, List, [], ◌∷◌, Some, i
 use Rattle.spec_image.specs.Bytes.{word_bytes}
 use Rattle.spec_image.specs.Footprint.{SameOutside, one_word}
 use Rattle.spec_image.specs.Image.{Image, Index}
-use Rattle.spec_image.specs.Notes.{AreTrue, AtEachFront}
+use Rattle.spec_image.specs.Notes.{AreTrue, AtEachPrefix}
 use Rattle.spec_image.specs.Steps.{TrailStep, Word, Note, applied, after}
 use Rattle.spec_image.specs.Told.{Told}
 use Rattle.spec_image.proofs.Footprints.{outside_write}
@@ -126,7 +126,7 @@ worked_run =
 -- What is refused.
 
 -- a note before the opening has ended
-early_note : (image : Image) (opened : State) (commands : List Stamped) → AtEachFront (IsStopped image opened commands) image (Note 1 ∷ open_mark ∷ []) → ⊥
+early_note : (image : Image) (opened : State) (commands : List Stamped) → AtEachPrefix (IsStopped image opened commands) image (Note 1 ∷ open_mark ∷ []) → ⊥
 early_note image opened commands stops = clash ((stops (Note 1 ∷ []) (open_mark ∷ []) refl).unnoted refl)
   where
     clash : ◌≡◌ {A = ℕ} 1 0 → ⊥

@@ -4,7 +4,7 @@ use Rattle.std.specs.Option.{ForSome}
 use Rattle.spec_image.specs.Image.{Image}
 use Rattle.spec_image.specs.Steps.{TrailStep}
 use Rattle.spec_image.specs.Told.{Told, Applies, Stays}
-use Rattle.spec_image.specs.Notes.{AlongFrom, AtEachFront, AreTrue, notes_in}
+use Rattle.spec_image.specs.Notes.{AlongFrom, AtEachPrefix, AreTrue, notes_in}
 use Rattle.blk_model.specs.Holding.{rest}
 use Rattle.blk_model.specs.State.{State}
 use Rattle.law_state.specs.Commands.{IsNoted}
@@ -18,7 +18,7 @@ use Rattle.spec_run.specs.Opening.{has_opened}
 pub record Stops (from : Image) (opened : State) (commands : List Stamped) (old new : Told) : Type 0 where
   pub steps : List TrailStep
   pub applies : Applies old new steps
-  pub stops : AtEachFront (IsStopped from opened commands) from steps
+  pub stops : AtEachPrefix (IsStopped from opened commands) from steps
   pub notes : AreTrue 0 steps
   pub few : notes_in steps ≤ length commands
 

@@ -30,7 +30,7 @@ const SIGNATURE: i64 = 1;
 const CHARGE: u64 = 8257;
 
 // The bytes of the longest key and of the longest name of a part.
-const NAME_ROOM: usize = 65_564;
+const NAME_BUFFER_LEN: usize = 65_564;
 
 // No number of a part was told yet, or the numbers of both parts were, in the order of the list.
 const NONE: [u32; 3] = [9; 3];
@@ -133,10 +133,10 @@ fn main_out(f: &mut Mem, files: &BlockFiles) -> Result<[u32; 2], Fault> {
 fn parts_dropped(f: &mut Mem) -> Result<(Gone, [u32; 3]), Fault> {
     let files = BlockFiles::load(f)?;
     main_out(f, &files)?;
-    let mut room = [0; NAME_ROOM];
+    let mut buffer = [0; NAME_BUFFER_LEN];
     let mut told = NONE;
     let mut each = |number: u32| told = [told[1], told[2], number];
-    let gone = drop_parts_with(f, &files, OBJECT, SIGNATURE, &mut room, &mut each)?;
+    let gone = drop_parts_with(f, &files, OBJECT, SIGNATURE, &mut buffer, &mut each)?;
     Ok((gone, told))
 }
 
@@ -152,7 +152,7 @@ fn children_dropped(f: &mut Mem, telling: bool) -> Result<(u64, [u32; 3]), Fault
         node,
         signature: SIGNATURE,
     };
-    let mut name = [0; NAME_ROOM];
+    let mut name = [0; NAME_BUFFER_LEN];
     let mut told = NONE;
     if telling {
         let mut each = |number: u32| told = [told[1], told[2], number];
@@ -172,16 +172,23 @@ fn whole_gone(f: &mut Mem, dooms: bool) -> Result<(Gone, [u32; 3]), Fault> {
             let Some(node) = files.node(word) else {
                 return Err(Fault::Device);
             };
-            let mut room = [0; NAME_ROOM];
+            let mut buffer = [0; NAME_BUFFER_LEN];
             let mut told = NONE;
             if dooms {
-                let gone = doom_parent(f, &files, &found, node, OBJECT, CHARGE, &mut room)?;
+                let gone = doom_parent(f, &files, &found, node, OBJECT, CHARGE, &mut buffer)?;
                 return Ok((gone, told));
             }
             let mut each = |number: u32| told = [told[1], told[2], number];
             let owned = read_owned(f, &files, found.entry)?;
             let gone = remove_parent_with(
-                f, &files, &found, node, OBJECT, &owned, &mut room, &mut each,
+                f,
+                &files,
+                &found,
+                node,
+                OBJECT,
+                &owned,
+                &mut buffer,
+                &mut each,
             )?;
             Ok((gone, told))
         }

@@ -63,11 +63,11 @@ impl Session {
 
     /// Does the command of a line. Gives the number of its folder calls.
     pub fn line(&mut self, line: &[u8]) -> Result<u64, StepFault> {
-        let mut room = [0u8; LONGEST];
+        let mut buffer = [0u8; LONGEST];
         if line.len() > LONGEST {
             return Err(StepFault::Device);
         }
-        match read_line(line, &mut room) {
+        match read_line(line, &mut buffer) {
             Ok(command) => {
                 let (_, calls) = self.step(&command)?;
                 Ok(calls)

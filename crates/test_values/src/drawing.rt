@@ -35,8 +35,8 @@ fn a_turn_draws_a_key_a_stream_and_a_length(rt: HostRuntime) {
         byte_count: 16945,
     };
     assert_eq!(rt; turn, first);
-    let mut room = [0; 4];
-    assert_eq!(rt; turn.key(&mut room), b"k807".as_slice());
+    let mut buffer = [0; 4];
+    assert_eq!(rt; turn.key(&mut buffer), b"k807".as_slice());
 }
 
 #[test]
@@ -47,8 +47,8 @@ fn keys_have_no_zeros_in_front(rt: HostRuntime) {
             stream: 0,
             byte_count: 0,
         };
-        let mut room = [0; 4];
-        assert_eq!(rt; turn.key(&mut room), key);
+        let mut buffer = [0; 4];
+        assert_eq!(rt; turn.key(&mut buffer), key);
     }
 }
 

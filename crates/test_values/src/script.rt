@@ -10,9 +10,9 @@ use std::test::Fail;
 
 // Reads a short line, and compares what it says.
 fn says(rt: &impl Abort, line: &str, want: Result<Command, LineFault>) {
-    let mut room = [0; 64];
-    assert!(rt; line.len() <= room.len());
-    assert_eq!(rt; read_line(line.as_bytes(), &mut room), want, "{line}");
+    let mut buffer = [0; 64];
+    assert!(rt; line.len() <= buffer.len());
+    assert_eq!(rt; read_line(line.as_bytes(), &mut buffer), want, "{line}");
 }
 
 #[test]
@@ -158,11 +158,11 @@ fn lines_that_say_data(rt: HostRuntime) {
 }
 
 // The number of bytes of the key or the data that a line says, where there is space for the line.
-fn length_of(line: &[u8], room: &mut [u8]) -> Option<Result<usize, LineFault>> {
-    if line.len() > room.len() {
+fn length_of(line: &[u8], buffer: &mut [u8]) -> Option<Result<usize, LineFault>> {
+    if line.len() > buffer.len() {
         return None;
     }
-    match read_line(line, room) {
+    match read_line(line, buffer) {
         Ok(Command::DoomKey { key }) => Some(Ok(key.len())),
         Ok(Command::SparseWrite { bytes, .. }) => Some(Ok(bytes.len())),
         Ok(_) => None,
@@ -174,11 +174,11 @@ fn length_of(line: &[u8], room: &mut [u8]) -> Option<Result<usize, LineFault>> {
 fn lines_are_bounded(rt: HostRuntime) -> Result<(), Fail> {
     let mut line = Vec::from_slice(rt.alloc(), b"doomkey ")?;
     line.resize(2200000, b'a')?;
-    let mut room = vec![in rt.alloc(); 0; 2200001]?;
-    assert_eq!(rt; length_of(&line, &mut room), Some(Ok(2199992)));
+    let mut buffer = vec![in rt.alloc(); 0; 2200001]?;
+    assert_eq!(rt; length_of(&line, &mut buffer), Some(Ok(2199992)));
     line.push(b'a')?;
     let fault = Some(Err(LineFault::TooLong));
-    assert_eq!(rt; length_of(&line, &mut room), fault);
+    assert_eq!(rt; length_of(&line, &mut buffer), fault);
     Ok(())
 }
 
@@ -186,18 +186,18 @@ fn lines_are_bounded(rt: HostRuntime) -> Result<(), Fail> {
 fn data_is_bounded(rt: HostRuntime) -> Result<(), Fail> {
     let mut line = Vec::from_slice(rt.alloc(), b"swrite 0 0 ")?;
     line.resize(2097163, b'6')?;
-    let mut room = vec![in rt.alloc(); 0; 2200000]?;
-    assert_eq!(rt; length_of(&line, &mut room), Some(Ok(1048576)));
+    let mut buffer = vec![in rt.alloc(); 0; 2200000]?;
+    assert_eq!(rt; length_of(&line, &mut buffer), Some(Ok(1048576)));
 
     // The digits are not looked at, but the fields in front are.
     line.push(b'x')?;
     let fault = Some(Err(LineFault::TooLong));
-    assert_eq!(rt; length_of(&line, &mut room), fault);
+    assert_eq!(rt; length_of(&line, &mut buffer), fault);
     if let Some(byte) = line.get_mut(7) {
         *byte = b'x';
     }
     let fault = Some(Err(LineFault::Number));
-    assert_eq!(rt; length_of(&line, &mut room), fault);
+    assert_eq!(rt; length_of(&line, &mut buffer), fault);
     Ok(())
 }
 
@@ -207,10 +207,10 @@ fn prints(rt: &impl Abort, alloc: Global, command: Command, want: &str) {
     assert_eq!(rt; print_line(&mut out, &command), Ok(()));
     let text = out.written();
     assert_eq!(rt; text, want.as_bytes());
-    let mut room = [0; 64];
+    let mut buffer = [0; 64];
     if let Some((_, line)) = text.split_last() {
-        assert!(rt; line.len() <= room.len());
-        assert_eq!(rt; read_line(line, &mut room), Ok(command), "{want}");
+        assert!(rt; line.len() <= buffer.len());
+        assert_eq!(rt; read_line(line, &mut buffer), Ok(command), "{want}");
     }
 }
 

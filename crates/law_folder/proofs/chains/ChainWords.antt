@@ -14,7 +14,7 @@ use Rattle.spec_format.proofs.SealedRecords.{length-record, seal_last}
 use Rattle.spec_folder.specs.Chains.{bucket_of_hash, file_and_block, is_of_bucket}
 use Rattle.spec_folder.specs.Entries.{stored_key}
 use Rattle.spec_folder.specs.View.{StoreView, RecordFields, fields_of, fields_at, entry_at, follow_at, key_place_at, stands_as, store_of}
-use Rattle.law_folder.proofs.updates.Fronts.{AreSmall, small-take, small-range, entry_checks-front, entry_checks-by}
+use Rattle.law_folder.proofs.updates.Prefixes.{AreSmall, small-take, small-range, entry_checks-prefix, entry_checks-by}
 use Rattle.law_folder.proofs.updates.StillShown.{standing-parts, core-standing}
 use Rattle.law_folder.proofs.updates.Updates.{entry-seal, entry-here}
 
@@ -91,5 +91,5 @@ record_checks image w bytes kind good =
     let small : AreSmall (take 92 (record_at image w)) = small-take 92 (record_at image w) (small-range (record_size w) (place w) (byte image (Block (file_selector w))) (bytes (Block (file_selector w)))) in
     let seal : word_at (byte image (Block (file_selector w))) (place w + 92) ≡ word_at (content (record_at image w)) 92 = sym (record_word image w 92 (omega (arith, s, seal_last (kind_of w)))) in
     let same : checks 92 (record_at image w) ≡ true =
-    sym (entry_checks-front (record_at image w) small (omega (arith, s, length-record w image))) ∙ sym (entry_checks-by (entry_at image w) (entry_in (content (record_at image w)) 0) seal (entry-here image w kind)) ∙ good in
+    sym (entry_checks-prefix (record_at image w) small (omega (arith, s, length-record w image))) ∙ sym (entry_checks-by (entry_at image w) (entry_in (content (record_at image w)) 0) seal (entry-here image w kind)) ∙ good in
     subst (λ (n : ℕ). checks n (record_at image w) ≡ true) (sym s) same

@@ -45,7 +45,7 @@ use Rattle.spec_format.specs.NewFolder.{new_index_words, new_file_words}
 use Rattle.law_folder.proofs.updates.Counting.{files-stand}
 use Rattle.law_folder.proofs.commands.TouchedStates.{states-stand, touched-state}
 use Rattle.law_folder.proofs.examples.ExampleWrites.{small-zeros}
-use Rattle.law_folder.proofs.updates.Fronts.{AreSmall, small-words}
+use Rattle.law_folder.proofs.updates.Prefixes.{AreSmall, small-words}
 use Rattle.spec_folder.specs.Searches.{bucket_of_key, chained_for, HasKey, NoneHasKey, IsOfLive}
 use Rattle.law_folder.specs.ByteLaws.{IsWithoutFile, IsOfHeaders}
 use Rattle.law_folder.specs.ChargeLaws.{AreTotals, AreOpenedTotals}

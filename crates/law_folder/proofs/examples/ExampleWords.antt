@@ -25,7 +25,7 @@ use Rattle.spec_folder.specs.ListSteps.{IsPartly, IsTouched, IsSealed, KeepsSeal
 use Rattle.spec_folder.specs.ListImages.{IsWritable, CanBeMade, CompletesTo, CompletesAlike, HasListAtRest, IsCompleted, StopsAlike, operation_steps, steps_of_touch, completion_steps, stopped_folder}
 use Rattle.spec_folder.specs.ShownChanges.{OnlyListChanges}
 use Rattle.law_folder.proofs.examples.ExampleWrites.{small-zeros}
-use Rattle.law_folder.proofs.updates.Fronts.{AreSmall, small-words}
+use Rattle.law_folder.proofs.updates.Prefixes.{AreSmall, small-words}
 use Rattle.law_folder.proofs.updates.Sealing.{writes-seal, writes-keep, node-updates, touches-seal, touches-keep}
 use Rattle.law_folder.proofs.lists.WriteSteps.{good-node, writes-in_turn, writes-made, writes-go_on}
 use Rattle.law_folder.proofs.lists.WordTurns.{inserts-can, inserts-turn_words, inserts-rest, removals-can, removals-turn_words, removals-rest, touches-can, touches-go_on, touches-in_turn, touches-turn_words, touches-rest, touches-times}

@@ -8,7 +8,7 @@ use Rattle.spec_image.specs.Footprint.{SameOutside, one_word, range}
 use Rattle.spec_image.specs.Told.{Along}
 use Rattle.spec_image.proofs.Footprints.{outside_write}
 use Rattle.spec_image.proofs.Images.{bytes_of-written}
-use Rattle.spec_image.proofs.Runs.{along_front}
+use Rattle.spec_image.proofs.Runs.{along_prefix}
 use Rattle.spec_image.proofs.Splices.{length-zeros, content-zeros}
 use Rattle.spec_image.proofs.Words.{word-written, length-with_words}
 use Rattle.spec_format.specs.Address.{is_address, is_initialized, names_external, names_blocks, kind_of, reserved_bits, block_count, file_selector, first_block, external_number, block_size, block_place, place, byte_size}
@@ -26,7 +26,7 @@ use Rattle.spec_format.proofs.SealedRecords.{moments, Fits}
 use Rattle.law_folder.specs.IndexWrites.{IsIndexWord}
 use Rattle.law_folder.specs.NodeUpdates.{IsNode}
 use Rattle.law_folder.specs.RecordUpdates.{IsRecord}
-use Rattle.law_folder.proofs.updates.Fronts.{AreSmall, small-words}
+use Rattle.law_folder.proofs.updates.Prefixes.{AreSmall, small-words}
 
 -- the small folder, its node, and its record
 abbrev small : Image
@@ -91,7 +91,7 @@ node_seal = refl
 -- the record of a word is updated: all changes are made
 updated : (w : ℕ) (changes : List (ℕ × ℕ)) → Fits w small → RecordChecks w small → All (λ c. c.0 + 4 ≤ seal_place w) changes → IsMidUpdate small w changes (after (sealed_steps small w changes) small)
 updated w changes fits checks before =
-    along_front (IsMidUpdate small w changes) (sealed_steps small w changes) [] small
+    along_prefix (IsMidUpdate small w changes) (sealed_steps small w changes) [] small
     (subst (λ (steps : List TrailStep). Along (IsMidUpdate small w changes) small steps) (sym (append-nil (sealed_steps small w changes))) (moments w small changes fits checks before))
 
 one : (s d x : ℕ) → d + 4 ≤ s → All (λ (c : ℕ × ℕ). c.0 + 4 ≤ s) ((d, x) ∷ [])

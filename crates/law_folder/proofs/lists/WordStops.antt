@@ -60,11 +60,11 @@ pub completions-done : CompletionsAreDone
 completions-done image ready = made-completed image _ (writes_show (completion_writes (list_of image)) image ready (completion_can image)).ends
 
 -- what holds along some steps holds after a prefix of them
-front_holds : (P : Image → Type 0) (count : ℕ) (steps : List TrailStep) (image : Image) → Along P image steps → P (after (take count steps) image)
-front_holds P zero [] image all = all
-front_holds P zero (x ∷ steps) image all = all.0
-front_holds P (suc count) [] image all = all
-front_holds P (suc count) (x ∷ steps) image all = front_holds P count steps (applied x image) all.1
+prefix_holds : (P : Image → Type 0) (count : ℕ) (steps : List TrailStep) (image : Image) → Along P image steps → P (after (take count steps) image)
+prefix_holds P zero [] image all = all
+prefix_holds P zero (x ∷ steps) image all = all.0
+prefix_holds P (suc count) [] image all = all
+prefix_holds P (suc count) (x ∷ steps) image all = prefix_holds P count steps (applied x image) all.1
 
 -- where completing gives the same it leaves the same nodes
 alike-walk : (from image : Image) → CompletesAlike from image → completed_walk image ≡ completed_walk from
@@ -75,8 +75,8 @@ stop_once : (image : Image) (count : ℕ) → IsWritable image → IsWritable (a
 stop_once image count ready =
     let ws : List ListWrite = completion_writes (list_of image) in
     let stopped : Image = after (take count (steps_of_writes ws image)) image in
-    let part : IsPartly image ws stopped = front_holds (IsPartly image ws) count (steps_of_writes ws image) image (writes_show ws image ready (completion_can image)).along in (
-      front_holds IsWritable count (steps_of_writes ws image) image (writes-go_on image ws ready),
+    let part : IsPartly image ws stopped = prefix_holds (IsPartly image ws) count (steps_of_writes ws image) image (writes_show ws image ready (completion_can image)).along in (
+      prefix_holds IsWritable count (steps_of_writes ws image) image (writes-go_on image ws ready),
       record { list = partly-alike image stopped part; walk = alike-walk image stopped (partly-alike image stopped part); store = part.shown.store; well_formed = part.well_formed },
     )
 

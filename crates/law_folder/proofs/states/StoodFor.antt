@@ -115,9 +115,9 @@ kept-or-dropped : (node : ℕ) (o : Option (Result Loaded Reason)) (r : Result L
 kept-or-dropped node o (Ok l) is none = ap (λ (x : Option (Result Loaded Reason)). is_some (kept_of x)) is
 kept-or-dropped node o (Err why) is none = let c : ◌≡◌ {A = Option (ℕ × Reason)} (Some (node, why)) None = sym (ap (dropped_of node) is) ∙ none in cc
 
-front-none : {A : Type 0} (xs ys : List A) → xs ++ ys ≡ [] → xs ≡ []
-front-none [] ys e = refl
-front-none (x ∷ xs) ys e = cc
+prefix-none : {A : Type 0} (xs ys : List A) → xs ++ ys ≡ [] → xs ≡ []
+prefix-none [] ys e = refl
+prefix-none (x ∷ xs) ys e = cc
 
 -- The state's side.
 
@@ -200,7 +200,7 @@ module _ (view : View) (state : State) (shows : ShowsState view state) where
   each-kept : (w : ℕ) → is_among (walk view.list) w ≡ true → is_kept view.store listed_rule (walk view.list) w ≡ true
   unfolding dropped_among
   each-kept w among =
-      let none : dropped_among view.store listed_rule (walk view.list) ≡ [] = front-none _ _ shows.nothing_dropped in
+      let none : dropped_among view.store listed_rule (walk view.list) ≡ [] = prefix-none _ _ shows.nothing_dropped in
       let some = some-verdict view.store listed_rule [] (tried view.store (walk view.list)) w (tried-among view.store (walk view.list) once w ∙ among) in
       kept-or-dropped w (verdict_on (judged view.store listed_rule (walk view.list)) w) some.0 some.1
       (none-given (λ (node : ℕ). dropped_of node (verdict_on (judged view.store listed_rule (walk view.list)) node)) (walk view.list) w none among)

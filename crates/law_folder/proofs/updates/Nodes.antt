@@ -22,7 +22,7 @@ use Rattle.spec_format.proofs.SealedRecords.{length-record}
 use Rattle.spec_format.proofs.SealedFields.{record_word, field_stays}
 use Rattle.spec_folder.specs.ShownChanges.{ShowsTheSame, OnlyNodeFieldsChange}
 use Rattle.law_folder.specs.NodeUpdates.{IsNode, NextsAreWritten, PrevsAreWritten, TimesAreNotShown, ContentsAreWritten, DirtyWordsAreWritten}
-use Rattle.law_folder.proofs.updates.Fronts.{open_node}
+use Rattle.law_folder.proofs.updates.Prefixes.{open_node}
 use Rattle.law_folder.proofs.claims.Inside.{record-changes}
 use Rattle.law_folder.proofs.updates.Updates.{node-seal, node-here, node-made, node-checks}
 use Rattle.law_folder.proofs.updates.StillShown.{standing-parts, stands_as-all, index-still, table-still, entries-still, follows-still, keys-still, stored-still}

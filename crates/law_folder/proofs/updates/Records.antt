@@ -18,7 +18,7 @@ use Rattle.spec_format.proofs.SealedRecords.{length-record}
 use Rattle.spec_format.proofs.SealedFields.{record_word, field_stays}
 use Rattle.spec_folder.specs.ShownChanges.{SameExceptRecord, OnlyChainNextChanges}
 use Rattle.law_folder.specs.RecordUpdates.{IsRecord, ChainNextsAreWritten, FieldsAreWritten}
-use Rattle.law_folder.proofs.updates.Fronts.{open_entry}
+use Rattle.law_folder.proofs.updates.Prefixes.{open_entry}
 use Rattle.law_folder.proofs.claims.Inside.{record-changes}
 use Rattle.law_folder.proofs.updates.Nodes.{none-or-one}
 use Rattle.law_folder.proofs.updates.Updates.{entry-seal, entry-here, entry-made, entry-checks}

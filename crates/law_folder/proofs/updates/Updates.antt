@@ -9,7 +9,7 @@ use Rattle.spec_folder.specs.View.{node_at, entry_at}
 use Rattle.spec_format.specs.Sealed.{IsMidUpdate, record_at, record_size, seal_place, seal_by_kind}
 use Rattle.spec_format.proofs.SealedRecords.{length-record, seal_aligned, seal_last}
 use Rattle.spec_format.proofs.SealedFields.{record_word}
-use Rattle.law_folder.proofs.updates.Fronts.{SameWords, AreSmall, open_node, open_entry, same-node, same-entry, small-take, small-range, small-words, front-words, node_checks-front, entry_checks-front, node_checks-by, entry_checks-by}
+use Rattle.law_folder.proofs.updates.Prefixes.{SameWords, AreSmall, open_node, open_entry, same-node, same-entry, small-take, small-range, small-words, prefix-words, node_checks-prefix, entry_checks-prefix, node_checks-by, entry_checks-by}
 
 -- the seals of the two kinds of records
 pub node-seal : (w : ℕ) → kind_of w ≡ rankings → seal_place w ≡ 32
@@ -50,9 +50,9 @@ module _ (from image : Image) (w : ℕ) (changes : List (ℕ × ℕ)) (bytes : A
 
   words-made : SameWords (seal_place w) (content (record_at image w)) 0 (content made_bytes) 0
   words-made d even inside =
-      sym (front-words (seal_place w) (record_at image w) (seal_aligned (kind_of w)) d even inside)
+      sym (prefix-words (seal_place w) (record_at image w) (seal_aligned (kind_of w)) d even inside)
       ∙ ap (λ (l : List ℕ). word_at (content l) (0 + d)) moment.fields
-      ∙ front-words (seal_place w) made_bytes (seal_aligned (kind_of w)) d even inside
+      ∙ prefix-words (seal_place w) made_bytes (seal_aligned (kind_of w)) d even inside
 
   pub node-made : kind_of w ≡ rankings → open_node (node_at image w) ≡ open_node (node_in (content made_bytes) 0)
   node-made kind =
@@ -76,7 +76,7 @@ module _ (from image : Image) (w : ℕ) (changes : List (ℕ × ℕ)) (bytes : A
   node-checks kind =
       let s : seal_place w ≡ 32 = node-seal w kind in
       node_checks-by (node_at image w) (node_in (content (record_at image w)) 0) (seal-word 32 s) (node-here image w kind)
-      ∙ node_checks-front (record_at image w) (subst (λ (n : ℕ). AreSmall (take n (record_at image w))) s small-front) (long-record 32 s)
+      ∙ node_checks-prefix (record_at image w) (subst (λ (n : ℕ). AreSmall (take n (record_at image w))) s small-front) (long-record 32 s)
       ∙ subst (λ (n : ℕ). checks n (record_at image w) ≡ true) s moment.checks
 
   pub entry-checks : kind_of w ≡ blocks_256 → entry_checks (entry_at image w) ≡ true
@@ -84,5 +84,5 @@ module _ (from image : Image) (w : ℕ) (changes : List (ℕ × ℕ)) (bytes : A
   entry-checks kind =
       let s : seal_place w ≡ 92 = entry-seal w kind in
       entry_checks-by (entry_at image w) (entry_in (content (record_at image w)) 0) (seal-word 92 s) (entry-here image w kind)
-      ∙ entry_checks-front (record_at image w) (subst (λ (n : ℕ). AreSmall (take n (record_at image w))) s small-front) (long-record 92 s)
+      ∙ entry_checks-prefix (record_at image w) (subst (λ (n : ℕ). AreSmall (take n (record_at image w))) s small-front) (long-record 92 s)
       ∙ subst (λ (n : ℕ). checks n (record_at image w) ≡ true) s moment.checks

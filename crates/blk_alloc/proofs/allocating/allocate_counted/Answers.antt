@@ -7,7 +7,7 @@ use Rattle.blk_addr.specs.Kind.{kind_number}
 use Rattle.spec_format.specs.Growth.{StaysWhole}
 use Rattle.spec_format.proofs.Growths.{whole_not}
 use Rattle.blk_disk.specs.Tables.{Agrees, all_files, blocks_of, files_of}
-use Rattle.blk_alloc.specs.Fitting.{HasNoRoom, IsFit, IsMapWord, IsPlace, IsSearchDamage, IsSought}
+use Rattle.blk_alloc.specs.Fitting.{HasNoRoom, IsFit, IsMapWord, IsPlace, IsFittingDamage, IsGroupSought}
 use Rattle.blk_alloc.specs.Allocating.{AllocatesIn, AreCounted, ExtendsAnd, HaveNoRoom, Allocates, AllocatesAtLast, AllocatesInProgress, AllocatesOrStops, ExtendsAndAllocates, ExtendsInProgress, IsChosen, IsFoundBy, LiesAtHint, SetsHint, most_words, IsCountedOnce, IsRefusal}
 use Rattle.std.specs.Prelude.{IfOk}
 use Rattle.spec_format.specs.Address.{block_count, block_word, file_selector, first_block, is_address, kind_of}
@@ -67,7 +67,7 @@ pub returns-in_err-found-clause-cause : goal.returns-in_err-found-clause-cause
 returns-in_err-found-clause-cause g c =
     let kind = kind_number c.args.kind in
     carried c.find.result c.from_residual.result c.in_err-found.field-0.0 _ c.in_err-found.was c.from_residual.ensures.1
-    (if_damaged_weaker c.find.result (IsSearchDamage c.args.files.now kind (g.F.Folder.told c.args.f.now)) (IsRefusal c.args.files.now c.args.files.now kind c.args.blocks (g.F.Folder.told c.args.f.now) (g.F.Folder.told c.find.new.f))
+    (if_damaged_weaker c.find.result (IsFittingDamage c.args.files.now kind (g.F.Folder.told c.args.f.now)) (IsRefusal c.args.files.now c.args.files.now kind c.args.blocks (g.F.Folder.told c.args.f.now) (g.F.Folder.told c.find.new.folder))
     (λ damage why. inr (inr (c.find.ensures.stays, inl why))) c.find.ensures.cause)
 
 pub returns-in-Some-clause-address : goal.returns-in-Some-clause-address
@@ -90,8 +90,8 @@ returns-in-Some-clause-links g c =
 pub returns-in-Some-clause-counted : goal.returns-in-Some-clause-counted
 returns-in-Some-clause-counted g c =
     let place = (of_some _ c.in-Some.found _ c.in-Some.is c.in_ok-found.ensures.place).0 in
-    if_ok_on c.take.result (λ addr. addr ≡ block_word (kind_number c.args.kind) c.in-Some.found.place.file c.in-Some.found.place.start c.in-Some.found.place.count) (ForSome (g.F.Folder.told c.find.new.f).files (λ mid. ForSome (g.F.Folder.told c.take.new.f).files (CountsUsed c.in-Some.found.place.file c.in-Some.found.place.start mid)))
-    (λ addr. ForSome (g.F.Folder.told c.args.f.now).files (λ from. ForSome (g.F.Folder.told c.take.new.f).files (IsCountedOnce c.args.files.now from addr)))
+    if_ok_on c.take.result (λ addr. addr ≡ block_word (kind_number c.args.kind) c.in-Some.found.place.file c.in-Some.found.place.start c.in-Some.found.place.count) (ForSome (g.F.Folder.told c.find.new.folder).files (λ mid. ForSome (g.F.Folder.told c.take.new.folder).files (CountsUsed c.in-Some.found.place.file c.in-Some.found.place.start mid)))
+    (λ addr. ForSome (g.F.Folder.told c.args.f.now).files (λ from. ForSome (g.F.Folder.told c.take.new.folder).files (IsCountedOnce c.args.files.now from addr)))
     (λ addr word counted from there image now.
     let file = ap file_selector word ∙ word_file c.args.files.now c.args.kind c.args.blocks c.in-Some.found.place c.requires.some place in
     subst (λ (m : ℕ). is_among (all_files c.args.files.now) m ≡ true → IsCounted true (allocations_of (byte from (Block m))) (allocations_of (byte image (Block m)))) (sym file)
@@ -107,8 +107,8 @@ returns-in-Some-clause-allocates g c =
     let markable : (i : Image) → (g.F.Folder.told c.args.f.now).files ≡ Some i → AreCounted c.args.files.now kind i → CanBeMarked i c.in-Some.found.place =
     (λ i told counted. fit_takeable c.args.files.now i c.args.kind c.args.blocks c.in-Some.found.place c.requires.block_kind (c.requires.agrees i told) counted place (there_fit i told)) in
     if_ok_both c.take.result (λ addr. addr ≡ block_word (kind_number c.args.kind) c.in-Some.found.place.file c.in-Some.found.place.start c.in-Some.found.place.count)
-    (λ addr. ForSome (g.F.Folder.told c.find.new.f).files (λ from. CanBeMarked from c.in-Some.found.place → ForSome (g.F.Folder.told c.take.new.f).files (MarksUsed c.args.files.now from addr)))
-    (λ addr. ForSome (g.F.Folder.told c.args.f.now).files (λ from. AreCounted c.args.files.now kind from → ForSome (g.F.Folder.told c.take.new.f).files (Allocates c.args.files.now from addr)))
+    (λ addr. ForSome (g.F.Folder.told c.find.new.folder).files (λ from. CanBeMarked from c.in-Some.found.place → ForSome (g.F.Folder.told c.take.new.folder).files (MarksUsed c.args.files.now from addr)))
+    (λ addr. ForSome (g.F.Folder.told c.args.f.now).files (λ from. AreCounted c.args.files.now kind from → ForSome (g.F.Folder.told c.take.new.folder).files (Allocates c.args.files.now from addr)))
     (λ addr word used from there counted image now.
     let file = ap file_selector word ∙ word_file c.args.files.now c.args.kind c.args.blocks c.in-Some.found.place c.requires.some place in
     given_fit c.args.files.now from image addr (member_all c.args.files.now c.args.kind (file_selector addr) c.requires.block_kind (ap (is_among (files_of c.args.files.now kind)) file ∙ place.linked))
@@ -124,8 +124,8 @@ returns-in-Some-clause-within g c =
     let markable : (i : Image) → (g.F.Folder.told c.args.f.now).files ≡ Some i → AreCounted c.args.files.now kind i → CanBeMarked i c.in-Some.found.place =
     (λ i told counted. fit_takeable c.args.files.now i c.args.kind c.args.blocks c.in-Some.found.place c.requires.block_kind (c.requires.agrees i told) counted place (there_fit i told)) in
     if_ok_both c.take.result (λ addr. addr ≡ block_word (kind_number c.args.kind) c.in-Some.found.place.file c.in-Some.found.place.start c.in-Some.found.place.count)
-    (λ addr. ForSome (g.F.Folder.told c.find.new.f).files (λ from. CanBeMarked from c.in-Some.found.place → ForSome (g.F.Folder.told c.take.new.f).files (MarksUsed c.args.files.now from addr)))
-    (λ addr. ForSome (g.F.Folder.told c.args.f.now).files (λ from. AreCounted c.args.files.now kind from → ForSome (g.F.Folder.told c.take.new.f).files (AllocatesIn c.args.files.now kind from (file_selector addr))))
+    (λ addr. ForSome (g.F.Folder.told c.find.new.folder).files (λ from. CanBeMarked from c.in-Some.found.place → ForSome (g.F.Folder.told c.take.new.folder).files (MarksUsed c.args.files.now from addr)))
+    (λ addr. ForSome (g.F.Folder.told c.args.f.now).files (λ from. AreCounted c.args.files.now kind from → ForSome (g.F.Folder.told c.take.new.folder).files (AllocatesIn c.args.files.now kind from (file_selector addr))))
     (λ addr word used from there counted image now. inl (used from (ap (λ (t : Told). t.files) c.in_ok-found.ensures.stays ∙ there) (markable from there counted) image now).same)
     c.take.ensures.word c.take.ensures.used
 
@@ -152,7 +152,7 @@ returns-in-Some-clause-cause g c =
     let counted = ((of_some _ c.in-Some.found _ c.in-Some.is c.in_ok-found.ensures.place).0).counted in
     let place = c.in-Some.found.place in
     let is = place_counted c.take.new.files kind c.args.blocks place counted c.take.ensures.place in
-    let after = g.F.Folder.told c.take.new.f in
+    let after = g.F.Folder.told c.take.new.folder in
     if_damaged_weaker c.take.result (IsCause after place.file place.start place.count true)
     (IsRefusal c.args.files.now c.take.new.files kind c.args.blocks (g.F.Folder.told c.args.f.now) after)
     (λ damage why. inl (record { place = place; is = is; cause = why })) c.take.ensures.cause
@@ -165,27 +165,27 @@ returns-in-Some-clause-untold g c all_counted =
     of_some _ c.in-Some.found _ c.in-Some.is c.in_ok-found.ensures.fit in
     let markable : (i : Image) → (g.F.Folder.told c.args.f.now).files ≡ Some i → AreCounted c.args.files.now kind i → CanBeMarked i c.in-Some.found.place =
     (λ i told counted. fit_takeable c.args.files.now i c.args.kind c.args.blocks c.in-Some.found.place c.requires.block_kind (c.requires.agrees i told) counted place (there_fit i told)) in
-    if_damaged_weaker c.take.result (λ _. ForSome (g.F.Folder.told c.find.new.f).files (λ image. CanBeMarked image c.in-Some.found.place) → (g.F.Folder.told c.find.new.f).files ≡ None) (λ _. (g.F.Folder.told c.args.f.now).files ≡ None)
+    if_damaged_weaker c.take.result (λ _. ForSome (g.F.Folder.told c.find.new.folder).files (λ image. CanBeMarked image c.in-Some.found.place) → (g.F.Folder.told c.find.new.folder).files ≡ None) (λ _. (g.F.Folder.told c.args.f.now).files ≡ None)
     (λ damage none. ap (λ (t : Told). t.files) (sym c.in_ok-found.ensures.stays) ∙ none (λ i now. let told = ap (λ (t : Told). t.files) (sym c.in_ok-found.ensures.stays) ∙ now in markable i told (all_counted i told))) c.take.ensures.untold
 
 pub returns-in-None-clause-counted : goal.returns-in-None-clause-counted
 returns-in-None-clause-counted g c =
-    subst (λ (t : Told). IfOk c.allocate_new.result (λ addr. ForSome t.files (λ from. ForSome (g.F.Folder.told c.allocate_new.new.f).files (IsCountedOnce c.args.files.now from addr)))) c.in_ok-found.ensures.stays c.allocate_new.ensures.counted
+    subst (λ (t : Told). IfOk c.allocate_new.result (λ addr. ForSome t.files (λ from. ForSome (g.F.Folder.told c.allocate_new.new.folder).files (IsCountedOnce c.args.files.now from addr)))) c.in_ok-found.ensures.stays c.allocate_new.ensures.counted
 
 pub returns-in-None-clause-allocates : goal.returns-in-None-clause-allocates
 returns-in-None-clause-allocates g c =
     let kind : ℕ = kind_number c.args.kind in
     IfOk-weaker c.allocate_new.result
-    (λ addr. ForSome (g.F.Folder.told c.find.new.f).files (λ from. AreCounted c.args.files.now kind from → ForSome (g.F.Folder.told c.allocate_new.new.f).files (λ image. Allocates c.args.files.now from addr image × ExtendsAnd taking_of c.args.files.now kind from (file_selector addr) image)))
-    (λ addr. ForSome (g.F.Folder.told c.args.f.now).files (λ from. AreCounted c.args.files.now kind from → ForSome (g.F.Folder.told c.allocate_new.new.f).files (Allocates c.args.files.now from addr)))
+    (λ addr. ForSome (g.F.Folder.told c.find.new.folder).files (λ from. AreCounted c.args.files.now kind from → ForSome (g.F.Folder.told c.allocate_new.new.folder).files (λ image. Allocates c.args.files.now from addr image × ExtendsAnd taking_of c.args.files.now kind from (file_selector addr) image)))
+    (λ addr. ForSome (g.F.Folder.told c.args.f.now).files (λ from. AreCounted c.args.files.now kind from → ForSome (g.F.Folder.told c.allocate_new.new.folder).files (Allocates c.args.files.now from addr)))
     (λ addr both from there counted image now. (both from (ap (λ (t : Told). t.files) c.in_ok-found.ensures.stays ∙ there) counted image now).0) c.allocate_new.ensures.allocates
 
 pub returns-in-None-clause-within : goal.returns-in-None-clause-within
 returns-in-None-clause-within g c =
     let kind : ℕ = kind_number c.args.kind in
     IfOk-weaker c.allocate_new.result
-    (λ addr. ForSome (g.F.Folder.told c.find.new.f).files (λ from. AreCounted c.args.files.now kind from → ForSome (g.F.Folder.told c.allocate_new.new.f).files (λ image. Allocates c.args.files.now from addr image × ExtendsAnd taking_of c.args.files.now kind from (file_selector addr) image)))
-    (λ addr. ForSome (g.F.Folder.told c.args.f.now).files (λ from. AreCounted c.args.files.now kind from → ForSome (g.F.Folder.told c.allocate_new.new.f).files (AllocatesIn c.args.files.now kind from (file_selector addr))))
+    (λ addr. ForSome (g.F.Folder.told c.find.new.folder).files (λ from. AreCounted c.args.files.now kind from → ForSome (g.F.Folder.told c.allocate_new.new.folder).files (λ image. Allocates c.args.files.now from addr image × ExtendsAnd taking_of c.args.files.now kind from (file_selector addr) image)))
+    (λ addr. ForSome (g.F.Folder.told c.args.f.now).files (λ from. AreCounted c.args.files.now kind from → ForSome (g.F.Folder.told c.allocate_new.new.folder).files (AllocatesIn c.args.files.now kind from (file_selector addr))))
     (λ addr both from there counted image now. inr (both from (ap (λ (t : Told). t.files) c.in_ok-found.ensures.stays ∙ there) counted image now).1) c.allocate_new.ensures.allocates
 
 pub returns-in-None-clause-stops : goal.returns-in-None-clause-stops
@@ -200,7 +200,7 @@ returns-in-None-clause-stops g c from there counted =
 
 pub returns-in-None-clause-cause : goal.returns-in-None-clause-cause
 returns-in-None-clause-cause g c =
-    subst (λ (t : Told). IfDamaged c.allocate_new.result (IsRefusal c.args.files.now c.allocate_new.new.files (kind_number c.args.kind) c.args.blocks t (g.F.Folder.told c.allocate_new.new.f))) c.in_ok-found.ensures.stays c.allocate_new.ensures.cause
+    subst (λ (t : Told). IfDamaged c.allocate_new.result (IsRefusal c.args.files.now c.allocate_new.new.files (kind_number c.args.kind) c.args.blocks t (g.F.Folder.told c.allocate_new.new.folder))) c.in_ok-found.ensures.stays c.allocate_new.ensures.cause
 
 pub returns-in-None-clause-untold : goal.returns-in-None-clause-untold
 returns-in-None-clause-untold g c counted =
@@ -233,8 +233,8 @@ returns-in-Some-clause-hints g c =
     let kind : ℕ = kind_number c.args.kind in
     let place = (of_some _ c.in-Some.found _ c.in-Some.is c.in_ok-found.ensures.place).0 in
     let P = c.in-Some.found.place in
-    if_ok_on c.take.result (λ addr. addr ≡ block_word (kind_number c.args.kind) c.in-Some.found.place.file c.in-Some.found.place.start c.in-Some.found.place.count) (ForSome (g.F.Folder.told c.find.new.f).files (λ mid. ForSome (g.F.Folder.told c.take.new.f).files (HasHintAmong P.file c.in-Some.found.i (P.start / 4) mid)))
-    (λ addr. ForSome (g.F.Folder.told c.args.f.now).files (λ from. ForSome (g.F.Folder.told c.take.new.f).files (SetsHint c.args.files.now kind c.args.blocks from addr)))
+    if_ok_on c.take.result (λ addr. addr ≡ block_word (kind_number c.args.kind) c.in-Some.found.place.file c.in-Some.found.place.start c.in-Some.found.place.count) (ForSome (g.F.Folder.told c.find.new.folder).files (λ mid. ForSome (g.F.Folder.told c.take.new.folder).files (HasHintAmong P.file c.in-Some.found.i (P.start / 4) mid)))
+    (λ addr. ForSome (g.F.Folder.told c.args.f.now).files (λ from. ForSome (g.F.Folder.told c.take.new.folder).files (SetsHint c.args.files.now kind c.args.blocks from addr)))
     (λ addr word hint from there image now.
     let set = hint from (ap (λ (t : Told). t.files) c.in_ok-found.ensures.stays ∙ there) image now in
     let file = ap file_selector word ∙ word_file c.args.files.now c.args.kind c.args.blocks P c.requires.some place in
@@ -242,7 +242,7 @@ returns-in-Some-clause-hints g c =
     let sought = of_some _ c.in-Some.found _ c.in-Some.is c.in_ok-found.ensures.sought from there in
     record {
       i = c.in-Some.found.i;
-      found = inl (ap (is_among (files_of c.args.files.now kind)) file ∙ place.linked, subst (λ (n : ℕ). IsSought from n c.args.blocks c.in-Some.found.i) (sym file) sought);
+      found = inl (ap (is_among (files_of c.args.files.now kind)) file ∙ place.linked, subst (λ (n : ℕ). IsGroupSought from n c.args.blocks c.in-Some.found.i) (sym file) sought);
       set = (λ j. hints_of (byte image (Block (file j))) c.in-Some.found.i) ∙ set.set ∙ ap (λ (s : ℕ). s / 4) (sym start);
       others = λ n j among small apart. set.others n j small (⊎_elim (λ (other : n ≢ file_selector addr). inl (λ (e : n ≡ P.file). other (e ∙ sym file))) (λ other. inr other) apart);
     })
@@ -280,7 +280,7 @@ returns-in-Some-clause-once g c =
     ⊎_elim (λ (new : is_among (all_files c.args.files.now) (file_selector addr) ≡ false). absurd (clash (sym all ∙ ap (is_among (all_files c.args.files.now)) (sym file) ∙ new)))
     (λ (lies : (i : ℕ) × IsFoundBy c.args.files.now kind c.args.blocks from addr i × (first_block addr / 4 ≡ hints_of (byte from (Block (file_selector addr))) i % groups_of (blocks_of c.take.new.files (file_selector addr)))).
     let same : lies.0 ≡ c.in-Some.found.i =
-    ⊎_elim (λ (had : (is_among (files_of c.args.files.now kind) (file_selector addr) ≡ true) × IsSought from (file_selector addr) c.args.blocks lies.0). one_sought from P.file c.args.blocks lies.0 c.in-Some.found.i (subst (λ (n : ℕ). IsSought from n c.args.blocks lies.0) file had.1) sought)
+    ⊎_elim (λ (had : (is_among (files_of c.args.files.now kind) (file_selector addr) ≡ true) × IsGroupSought from (file_selector addr) c.args.blocks lies.0). one_sought from P.file c.args.blocks lies.0 c.in-Some.found.i (subst (λ (n : ℕ). IsGroupSought from n c.args.blocks lies.0) file had.1) sought)
     (λ (none : HaveNoRoom c.args.files.now kind c.args.blocks from × (lies.0 ≡ 3)). absurd (no_room from P.file c.args.blocks c.in-Some.found.i sought (all_member (HasNoRoom from c.args.blocks) (files_of c.args.files.now kind) P.file place.linked none.0))) lies.1 in
     of_some _ c.in-Some.found _ c.in-Some.is c.in_ok-found.ensures.once from there
     (ap (λ (s : ℕ). s / 4) (sym start) ∙ lies.2 ∙ (λ j. hints_of (byte from (Block (file j))) (same j) % groups_of (blocks_of c.take.new.files (file j))) ∙ ap (λ (b : ℕ). hints_of (byte from (Block P.file)) c.in-Some.found.i % groups_of b) (blocks P.file))))
@@ -292,11 +292,11 @@ returns-in-None-clause-chosen g c =
 
 pub returns-in-None-clause-hints : goal.returns-in-None-clause-hints
 returns-in-None-clause-hints g c =
-    subst (λ (t : Told). IfOk c.allocate_new.result (λ addr. ForSome t.files (λ from. ForSome (g.F.Folder.told c.allocate_new.new.f).files (SetsHint c.args.files.now (kind_number c.args.kind) c.args.blocks from addr)))) c.in_ok-found.ensures.stays c.allocate_new.ensures.hints
+    subst (λ (t : Told). IfOk c.allocate_new.result (λ addr. ForSome t.files (λ from. ForSome (g.F.Folder.told c.allocate_new.new.folder).files (SetsHint c.args.files.now (kind_number c.args.kind) c.args.blocks from addr)))) c.in_ok-found.ensures.stays c.allocate_new.ensures.hints
 
 pub returns-in-None-clause-once : goal.returns-in-None-clause-once
 returns-in-None-clause-once g c =
     IfOk-weaker c.allocate_new.result
-    (λ addr. ForSome (g.F.Folder.told c.find.new.f).files (λ from. LiesAtHint c.args.files.now c.allocate_new.new.files (kind_number c.args.kind) c.args.blocks from addr → c.allocate_new.new.steps ≡ c.find.new.steps + 1))
+    (λ addr. ForSome (g.F.Folder.told c.find.new.folder).files (λ from. LiesAtHint c.args.files.now c.allocate_new.new.files (kind_number c.args.kind) c.args.blocks from addr → c.allocate_new.new.steps ≡ c.find.new.steps + 1))
     (λ addr. ForSome (g.F.Folder.told c.args.f.now).files (λ from. LiesAtHint c.args.files.now c.allocate_new.new.files (kind_number c.args.kind) c.args.blocks from addr → c.allocate_new.new.steps ≡ c.args.steps.now + 1))
     (λ addr once from there lies. let counts = once from (ap (λ (t : Told). t.files) c.in_ok-found.ensures.stays ∙ there) lies in let none = c.in_ok-found.ensures.none c.in-None.is in omega (arith, counts, none)) c.allocate_new.ensures.once

@@ -79,7 +79,7 @@ find_by_hint-requires g c =
       number = fits.number;
       linked = fits.linked;
       counts = few_groups c.in_ok-room.room.start (blocks_of c.new_room.new.files n) _ c.in_ok-room.ensures.whole whole.0 fits.below (ap (λ (b : ℕ). (b - c.in_ok-room.room.start) / 4) same);
-      counted = told_at_end (g.F.Folder.told c.args.f.now).files (g.F.Folder.told c.new_room.new.f).files (λ mid. (c.blocks_in.result - c.in_ok-room.room.start) / 4 ≡ empty_of (byte mid (Block n)) 3) c.in_ok-room.ensures.silent
+      counted = told_at_end (g.F.Folder.told c.args.folder.now).files (g.F.Folder.told c.new_room.new.folder).files (λ mid. (c.blocks_in.result - c.in_ok-room.room.start) / 4 ≡ empty_of (byte mid (Block n)) 3) c.in_ok-room.ensures.silent
           (λ from there mid now. ap (λ (b : ℕ). (b - c.in_ok-room.room.start) / 4) same ∙ sym (c.in_ok-room.ensures.raised from there mid now));
     }
 
@@ -93,7 +93,7 @@ returns-in_err-room-clause-stops g c from there counted =
 
 pub returns-in_err-room-clause-untold : goal.returns-in_err-room-clause-untold
 returns-in_err-room-clause-untold g c counted =
-    let told = g.F.Folder.told c.args.f.now in
+    let told = g.F.Folder.told c.args.folder.now in
     let list = files_of c.args.files.now (kind_number c.args.kind) in
     carried c.new_room.result c.from_residual.result c.in_err-room.field-0.0 _ c.in_err-room.was c.from_residual.ensures.1
     (if_damaged_weaker c.new_room.result (λ _. All (HasMostBlocks c.args.files.now) list × (60 ≤ length list)) (λ _. told.files ≡ None)
@@ -103,7 +103,7 @@ returns-in_err-room-clause-untold g c counted =
 pub returns-in_err-found-clause-stops : goal.returns-in_err-found-clause-stops
 returns-in_err-found-clause-stops g c from there counted =
     let keeps = room_moment c.args.files.now (kind_number c.args.kind) from in
-    subst (λ (t : Told). PassesTo (g.F.Folder.told c.args.f.now) t (λ image. ExtendsInProgress c.args.files.now (kind_number c.args.kind) from image × StaysWhole from image) (λ image. (ExtendsInProgress c.args.files.now (kind_number c.args.kind) from image ⊎ ExtendsAndAllocates c.args.files.now (kind_number c.args.kind) c.args.count from image) × StaysWhole from image)) (sym c.in_err-found.ensures.stays)
+    subst (λ (t : Told). PassesTo (g.F.Folder.told c.args.folder.now) t (λ image. ExtendsInProgress c.args.files.now (kind_number c.args.kind) from image × StaysWhole from image) (λ image. (ExtendsInProgress c.args.files.now (kind_number c.args.kind) from image ⊎ ExtendsAndAllocates c.args.files.now (kind_number c.args.kind) c.args.count from image) × StaysWhole from image)) (sym c.in_err-found.ensures.stays)
     (passes_weaker (c.in_ok-room.ensures.stops from there) keeps (λ i room. (inl (keeps i room).0, (keeps i room).1)))
 
 pub returns-in_err-found-clause-untold : goal.returns-in_err-found-clause-untold
@@ -111,9 +111,9 @@ returns-in_err-found-clause-untold g c counted =
     let new = c.new_room.new.files in
     let T : Image → Type 0 = λ mid. Agrees new mid × EmptyAgrees mid c.in_ok-room.room.file in
     carried c.find_by_hint.result c.from_residual-in_err-found.result c.in_err-found.field-0.0 _ c.in_err-found.was c.from_residual-in_err-found.ensures.1
-    (if_damaged_weaker c.find_by_hint.result (λ _. (g.F.Folder.told c.new_room.new.f).files ≡ None) (λ _. (g.F.Folder.told c.args.f.now).files ≡ None)
+    (if_damaged_weaker c.find_by_hint.result (λ _. (g.F.Folder.told c.new_room.new.folder).files ≡ None) (λ _. (g.F.Folder.told c.args.folder.now).files ≡ None)
     (λ damage none. untold_before (MakesRoomInProgress c.args.files.now (kind_number c.args.kind)) c.in_ok-room.ensures.stops none)
-    (c.find_by_hint.ensures.untold (told_at_end (g.F.Folder.told c.args.f.now).files (g.F.Folder.told c.new_room.new.f).files T c.in_ok-room.ensures.silent
+    (c.find_by_hint.ensures.untold (told_at_end (g.F.Folder.told c.args.folder.now).files (g.F.Folder.told c.new_room.new.folder).files T c.in_ok-room.ensures.silent
     (λ from there mid now. (c.in_ok-room.ensures.agrees mid now, (c.in_ok-room.ensures.made from there (counted from there) mid now).takeable.ready.empty)))))
 
 pub returns-clause-kind : goal.returns-clause-kind
@@ -143,8 +143,8 @@ pub returns-clause-counted : goal.returns-clause-counted
 returns-clause-counted g c =
     let P = c.in_ok-found.found.place in
     let is_place = fits_there c.new_room.new.files (kind_number c.args.kind) c.in_ok-room.room.count c.args.count P c.in_ok-room.ensures.fits.counted c.in_ok-found.ensures.place in
-    if_ok_on c.take.result (λ addr. addr ≡ block_word (kind_number c.args.kind) c.in_ok-found.found.place.file c.in_ok-found.found.place.start c.in_ok-found.found.place.count) (ForSome (g.F.Folder.told c.find_by_hint.new.f).files (λ mid. ForSome (g.F.Folder.told c.take.new.f).files (CountsUsed P.file P.start mid)))
-    (λ addr. ForSome (g.F.Folder.told c.args.f.now).files (λ from. ForSome (g.F.Folder.told c.take.new.f).files (IsCountedOnce c.args.files.now from addr)))
+    if_ok_on c.take.result (λ addr. addr ≡ block_word (kind_number c.args.kind) c.in_ok-found.found.place.file c.in_ok-found.found.place.start c.in_ok-found.found.place.count) (ForSome (g.F.Folder.told c.find_by_hint.new.folder).files (λ mid. ForSome (g.F.Folder.told c.take.new.folder).files (CountsUsed P.file P.start mid)))
+    (λ addr. ForSome (g.F.Folder.told c.args.folder.now).files (λ from. ForSome (g.F.Folder.told c.take.new.folder).files (IsCountedOnce c.args.files.now from addr)))
     (λ addr word counted from there image now.
     let mid = told_later (c.in_ok-room.ensures.stops from there) there in
     let here = ap (λ (t : Told). t.files) c.in_ok-found.ensures.stays ∙ mid.1 in
@@ -173,7 +173,7 @@ returns-clause-chosen g c =
     let P = c.in_ok-found.found.place in
     let is_place = fits_there c.new_room.new.files (kind_number c.args.kind) c.in_ok-room.room.count c.args.count P c.in_ok-room.ensures.fits.counted c.in_ok-found.ensures.place in
     IfOk-weaker c.take.result (λ addr. addr ≡ block_word (kind_number c.args.kind) c.in_ok-found.found.place.file c.in_ok-found.found.place.start c.in_ok-found.found.place.count)
-    (λ addr. ForSome (g.F.Folder.told c.args.f.now).files (λ from. IsChosen c.args.files.now from (kind_number c.args.kind) c.args.count addr))
+    (λ addr. ForSome (g.F.Folder.told c.args.folder.now).files (λ from. IsChosen c.args.files.now from (kind_number c.args.kind) c.args.count addr))
     (λ addr word from there.
     let mid = told_later (c.in_ok-room.ensures.stops from there) there in
     record {
@@ -190,8 +190,8 @@ pub returns-clause-hints : goal.returns-clause-hints
 returns-clause-hints g c =
     let P = c.in_ok-found.found.place in
     let is_place = fits_there c.new_room.new.files (kind_number c.args.kind) c.in_ok-room.room.count c.args.count P c.in_ok-room.ensures.fits.counted c.in_ok-found.ensures.place in
-    if_ok_on c.take.result (λ addr. addr ≡ block_word (kind_number c.args.kind) c.in_ok-found.found.place.file c.in_ok-found.found.place.start c.in_ok-found.found.place.count) (ForSome (g.F.Folder.told c.find_by_hint.new.f).files (λ mid. ForSome (g.F.Folder.told c.take.new.f).files (HasHintAmong P.file c.in_ok-found.found.i (P.start / 4) mid)))
-    (λ addr. ForSome (g.F.Folder.told c.args.f.now).files (λ from. ForSome (g.F.Folder.told c.take.new.f).files (SetsHint c.args.files.now (kind_number c.args.kind) c.args.count from addr)))
+    if_ok_on c.take.result (λ addr. addr ≡ block_word (kind_number c.args.kind) c.in_ok-found.found.place.file c.in_ok-found.found.place.start c.in_ok-found.found.place.count) (ForSome (g.F.Folder.told c.find_by_hint.new.folder).files (λ mid. ForSome (g.F.Folder.told c.take.new.folder).files (HasHintAmong P.file c.in_ok-found.found.i (P.start / 4) mid)))
+    (λ addr. ForSome (g.F.Folder.told c.args.folder.now).files (λ from. ForSome (g.F.Folder.told c.take.new.folder).files (SetsHint c.args.files.now (kind_number c.args.kind) c.args.count from addr)))
     (λ addr word hint from there image now.
     let mid = told_later (c.in_ok-room.ensures.stops from there) there in
     let here = ap (λ (t : Told). t.files) c.in_ok-found.ensures.stays ∙ mid.1 in
@@ -207,7 +207,7 @@ returns-clause-once g c =
     let P = c.in_ok-found.found.place in
     let is_place = fits_there c.new_room.new.files (kind_number c.args.kind) c.in_ok-room.room.count c.args.count P c.in_ok-room.ensures.fits.counted c.in_ok-found.ensures.place in
     if_ok_on c.take.result (λ addr. addr ≡ block_word (kind_number c.args.kind) c.in_ok-found.found.place.file c.in_ok-found.found.place.start c.in_ok-found.found.place.count) (KeepsBlockCounts c.new_room.new.files c.take.new.files)
-    (λ addr. ForSome (g.F.Folder.told c.args.f.now).files (λ from. LiesAtHint c.args.files.now c.take.new.files (kind_number c.args.kind) c.args.count from addr → c.find_by_hint.new.steps ≡ c.args.steps.now + 1))
+    (λ addr. ForSome (g.F.Folder.told c.args.folder.now).files (λ from. LiesAtHint c.args.files.now c.take.new.files (kind_number c.args.kind) c.args.count from addr → c.find_by_hint.new.steps ≡ c.args.steps.now + 1))
     (λ addr word blocks from there lies.
     let mid = told_later (c.in_ok-room.ensures.stops from there) there in
     let file = ap file_selector word ∙ word_file c.new_room.new.files c.args.kind c.args.count P c.requires.some is_place ∙ c.in_ok-found.ensures.file.0 in
@@ -223,9 +223,9 @@ returns-clause-allocates g c =
     let kind : ℕ = kind_number c.args.kind in
     let old = c.args.files.now in
     three c.take.result (λ addr. addr ≡ block_word (kind_number c.args.kind) c.in_ok-found.found.place.file c.in_ok-found.found.place.start c.in_ok-found.found.place.count)
-    (λ addr. ForSome (g.F.Folder.told c.find_by_hint.new.f).files (λ mid. CanBeMarked mid P → ForSome (g.F.Folder.told c.take.new.f).files (MarksUsed c.new_room.new.files mid addr)))
-    (ForSome (g.F.Folder.told c.find_by_hint.new.f).files (λ mid. ForSome (g.F.Folder.told c.take.new.f).files (HasHintAmong P.file c.in_ok-found.found.i (P.start / 4) mid)))
-    (λ addr. ForSome (g.F.Folder.told c.args.f.now).files (λ from. AreCounted c.args.files.now kind from → ForSome (g.F.Folder.told c.take.new.f).files (λ image. Allocates c.args.files.now from addr image × ExtendsAnd taking_of c.args.files.now kind from (file_selector addr) image)))
+    (λ addr. ForSome (g.F.Folder.told c.find_by_hint.new.folder).files (λ mid. CanBeMarked mid P → ForSome (g.F.Folder.told c.take.new.folder).files (MarksUsed c.new_room.new.files mid addr)))
+    (ForSome (g.F.Folder.told c.find_by_hint.new.folder).files (λ mid. ForSome (g.F.Folder.told c.take.new.folder).files (HasHintAmong P.file c.in_ok-found.found.i (P.start / 4) mid)))
+    (λ addr. ForSome (g.F.Folder.told c.args.folder.now).files (λ from. AreCounted c.args.files.now kind from → ForSome (g.F.Folder.told c.take.new.folder).files (λ image. Allocates c.args.files.now from addr image × ExtendsAnd taking_of c.args.files.now kind from (file_selector addr) image)))
     (λ addr word taken hint from there counted image now.
     let mid = told_later (c.in_ok-room.ensures.stops from there) there in
     let here = ap (λ (t : Told). t.files) c.in_ok-found.ensures.stays ∙ mid.1 in
@@ -281,11 +281,11 @@ returns-clause-untold g c counted =
     let P = c.in_ok-found.found.place in
     let is_place = fits_there c.new_room.new.files (kind_number c.args.kind) c.in_ok-room.room.count c.args.count P c.in_ok-room.ensures.fits.counted c.in_ok-found.ensures.place in
     let kind : ℕ = kind_number c.args.kind in
-    let start : (ForSome (g.F.Folder.told c.new_room.new.f).files (λ mid. CanBeMarked mid P) → (g.F.Folder.told c.new_room.new.f).files ≡ None) → (g.F.Folder.told c.args.f.now).files ≡ None =
+    let start : (ForSome (g.F.Folder.told c.new_room.new.folder).files (λ mid. CanBeMarked mid P) → (g.F.Folder.told c.new_room.new.folder).files ≡ None) → (g.F.Folder.told c.args.folder.now).files ≡ None =
     silent_start (MakesRoomInProgress c.args.files.now kind) (λ mid. CanBeMarked mid P) c.in_ok-room.ensures.stops
     (λ from there m now.
-    let mid : (i : Image) × ((g.F.Folder.told c.new_room.new.f).files ≡ Some i) = (m, now) in
+    let mid : (i : Image) × ((g.F.Folder.told c.new_room.new.folder).files ≡ Some i) = (m, now) in
     can_take c.args.files.now c.new_room.new.files c.args.kind c.requires.block_kind c.args.count c.requires.some c.requires.few c.in_ok-room.room P from mid.0 is_place c.in_ok-found.ensures.file.0 (c.requires.full from there) (c.in_ok-room.ensures.marks from there mid.0 mid.1) (c.in_ok-room.ensures.hints from there mid.0 mid.1) c.in_ok-room.ensures.grown (c.in_ok-room.ensures.fresh from there mid.0 mid.1)
     (subst (λ (m : ℕ). IsByHint mid.0 c.in_ok-room.room.file (groups_of (blocks_of c.new_room.new.files c.in_ok-room.room.file)) m 3 P.start) c.in_ok-room.ensures.fits.counted (c.in_ok-found.ensures.found mid.0 mid.1)) (c.in_ok-room.ensures.agrees mid.0 mid.1) (member_all c.new_room.new.files c.args.kind c.in_ok-room.room.file c.requires.block_kind c.in_ok-room.ensures.fits.linked) (c.in_ok-room.ensures.made from there (counted from there) mid.0 mid.1).takeable) in
-    if_damaged_weaker c.take.result (λ _. ForSome (g.F.Folder.told c.find_by_hint.new.f).files (λ mid. CanBeMarked mid P) → (g.F.Folder.told c.find_by_hint.new.f).files ≡ None) (λ _. (g.F.Folder.told c.args.f.now).files ≡ None)
+    if_damaged_weaker c.take.result (λ _. ForSome (g.F.Folder.told c.find_by_hint.new.folder).files (λ mid. CanBeMarked mid P) → (g.F.Folder.told c.find_by_hint.new.folder).files ≡ None) (λ _. (g.F.Folder.told c.args.folder.now).files ≡ None)
     (λ damage none. start (subst (λ (t : Told). ForSome t.files (λ mid. CanBeMarked mid P) → t.files ≡ None) c.in_ok-found.ensures.stays none)) c.take.ensures.untold

@@ -24,7 +24,7 @@ returns-clause-full g c = record {
 
 pub returns-in_err-found-clause-cause : goal.returns-in_err-found-clause-cause
 returns-in_err-found-clause-cause g c agrees =
-    let told = g.F.Folder.told c.args.f.now in
+    let told = g.F.Folder.told c.args.folder.now in
     let kind = kind_number c.args.kind in
     let among : is_among (files_of c.args.files.now kind) c.in-Some.last ≡ true = member_at (files_of c.args.files.now kind) 59 c.in-Some.last (sym c.file_at.ensures ∙ c.in-Some.is) in
     let long : (image : Image) → told.files ≡ Some image → 8192 ≤ length_of image (Block c.in-Some.last) = (λ image there. (member_head c.args.files.now image c.args.kind c.in-Some.last c.requires.block_kind (agrees image there) among).header) in

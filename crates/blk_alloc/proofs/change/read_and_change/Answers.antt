@@ -33,19 +33,19 @@ returns-in_err-read_exact-clause-stops g c from there =
 pub returns-in_err-read_exact-clause-cause : goal.returns-in_err-read_exact-clause-cause
 returns-in_err-read_exact-clause-cause g c =
     carried c.read_exact.result c.from_residual.result c.in_err-read_exact.field-0.0 _ c.in_err-read_exact.was c.from_residual.ensures.1
-    (if_damaged_weaker c.read_exact.result (IsShort (g.F.Folder.told c.args.f.now) (names.Block c.args.file) (80 + 4 * c.from.result) 4) (IsCause (g.F.Folder.told c.args.f.now) c.args.file c.args.start c.args.count c.args.used)
+    (if_damaged_weaker c.read_exact.result (IsShort (g.F.Folder.told c.args.folder.now) (names.Block c.args.file) (80 + 4 * c.from.result) 4) (IsCause (g.F.Folder.told c.args.folder.now) c.args.file c.args.start c.args.count c.args.used)
     (λ damage short. inl (record { place = 80 + 4 * c.from.result; count = 4; read = inr (ap (λ (k : ℕ). 80 + 4 * k) c.from.ensures, refl); short = short })) c.read_exact.ensures.short)
 
 pub returns-in_err-read_exact-clause-untold : goal.returns-in_err-read_exact-clause-untold
 returns-in_err-read_exact-clause-untold g c =
     carried c.read_exact.result c.from_residual.result c.in_err-read_exact.field-0.0 _ c.in_err-read_exact.was c.from_residual.ensures.1
-    (if_damaged c.read_exact.result (ForSome (g.F.Folder.told c.args.f.now).files (λ image. CanChangeMarks image c.args.file c.args.start c.args.count c.args.used)) (λ _. (g.F.Folder.told c.args.f.now).files ≡ None)
-    (λ ready. untold_if c.read_exact.result (g.F.Folder.told c.args.f.now) (names.Block c.args.file) (80 + 4 * c.from.result) 4 c.read_exact.ensures.short
+    (if_damaged c.read_exact.result (ForSome (g.F.Folder.told c.args.folder.now).files (λ image. CanChangeMarks image c.args.file c.args.start c.args.count c.args.used)) (λ _. (g.F.Folder.told c.args.folder.now).files ≡ None)
+    (λ ready. untold_if c.read_exact.result (g.F.Folder.told c.args.folder.now) (names.Block c.args.file) (80 + 4 * c.from.result) 4 c.read_exact.ensures.short
     (λ image there. let is = ready image there in let long = is.header in let below = is.below in let most = is.most in let place = c.from.ensures in omega (arith, long, place, below, most, c.requires.some))))
 
 pub returns-clause-changed : goal.returns-clause-changed
 returns-clause-changed g c =
-    subst (λ (t : Told). OnOk c.change.result (ForSome t.files (λ from. ForSome (g.F.Folder.told c.change.new.f).files (IsChanged from c.args.file c.args.start c.args.count c.args.used)))) c.in_ok-read_exact.ensures.stays c.change.ensures.changed
+    subst (λ (t : Told). OnOk c.change.result (ForSome t.files (λ from. ForSome (g.F.Folder.told c.change.new.folder).files (IsChanged from c.args.file c.args.start c.args.count c.args.used)))) c.in_ok-read_exact.ensures.stays c.change.ensures.changed
 
 pub returns-clause-stops : goal.returns-clause-stops
 returns-clause-stops g c from there = passes_stayed c.in_ok-read_exact.ensures.stays (c.change.ensures.stops from (ap (λ (t : Told). t.files) c.in_ok-read_exact.ensures.stays ∙ there))
@@ -54,7 +54,7 @@ pub returns-clause-cause : goal.returns-clause-cause
 returns-clause-cause g c = subst (λ (t : Told). IfDamaged c.change.result (IsCause t c.args.file c.args.start c.args.count c.args.used)) c.in_ok-read_exact.ensures.stays c.change.ensures.cause
 
 pub returns-clause-unwritten : goal.returns-clause-unwritten
-returns-clause-unwritten g c = subst (λ (t : Told). IfDamaged c.change.result (λ _. Stays t (g.F.Folder.told c.change.new.f))) c.in_ok-read_exact.ensures.stays c.change.ensures.unwritten
+returns-clause-unwritten g c = subst (λ (t : Told). IfDamaged c.change.result (λ _. Stays t (g.F.Folder.told c.change.new.folder))) c.in_ok-read_exact.ensures.stays c.change.ensures.unwritten
 
 pub returns-clause-untold : goal.returns-clause-untold
 returns-clause-untold g c =

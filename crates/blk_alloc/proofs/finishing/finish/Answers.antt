@@ -18,15 +18,15 @@ write_word-requires-clause-inside g c mid now = let long = counters_kept c.args.
 
 pub returns-in_err-write_counters-clause-prefix : goal.returns-in_err-write_counters-clause-prefix
 returns-in_err-write_counters-clause-prefix g c =
-    subst (λ (s : List TrailStep). AppliesPrefix (g.F.Folder.told c.args.f.now) (g.F.Folder.told c.write_counters.new.f) s) (both c.args.file c.args.allocations c.args.empty.now)
+    subst (λ (s : List TrailStep). AppliesPrefix (g.F.Folder.told c.args.folder.now) (g.F.Folder.told c.write_counters.new.folder) s) (both c.args.file c.args.allocations c.args.empty.now)
     (part_only (word_step (Block c.args.file) 56 0) c.in_err-write_counters.ensures.prefix)
 
 pub returns-clause-steps : goal.returns-clause-steps
 returns-clause-steps g c =
     on_ok_weaker c.write_word.result
-    (λ whole. subst (λ (s : List TrailStep). Applies (g.F.Folder.told c.args.f.now) (g.F.Folder.told c.write_word.new.f) s) (both c.args.file c.args.allocations c.args.empty.now) (grows_then c.in_ok-write_counters.ensures.steps whole))
+    (λ whole. subst (λ (s : List TrailStep). Applies (g.F.Folder.told c.args.folder.now) (g.F.Folder.told c.write_word.new.folder) s) (both c.args.file c.args.allocations c.args.empty.now) (grows_then c.in_ok-write_counters.ensures.steps whole))
     c.write_word.ensures.steps
 
 pub returns-clause-prefix : goal.returns-clause-prefix
 returns-clause-prefix g c =
-    subst (λ (s : List TrailStep). AppliesPrefix (g.F.Folder.told c.args.f.now) (g.F.Folder.told c.write_word.new.f) s) (both c.args.file c.args.allocations c.args.empty.now) (part_then c.in_ok-write_counters.ensures.steps c.write_word.ensures.prefix)
+    subst (λ (s : List TrailStep). AppliesPrefix (g.F.Folder.told c.args.folder.now) (g.F.Folder.told c.write_word.new.folder) s) (both c.args.file c.args.allocations c.args.empty.now) (part_then c.in_ok-write_counters.ensures.steps c.write_word.ensures.prefix)

@@ -27,15 +27,15 @@ write_run-requires g c = (
 
 pub returns-in_err-write_word-clause-prefix : goal.returns-in_err-write_word-clause-prefix
 returns-in_err-write_word-clause-prefix g c =
-    subst (λ (s : List TrailStep). AppliesPrefix (g.F.Folder.told c.args.f.now) (g.F.Folder.told c.write_word.new.f) s) (both c.args.file c.args.allocations c.args.empty.now c.requires.four)
+    subst (λ (s : List TrailStep). AppliesPrefix (g.F.Folder.told c.args.folder.now) (g.F.Folder.told c.write_word.new.folder) s) (both c.args.file c.args.allocations c.args.empty.now c.requires.four)
     (part_only (word_steps (Block c.args.file) (run_from 24 c.args.empty.now)) c.in_err-write_word.ensures.prefix)
 
 pub returns-clause-steps : goal.returns-clause-steps
 returns-clause-steps g c =
     on_ok_weaker c.write_run.result
-    (λ whole. subst (λ (s : List TrailStep). Applies (g.F.Folder.told c.args.f.now) (g.F.Folder.told c.write_run.new.f) s) (both c.args.file c.args.allocations c.args.empty.now c.requires.four) (grows_then c.in_ok-write_word.ensures.steps whole))
+    (λ whole. subst (λ (s : List TrailStep). Applies (g.F.Folder.told c.args.folder.now) (g.F.Folder.told c.write_run.new.folder) s) (both c.args.file c.args.allocations c.args.empty.now c.requires.four) (grows_then c.in_ok-write_word.ensures.steps whole))
     c.write_run.ensures.steps
 
 pub returns-clause-prefix : goal.returns-clause-prefix
 returns-clause-prefix g c =
-    subst (λ (s : List TrailStep). AppliesPrefix (g.F.Folder.told c.args.f.now) (g.F.Folder.told c.write_run.new.f) s) (both c.args.file c.args.allocations c.args.empty.now c.requires.four) (part_then c.in_ok-write_word.ensures.steps c.write_run.ensures.prefix)
+    subst (λ (s : List TrailStep). AppliesPrefix (g.F.Folder.told c.args.folder.now) (g.F.Folder.told c.write_run.new.folder) s) (both c.args.file c.args.allocations c.args.empty.now c.requires.four) (part_then c.in_ok-write_word.ensures.steps c.write_run.ensures.prefix)

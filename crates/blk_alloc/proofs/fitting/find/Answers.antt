@@ -10,7 +10,7 @@ use Rattle.blk_addr.specs.Kind.{kind_number}
 use Rattle.blk_io.specs.Faults.{IfDamaged}
 use Rattle.blk_io.proofs.Carried.{carried}
 use Rattle.blk_disk.specs.Tables.{Agrees, files_of}
-use Rattle.blk_alloc.specs.Fitting.{HasNoRoom, IsByHint, IsSought}
+use Rattle.blk_alloc.specs.Fitting.{HasNoRoom, IsByHint, IsGroupSought}
 use Rattle.blk_alloc.proofs.Members.{at_place, member_all, member_at, split_at}
 use Rattle.blk_alloc.proofs.Searches.{of_some}
 use Rattle.blk_alloc.proofs.fitting.find.Goals as goal
@@ -29,7 +29,7 @@ pub returns-in-Some-2-clause-sought : goal.returns-in-Some-2-clause-sought
 returns-in-Some-2-clause-sought g c image told =
     let both = of_some c.in_ok-found.field-0 c.in-Some-2.found _ c.in-Some-2.is c.in_ok-found.ensures.fit in
     let place = of_some c.in_ok-found.field-0 c.in-Some-2.found _ c.in-Some-2.is c.in_ok-found.ensures.place in
-    subst (λ (n : ℕ). IsSought image n c.args.count c.in-Some-2.found.i) (sym place.1) (both image (ap (λ (t : Told). t.files) c.loop-k.invariant.stays ∙ told)).0
+    subst (λ (n : ℕ). IsGroupSought image n c.args.count c.in-Some-2.found.i) (sym place.1) (both image (ap (λ (t : Told). t.files) c.loop-k.invariant.stays ∙ told)).0
 
 pub returns-in-Some-2-clause-fit : goal.returns-in-Some-2-clause-fit
 returns-in-Some-2-clause-fit g c image told =
@@ -46,7 +46,7 @@ returns-in-Some-2-clause-fit g c image told =
       split = split_at files c.loop-k.k c.in-Some.file at ∙ ap (λ (n : ℕ). take c.loop-k.k files ++ n ∷ drop (c.loop-k.k + 1) files) file;
       full = c.loop-k.invariant.full image told;
       i = c.in-Some-2.found.i;
-      sought = subst (λ (n : ℕ). IsSought image n c.args.count c.in-Some-2.found.i) file fits.0;
+      sought = subst (λ (n : ℕ). IsGroupSought image n c.args.count c.in-Some-2.found.i) file fits.0;
       blocks = subst (λ (n : ℕ). IsByHint image n (groups_of (max_entries_in image n)) c.args.count c.in-Some-2.found.i c.in-Some-2.found.place.start) file
           (subst (λ (m : ℕ). IsByHint image c.in-Some.file (groups_of m) c.args.count c.in-Some-2.found.i c.in-Some-2.found.place.start) ((c.requires.agrees image told).blocks c.in-Some.file all) fits.1);
       counted = place.0.counted;

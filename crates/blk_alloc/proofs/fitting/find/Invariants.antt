@@ -8,8 +8,8 @@ use Rattle.blk_alloc.proofs.fitting.find.Given as goal
 
 abbrev pub invariant-loop-k : goal.invariant-loop-k
 invariant-loop-k g l = record {
-  full : ForSome (g.F.Folder.told l.initial.f).files (λ image. All (HasNoRoom image l.count) (take l.k (files_of l.files (kind_number l.kind))));
+  full : ForSome (g.F.Folder.told l.initial.folder).files (λ image. All (HasNoRoom image l.count) (take l.k (files_of l.files (kind_number l.kind))));
   none : l.steps ≡ l.initial.steps;
-  stays : g.F.Folder.told l.f ≡ g.F.Folder.told l.initial.f;
-  later : g.F.Folder.faults l.initial.f ≤ g.F.Folder.faults l.f;
+  stays : g.F.Folder.told l.folder ≡ g.F.Folder.told l.initial.folder;
+  later : g.F.Folder.faults l.initial.folder ≤ g.F.Folder.faults l.folder;
 }

@@ -14,7 +14,7 @@ use Rattle.blk_io.proofs.Shorts.{untold_if}
 use Rattle.blk_disk.specs.Tables.{Agrees, blocks_of}
 use Rattle.blk_disk.proofs.KeptOnce.{counts}
 use Rattle.blk_disk.proofs.WholeHeaders.{all_head}
-use Rattle.blk_alloc.specs.Fitting.{IsMapWord, IsSearchDamage}
+use Rattle.blk_alloc.specs.Fitting.{IsMapWord, IsFittingDamage}
 use Rattle.blk_alloc.proofs.Members.{member_all}
 use Rattle.blk_alloc.proofs.Pieces.{place_group}
 use Rattle.blk_alloc.proofs.Searches.{by_hint, counted_somewhere, of_some}
@@ -23,7 +23,7 @@ use Rattle.blk_alloc.proofs.fitting.find_by_hint.Goals as goal
 pub returns-in_err-hint-clause-cause : goal.returns-in_err-hint-clause-cause
 returns-in_err-hint-clause-cause g c =
     carried c.read_word.result c.from_residual.result c.in_err-hint.field-0.0 _ c.in_err-hint.was c.from_residual.ensures.1
-    (if_damaged_weaker c.read_word.result (IsShort (g.F.Folder.told c.args.f.now) (names.Block c.args.blocks.file) (40 + 4 * c.from.result) 4) (IsSearchDamage c.args.files.now (kind_number c.args.kind) (g.F.Folder.told c.args.f.now))
+    (if_damaged_weaker c.read_word.result (IsShort (g.F.Folder.told c.args.folder.now) (names.Block c.args.blocks.file) (40 + 4 * c.from.result) 4) (IsFittingDamage c.args.files.now (kind_number c.args.kind) (g.F.Folder.told c.args.folder.now))
     (λ damage short. record {
       file = c.args.blocks.file;
       linked = c.requires.linked;
@@ -33,7 +33,7 @@ returns-in_err-hint-clause-cause g c =
 pub returns-in_err-hint-clause-untold : goal.returns-in_err-hint-clause-untold
 returns-in_err-hint-clause-untold g c both =
     carried c.read_word.result c.from_residual.result c.in_err-hint.field-0.0 _ c.in_err-hint.was c.from_residual.ensures.1
-    (untold_if c.read_word.result (g.F.Folder.told c.args.f.now) (names.Block c.args.blocks.file) (40 + 4 * c.from.result) 4 c.read_word.ensures.short
+    (untold_if c.read_word.result (g.F.Folder.told c.args.folder.now) (names.Block c.args.blocks.file) (40 + 4 * c.from.result) 4 c.read_word.ensures.short
     (λ image there. let long = (all_head c.args.files.now image c.args.blocks.file (both image there).0 (member_all c.args.files.now c.args.kind c.args.blocks.file c.requires.block_kind c.requires.linked)).header in let is = c.from.ensures in omega (arith, long, is, c.requires.small)))
 
 pub first_met-requires : goal.first_met-requires
@@ -48,7 +48,7 @@ pub returns-in_default-clause-untold : goal.returns-in_default-clause-untold
 returns-in_default-clause-untold g c both =
     let n = c.args.blocks.file in
     let all = member_all c.args.files.now c.args.kind n c.requires.block_kind c.requires.linked in
-    untold_where (g.F.Folder.told c.args.f.now).files
+    untold_where (g.F.Folder.told c.args.folder.now).files
     (λ image there.
     let agrees = (both image there).0 in
     let blocks = agrees.blocks n all in

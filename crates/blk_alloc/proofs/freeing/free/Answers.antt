@@ -60,8 +60,8 @@ pub returns-clause-stops : goal.returns-clause-stops
 returns-clause-stops g c from there =
     let b = c.blocks_of-blocks in
     let w = c.args.addr in
-    let stops : PassesTo (g.F.Folder.told c.args.f.now) (g.F.Folder.told c.read_and_change.new.f) (IsMapInProgress (file_selector w) from) (λ image. IsMapInProgress (file_selector w) from image ⊎ IsChanged from (file_selector w) (first_block w) (block_count w) false image) =
-    back (λ n s k. PassesTo (g.F.Folder.told c.args.f.now) (g.F.Folder.told c.read_and_change.new.f) (IsMapInProgress n from) (λ image. IsMapInProgress n from image ⊎ IsChanged from n s k false image)) w b.result.file b.result.start b.result.count b.ensures.file b.ensures.start b.ensures.count (c.read_and_change.ensures.stops from there) in
+    let stops : PassesTo (g.F.Folder.told c.args.f.now) (g.F.Folder.told c.read_and_change.new.folder) (IsMapInProgress (file_selector w) from) (λ image. IsMapInProgress (file_selector w) from image ⊎ IsChanged from (file_selector w) (first_block w) (block_count w) false image) =
+    back (λ n s k. PassesTo (g.F.Folder.told c.args.f.now) (g.F.Folder.told c.read_and_change.new.folder) (IsMapInProgress n from) (λ image. IsMapInProgress n from image ⊎ IsChanged from n s k false image)) w b.result.file b.result.start b.result.count b.ensures.file b.ensures.start b.ensures.count (c.read_and_change.ensures.stops from there) in
     let midst : (image : Image) → IsMapInProgress (file_selector w) from image → FreesInProgress w from image = λ image is. record { marks = is; stays = frees_whole from image w is.same } in
     let last : (image : Image) → IsChanged from (file_selector w) (first_block w) (block_count w) false image → FreesAtLast w from image = λ image is. record { freed = freed_is from image w (stands_blocky c.args.files.now w c.requires.stands) (standing_blocks c.args.files.now from w (c.requires.agrees from there) c.requires.stands) is; stays = frees_whole from image w is.same } in
     passes_weaker stops midst (λ image. ⊎_elim (λ is. inl (midst image is)) (λ is. inr (last image is)))
@@ -69,7 +69,7 @@ returns-clause-stops g c from there =
 pub returns-clause-agrees : goal.returns-clause-agrees
 returns-clause-agrees g c =
     let b = c.blocks_of-blocks in
-    told_at_end (g.F.Folder.told c.args.f.now).files (g.F.Folder.told c.read_and_change.new.f).files (Agrees c.args.files.now) c.read_and_change.ensures.silent
+    told_at_end (g.F.Folder.told c.args.f.now).files (g.F.Folder.told c.read_and_change.new.folder).files (Agrees c.args.files.now) c.read_and_change.ensures.silent
     (λ from there. let keeps : (i : Image) → SameOutside (map_of b.result.file) from i → Agrees c.args.files.now i = λ i same. agrees_kept b.result.file from i same c.args.files.now (c.requires.agrees from there) in
     passes_end (passes_weaker (c.read_and_change.ensures.stops from there) (λ i midst. keeps i midst.same) (λ i. ⊎_elim (λ midst. keeps i midst.same) (λ changed. keeps i changed.same))))
 

@@ -45,33 +45,33 @@ change-requires-clause-inside g c mid now = in_map c.args.place.start c.args.pla
 
 pub returns-in_err-change-clause-agrees : goal.returns-in_err-change-clause-agrees
 returns-in_err-change-clause-agrees g c =
-    told_at_end (g.F.Folder.told c.fit.new.f).files (g.F.Folder.told c.change.new.f).files (Agrees c.fit.new.self) c.in_err-change.ensures.silent
+    told_at_end (g.F.Folder.told c.fit.new.f).files (g.F.Folder.told c.change.new.folder).files (Agrees c.fit.new.self) c.in_err-change.ensures.silent
     (λ mid now. let keeps : (i : Image) → SameOutside (map_of c.args.place.file) mid i → Agrees c.fit.new.self i = λ i same. agrees_kept c.args.place.file mid i same c.fit.new.self (c.in_ok-fit.ensures.agrees mid now) in
     passes_end (passes_weaker (c.in_err-change.ensures.stops mid now) (λ i midst. keeps i midst.same) (λ i. ⊎_elim (λ midst. keeps i midst.same) (λ changed. keeps i changed.same))))
 
 pub returns-in_err-change-clause-stops : goal.returns-in_err-change-clause-stops
 returns-in_err-change-clause-stops g c from there takeable =
-    let tk : ForSome (g.F.Folder.told c.args.f.now).files (λ image. CanBeMarked image c.args.place) = λ image is. subst (λ (i : Image). CanBeMarked i c.args.place) (some_inj (sym there ∙ is)) takeable in
-    stops_after (g.F.Folder.told c.args.f.now) (g.F.Folder.told c.fit.new.f) c.args.files.now c.fit.new.self c.args.place c.requires.agrees (member_all c.args.files.now c.args.kind c.args.place.file c.requires.block_kind c.requires.place.linked)
-    c.in_ok-fit.ensures.fitted c.in_ok-fit.ensures.kept c.in_ok-fit.ensures.agrees c.args.kind c.requires.block_kind c.requires.some c.requires.node c.requires.place tk (g.F.Folder.told c.change.new.f) c.in_err-change.ensures.stops from there
+    let tk : ForSome (g.F.Folder.told c.args.folder.now).files (λ image. CanBeMarked image c.args.place) = λ image is. subst (λ (i : Image). CanBeMarked i c.args.place) (some_inj (sym there ∙ is)) takeable in
+    stops_after (g.F.Folder.told c.args.folder.now) (g.F.Folder.told c.fit.new.f) c.args.files.now c.fit.new.self c.args.place c.requires.agrees (member_all c.args.files.now c.args.kind c.args.place.file c.requires.block_kind c.requires.place.linked)
+    c.in_ok-fit.ensures.fitted c.in_ok-fit.ensures.kept c.in_ok-fit.ensures.agrees c.args.kind c.requires.block_kind c.requires.some c.requires.node c.requires.place tk (g.F.Folder.told c.change.new.folder) c.in_err-change.ensures.stops from there
 
 pub returns-clause-agrees : goal.returns-clause-agrees
 returns-clause-agrees g c =
-    told_at_end (g.F.Folder.told c.fit.new.f).files (g.F.Folder.told c.change.new.f).files (Agrees c.fit.new.self) c.in_ok-change.ensures.silent
+    told_at_end (g.F.Folder.told c.fit.new.f).files (g.F.Folder.told c.change.new.folder).files (Agrees c.fit.new.self) c.in_ok-change.ensures.silent
     (λ mid now. let keeps : (i : Image) → SameOutside (map_of c.args.place.file) mid i → Agrees c.fit.new.self i = λ i same. agrees_kept c.args.place.file mid i same c.fit.new.self (c.in_ok-fit.ensures.agrees mid now) in
     passes_end (passes_weaker (c.in_ok-change.ensures.stops mid now) (λ i midst. keeps i midst.same) (λ i. ⊎_elim (λ midst. keeps i midst.same) (λ changed. keeps i changed.same))))
 
 pub returns-clause-stops : goal.returns-clause-stops
 returns-clause-stops g c from there takeable =
-    let tk : ForSome (g.F.Folder.told c.args.f.now).files (λ image. CanBeMarked image c.args.place) = λ image is. subst (λ (i : Image). CanBeMarked i c.args.place) (some_inj (sym there ∙ is)) takeable in
-    stops_after (g.F.Folder.told c.args.f.now) (g.F.Folder.told c.fit.new.f) c.args.files.now c.fit.new.self c.args.place c.requires.agrees (member_all c.args.files.now c.args.kind c.args.place.file c.requires.block_kind c.requires.place.linked)
-    c.in_ok-fit.ensures.fitted c.in_ok-fit.ensures.kept c.in_ok-fit.ensures.agrees c.args.kind c.requires.block_kind c.requires.some c.requires.node c.requires.place tk (g.F.Folder.told c.change.new.f) c.in_ok-change.ensures.stops from there
+    let tk : ForSome (g.F.Folder.told c.args.folder.now).files (λ image. CanBeMarked image c.args.place) = λ image is. subst (λ (i : Image). CanBeMarked i c.args.place) (some_inj (sym there ∙ is)) takeable in
+    stops_after (g.F.Folder.told c.args.folder.now) (g.F.Folder.told c.fit.new.f) c.args.files.now c.fit.new.self c.args.place c.requires.agrees (member_all c.args.files.now c.args.kind c.args.place.file c.requires.block_kind c.requires.place.linked)
+    c.in_ok-fit.ensures.fitted c.in_ok-fit.ensures.kept c.in_ok-fit.ensures.agrees c.args.kind c.requires.block_kind c.requires.some c.requires.node c.requires.place tk (g.F.Folder.told c.change.new.folder) c.in_ok-change.ensures.stops from there
 
 pub returns-clause-used : goal.returns-clause-used
 returns-clause-used g c from there takeable image now =
-    let tk : ForSome (g.F.Folder.told c.args.f.now).files (λ image. CanBeMarked image c.args.place) = λ image is. subst (λ (i : Image). CanBeMarked i c.args.place) (some_inj (sym there ∙ is)) takeable in
+    let tk : ForSome (g.F.Folder.told c.args.folder.now).files (λ image. CanBeMarked image c.args.place) = λ image is. subst (λ (i : Image). CanBeMarked i c.args.place) (some_inj (sym there ∙ is)) takeable in
     subst (λ (w : ℕ). MarksUsed c.args.files.now from w image) (sym c.of_blocks-addr.ensures)
-    (taken_after (g.F.Folder.told c.args.f.now) (g.F.Folder.told c.fit.new.f) c.args.files.now c.fit.new.self c.args.place c.requires.agrees (member_all c.args.files.now c.args.kind c.args.place.file c.requires.block_kind c.requires.place.linked)
+    (taken_after (g.F.Folder.told c.args.folder.now) (g.F.Folder.told c.fit.new.f) c.args.files.now c.fit.new.self c.args.place c.requires.agrees (member_all c.args.files.now c.args.kind c.args.place.file c.requires.block_kind c.requires.place.linked)
     c.in_ok-fit.ensures.fitted c.in_ok-fit.ensures.kept c.in_ok-fit.ensures.agrees c.args.kind c.requires.block_kind c.requires.some c.requires.node c.requires.place tk from there image (λ mid is. c.in_ok-change.ensures.changed mid is image now))
 
 pub returns-in_err-fit-clause-keeps : goal.returns-in_err-fit-clause-keeps
@@ -86,17 +86,17 @@ returns-clause-keeps g c = standing_kept c.args.files.now c.fit.new.self (fit_la
 pub returns-in_err-change-clause-cause : goal.returns-in_err-change-clause-cause
 returns-in_err-change-clause-cause g c =
     carried c.change.result c.from_residual-in_err-change.result c.in_err-change.field-0.0 _ c.in_err-change.was c.from_residual-in_err-change.ensures.1
-    (if_damaged_both c.change.result (IsCause (g.F.Folder.told c.fit.new.f) c.args.place.file c.args.place.start c.args.place.count true) (λ _. Stays (g.F.Folder.told c.fit.new.f) (g.F.Folder.told c.change.new.f))
-    (IsCause (g.F.Folder.told c.change.new.f) c.args.place.file c.args.place.start c.args.place.count true)
+    (if_damaged_both c.change.result (IsCause (g.F.Folder.told c.fit.new.f) c.args.place.file c.args.place.start c.args.place.count true) (λ _. Stays (g.F.Folder.told c.fit.new.f) (g.F.Folder.told c.change.new.folder))
+    (IsCause (g.F.Folder.told c.change.new.folder) c.args.place.file c.args.place.start c.args.place.count true)
     (λ damage cause stays. subst (λ (t : Told). IsCause t c.args.place.file c.args.place.start c.args.place.count true damage) (sym stays) cause) c.change.ensures.cause c.change.ensures.unwritten)
 
 pub returns-in_err-change-clause-untold : goal.returns-in_err-change-clause-untold
 returns-in_err-change-clause-untold g c =
     carried c.change.result c.from_residual-in_err-change.result c.in_err-change.field-0.0 _ c.in_err-change.was c.from_residual-in_err-change.ensures.1
     (if_damaged_weaker c.change.result (λ _. ForSome (g.F.Folder.told c.fit.new.f).files (λ image. CanChangeMarks image c.args.place.file c.args.place.start c.args.place.count true) → (g.F.Folder.told c.fit.new.f).files ≡ None)
-    (λ _. ForSome (g.F.Folder.told c.args.f.now).files (λ image. CanBeMarked image c.args.place) → (g.F.Folder.told c.args.f.now).files ≡ None)
-    (λ damage none tk. none_before (after (fit_steps c.args.files.now c.args.place.file)) (g.F.Folder.told c.args.f.now).files (g.F.Folder.told c.fit.new.f).files c.in_ok-fit.ensures.fitted.files
-    (none (ready_after (g.F.Folder.told c.args.f.now) (g.F.Folder.told c.fit.new.f) c.args.files.now c.fit.new.self c.args.place c.requires.agrees (member_all c.args.files.now c.args.kind c.args.place.file c.requires.block_kind c.requires.place.linked)
+    (λ _. ForSome (g.F.Folder.told c.args.folder.now).files (λ image. CanBeMarked image c.args.place) → (g.F.Folder.told c.args.folder.now).files ≡ None)
+    (λ damage none tk. none_before (after (fit_steps c.args.files.now c.args.place.file)) (g.F.Folder.told c.args.folder.now).files (g.F.Folder.told c.fit.new.f).files c.in_ok-fit.ensures.fitted.files
+    (none (ready_after (g.F.Folder.told c.args.folder.now) (g.F.Folder.told c.fit.new.f) c.args.files.now c.fit.new.self c.args.place c.requires.agrees (member_all c.args.files.now c.args.kind c.args.place.file c.requires.block_kind c.requires.place.linked)
     c.in_ok-fit.ensures.fitted c.in_ok-fit.ensures.kept c.in_ok-fit.ensures.agrees tk))) c.change.ensures.untold)
 
 pub returns-in_err-fit-clause-place : goal.returns-in_err-fit-clause-place
@@ -110,8 +110,8 @@ returns-clause-place g c = place_resized c.args.files.now c.fit.new.self (kind_n
 
 pub returns-clause-counted : goal.returns-clause-counted
 returns-clause-counted g c =
-    counted_after (g.F.Folder.told c.args.f.now) (g.F.Folder.told c.fit.new.f) c.args.files.now c.fit.new.self c.args.place c.requires.agrees (member_all c.args.files.now c.args.kind c.args.place.file c.requires.block_kind c.requires.place.linked)
-    c.in_ok-fit.ensures.fitted c.in_ok-fit.ensures.kept c.in_ok-fit.ensures.agrees c.args.place.start c.args.place.count (g.F.Folder.told c.change.new.f) c.in_ok-change.ensures.changed
+    counted_after (g.F.Folder.told c.args.folder.now) (g.F.Folder.told c.fit.new.f) c.args.files.now c.fit.new.self c.args.place c.requires.agrees (member_all c.args.files.now c.args.kind c.args.place.file c.requires.block_kind c.requires.place.linked)
+    c.in_ok-fit.ensures.fitted c.in_ok-fit.ensures.kept c.in_ok-fit.ensures.agrees c.args.place.start c.args.place.count (g.F.Folder.told c.change.new.folder) c.in_ok-change.ensures.changed
 
 pub returns-clause-links : goal.returns-clause-links
 returns-clause-links g c = c.in_ok-fit.ensures.kept.files
@@ -124,13 +124,13 @@ returns-clause-stands g c = ap (stands_among c.fit.new.self) c.of_blocks-addr.en
 
 pub change-requires-clause-word : goal.change-requires-clause-word
 change-requires-clause-word g c =
-    word_after (g.F.Folder.told c.args.f.now) (g.F.Folder.told c.fit.new.f) c.args.files.now c.fit.new.self c.args.place c.requires.agrees (member_all c.args.files.now c.args.kind c.args.place.file c.requires.block_kind c.requires.place.linked)
+    word_after (g.F.Folder.told c.args.folder.now) (g.F.Folder.told c.fit.new.f) c.args.files.now c.fit.new.self c.args.place c.requires.agrees (member_all c.args.files.now c.args.kind c.args.place.file c.requires.block_kind c.requires.place.linked)
     c.in_ok-fit.ensures.fitted c.in_ok-fit.ensures.kept c.in_ok-fit.ensures.agrees (c.args.place.start / 32) c.args.word c.requires.read
 
 pub returns-clause-hints : goal.returns-clause-hints
 returns-clause-hints g c =
-    hints_after (g.F.Folder.told c.args.f.now) (g.F.Folder.told c.fit.new.f) c.args.files.now c.fit.new.self c.args.place c.requires.agrees (member_all c.args.files.now c.args.kind c.args.place.file c.requires.block_kind c.requires.place.linked)
-    c.in_ok-fit.ensures.fitted c.in_ok-fit.ensures.kept c.in_ok-fit.ensures.agrees c.args.place.start c.args.place.count (g.F.Folder.told c.change.new.f) c.in_ok-change.ensures.changed
+    hints_after (g.F.Folder.told c.args.folder.now) (g.F.Folder.told c.fit.new.f) c.args.files.now c.fit.new.self c.args.place c.requires.agrees (member_all c.args.files.now c.args.kind c.args.place.file c.requires.block_kind c.requires.place.linked)
+    c.in_ok-fit.ensures.fitted c.in_ok-fit.ensures.kept c.in_ok-fit.ensures.agrees c.args.place.start c.args.place.count (g.F.Folder.told c.change.new.folder) c.in_ok-change.ensures.changed
 
 pub returns-clause-blocks : goal.returns-clause-blocks
 returns-clause-blocks g c = c.in_ok-fit.ensures.kept.blocks

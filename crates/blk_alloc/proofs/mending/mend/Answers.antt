@@ -4,7 +4,7 @@ use Rattle.spec_image.specs.Image.{Block, HasRange, Image, File, byte, length_of
 use Rattle.spec_image.specs.Footprint.{range}
 use Rattle.spec_image.proofs.Footprints.{outside-refl}
 use Rattle.spec_image.proofs.Runs.{some_inj}
-use Rattle.blk_alloc.specs.Mending.{IsFrontWritten, AreBytesWritten, KeepsLength, StandAt}
+use Rattle.blk_alloc.specs.Mending.{IsPrefixWritten, AreBytesWritten, KeepsLength, StandAt}
 use Rattle.blk_alloc.proofs.Needed.{content_part, long_then, needed_none, needed_then, needed_weaker, part_more, part_written, stands_behind, told_so_far, written_more}
 use Rattle.blk_alloc.proofs.mending.mend.Goals as goal
 
@@ -25,8 +25,8 @@ next_stands file at old new k alike below from image stands written i small =
 
 pub loop-k-init : goal.loop-k-init
 loop-k-init g c = record {
-  stops = λ from there stands. needed_none (IsFrontWritten (Block c.args.file) c.args.at c.args.new.now from) refl
-      (λ image is. subst (IsFrontWritten (Block c.args.file) c.args.at c.args.new.now from) (some_inj (sym there ∙ is)) (part_written (Block c.args.file) c.args.at c.args.new.now 0 from from (omega arith) (none_written (Block c.args.file) c.args.at c.args.new.now from)));
+  stops = λ from there stands. needed_none (IsPrefixWritten (Block c.args.file) c.args.at c.args.new.now from) refl
+      (λ image is. subst (IsPrefixWritten (Block c.args.file) c.args.at c.args.new.now from) (some_inj (sym there ∙ is)) (part_written (Block c.args.file) c.args.at c.args.new.now 0 from from (omega arith) (none_written (Block c.args.file) c.args.at c.args.new.now from)));
   so_far = λ from there stands image is. subst (AreBytesWritten (Block c.args.file) c.args.at c.args.new.now 0 from) (some_inj (sym there ∙ is)) (none_written (Block c.args.file) c.args.at c.args.new.now from);
   long = λ from there image is. ap (λ (i : Image). length_of i (Block c.args.file)) (some_inj (sym is ∙ there));
   silent = λ none. none;
@@ -35,7 +35,7 @@ loop-k-init g c = record {
 
 pub mend_word-requires-clause-inside : goal.mend_word-requires-clause-inside
 mend_word-requires-clause-inside g c =
-    told_so_far (g.F.Folder.told c.args.f.now).files (g.F.Folder.told c.loop-k.f).files (λ image. HasRange image (Block c.args.file) c.args.at (length c.args.new.now)) (KeepsLength (Block c.args.file)) (λ image. HasRange image (Block c.args.file) (c.args.at + 4 * c.loop-k.k) 4) c.loop-k.invariant.silent c.loop-k.invariant.long c.requires.inside
+    told_so_far (g.F.Folder.told c.args.folder.now).files (g.F.Folder.told c.loop-k.folder).files (λ image. HasRange image (Block c.args.file) c.args.at (length c.args.new.now)) (KeepsLength (Block c.args.file)) (λ image. HasRange image (Block c.args.file) (c.args.at + 4 * c.loop-k.k) 4) c.loop-k.invariant.silent c.loop-k.invariant.long c.requires.inside
     (λ from image long inside. omega (arith, inside, long, c.loop-k-test.true))
 
 pub returns-in_err-mend_word-clause-stops : goal.returns-in_err-mend_word-clause-stops
@@ -46,7 +46,7 @@ returns-in_err-mend_word-clause-stops g c from there stands =
     (part_more (Block c.args.file) c.args.at c.args.new.now (take (4 * c.loop-k.k + 4 - 4 * c.loop-k.k) (drop (4 * c.loop-k.k) c.args.new.now)) c.loop-k.k from mid (c.loop-k.invariant.so_far from there stands mid now) (word_is c.args.new.now c.loop-k.k c.loop-k-test.true) (omega (arith, c.loop-k-test.true))))
 
 pub returns-in_err-mend_word-clause-long : goal.returns-in_err-mend_word-clause-long
-returns-in_err-mend_word-clause-long g c = long_then (g.F.Folder.told c.args.f.now).files (g.F.Folder.told c.loop-k.f).files (g.F.Folder.told c.mend_word.new.f).files (Block c.args.file) c.in_err-mend_word.ensures.silent c.loop-k.invariant.long c.in_err-mend_word.ensures.long
+returns-in_err-mend_word-clause-long g c = long_then (g.F.Folder.told c.args.folder.now).files (g.F.Folder.told c.loop-k.folder).files (g.F.Folder.told c.mend_word.new.folder).files (Block c.args.file) c.in_err-mend_word.ensures.silent c.loop-k.invariant.long c.in_err-mend_word.ensures.long
 
 pub loop-k-preserved : goal.loop-k-preserved
 loop-k-preserved g c = record {
@@ -58,9 +58,9 @@ loop-k-preserved g c = record {
       (part_more (Block c.args.file) c.args.at c.args.new.now (take (4 * c.loop-k.k + 4 - 4 * c.loop-k.k) (drop (4 * c.loop-k.k) c.args.new.now)) c.loop-k.k from mid (c.loop-k.invariant.so_far from there stands mid now) (word_is c.args.new.now c.loop-k.k c.loop-k-test.true) (omega (arith, c.loop-k-test.true))));
   so_far =
       λ from there stands.
-      told_so_far (g.F.Folder.told c.loop-k.f).files (g.F.Folder.told c.mend_word.new.f).files (AreBytesWritten (Block c.args.file) c.args.at c.args.new.now (4 * c.loop-k.k) from) (AreBytesWritten (Block c.args.file) (c.args.at + 4 * c.loop-k.k) (take (4 * c.loop-k.k + 4 - 4 * c.loop-k.k) (drop (4 * c.loop-k.k) c.args.new.now)) 4) (AreBytesWritten (Block c.args.file) c.args.at c.args.new.now (4 * (c.loop-k.k + 1)) from) c.in_ok-mend_word.ensures.silent (λ mid now. c.in_ok-mend_word.ensures.done mid now (next_stands (Block c.args.file) c.args.at c.args.old.now c.args.new.now c.loop-k.k c.requires.alike c.loop-k-test.true from mid stands (c.loop-k.invariant.so_far from there stands mid now))) (c.loop-k.invariant.so_far from there stands)
+      told_so_far (g.F.Folder.told c.loop-k.folder).files (g.F.Folder.told c.mend_word.new.folder).files (AreBytesWritten (Block c.args.file) c.args.at c.args.new.now (4 * c.loop-k.k) from) (AreBytesWritten (Block c.args.file) (c.args.at + 4 * c.loop-k.k) (take (4 * c.loop-k.k + 4 - 4 * c.loop-k.k) (drop (4 * c.loop-k.k) c.args.new.now)) 4) (AreBytesWritten (Block c.args.file) c.args.at c.args.new.now (4 * (c.loop-k.k + 1)) from) c.in_ok-mend_word.ensures.silent (λ mid now. c.in_ok-mend_word.ensures.done mid now (next_stands (Block c.args.file) c.args.at c.args.old.now c.args.new.now c.loop-k.k c.requires.alike c.loop-k-test.true from mid stands (c.loop-k.invariant.so_far from there stands mid now))) (c.loop-k.invariant.so_far from there stands)
       (λ mid image more before. written_more (Block c.args.file) c.args.at c.args.new.now (take (4 * c.loop-k.k + 4 - 4 * c.loop-k.k) (drop (4 * c.loop-k.k) c.args.new.now)) c.loop-k.k from mid before (word_is c.args.new.now c.loop-k.k c.loop-k-test.true) image more);
-  long = long_then (g.F.Folder.told c.args.f.now).files (g.F.Folder.told c.loop-k.f).files (g.F.Folder.told c.mend_word.new.f).files (Block c.args.file) c.in_ok-mend_word.ensures.silent c.loop-k.invariant.long c.in_ok-mend_word.ensures.long;
+  long = long_then (g.F.Folder.told c.args.folder.now).files (g.F.Folder.told c.loop-k.folder).files (g.F.Folder.told c.mend_word.new.folder).files (Block c.args.file) c.in_ok-mend_word.ensures.silent c.loop-k.invariant.long c.in_ok-mend_word.ensures.long;
   silent = λ none. c.in_ok-mend_word.ensures.silent (c.loop-k.invariant.silent none);
   later = let one = c.loop-k.invariant.later in let other = c.in_ok-mend_word.ensures.later in omega (arith, one, other);
 }

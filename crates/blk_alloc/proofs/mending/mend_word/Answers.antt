@@ -27,7 +27,7 @@ pub returns-clause-done : goal.returns-clause-done
 returns-clause-done g c =
     on_ok_weaker c.write_at.result
     (λ whole from there stands image now.
-    told_whole (AreBytesWritten (Block c.args.file) c.args.at c.args.new.now 4 from) (subst (Applies (g.F.Folder.told c.args.f.now) (g.F.Folder.told c.write_at.new.self)) (one_step (Block c.args.file) c.args.at c.args.new.now c.requires.new_word c.requires.aligned) whole)
+    told_whole (AreBytesWritten (Block c.args.file) c.args.at c.args.new.now 4 from) (subst (Applies (g.F.Folder.told c.args.folder.now) (g.F.Folder.told c.write_at.new.self)) (one_step (Block c.args.file) c.args.at c.args.new.now c.requires.new_word c.requires.aligned) whole)
     (λ i is. subst (λ (j : Image). AreBytesWritten (Block c.args.file) c.args.at c.args.new.now 4 from (applied (Word (Block c.args.file) c.args.at c.args.new.now) j)) (some_inj (sym there ∙ is)) (written_step (Block c.args.file) c.args.at c.args.new.now 4 c.requires.new_word from (c.requires.inside from there))) image now) c.write_at.ensures.steps
 
 pub returns-clause-stops : goal.returns-clause-stops
@@ -50,7 +50,7 @@ returns-then-eq-clause-long g c from there image now = ap (λ (i : Image). lengt
 
 pub returns-clause-long : goal.returns-clause-long
 returns-clause-long g c =
-    told_rel (KeepsLength (Block c.args.file)) (subst (AppliesPrefix (g.F.Folder.told c.args.f.now) (g.F.Folder.told c.write_at.new.self)) (one_step (Block c.args.file) c.args.at c.args.new.now c.requires.new_word c.requires.aligned) c.write_at.ensures.prefix)
+    told_rel (KeepsLength (Block c.args.file)) (subst (AppliesPrefix (g.F.Folder.told c.args.folder.now) (g.F.Folder.told c.write_at.new.self)) (one_step (Block c.args.file) c.args.at c.args.new.now c.requires.new_word c.requires.aligned) c.write_at.ensures.prefix)
     (λ image. (refl, (outside_write (Block c.args.file) c.args.at c.args.new.now image).lengths (Block c.args.file) refl))
 
 pub returns-clause-silent : goal.returns-clause-silent

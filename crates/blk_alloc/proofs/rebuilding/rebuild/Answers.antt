@@ -24,7 +24,7 @@ loop-number-init g c = record { has = none_rebuilt (g.F.Folder.told c.args.f.now
 
 pub returns-in_err-rebuild_file-clause-stops : goal.returns-in_err-rebuild_file-clause-stops
 returns-in_err-rebuild_file-clause-stops g c =
-    next_stops (g.F.Folder.told c.args.f.now) (g.F.Folder.told c.loop-number.f) c.args.files.now c.loop-number.files c.args.claims.now c.loop-number.number c.loop-number.invariant.has (g.F.Folder.told c.rebuild_file.new.f)
+    next_stops (g.F.Folder.told c.args.f.now) (g.F.Folder.told c.loop-number.f) c.args.files.now c.loop-number.files c.args.claims.now c.loop-number.number c.loop-number.invariant.has (g.F.Folder.told c.rebuild_file.new.folder)
     (sym (linked_is (is_among (all_files c.loop-number.files) c.loop-number.number) _ c.max_entries.result c.is_some.result c.max_entries.ensures c.is_some.ensures) ∙ c.if-is_some.true) c.rebuild_file.ensures.stops
 
 pub loop-number-preserved : goal.loop-number-preserved
@@ -33,8 +33,8 @@ loop-number-preserved g c = elim c.if-is_some.branch [
       record {
         has =
             subst (λ (t : Told). HasRebuilt (g.F.Folder.told c.args.f.now) t c.args.files.now c.if-is_some.files c.args.claims.now (c.loop-number.number + 1)) (ap g.F.Folder.told (sym w.f-is))
-            (subst (λ (files : BlockFiles). HasRebuilt (g.F.Folder.told c.args.f.now) (g.F.Folder.told w.rebuild_file.new.f) c.args.files.now files c.args.claims.now (c.loop-number.number + 1)) (sym w.files-is)
-            (next_rebuilt (g.F.Folder.told c.args.f.now) (g.F.Folder.told c.loop-number.f) c.args.files.now c.loop-number.files c.args.claims.now c.loop-number.number c.loop-number.invariant.has (g.F.Folder.told w.rebuild_file.new.f)
+            (subst (λ (files : BlockFiles). HasRebuilt (g.F.Folder.told c.args.f.now) (g.F.Folder.told w.rebuild_file.new.folder) c.args.files.now files c.args.claims.now (c.loop-number.number + 1)) (sym w.files-is)
+            (next_rebuilt (g.F.Folder.told c.args.f.now) (g.F.Folder.told c.loop-number.f) c.args.files.now c.loop-number.files c.args.claims.now c.loop-number.number c.loop-number.invariant.has (g.F.Folder.told w.rebuild_file.new.folder)
             (sym (linked_is (is_among (all_files c.loop-number.files) c.loop-number.number) _ c.max_entries.result c.is_some.result c.max_entries.ensures c.is_some.ensures) ∙ w.if-is_some.true) w.rebuild_file.ensures.stops
             w.rebuild_file.new.files w.rebuild_file.ensures.silent w.in_ok-rebuild_file.ensures.done w.in_ok-rebuild_file.ensures.fitted w.rebuild_file.ensures.agrees w.rebuild_file.ensures.clean));
         later = let one = c.loop-number.invariant.later in let other = w.rebuild_file.ensures.later in subst (λ f. g.F.Folder.faults c.args.f.now ≤ g.F.Folder.faults f) (sym w.f-is) (omega (arith, one, other));
@@ -70,7 +70,7 @@ returns-clause-keeps g c = standing_kept c.args.files.now c.loop-number.files (f
 
 pub returns-in_err-rebuild_file-clause-cause : goal.returns-in_err-rebuild_file-clause-cause
 returns-in_err-rebuild_file-clause-cause g c =
-    let told = g.F.Folder.told c.rebuild_file.new.f in
+    let told = g.F.Folder.told c.rebuild_file.new.folder in
     let linked : is_among (all_files c.loop-number.files) c.loop-number.number ≡ true = sym (linked_is (is_among (all_files c.loop-number.files) c.loop-number.number) _ c.max_entries.result c.is_some.result c.max_entries.ensures c.is_some.ensures) ∙ c.if-is_some.true in
     carried c.rebuild_file.result c.from_residual.result c.in_err-rebuild_file.field-0.0 _ c.in_err-rebuild_file.was c.from_residual.ensures.1
     (if_damaged_weaker c.rebuild_file.result (IsShortRead told c.loop-number.number) (IsShortReadOf told (all_files c.args.files.now))
@@ -84,7 +84,7 @@ returns-in_err-rebuild_file-clause-untold g c =
 
 pub returns-in_err-rebuild_file-clause-clean : goal.returns-in_err-rebuild_file-clause-clean
 returns-in_err-rebuild_file-clause-clean g c =
-    next_clean (g.F.Folder.told c.args.f.now) (g.F.Folder.told c.loop-number.f) c.args.files.now c.loop-number.files c.args.claims.now c.loop-number.number c.loop-number.invariant.has (g.F.Folder.told c.rebuild_file.new.f)
+    next_clean (g.F.Folder.told c.args.f.now) (g.F.Folder.told c.loop-number.f) c.args.files.now c.loop-number.files c.args.claims.now c.loop-number.number c.loop-number.invariant.has (g.F.Folder.told c.rebuild_file.new.folder)
     (sym (linked_is (is_among (all_files c.loop-number.files) c.loop-number.number) _ c.max_entries.result c.is_some.result c.max_entries.ensures c.is_some.ensures) ∙ c.if-is_some.true) c.rebuild_file.ensures.stops c.rebuild_file.ensures.clean
 
 pub returns-clause-clean : goal.returns-clause-clean

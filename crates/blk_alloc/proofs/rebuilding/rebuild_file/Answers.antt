@@ -46,18 +46,18 @@ groups_now g c mid now =
 pub returns-clause-done : goal.returns-clause-done
 returns-clause-done g c =
     on_ok_weaker c.remake.result
-    (λ done. told_at_end (g.F.Folder.told c.fit.new.f).files (g.F.Folder.told c.remake.new.f).files (λ image. IsRebuilt c.args.claims.now image c.args.file) c.remake.ensures.silent (λ mid now. done mid now (groups_now g c mid now))) c.remake.ensures.done
+    (λ done. told_at_end (g.F.Folder.told c.fit.new.f).files (g.F.Folder.told c.remake.new.folder).files (λ image. IsRebuilt c.args.claims.now image c.args.file) c.remake.ensures.silent (λ mid now. done mid now (groups_now g c mid now))) c.remake.ensures.done
 
 pub returns-clause-agrees : goal.returns-clause-agrees
 returns-clause-agrees g c =
-    told_at_end (g.F.Folder.told c.fit.new.f).files (g.F.Folder.told c.remake.new.f).files (Agrees c.fit.new.self) c.remake.ensures.silent
+    told_at_end (g.F.Folder.told c.fit.new.f).files (g.F.Folder.told c.remake.new.folder).files (Agrees c.fit.new.self) c.remake.ensures.silent
     (λ mid now. let keeps : (i : Image) → RemakesInProgress c.args.claims.now c.args.file mid i → Agrees c.fit.new.self i = λ i remade. agrees_kept c.args.file mid i remade.same c.fit.new.self (c.in_ok-fit.ensures.agrees mid now) in
     needed_end (needed_weaker (c.remake.ensures.stops mid now (groups_now g c mid now)) keeps))
 
 pub returns-clause-stops : goal.returns-clause-stops
 returns-clause-stops g c from there =
     let place : Blocks = record { file = c.args.file; start = 0; count = 0 } in
-    let found = mid_of (g.F.Folder.told c.args.f.now) (g.F.Folder.told c.fit.new.f) c.args.files.now c.fit.new.self place c.requires.agrees c.requires.linked c.in_ok-fit.ensures.fitted c.in_ok-fit.ensures.kept c.in_ok-fit.ensures.agrees from there in
+    let found = mid_of (g.F.Folder.told c.args.folder.now) (g.F.Folder.told c.fit.new.f) c.args.files.now c.fit.new.self place c.requires.agrees c.requires.linked c.in_ok-fit.ensures.fitted c.in_ok-fit.ensures.kept c.in_ok-fit.ensures.agrees from there in
     let keeps : (i : Image) → RemakesInProgress c.args.claims.now c.args.file found.0 i → IsRebuilding c.args.claims.now (c.args.file ∷ []) from i =
     λ i remade. remade_is c.args.claims.now c.args.file from found.0 found.1.same found.1.longer i remade in
     needed_then from there
@@ -80,8 +80,8 @@ returns-clause-keeps g c = standing_kept c.args.files.now c.fit.new.self (fit_la
 
 pub returns-clause-untold : goal.returns-clause-untold
 returns-clause-untold g c =
-    if_damaged_weaker c.remake.result (λ _. (g.F.Folder.told c.fit.new.f).files ≡ None) (λ _. (g.F.Folder.told c.args.f.now).files ≡ None)
-    (λ damage none. none_before (after (fit_steps c.args.files.now c.args.file)) (g.F.Folder.told c.args.f.now).files (g.F.Folder.told c.fit.new.f).files c.in_ok-fit.ensures.fitted.files none) c.remake.ensures.untold
+    if_damaged_weaker c.remake.result (λ _. (g.F.Folder.told c.fit.new.f).files ≡ None) (λ _. (g.F.Folder.told c.args.folder.now).files ≡ None)
+    (λ damage none. none_before (after (fit_steps c.args.files.now c.args.file)) (g.F.Folder.told c.args.folder.now).files (g.F.Folder.told c.fit.new.f).files c.in_ok-fit.ensures.fitted.files none) c.remake.ensures.untold
 
 pub returns-in_err-fit-clause-clean : goal.returns-in_err-fit-clause-clean
 returns-in_err-fit-clause-clean g c from there long rebuilt = c.in_err-fit.ensures.undone
@@ -89,6 +89,6 @@ returns-in_err-fit-clause-clean g c from there long rebuilt = c.in_err-fit.ensur
 -- a file with all its blocks isn't lengthened
 pub returns-clause-clean : goal.returns-clause-clean
 returns-clause-clean g c from there long rebuilt =
-    let stays = fitted_none c.args.files.now c.args.file (g.F.Folder.told c.args.f.now) (g.F.Folder.told c.fit.new.f) long c.in_ok-fit.ensures.fitted in
+    let stays = fitted_none c.args.files.now c.args.file (g.F.Folder.told c.args.folder.now) (g.F.Folder.told c.fit.new.f) long c.in_ok-fit.ensures.fitted in
     let now = ap (λ (t : Told). t.files) stays ∙ there in
     c.remake.ensures.clean from now (groups_now g c from now) rebuilt ∙ stays

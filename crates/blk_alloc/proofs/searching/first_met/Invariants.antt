@@ -6,8 +6,8 @@ use Rattle.blk_alloc.proofs.searching.first_met.Given as goal
 
 abbrev pub invariant-loop-turn : goal.invariant-loop-turn
 invariant-loop-turn g l = record {
-  seen : ForSome (g.F.Folder.told l.initial.f).files (λ image. Seen (is_block_marked image l.file) l.words l.hint l.run l.turn);
+  seen : ForSome (g.F.Folder.told l.initial.folder).files (λ image. Seen (is_block_marked image l.file) l.words l.hint l.run l.turn);
   counts : l.steps ≡ l.initial.steps + l.turn;
-  stays : g.F.Folder.told l.f ≡ g.F.Folder.told l.initial.f;
-  later : g.F.Folder.faults l.initial.f ≤ g.F.Folder.faults l.f;
+  stays : g.F.Folder.told l.folder ≡ g.F.Folder.told l.initial.folder;
+  later : g.F.Folder.faults l.initial.folder ≤ g.F.Folder.faults l.folder;
 }

@@ -55,7 +55,7 @@ returns-clause-checked g c image there =
 
 pub returns-in_err-follow_piece-clause-untold : goal.returns-in_err-follow_piece-clause-untold
 returns-in_err-follow_piece-clause-untold g c =
-    untold_on c.follow_piece.result c.from_residual.result c.in_err-follow_piece.field-0.0 {a = g.F.Folder.told c.args.f.now} (IsOpen c.args.files.now) (IsOpen c.args.files.now) (λ image is. is) (c.follow_piece.ensures.stays ∙ c.loop-piece.invariant.stays) c.follow_piece.ensures.untold c.in_err-follow_piece.was c.from_residual.ensures.1
+    untold_on c.follow_piece.result c.from_residual.result c.in_err-follow_piece.field-0.0 {a = g.F.Folder.told c.args.folder.now} (IsOpen c.args.files.now) (IsOpen c.args.files.now) (λ image is. is) (c.follow_piece.ensures.stays ∙ c.loop-piece.invariant.stays) c.follow_piece.ensures.untold c.in_err-follow_piece.was c.from_residual.ensures.1
 
 pub follow_piece-requires-clause-before : goal.follow_piece-requires-clause-before
 follow_piece-requires-clause-before g c = told_stays (λ (image : Image). Agrees c.args.files.now image → AreFirstReached (store_of image) (c.loop-piece.piece * 16384) c.loop-piece.reached) c.loop-piece.invariant.stays c.loop-piece.invariant.reached

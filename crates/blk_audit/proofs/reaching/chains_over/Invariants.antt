@@ -10,11 +10,11 @@ use Rattle.blk_audit.proofs.reaching.chains_over.Given as goal
 abbrev pub invariant-loop-piece : goal.invariant-loop-piece
 invariant-loop-piece g l = record {
   met : AreReached l.reached;
-  reached : ForSome (g.F.Folder.told l.fn.f).files (λ image. Agrees l.files image → AreFirstReached (store_of image) (l.piece * 16384) l.reached);
+  reached : ForSome (g.F.Folder.told l.fn.folder).files (λ image. Agrees l.files image → AreFirstReached (store_of image) (l.piece * 16384) l.reached);
   stand : RecordsStand l.files (words_reached l.reached);
   many : length l.reached.ends.items ≡ l.piece * 16384;
-  way : ForSome (g.F.Folder.told l.fn.f).files (λ image. HasFirst l.files image (words_reached l.reached) (l.piece * 16384));
-  table : ForSome (g.F.Folder.told l.fn.f).files (λ image. 0 < l.piece → HasRange image Index 368 (l.piece * 65536));
-  stays : Stays (g.F.Folder.told l.fn.f) (g.F.Folder.told l.f);
-  later : g.F.Folder.faults l.fn.f ≤ g.F.Folder.faults l.f;
+  way : ForSome (g.F.Folder.told l.fn.folder).files (λ image. HasFirst l.files image (words_reached l.reached) (l.piece * 16384));
+  table : ForSome (g.F.Folder.told l.fn.folder).files (λ image. 0 < l.piece → HasRange image Index 368 (l.piece * 65536));
+  stays : Stays (g.F.Folder.told l.fn.folder) (g.F.Folder.told l.folder);
+  later : g.F.Folder.faults l.fn.folder ≤ g.F.Folder.faults l.folder;
 }

@@ -13,8 +13,8 @@ invariant-loop-i g l = record {
   met : AreReached l.reached;
   stand : RecordsStand l.files (words_reached l.reached);
   ends : KeepsEnds l.fn.reached l.reached;
-  followed : ForSome (g.F.Folder.told l.fn.f).files (λ image. Agrees l.files image → IsFollowed (store_of image) l.bucket l.fn.reached.words.items l.start l.reached.words.items (16777216 - l.i) l.word);
-  way : ForSome (g.F.Folder.told l.fn.f).files (λ image. IsOnWay l.files image l.fn.reached.words.items l.reached.words.items l.start l.word l.i);
-  stays : Stays (g.F.Folder.told l.fn.f) (g.F.Folder.told l.f);
-  later : g.F.Folder.faults l.fn.f ≤ g.F.Folder.faults l.f;
+  followed : ForSome (g.F.Folder.told l.fn.folder).files (λ image. Agrees l.files image → IsFollowed (store_of image) l.bucket l.fn.reached.words.items l.start l.reached.words.items (16777216 - l.i) l.word);
+  way : ForSome (g.F.Folder.told l.fn.folder).files (λ image. IsOnWay l.files image l.fn.reached.words.items l.reached.words.items l.start l.word l.i);
+  stays : Stays (g.F.Folder.told l.fn.folder) (g.F.Folder.told l.folder);
+  later : g.F.Folder.faults l.fn.folder ≤ g.F.Folder.faults l.folder;
 }

@@ -9,10 +9,10 @@ use Rattle.blk_audit.proofs.reaching.follow_all.Given as goal
 abbrev pub invariant-loop-i : goal.invariant-loop-i
 invariant-loop-i g l = record {
   met : AreReached l.reached;
-  reached : ForSome (g.F.Folder.told l.fn.f).files (λ image. Agrees l.files image → AreFirstReached (store_of image) (l.first + l.i) l.reached);
+  reached : ForSome (g.F.Folder.told l.fn.folder).files (λ image. Agrees l.files image → AreFirstReached (store_of image) (l.first + l.i) l.reached);
   stand : RecordsStand l.files (words_reached l.reached);
   many : length l.reached.ends.items ≡ l.first + l.i;
-  way : ForSome (g.F.Folder.told l.fn.f).files (λ image. HasFirst l.files image (words_reached l.reached) (l.first + l.i));
-  stays : Stays (g.F.Folder.told l.fn.f) (g.F.Folder.told l.f);
-  later : g.F.Folder.faults l.fn.f ≤ g.F.Folder.faults l.f;
+  way : ForSome (g.F.Folder.told l.fn.folder).files (λ image. HasFirst l.files image (words_reached l.reached) (l.first + l.i));
+  stays : Stays (g.F.Folder.told l.fn.folder) (g.F.Folder.told l.folder);
+  later : g.F.Folder.faults l.fn.folder ≤ g.F.Folder.faults l.folder;
 }

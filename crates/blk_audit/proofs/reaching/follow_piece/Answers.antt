@@ -18,11 +18,11 @@ follow_all-requires-clause-records g c = told_stays (λ (image : Image). AreReco
 
 pub returns-in_err-buckets-clause-untold : goal.returns-in_err-buckets-clause-untold
 returns-in_err-buckets-clause-untold g c =
-    untold_converted c.buckets.result c.from_residual.result c.in_err-buckets.field-0.0 {a = g.F.Folder.told c.buckets.new.f} {m = g.F.Folder.told c.args.f.now} (IsOpen c.args.files.now) HasWholeIndex (λ image is. is.whole_index) (sym c.buckets.ensures.stays) c.buckets.ensures.untold c.in_err-buckets.was c.from_residual.ensures.1
+    untold_converted c.buckets.result c.from_residual.result c.in_err-buckets.field-0.0 {a = g.F.Folder.told c.buckets.new.folder} {m = g.F.Folder.told c.args.folder.now} (IsOpen c.args.files.now) HasWholeIndex (λ image is. is.whole_index) (sym c.buckets.ensures.stays) c.buckets.ensures.untold c.in_err-buckets.was c.from_residual.ensures.1
 
 pub returns-in_err-follow_all-clause-untold : goal.returns-in_err-follow_all-clause-untold
 returns-in_err-follow_all-clause-untold g c =
-    untold_on c.follow_all.result c.from_residual-in_err-follow_all.result c.in_err-follow_all.field-0.0 {a = g.F.Folder.told c.follow_all.new.f} {m = g.F.Folder.told c.follow_all.new.f} (IsOpen c.args.files.now) (Agrees c.args.files.now) (λ image is. is.agrees) refl c.follow_all.ensures.untold c.in_err-follow_all.was c.from_residual-in_err-follow_all.ensures.1
+    untold_on c.follow_all.result c.from_residual-in_err-follow_all.result c.in_err-follow_all.field-0.0 {a = g.F.Folder.told c.follow_all.new.folder} {m = g.F.Folder.told c.follow_all.new.folder} (IsOpen c.args.files.now) (Agrees c.args.files.now) (λ image is. is.agrees) refl c.follow_all.ensures.untold c.in_err-follow_all.was c.from_residual-in_err-follow_all.ensures.1
 
 pub follow_all-requires-clause-before : goal.follow_all-requires-clause-before
 follow_all-requires-clause-before g c = told_stays (λ (image : Image). Agrees c.args.files.now image → AreFirstReached (store_of image) c.args.first c.args.reached.now) c.in_ok-buckets.ensures.stays c.requires.before

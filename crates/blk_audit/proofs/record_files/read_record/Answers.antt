@@ -9,7 +9,7 @@ use Rattle.blk_audit.proofs.record_files.read_record.Goals as goal
 pub returns-in_err-words-clause-damaged : goal.returns-in_err-words-clause-damaged
 returns-in_err-words-clause-damaged g c =
     carried c.read_words.result c.from_residual.result c.in_err-words.field-0.0 _ c.in_err-words.was c.from_residual.ensures.1
-    (if_damaged_weaker c.read_words.result _ _ (short_record c.args.files.now (g.F.Folder.told c.args.f.now) (g.F.Folder.told c.read_words.new.f) c.args.addr c.read_words.ensures.stays c.requires.kind c.requires.stands) c.read_words.ensures.short)
+    (if_damaged_weaker c.read_words.result _ _ (short_record c.args.files.now (g.F.Folder.told c.args.folder.now) (g.F.Folder.told c.read_words.new.folder) c.args.addr c.read_words.ensures.stays c.requires.kind c.requires.stands) c.read_words.ensures.short)
 
 pub returns-in_err-words-clause-untold : goal.returns-in_err-words-clause-untold
 returns-in_err-words-clause-untold g c agrees =

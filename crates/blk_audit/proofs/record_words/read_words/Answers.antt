@@ -15,12 +15,12 @@ read_block-requires-clause-inside g c = record_fits c.args.entry c.requires.kind
 pub returns-clause-words : goal.returns-clause-words
 returns-clause-words g c image there =
     subst (AreWordsOf image c.args.entry) (sym c.words_of.ensures)
-    (are_words image c.args.entry c.read_block.new.out (g.met.F.Folder.are_bytes c.args.f.now image there) c.requires.kind (c.in_ok-read_block.ensures.bytes image there))
+    (are_words image c.args.entry c.read_block.new.out (g.met.F.Folder.are_bytes c.args.folder.now image there) c.requires.kind (c.in_ok-read_block.ensures.bytes image there))
 
 pub returns-in_err-read_block-clause-short : goal.returns-in_err-read_block-clause-short
 returns-in_err-read_block-clause-short g c =
     carried c.read_block.result c.from_residual.result c.in_err-read_block.field-0.0 _ c.in_err-read_block.was c.from_residual.ensures.1
-    (if_damaged_weaker c.read_block.result _ _ (λ damage short. subst (λ (p : ℕ). IsShort (g.F.Folder.told c.args.f.now) (FileId.Block (file_selector c.args.entry)) p 96 damage) (add-zero (place c.args.entry)) short) c.read_block.ensures.short)
+    (if_damaged_weaker c.read_block.result _ _ (λ damage short. subst (λ (p : ℕ). IsShort (g.F.Folder.told c.args.folder.now) (FileId.Block (file_selector c.args.entry)) p 96 damage) (add-zero (place c.args.entry)) short) c.read_block.ensures.short)
 
 pub returns-clause-checked : goal.returns-clause-checked
 returns-clause-checked g c image there =

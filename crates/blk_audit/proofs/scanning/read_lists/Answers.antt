@@ -34,21 +34,21 @@ chains_over-requires g c = record { records = told_stays (λ image. AreRecordsOf
 
 pub returns-in_err-records-clause-untold : goal.returns-in_err-records-clause-untold
 returns-in_err-records-clause-untold g c =
-    untold_on c.read_records.result c.from_residual-in_err-records.result c.in_err-records.field-0.0 {a = g.F.Folder.told c.args.f.now} (IsOpen c.args.files.now) (Agrees c.args.files.now) (λ image is. is.agrees)
+    untold_on c.read_records.result c.from_residual-in_err-records.result c.in_err-records.field-0.0 {a = g.F.Folder.told c.args.folder.now} (IsOpen c.args.files.now) (Agrees c.args.files.now) (λ image is. is.agrees)
     (c.read_records.ensures.stays ∙ c.in_ok-walked.ensures.stays ∙ c.in_ok-nodes.ensures.stays)
     (λ agrees. c.read_records.ensures.untold agrees) c.in_err-records.was c.from_residual-in_err-records.ensures.1
 
 pub returns-in_err-nodes-clause-untold : goal.returns-in_err-nodes-clause-untold
 returns-in_err-nodes-clause-untold g c =
-    untold_on c.read_nodes.result c.from_residual.result c.in_err-nodes.field-0.0 {a = g.F.Folder.told c.args.f.now} (IsOpen c.args.files.now) (Agrees c.args.files.now) (λ image is. is.agrees) refl c.read_nodes.ensures.untold c.in_err-nodes.was c.from_residual.ensures.1
+    untold_on c.read_nodes.result c.from_residual.result c.in_err-nodes.field-0.0 {a = g.F.Folder.told c.args.folder.now} (IsOpen c.args.files.now) (Agrees c.args.files.now) (λ image is. is.agrees) refl c.read_nodes.ensures.untold c.in_err-nodes.was c.from_residual.ensures.1
 
 pub returns-in_err-walked-clause-untold : goal.returns-in_err-walked-clause-untold
 returns-in_err-walked-clause-untold g c =
-    untold_on c.walk_over.result c.from_residual-in_err-walked.result c.in_err-walked.field-0.0 {a = g.F.Folder.told c.args.f.now} (IsOpen c.args.files.now) (IsOpen c.args.files.now) (λ image is. is) c.in_ok-nodes.ensures.stays c.walk_over.ensures.untold c.in_err-walked.was c.from_residual-in_err-walked.ensures.1
+    untold_on c.walk_over.result c.from_residual-in_err-walked.result c.in_err-walked.field-0.0 {a = g.F.Folder.told c.args.folder.now} (IsOpen c.args.files.now) (IsOpen c.args.files.now) (λ image is. is) c.in_ok-nodes.ensures.stays c.walk_over.ensures.untold c.in_err-walked.was c.from_residual-in_err-walked.ensures.1
 
 pub returns-in_err-reached-clause-untold : goal.returns-in_err-reached-clause-untold
 returns-in_err-reached-clause-untold g c =
-    untold_on c.chains_over.result c.from_residual-in_err-reached.result c.in_err-reached.field-0.0 {a = g.F.Folder.told c.args.f.now} (IsOpen c.args.files.now) (IsOpen c.args.files.now) (λ image is. is) (c.in_ok-records.ensures.stays ∙ c.in_ok-walked.ensures.stays ∙ c.in_ok-nodes.ensures.stays) c.chains_over.ensures.untold c.in_err-reached.was c.from_residual-in_err-reached.ensures.1
+    untold_on c.chains_over.result c.from_residual-in_err-reached.result c.in_err-reached.field-0.0 {a = g.F.Folder.told c.args.folder.now} (IsOpen c.args.files.now) (IsOpen c.args.files.now) (λ image is. is) (c.in_ok-records.ensures.stays ∙ c.in_ok-walked.ensures.stays ∙ c.in_ok-nodes.ensures.stays) c.chains_over.ensures.untold c.in_err-reached.was c.from_residual-in_err-reached.ensures.1
 
 pub returns-clause-stand : goal.returns-clause-stand
 returns-clause-stand g c = record { nodes = c.in_ok-walked.ensures.stand; records = c.in_ok-reached.ensures.stand; buckets = c.in_ok-reached.ensures.ends }

@@ -11,8 +11,8 @@ returns-clause-checked g c = on_ok_weaker c.walk_over.result (λ ends image ther
 
 pub returns-in_err-nodes-clause-untold : goal.returns-in_err-nodes-clause-untold
 returns-in_err-nodes-clause-untold g c =
-    untold_on c.read_nodes.result c.from_residual.result c.in_err-nodes.field-0.0 {a = g.F.Folder.told c.args.f.now} (IsOpen c.args.files.now) (Agrees c.args.files.now) (λ image is. is.agrees) refl c.read_nodes.ensures.untold c.in_err-nodes.was c.from_residual.ensures.1
+    untold_on c.read_nodes.result c.from_residual.result c.in_err-nodes.field-0.0 {a = g.F.Folder.told c.args.folder.now} (IsOpen c.args.files.now) (Agrees c.args.files.now) (λ image is. is.agrees) refl c.read_nodes.ensures.untold c.in_err-nodes.was c.from_residual.ensures.1
 
 pub returns-clause-untold : goal.returns-clause-untold
 returns-clause-untold g c =
-    untold_last c.walk_over.result {a = g.F.Folder.told c.args.f.now} (IsOpen c.args.files.now) (IsOpen c.args.files.now) (λ image is. is) c.in_ok-nodes.ensures.stays c.walk_over.ensures.untold
+    untold_last c.walk_over.result {a = g.F.Folder.told c.args.folder.now} (IsOpen c.args.files.now) (IsOpen c.args.files.now) (λ image is. is) c.in_ok-nodes.ensures.stays c.walk_over.ensures.untold

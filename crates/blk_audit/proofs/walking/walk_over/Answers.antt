@@ -25,11 +25,11 @@ returns-clause-checked g c image there = record {
 
 pub returns-in_err-head-clause-untold : goal.returns-in_err-head-clause-untold
 returns-in_err-head-clause-untold g c =
-    untold_converted c.word.result c.from_residual.result c.in_err-head.field-0.0 {a = g.F.Folder.told c.args.f.now} (IsOpen c.args.files.now) HasWholeIndex (λ image is. is.whole_index) refl c.word.ensures.untold c.in_err-head.was c.from_residual.ensures.1
+    untold_converted c.word.result c.from_residual.result c.in_err-head.field-0.0 {a = g.F.Folder.told c.args.folder.now} (IsOpen c.args.files.now) HasWholeIndex (λ image is. is.whole_index) refl c.word.ensures.untold c.in_err-head.was c.from_residual.ensures.1
 
 pub returns-in_err-plan-clause-untold : goal.returns-in_err-plan-clause-untold
 returns-in_err-plan-clause-untold g c =
-    untold_converted c.pending.result c.from_residual-in_err-plan.result c.in_err-plan.field-0.0 {a = g.F.Folder.told c.args.f.now} (IsOpen c.args.files.now) (IsOpen c.args.files.now) (λ image is. is) c.in_ok-head.ensures.stays c.pending.ensures.untold c.in_err-plan.was c.from_residual-in_err-plan.ensures.1
+    untold_converted c.pending.result c.from_residual-in_err-plan.result c.in_err-plan.field-0.0 {a = g.F.Folder.told c.args.folder.now} (IsOpen c.args.files.now) (IsOpen c.args.files.now) (λ image is. is) c.in_ok-head.ensures.stays c.pending.ensures.untold c.in_err-plan.was c.from_residual-in_err-plan.ensures.1
 
 pub returns-clause-stand : goal.returns-clause-stand
 returns-clause-stand g c = walked_stand c.args.files.now c.args.nodes.now (map meant c.as_slice.result.now) c.in_ok-head.head (nodes_walked c.in_ok-walked.walked) c.requires.counted c.in_ok-walked.ensures.walked

@@ -15,8 +15,8 @@ returns-in_err-repair-clause-damaged g c = mending-damage c.from_residual.result
 
 pub returns-in_err-mark-clause-untold : goal.returns-in_err-mark-clause-untold
 returns-in_err-mark-clause-untold g c all =
-    untold-on c.from_residual-in_err-mark.result c.in_err-mark.field-0.0 (g.F.Folder.told c.args.f.now) (g.F.Folder.told c.repair.new.f) c.from_residual-in_err-mark.ensures.1
-    (none-before (g.F.Folder.told c.args.f.now) (g.F.Folder.told c.repair.new.f) (λ from there. still-told from there (either-pass (c.repair.ensures.stops from there (all from there)))))
+    untold-on c.from_residual-in_err-mark.result c.in_err-mark.field-0.0 (g.F.Folder.told c.args.folder.now) (g.F.Folder.told c.repair.new.f) c.from_residual-in_err-mark.ensures.1
+    (none-before (g.F.Folder.told c.args.folder.now) (g.F.Folder.told c.repair.new.f) (λ from there. still-told from there (either-pass (c.repair.ensures.stops from there (all from there)))))
     (c.in_err-mark.ensures.untold (λ i here. let open_now = c.repair.ensures.is_open i here in open_now.whole_index))
 
 pub returns-in_err-repair-clause-stops : goal.returns-in_err-repair-clause-stops

@@ -22,11 +22,11 @@ returns-in_err-files-clause-stops g c from there fin = inl (stayed-still from th
 
 pub returns-in_err-files-clause-damaged : goal.returns-in_err-files-clause-damaged
 returns-in_err-files-clause-damaged g c =
-    damaged-on c.from_residual.result c.in_err-files.field-0.0 c.from_residual.ensures.1 _ (loading-as c.in_err-files.field-0.0 (g.F.Folder.told c.args.f.now) (g.F.Folder.told c.load.new.f) c.in_err-files.ensures.stays c.in_err-files.ensures.cause)
+    damaged-on c.from_residual.result c.in_err-files.field-0.0 c.from_residual.ensures.1 _ (loading-as c.in_err-files.field-0.0 (g.F.Folder.told c.args.folder.now) (g.F.Folder.told c.load.new.f) c.in_err-files.ensures.stays c.in_err-files.ensures.cause)
 
 pub returns-in_err-files-clause-first : goal.returns-in_err-files-clause-first
 returns-in_err-files-clause-first g c =
-    damaged-on c.from_residual.result c.in_err-files.field-0.0 c.from_residual.ensures.1 _ (first-of_load c.in_err-files.field-0.0 (g.F.Folder.told c.args.f.now).files c.in_err-files.ensures.loaded)
+    damaged-on c.from_residual.result c.in_err-files.field-0.0 c.from_residual.ensures.1 _ (first-of_load c.in_err-files.field-0.0 (g.F.Folder.told c.args.folder.now).files c.in_err-files.ensures.loaded)
 
 pub returns-in_err-files-clause-unwritten : goal.returns-in_err-files-clause-unwritten
 returns-in_err-files-clause-unwritten g c = if-damaged c.from_residual.result _ (λ damage from there fin. c.in_err-files.ensures.stays)
@@ -42,11 +42,11 @@ open_loaded-requires g c = record {
 }
 
 -- what was loaded of a finished folder is well formed
-formed : (g : given.Over) (c : After-open_loaded g) (from : Image) → (g.F.Folder.told c.args.f.now).files ≡ Some from → IsFinished from → IsWellFormed from
+formed : (g : given.Over) (c : After-open_loaded g) (from : Image) → (g.F.Folder.told c.args.folder.now).files ≡ Some from → IsFinished from → IsWellFormed from
 formed g c from there fin = formed-of from fin.undamaged (c.in_ok-files.ensures.loaded from there).1
 
 -- and so is an observable folder with these files
-formed-here : (g : given.Over) (c : After-open_loaded g) (from : Image) → (g.F.Folder.told c.args.f.now).files ≡ Some from → IsFinished from → ForSome (g.F.Folder.told c.load.new.f).files IsWellFormed
+formed-here : (g : given.Over) (c : After-open_loaded g) (from : Image) → (g.F.Folder.told c.args.folder.now).files ≡ Some from → IsFinished from → ForSome (g.F.Folder.told c.load.new.f).files IsWellFormed
 formed-here g c from there fin i here = subst IsWellFormed (some_inj (sym (ap (λ (t : Told). t.files) c.in_ok-files.ensures.stays ∙ there) ∙ here)) (formed g c from there fin)
 
 pub returns-clause-opened : goal.returns-clause-opened
@@ -68,7 +68,7 @@ returns-clause-last g c =
     ends-stayed c.in_ok-files.ensures.stays (ends-weaker (ends from (ap (λ (t : Told). t.files) c.in_ok-files.ensures.stays ∙ there) (formed g c from there fin)) (mid-still from) (λ i stands. stands))) c.open_loaded.ensures.last
 
 -- a failed check of a finished folder comes only where it is opaque
-never : (g : given.Over) (c : After-open_loaded g) (P : Damage → Image → Type 0) → IfOpenDamaged c.open_loaded.result (λ damage. ForSome (g.F.Folder.told c.args.f.now).files (λ from. IsFinished from → P damage from))
+never : (g : given.Over) (c : After-open_loaded g) (P : Damage → Image → Type 0) → IfOpenDamaged c.open_loaded.result (λ damage. ForSome (g.F.Folder.told c.args.folder.now).files (λ from. IsFinished from → P damage from))
 never g c P =
     open-damaged-weaker c.open_loaded.result _ _
     (λ damage none from there fin. told-some (g.F.Folder.told c.load.new.f) from (ap (λ (t : Told). t.files) c.in_ok-files.ensures.stays ∙ there) (none (formed-here g c from there fin)))
@@ -78,7 +78,7 @@ pub returns-clause-first : goal.returns-clause-first
 returns-clause-first g c = never g c (λ damage from. first_damage from ≡ Some (damage_of damage))
 
 pub returns-clause-unwritten : goal.returns-clause-unwritten
-returns-clause-unwritten g c = never g c (λ damage from. Stays (g.F.Folder.told c.args.f.now) (g.F.Folder.told c.open_loaded.new.f))
+returns-clause-unwritten g c = never g c (λ damage from. Stays (g.F.Folder.told c.args.folder.now) (g.F.Folder.told c.open_loaded.new.folder))
 
 pub returns-clause-memory : goal.returns-clause-memory
 returns-clause-memory g c = open-memory-weaker c.open_loaded.result _ _ (λ same. same ∙ c.in_ok-files.ensures.stays) c.open_loaded.ensures.memory

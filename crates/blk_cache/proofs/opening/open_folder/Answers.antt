@@ -13,10 +13,10 @@ returns-in_err-look-clause-stops g c from there = inl (stayed-still from there c
 
 pub returns-in_err-look-clause-damaged : goal.returns-in_err-look-clause-damaged
 returns-in_err-look-clause-damaged g c =
-    damaged-on c.from_residual.result c.in_err-look.field-0.0 c.from_residual.ensures.1 _ (looking-as c.in_err-look.field-0.0 (g.F.Folder.told c.args.f.now) (g.F.Folder.told c.look.new.f) c.in_err-look.ensures.stays c.in_err-look.ensures.cause)
+    damaged-on c.from_residual.result c.in_err-look.field-0.0 c.from_residual.ensures.1 _ (looking-as c.in_err-look.field-0.0 (g.F.Folder.told c.args.folder.now) (g.F.Folder.told c.look.new.f) c.in_err-look.ensures.stays c.in_err-look.ensures.cause)
 
 pub returns-in_err-look-clause-first : goal.returns-in_err-look-clause-first
-returns-in_err-look-clause-first g c = damaged-on c.from_residual.result c.in_err-look.field-0.0 c.from_residual.ensures.1 _ (first-of_look c.in_err-look.field-0.0 (g.F.Folder.told c.args.f.now).files c.in_err-look.ensures.looked)
+returns-in_err-look-clause-first g c = damaged-on c.from_residual.result c.in_err-look.field-0.0 c.from_residual.ensures.1 _ (first-of_look c.in_err-look.field-0.0 (g.F.Folder.told c.args.folder.now).files c.in_err-look.ensures.looked)
 
 pub returns-in_err-look-clause-unwritten : goal.returns-in_err-look-clause-unwritten
 returns-in_err-look-clause-unwritten g c = if-damaged c.from_residual.result _ (λ damage from there. c.in_err-look.ensures.stays)
@@ -37,13 +37,13 @@ returns-in_err-open_new-in-Unfinished-clause-damaged g c =
 pub returns-in_err-open_new-in-Unfinished-clause-first : goal.returns-in_err-open_new-in-Unfinished-clause-first
 returns-in_err-open_new-in-Unfinished-clause-first g c =
     damaged-on c.from_residual-in_err-open_new-in-Unfinished.result c.in_err-open_new-in-Unfinished.field-0.0 c.from_residual-in_err-open_new-in-Unfinished.ensures.1 _
-    (untold-says c.in_err-open_new-in-Unfinished.field-0.0 (g.F.Folder.told c.look.new.f) (g.F.Folder.told c.args.f.now).files IsFirstDamage (λ i there. ap (λ (t : Told). t.files) c.in_ok-look.ensures.stays ∙ there)
+    (untold-says c.in_err-open_new-in-Unfinished.field-0.0 (g.F.Folder.told c.look.new.f) (g.F.Folder.told c.args.folder.now).files IsFirstDamage (λ i there. ap (λ (t : Told). t.files) c.in_ok-look.ensures.stays ∙ there)
     c.in_err-open_new-in-Unfinished.ensures.untold)
 
 pub returns-in_err-open_new-in-Unfinished-clause-unwritten : goal.returns-in_err-open_new-in-Unfinished-clause-unwritten
 returns-in_err-open_new-in-Unfinished-clause-unwritten g c =
     damaged-on c.from_residual-in_err-open_new-in-Unfinished.result c.in_err-open_new-in-Unfinished.field-0.0 c.from_residual-in_err-open_new-in-Unfinished.ensures.1 _
-    (untold-says c.in_err-open_new-in-Unfinished.field-0.0 (g.F.Folder.told c.look.new.f) (g.F.Folder.told c.args.f.now).files (λ damage from. Stays (g.F.Folder.told c.args.f.now) (g.F.Folder.told c.open_new.new.f)) (λ i there. ap (λ (t : Told). t.files) c.in_ok-look.ensures.stays ∙ there)
+    (untold-says c.in_err-open_new-in-Unfinished.field-0.0 (g.F.Folder.told c.look.new.f) (g.F.Folder.told c.args.folder.now).files (λ damage from. Stays (g.F.Folder.told c.args.folder.now) (g.F.Folder.told c.open_new.new.folder)) (λ i there. ap (λ (t : Told). t.files) c.in_ok-look.ensures.stays ∙ there)
     c.in_err-open_new-in-Unfinished.ensures.untold)
 
 pub returns-in_err-open_new-in-Unfinished-clause-memory : goal.returns-in_err-open_new-in-Unfinished-clause-memory

@@ -26,7 +26,7 @@ returns-clause-last g c from there well =
 
 pub returns-in_err-scan-clause-damaged : goal.returns-in_err-scan-clause-damaged
 returns-in_err-scan-clause-damaged g c =
-    open-damaged-weaker c.from_residual.result _ (IsOpeningDamage (g.F.Folder.told c.scan_files.new.f)) (λ damage cause. inr (inr (record { files = c.args.files; cause = inl cause })))
+    open-damaged-weaker c.from_residual.result _ (IsOpeningDamage (g.F.Folder.told c.scan_files.new.folder)) (λ damage cause. inr (inr (record { files = c.args.files; cause = inl cause })))
     (scan-damaged-on c.from_residual.result c.in_err-scan.field-0.0 c.from_residual.ensures.1 _ c.in_err-scan.ensures.damaged)
 
 pub returns-in_err-scan-clause-untold : goal.returns-in_err-scan-clause-untold
@@ -41,7 +41,7 @@ mend-requires-clause-is_open g c i here = c.requires.is_open i (sym (ap (λ (t :
 pub returns-in_err-mend-clause-untold : goal.returns-in_err-mend-clause-untold
 returns-in_err-mend-clause-untold g c well =
     damaged-on c.from_residual-in_err-mend.result c.in_err-mend.field-0.0 c.from_residual-in_err-mend.ensures.1 _
-    (untold-as c.in_err-mend.field-0.0 (g.F.Folder.told c.args.f.now) (g.F.Folder.told c.scan_files.new.f) c.in_ok-scan.ensures.stays
+    (untold-as c.in_err-mend.field-0.0 (g.F.Folder.told c.args.folder.now) (g.F.Folder.told c.scan_files.new.folder) c.in_ok-scan.ensures.stays
     (c.in_err-mend.ensures.untold
     (λ i here.
     let there = sym (ap (λ (t : Told). t.files) c.in_ok-scan.ensures.stays) ∙ here in

@@ -12,12 +12,12 @@ returns-in_err-files-clause-stops g c from there made = inl (stayed-mid from the
 
 pub returns-in_err-files-clause-damaged : goal.returns-in_err-files-clause-damaged
 returns-in_err-files-clause-damaged g c =
-    loading-damage c.from_residual.result c.in_err-files.field-0.0 (g.F.Folder.told c.args.f.now) (g.F.Folder.told c.load.new.f) c.in_err-files.ensures.stays c.from_residual.ensures.1 c.in_err-files.ensures.cause
+    loading-damage c.from_residual.result c.in_err-files.field-0.0 (g.F.Folder.told c.args.folder.now) (g.F.Folder.told c.load.new.f) c.in_err-files.ensures.stays c.from_residual.ensures.1 c.in_err-files.ensures.cause
 
 pub returns-in_err-files-clause-untold : goal.returns-in_err-files-clause-untold
 returns-in_err-files-clause-untold g c all =
-    untold-on c.from_residual.result c.in_err-files.field-0.0 (g.F.Folder.told c.args.f.now) (g.F.Folder.told c.args.f.now) c.from_residual.ensures.1 (λ none. none)
-    (load-untold c.in_err-files.field-0.0 (g.F.Folder.told c.args.f.now) (λ i there. made-formed i (all i there)) c.in_err-files.ensures.loaded)
+    untold-on c.from_residual.result c.in_err-files.field-0.0 (g.F.Folder.told c.args.folder.now) (g.F.Folder.told c.args.folder.now) c.from_residual.ensures.1 (λ none. none)
+    (load-untold c.in_err-files.field-0.0 (g.F.Folder.told c.args.folder.now) (λ i there. made-formed i (all i there)) c.in_err-files.ensures.loaded)
 
 pub mend-requires-clause-stand : goal.mend-requires-clause-stand
 mend-requires-clause-stand g c = empty-stands c.in_ok-files.files c.empty.result c.empty.ensures

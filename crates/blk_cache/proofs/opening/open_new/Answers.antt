@@ -5,7 +5,7 @@ use Rattle.spec_image.specs.Told.{Passes}
 use Rattle.spec_image.proofs.Runs.{passes_end}
 use Rattle.spec_format.proofs.Finished.{whole_index}
 use Rattle.blk_io.proofs.Carried.{if_damaged_weaker}
-use Rattle.blk_repair.specs.Endings.{BreaksOff}
+use Rattle.blk_repair.specs.Endings.{RepairBreaksOff}
 use Rattle.blk_repair.proofs.Endings.{either-then, either-weaker, ends-then, ends-weaker}
 use Rattle.blk_repair.proofs.RepairRuns.{none-before, still-told}
 use Rattle.blk_cache.proofs.MakingRuns.{making-breaks}
@@ -27,11 +27,11 @@ returns-in_err-make-clause-silent g c none = passes-silent c.make.ensures.stops 
 pub open_made-requires : goal.open_made-requires
 open_made-requires g c = record { complete = λ i here. whole_index i (made-formed i (c.args.moment, c.in_ok-make.ensures.made i here)) }
 
-module _ (g : given.Over) (c : After-open_made g) (from : Image) (there : (g.F.Folder.told c.args.f.now).files ≡ Some from) where
-  abbrev first : Passes (g.F.Folder.told c.args.f.now) (g.F.Folder.told c.make.new.f) (HoldsStill from)
+module _ (g : given.Over) (c : After-open_made g) (from : Image) (there : (g.F.Folder.told c.args.folder.now).files ≡ Some from) where
+  abbrev first : Passes (g.F.Folder.told c.args.folder.now) (g.F.Folder.told c.make.new.f) (HoldsStill from)
   first = making-still from c.args.moment (c.requires.unfinished from there) c.make.ensures.stops
 
-  broken : BreaksOff (g.F.Folder.told c.args.f.now) (g.F.Folder.told c.make.new.f) (HoldsStill from)
+  broken : RepairBreaksOff (g.F.Folder.told c.args.folder.now) (g.F.Folder.told c.make.new.f) (HoldsStill from)
   broken = making-breaks from c.args.moment there (c.requires.unfinished from there) (passes_end first) c.make.ensures.prefix
 
   abbrev mid : Image
@@ -65,7 +65,7 @@ returns-clause-last g c =
 pub returns-clause-untold : goal.returns-clause-untold
 returns-clause-untold g c =
     if_damaged_weaker c.open_made.result _ _
-    (λ damage none. none-before (g.F.Folder.told c.args.f.now) (g.F.Folder.told c.make.new.f) (λ from there. still-told from there (first g c from there)) none) (c.open_made.ensures.untold (λ i here. (c.args.moment, c.in_ok-make.ensures.made i here)))
+    (λ damage none. none-before (g.F.Folder.told c.args.folder.now) (g.F.Folder.told c.make.new.f) (λ from there. still-told from there (first g c from there)) none) (c.open_made.ensures.untold (λ i here. (c.args.moment, c.in_ok-make.ensures.made i here)))
 
 pub returns-clause-silent : goal.returns-clause-silent
 returns-clause-silent g c none = c.open_made.ensures.silent (passes-silent c.make.ensures.stops none)

@@ -21,8 +21,8 @@ returns-then-head-bits-clause-sought g c image there = (
 
 pub returns-clause-sought : goal.returns-clause-sought
 returns-clause-sought g c =
-    ok_weaker c.key_is.result (λ same. ForSome (g.F.Folder.told c.args.f.now).files (λ image. IsTrue same ↔ AreKeyBytes c.args.key.now c.args.entry c.args.head.now.key_len c.args.head.now.long_key image))
-    (λ same. ForSome (g.F.Folder.told c.args.f.now).files (λ image. IsTrue same ↔ IsSought c.args.key.now c.args.sought.now.child c.args.entry image))
+    ok_weaker c.key_is.result (λ same. ForSome (g.F.Folder.told c.args.folder.now).files (λ image. IsTrue same ↔ AreKeyBytes c.args.key.now c.args.entry c.args.head.now.key_len c.args.head.now.long_key image))
+    (λ same. ForSome (g.F.Folder.told c.args.folder.now).files (λ image. IsTrue same ↔ IsSought c.args.key.now c.args.sought.now.child c.args.entry image))
     (λ same bytes image there. let words = c.requires.head image there in
     let by_head = bytes_of_head image c.args.entry c.args.head.now c.args.key.now words in
     let flag = ap (λ (f : ℕ). f == 2) (sym words.flags) ∙ ap (λ (b : ℕ). c.args.head.now.flags == b) (sym (c.bits.ensures tt)) ∙ agrees-by (c.args.head.now.flags == c.bits.result) c.args.sought.now.child c.if-head-bits.false in

@@ -10,7 +10,7 @@ use Rattle.blk_io.proofs.Carried.{carried, if_damaged_weaker, untold_where}
 use Rattle.blk_entry.proofs.KeyPlaces.{err_damaged}
 use Rattle.blk_chain.specs.declared.found.Found.{Found}
 use Rattle.blk_chain.specs.declared.finding.Step.{Step}
-use Rattle.blk_chain.specs.Finding.{HasPassed, IsChainDamage, IsFollowed, IsTooLong, IsOfLink, IsSought, IsSearchStep, StandsAt, StandsBefore}
+use Rattle.blk_chain.specs.Finding.{HasPassed, IsChainDamage, IsFollowed, IsTooLong, IsOfLink, IsSought, IsSearchStep, IsStepAt, StandsBefore}
 use Rattle.spec_folder.specs.Searches.{bucket_of_key}
 use Rattle.blk_chain.specs.Unlinking.{next_record}
 use Rattle.blk_chain.proofs.Heads.{names-parts}
@@ -32,15 +32,15 @@ loop-link-init g c = record {
 
 pub returns-then-left-eq0-clause-untold : goal.returns-then-left-eq0-clause-untold
 returns-then-left-eq0-clause-untold g c agrees can =
-    err_damaged (Option Found) c.damage_of.result c.damage_of.ensures.damage (λ _. (g.F.Folder.told c.args.f.now).files ≡ None) c.damage_of.ensures.is
-    (untold_where (g.F.Folder.told c.args.f.now).files
+    err_damaged (Option Found) c.damage_of.result c.damage_of.ensures.damage (λ _. (g.F.Folder.told c.args.folder.now).files ≡ None) c.damage_of.ensures.is
+    (untold_where (g.F.Folder.told c.args.folder.now).files
     (λ image there.
     let none : 131073 - (131073 - c.loop-link.left) ≡ 0 = omega (arith, c.if-left-eq0.true) in
     way-left image c.args.key.now c.args.sought.now.child c.loop-link.link.word c.loop-link.link.before (131073 - (131073 - c.loop-link.left))
     (way-passed c.args.files.now image c.args.key.now c.args.sought.now.child (can image there) c.loop-link.link.word c.loop-link.link.before (131073 - c.loop-link.left) (c.loop-link.invariant.passed image there)) none))
 
 -- a chain that is too long
-long-here : (g : given.Over) (c : goal.After-damage_of g) → IsTooLong c.args.files.now (g.F.Folder.told c.args.f.now) c.args.key.now c.args.sought.now.child c.damage_of.ensures.damage
+long-here : (g : given.Over) (c : goal.After-damage_of g) → IsTooLong c.args.files.now (g.F.Folder.told c.args.folder.now) c.args.key.now c.args.sought.now.child c.damage_of.ensures.damage
 long-here g c = by c.loop-link.link.before refl
   where
     of-key : IsOfLink (bucket_of_key c.args.key.now) c.loop-link.link.before c.damage_of.ensures.damage
@@ -49,7 +49,7 @@ long-here g c = by c.loop-link.link.before refl
     all : 131073 - c.loop-link.left ≡ 131073
     all = omega (arith, c.if-left-eq0.true)
 
-    by : (o : Option ℕ) → c.loop-link.link.before ≡ o → IsTooLong c.args.files.now (g.F.Folder.told c.args.f.now) c.args.key.now c.args.sought.now.child c.damage_of.ensures.damage
+    by : (o : Option ℕ) → c.loop-link.link.before ≡ o → IsTooLong c.args.files.now (g.F.Folder.told c.args.folder.now) c.args.key.now c.args.sought.now.child c.damage_of.ensures.damage
     by None e = absurd (let begun = c.loop-link.invariant.begun e in omega (arith, begun, c.if-left-eq0.true))
     by (Some last) e = record {
       last = last;
@@ -64,31 +64,31 @@ long-here g c = by c.loop-link.link.before refl
 
 pub returns-then-left-eq0-clause-damaged : goal.returns-then-left-eq0-clause-damaged
 returns-then-left-eq0-clause-damaged g c =
-    err_damaged (Option Found) c.damage_of.result c.damage_of.ensures.damage (IsChainDamage c.args.files.now (g.F.Folder.told c.args.f.now) c.args.key.now c.args.sought.now.child) c.damage_of.ensures.is
+    err_damaged (Option Found) c.damage_of.result c.damage_of.ensures.damage (IsChainDamage c.args.files.now (g.F.Folder.told c.args.folder.now) c.args.key.now c.args.sought.now.child) c.damage_of.ensures.is
     (inr (inr (long-here g c)))
 
 pub returns-in_err-entry-clause-damaged : goal.returns-in_err-entry-clause-damaged
 returns-in_err-entry-clause-damaged g c =
-    carried c.look_at.result c.from_residual.result c.in_err-entry.field-0.0 (IsChainDamage c.args.files.now (g.F.Folder.told c.args.f.now) c.args.key.now c.args.sought.now.child) c.in_err-entry.was c.from_residual.ensures.1
+    carried c.look_at.result c.from_residual.result c.in_err-entry.field-0.0 (IsChainDamage c.args.files.now (g.F.Folder.told c.args.folder.now) c.args.key.now c.args.sought.now.child) c.in_err-entry.was c.from_residual.ensures.1
     (if_damaged_weaker c.look_at.result _ _ (λ damage wrong. subst (λ (t : Told). IsChainDamage c.args.files.now t c.args.key.now c.args.sought.now.child damage) c.loop-link.invariant.told wrong) c.look_at.ensures.damaged)
 
 pub returns-in_err-entry-clause-untold : goal.returns-in_err-entry-clause-untold
 returns-in_err-entry-clause-untold g c agrees can =
     subst (λ (t : Told). IfDamaged c.from_residual.result (λ _. t.files ≡ None)) c.loop-link.invariant.told
-    (carried c.look_at.result c.from_residual.result c.in_err-entry.field-0.0 (λ _. (g.F.Folder.told c.loop-link.f).files ≡ None) c.in_err-entry.was c.from_residual.ensures.1
+    (carried c.look_at.result c.from_residual.result c.in_err-entry.field-0.0 (λ _. (g.F.Folder.told c.loop-link.folder).files ≡ None) c.in_err-entry.was c.from_residual.ensures.1
     (c.look_at.ensures.untold (subst (λ (t : Told). ForSome t.files (Agrees c.args.files.now)) (sym c.loop-link.invariant.told) agrees)
     (λ image now.
-    let there : (g.F.Folder.told c.args.f.now).files ≡ Some image = ap (λ (t : Told). t.files) (sym c.loop-link.invariant.told) ∙ now in
+    let there : (g.F.Folder.told c.args.folder.now).files ≡ Some image = ap (λ (t : Told). t.files) (sym c.loop-link.invariant.told) ∙ now in
     let way = way-passed c.args.files.now image c.args.key.now c.args.sought.now.child (can image there) c.loop-link.link.word c.loop-link.link.before (131073 - c.loop-link.left) (c.loop-link.invariant.passed image there) in
     way-keyed image c.args.key.now c.args.sought.now.child c.loop-link.link.word c.loop-link.link.before (131073 - (131073 - c.loop-link.left)) way c.loop-link-test.true (can image there))))
 
 -- the record that is found
 stands-here : (g : given.Over) (c : goal.In-Here g) → (c.in-Here.entry ≡ c.loop-link.link.word) × (is_record_among c.args.files.now c.loop-link.link.word ≡ true)
-stands-here g c = subst (λ (s : Step). StandsAt c.args.files.now c.loop-link.link.word s) c.in-Here.is c.in_ok-entry.ensures.stands
+stands-here g c = subst (λ (s : Step). IsStepAt c.args.files.now c.loop-link.link.word s) c.in-Here.is c.in_ok-entry.ensures.stands
 
 pub returns-in-Here-clause-outcome : goal.returns-in-Here-clause-outcome
 returns-in-Here-clause-outcome g c image there =
-    let now : (g.F.Folder.told c.loop-link.f).files ≡ Some image = ap (λ (t : Told). t.files) c.loop-link.invariant.told ∙ there in
+    let now : (g.F.Folder.told c.loop-link.folder).files ≡ Some image = ap (λ (t : Told). t.files) c.loop-link.invariant.told ∙ there in
     let step : IsFollowed c.args.files.now c.loop-link.link.word image × IsSought c.args.key.now c.args.sought.now.child c.loop-link.link.word image =
     subst (λ (s : Step). IsSearchStep c.args.files.now c.args.key.now c.args.sought.now.child c.loop-link.link.word s image) c.in-Here.is (c.in_ok-entry.ensures.step image now) in
     let is = sym (stands-here g c).0 in
@@ -119,7 +119,7 @@ some-none e = cc
 
 pub loop-link-preserved : goal.loop-link-preserved
 loop-link-preserved g c =
-    let stands : (c.in-On.next.before ≡ Some c.loop-link.link.word) × (is_record_among c.args.files.now c.loop-link.link.word ≡ true) = subst (λ (s : Step). StandsAt c.args.files.now c.loop-link.link.word s) c.in-On.is c.in_ok-entry.ensures.stands in
+    let stands : (c.in-On.next.before ≡ Some c.loop-link.link.word) × (is_record_among c.args.files.now c.loop-link.link.word ≡ true) = subst (λ (s : Step). IsStepAt c.args.files.now c.loop-link.link.word s) c.in-On.is c.in_ok-entry.ensures.stands in
     let parts = names-parts c.args.files.now c.loop-link.link.word stands.1 in
     let some = c.if-left-eq0.false in
     let most = c.loop-link.invariant.most in
@@ -132,7 +132,7 @@ loop-link-preserved g c =
       begun = λ none. absurd (some-none (sym stands.0 ∙ none));
       most = omega (arith, most);
       passed = λ image there.
-          let now : (g.F.Folder.told c.loop-link.f).files ≡ Some image = ap (λ (t : Told). t.files) c.loop-link.invariant.told ∙ there in
+          let now : (g.F.Folder.told c.loop-link.folder).files ≡ Some image = ap (λ (t : Told). t.files) c.loop-link.invariant.told ∙ there in
           let step : IsFollowed c.args.files.now c.loop-link.link.word image × ((c.in-On.next.word ≡ next_record image c.loop-link.link.word) × (IsSought c.args.key.now c.args.sought.now.child c.loop-link.link.word image → ⊥)) =
           subst (λ (s : Step). IsSearchStep c.args.files.now c.args.key.now c.args.sought.now.child c.loop-link.link.word s image) c.in-On.is (c.in_ok-entry.ensures.step image now) in
           let one : 131073 - (c.loop-link.left - 1) ≡ 131073 - c.loop-link.left + 1 = omega (arith, some, most) in

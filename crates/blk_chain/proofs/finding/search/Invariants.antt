@@ -8,14 +8,14 @@ use Rattle.blk_chain.proofs.finding.search.Given as goal
 
 abbrev pub invariant-loop-link : goal.invariant-loop-link
 invariant-loop-link g l = record {
-  told : Stays (g.F.Folder.told l.initial.f) (g.F.Folder.told l.f);
-  later : g.F.Folder.faults l.initial.f ≤ g.F.Folder.faults l.f;
+  told : Stays (g.F.Folder.told l.initial.folder) (g.F.Folder.told l.folder);
+  later : g.F.Folder.faults l.initial.folder ≤ g.F.Folder.faults l.folder;
   kind_before : IfSome l.link.before (λ before. kind_of before ≡ blocks_256);
   stands_before : IfSome l.link.before (λ before. IsTrue (stands_among l.files before));
   named_before : StandsBefore l.files l.link.before;
   begun : l.link.before ≡ None → l.left ≡ most_searched + 1;
   most : l.left ≤ most_searched + 1;
-  passed : ForSome (g.F.Folder.told l.initial.f).files (HasPassed l.files l.key l.sought.child l.link.word l.link.before (most_searched + 1 - l.left));
+  passed : ForSome (g.F.Folder.told l.initial.folder).files (HasPassed l.files l.key l.sought.child l.link.word l.link.before (most_searched + 1 - l.left));
 }
 
 abbrev pub decreases-loop-link : goal.decreases-loop-link

@@ -9,22 +9,22 @@ use Rattle.blk_chain.proofs.unlinking.unlink.Goals as goal
 
 pub returns-in-None-clause-steps : goal.returns-in-None-clause-steps
 returns-in-None-clause-steps g c =
-    subst (λ (o : Option ℕ). OnOk c.unlink_first.result (ForSome (g.F.Folder.told c.args.f.now).files (λ from. Applies (g.F.Folder.told c.args.f.now) (g.F.Folder.told c.unlink_first.new.f) (unlink_steps from c.args.found.now.entry o))))
+    subst (λ (o : Option ℕ). OnOk c.unlink_first.result (ForSome (g.F.Folder.told c.args.f.now).files (λ from. Applies (g.F.Folder.told c.args.f.now) (g.F.Folder.told c.unlink_first.new.folder) (unlink_steps from c.args.found.now.entry o))))
     (sym c.in-None.is) c.unlink_first.ensures.steps
 
 pub returns-in-None-clause-unlinked : goal.returns-in-None-clause-unlinked
 returns-in-None-clause-unlinked g c =
-    subst (λ (o : Option ℕ). OnOk c.unlink_first.result (ForSome (g.F.Folder.told c.args.f.now).files (λ from. CanBeUnlinked c.args.found.now.entry o from → ForSome (g.F.Folder.told c.unlink_first.new.f).files (IsUnlinked from c.args.found.now.entry o))))
+    subst (λ (o : Option ℕ). OnOk c.unlink_first.result (ForSome (g.F.Folder.told c.args.f.now).files (λ from. CanBeUnlinked c.args.found.now.entry o from → ForSome (g.F.Folder.told c.unlink_first.new.folder).files (IsUnlinked from c.args.found.now.entry o))))
     (sym c.in-None.is) c.unlink_first.ensures.unlinked
 
 pub returns-in-Some-clause-steps : goal.returns-in-Some-clause-steps
 returns-in-Some-clause-steps g c =
-    subst (λ (o : Option ℕ). OnOk c.unlink_behind.result (ForSome (g.F.Folder.told c.args.f.now).files (λ from. Applies (g.F.Folder.told c.args.f.now) (g.F.Folder.told c.unlink_behind.new.f) (unlink_steps from c.args.found.now.entry o))))
+    subst (λ (o : Option ℕ). OnOk c.unlink_behind.result (ForSome (g.F.Folder.told c.args.f.now).files (λ from. Applies (g.F.Folder.told c.args.f.now) (g.F.Folder.told c.unlink_behind.new.folder) (unlink_steps from c.args.found.now.entry o))))
     (sym c.in-Some.is) c.unlink_behind.ensures.steps
 
 pub returns-in-Some-clause-unlinked : goal.returns-in-Some-clause-unlinked
 returns-in-Some-clause-unlinked g c =
-    subst (λ (o : Option ℕ). OnOk c.unlink_behind.result (ForSome (g.F.Folder.told c.args.f.now).files (λ from. CanBeUnlinked c.args.found.now.entry o from → ForSome (g.F.Folder.told c.unlink_behind.new.f).files (IsUnlinked from c.args.found.now.entry o))))
+    subst (λ (o : Option ℕ). OnOk c.unlink_behind.result (ForSome (g.F.Folder.told c.args.f.now).files (λ from. CanBeUnlinked c.args.found.now.entry o from → ForSome (g.F.Folder.told c.unlink_behind.new.folder).files (IsUnlinked from c.args.found.now.entry o))))
     (sym c.in-Some.is) c.unlink_behind.ensures.unlinked
 
 pub returns-in-None-clause-sealed : goal.returns-in-None-clause-sealed
@@ -33,7 +33,7 @@ returns-in-None-clause-sealed g c =
 
 pub returns-in-Some-clause-sealed : goal.returns-in-Some-clause-sealed
 returns-in-Some-clause-sealed g c =
-    subst (λ (o : Option ℕ). OnOk c.unlink_behind.result (ForSome (g.F.Folder.told c.args.f.now).files (λ from. ForSome (g.F.Folder.told c.unlink_behind.new.f).files (IsSealedAgain from c.args.found.now.entry o))))
+    subst (λ (o : Option ℕ). OnOk c.unlink_behind.result (ForSome (g.F.Folder.told c.args.f.now).files (λ from. ForSome (g.F.Folder.told c.unlink_behind.new.folder).files (IsSealedAgain from c.args.found.now.entry o))))
     (sym c.in-Some.is) c.unlink_behind.ensures.sealed
 
 pub returns-in-None-clause-loses : goal.returns-in-None-clause-loses

@@ -11,27 +11,27 @@ use Rattle.blk_chain.proofs.unlinking.unlink_first.Goals as goal
 use Rattle.blk_disk.specs.Open.{IsOpen}
 
 pub returns-in_err-next-clause-commits : goal.returns-in_err-next-clause-commits
-returns-in_err-next-clause-commits g c = first_turns_yet (g.F.Folder.told c.args.f.now) (g.F.Folder.told c.field.new.f) c.args.entry c.in_err-next.ensures.stays
+returns-in_err-next-clause-commits g c = first_turns_yet (g.F.Folder.told c.args.folder.now) (g.F.Folder.told c.field.new.f) c.args.entry c.in_err-next.ensures.stays
 
 pub returns-in_err-next-clause-is_open : goal.returns-in_err-next-clause-is_open
 returns-in_err-next-clause-is_open g c = subst (λ (t : Told). ForSome t.files (IsOpen c.args.files.now)) (sym c.in_err-next.ensures.stays) c.requires.is_open
 
 pub returns-in_err-hash-clause-commits : goal.returns-in_err-hash-clause-commits
-returns-in_err-hash-clause-commits g c = first_turns_yet (g.F.Folder.told c.args.f.now) (g.F.Folder.told c.field-2.new.f) c.args.entry (c.in_err-hash.ensures.stays ∙ c.in_ok-next.ensures.stays)
+returns-in_err-hash-clause-commits g c = first_turns_yet (g.F.Folder.told c.args.folder.now) (g.F.Folder.told c.field-2.new.f) c.args.entry (c.in_err-hash.ensures.stays ∙ c.in_ok-next.ensures.stays)
 
 pub returns-in_err-hash-clause-is_open : goal.returns-in_err-hash-clause-is_open
 returns-in_err-hash-clause-is_open g c = subst (λ (t : Told). ForSome t.files (IsOpen c.args.files.now)) (sym (c.in_err-hash.ensures.stays ∙ c.in_ok-next.ensures.stays)) c.requires.is_open
 
 -- what a failed write leaves
-left_failed : (g : given.Over) (c : goal.After-from_residual-in_err-set_bucket g) → IsTaken c.args.files.now c.args.entry (g.F.Folder.told c.args.f.now) (g.F.Folder.told c.set_bucket.new.f)
+left_failed : (g : given.Over) (c : goal.After-from_residual-in_err-set_bucket g) → IsTaken c.args.files.now c.args.entry (g.F.Folder.told c.args.folder.now) (g.F.Folder.told c.set_bucket.new.f)
 left_failed g c =
-    first_left c.args.files.now (g.F.Folder.told c.args.f.now) (g.F.Folder.told c.set_bucket.new.f) c.args.entry c.in_ok-hash.hash c.in_ok-next.next (g.met.F.Folder.are_bytes c.args.f.now) (λ image there. (c.requires.is_open image there).agrees) (λ image there. (c.requires.is_open image there).whole_index)
+    first_left c.args.files.now (g.F.Folder.told c.args.folder.now) (g.F.Folder.told c.set_bucket.new.f) c.args.entry c.in_ok-hash.hash c.in_ok-next.next (g.met.F.Folder.are_bytes c.args.folder.now) (λ image there. (c.requires.is_open image there).agrees) (λ image there. (c.requires.is_open image there).whole_index)
     c.in_ok-next.ensures.value (g.F.Folder.told c.field.new.f) c.in_ok-next.ensures.stays c.in_ok-hash.ensures.value (g.F.Folder.told c.field-2.new.f) c.in_ok-hash.ensures.stays c.in_err-set_bucket.ensures.prefix
 
 -- what the write leaves
-left_done : (g : given.Over) (c : goal.In_ok-set_bucket g) → IsTaken c.args.files.now c.args.entry (g.F.Folder.told c.args.f.now) (g.F.Folder.told c.set_bucket.new.f)
+left_done : (g : given.Over) (c : goal.In_ok-set_bucket g) → IsTaken c.args.files.now c.args.entry (g.F.Folder.told c.args.folder.now) (g.F.Folder.told c.set_bucket.new.f)
 left_done g c =
-    first_left c.args.files.now (g.F.Folder.told c.args.f.now) (g.F.Folder.told c.set_bucket.new.f) c.args.entry c.in_ok-hash.hash c.in_ok-next.next (g.met.F.Folder.are_bytes c.args.f.now) (λ image there. (c.requires.is_open image there).agrees) (λ image there. (c.requires.is_open image there).whole_index)
+    first_left c.args.files.now (g.F.Folder.told c.args.folder.now) (g.F.Folder.told c.set_bucket.new.f) c.args.entry c.in_ok-hash.hash c.in_ok-next.next (g.met.F.Folder.are_bytes c.args.folder.now) (λ image there. (c.requires.is_open image there).agrees) (λ image there. (c.requires.is_open image there).whole_index)
     c.in_ok-next.ensures.value (g.F.Folder.told c.field.new.f) c.in_ok-next.ensures.stays c.in_ok-hash.ensures.value (g.F.Folder.told c.field-2.new.f) c.in_ok-hash.ensures.stays (part_whole c.in_ok-set_bucket.ensures.steps)
 
 pub returns-in_err-set_bucket-clause-prefix : goal.returns-in_err-set_bucket-clause-prefix
@@ -48,12 +48,12 @@ returns-in_err-set_bucket-clause-is_open g c image here = record { agrees = (lef
 
 pub returns-clause-steps : goal.returns-clause-steps
 returns-clause-steps g c =
-    first_whole c.args.files.now (g.F.Folder.told c.args.f.now) (g.F.Folder.told c.set_bucket.new.f) c.args.entry c.in_ok-hash.hash c.in_ok-next.next (g.met.F.Folder.are_bytes c.args.f.now) (λ image there. (c.requires.is_open image there).agrees) (λ image there. (c.requires.is_open image there).whole_index)
+    first_whole c.args.files.now (g.F.Folder.told c.args.folder.now) (g.F.Folder.told c.set_bucket.new.f) c.args.entry c.in_ok-hash.hash c.in_ok-next.next (g.met.F.Folder.are_bytes c.args.folder.now) (λ image there. (c.requires.is_open image there).agrees) (λ image there. (c.requires.is_open image there).whole_index)
     c.in_ok-next.ensures.value (g.F.Folder.told c.field.new.f) c.in_ok-next.ensures.stays c.in_ok-hash.ensures.value (g.F.Folder.told c.field-2.new.f) c.in_ok-hash.ensures.stays c.in_ok-set_bucket.ensures.steps
 
 pub returns-clause-unlinked : goal.returns-clause-unlinked
 returns-clause-unlinked g c =
-    first_done c.args.files.now (g.F.Folder.told c.args.f.now) (g.F.Folder.told c.set_bucket.new.f) c.args.entry c.in_ok-hash.hash c.in_ok-next.next (g.met.F.Folder.are_bytes c.args.f.now) (λ image there. (c.requires.is_open image there).agrees) (λ image there. (c.requires.is_open image there).whole_index)
+    first_done c.args.files.now (g.F.Folder.told c.args.folder.now) (g.F.Folder.told c.set_bucket.new.f) c.args.entry c.in_ok-hash.hash c.in_ok-next.next (g.met.F.Folder.are_bytes c.args.folder.now) (λ image there. (c.requires.is_open image there).agrees) (λ image there. (c.requires.is_open image there).whole_index)
     c.in_ok-next.ensures.value (g.F.Folder.told c.field.new.f) c.in_ok-next.ensures.stays c.in_ok-hash.ensures.value (g.F.Folder.told c.field-2.new.f) c.in_ok-hash.ensures.stays c.in_ok-set_bucket.ensures.steps
 
 pub returns-clause-prefix : goal.returns-clause-prefix
@@ -76,5 +76,5 @@ returns-in_err-hash-clause-untold g c =
 
 pub returns-in_err-next-clause-untold : goal.returns-in_err-next-clause-untold
 returns-in_err-next-clause-untold g c =
-    carried c.field.result c.from_residual.result c.in_err-next.field-0.0 (λ _. (g.F.Folder.told c.args.f.now).files ≡ None) c.in_err-next.was c.from_residual.ensures.1
+    carried c.field.result c.from_residual.result c.in_err-next.field-0.0 (λ _. (g.F.Folder.told c.args.folder.now).files ≡ None) c.in_err-next.was c.from_residual.ensures.1
     (c.field.ensures.untold (λ image there. (c.requires.is_open image there).agrees))

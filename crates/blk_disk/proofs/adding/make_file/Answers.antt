@@ -29,11 +29,11 @@ pub returns-clause-steps : goal.returns-clause-steps
 returns-clause-steps g c =
     let same = head_is (kind_number c.args.kind) c.args.n c.from.result c.block_size.result c.from.ensures c.block_size.ensures.size in
     on_ok_weaker c.write_run.result
-    (λ grows. grows_then (grows_then c.in_ok-set_len.ensures.done c.in_ok-set_len-2.ensures.done) (subst (λ (ws : List (ℕ × ℕ)). Applies (g.F.Folder.told c.set_len-2.new.self) (g.F.Folder.told c.write_run.new.f) (word_steps (Block c.args.n) ws)) same grows))
+    (λ grows. grows_then (grows_then c.in_ok-set_len.ensures.done c.in_ok-set_len-2.ensures.done) (subst (λ (ws : List (ℕ × ℕ)). Applies (g.F.Folder.told c.set_len-2.new.self) (g.F.Folder.told c.write_run.new.folder) (word_steps (Block c.args.n) ws)) same grows))
     c.write_run.ensures.steps
 
 pub returns-clause-prefix : goal.returns-clause-prefix
 returns-clause-prefix g c =
     let same = head_is (kind_number c.args.kind) c.args.n c.from.result c.block_size.result c.from.ensures c.block_size.ensures.size in
     part_then (grows_then c.in_ok-set_len.ensures.done c.in_ok-set_len-2.ensures.done)
-    (subst (λ (ws : List (ℕ × ℕ)). AppliesPrefix (g.F.Folder.told c.set_len-2.new.self) (g.F.Folder.told c.write_run.new.f) (word_steps (Block c.args.n) ws)) same c.write_run.ensures.prefix)
+    (subst (λ (ws : List (ℕ × ℕ)). AppliesPrefix (g.F.Folder.told c.set_len-2.new.self) (g.F.Folder.told c.write_run.new.folder) (word_steps (Block c.args.n) ws)) same c.write_run.ensures.prefix)

@@ -25,9 +25,9 @@ loop-rest-init g c = record {
 pub returns-in_err-piece_is-clause-untold : goal.returns-in_err-piece_is-clause-untold
 returns-in_err-piece_is-clause-untold g c agrees external =
     subst (λ (t : Told). IfDamaged c.from_residual.result (λ _. t.files ≡ None)) c.loop-rest.invariant.told
-    (carried c.piece_is.result c.from_residual.result c.in_err-piece_is.field-0.0 (λ _. (g.F.Folder.told c.loop-rest.f).files ≡ None) c.in_err-piece_is.was c.from_residual.ensures.1
+    (carried c.piece_is.result c.from_residual.result c.in_err-piece_is.field-0.0 (λ _. (g.F.Folder.told c.loop-rest.folder).files ≡ None) c.in_err-piece_is.was c.from_residual.ensures.1
     (c.piece_is.ensures.untold (subst (λ (t : Told). ForSome t.files (Agrees c.args.files.now)) (sym c.loop-rest.invariant.told) agrees)
-    (λ image now outside. let there : (g.F.Folder.told c.args.f.now).files ≡ Some image = ap (λ (t : Told). t.files) (sym c.loop-rest.invariant.told) ∙ now in
+    (λ image now outside. let there : (g.F.Folder.told c.args.folder.now).files ≡ Some image = ap (λ (t : Told). t.files) (sym c.loop-rest.invariant.told) ∙ now in
     let h = external image there outside in
     let order = c.loop-rest.invariant.order in
     let sum = c.loop-rest.invariant.sum in
@@ -44,7 +44,7 @@ returns-clause-there g c same image there =
 pub returns-then-not-branch-clause-same : goal.returns-then-not-branch-clause-same
 returns-then-not-branch-clause-same g c image there = (
   λ no. absurd (clash no),
-  λ all. let now : (g.F.Folder.told c.loop-rest.f).files ≡ Some image = ap (λ (t : Told). t.files) c.loop-rest.invariant.told ∙ there in
+  λ all. let now : (g.F.Folder.told c.loop-rest.folder).files ≡ Some image = ap (λ (t : Told). t.files) c.loop-rest.invariant.told ∙ there in
       let rest = (c.loop-rest.invariant.same image there).1 all in
       let fits : c.min.result ≤ length c.loop-rest.rest.now = omega (arith, c.min.ensures) in
       let piece = first_same image c.args.addr c.loop-rest.place c.min.result c.loop-rest.rest.now c.split_at.result.0.now c.split_at.result.1.now c.split_at.ensures.front c.split_at.ensures.back fits rest in
@@ -57,10 +57,10 @@ returns-in_err-piece_is-clause-short g c =
     let sum = c.loop-rest.invariant.sum in
     let some : 0 < length c.loop-rest.rest.now = some_left c.loop-rest.rest.now (sym c.is_empty.ensures ∙ c.loop-rest-test.true) in
     let whole : (c.loop-rest.place - c.args.at) % 16398 ≡ 0 = ⊎_elim (λ (e : (c.loop-rest.place - c.args.at) % 16398 ≡ 0). e) (λ (none : length c.loop-rest.rest.now ≡ 0). absurd (omega (arith, none, some))) c.loop-rest.invariant.pieces in
-    carried c.piece_is.result c.from_residual.result c.in_err-piece_is.field-0.0 (IsCutPiece (g.F.Folder.told c.args.f.now) c.args.addr c.args.at (length c.args.bytes.now)) c.in_err-piece_is.was c.from_residual.ensures.1
+    carried c.piece_is.result c.from_residual.result c.in_err-piece_is.field-0.0 (IsCutPiece (g.F.Folder.told c.args.folder.now) c.args.addr c.args.at (length c.args.bytes.now)) c.in_err-piece_is.was c.from_residual.ensures.1
     (if_damaged_weaker c.piece_is.result _ _
     (λ damage cut. subst (λ (t : Told). IsCutPiece t c.args.addr c.args.at (length c.args.bytes.now) damage) c.loop-rest.invariant.told
-    (next_is_cut (g.F.Folder.told c.loop-rest.f) c.args.addr c.args.at (length c.args.bytes.now) c.loop-rest.place (length c.loop-rest.rest.now) (length c.split_at.result.0.now) damage order sum whole some
+    (next_is_cut (g.F.Folder.told c.loop-rest.folder) c.args.addr c.args.at (length c.args.bytes.now) c.loop-rest.place (length c.loop-rest.rest.now) (length c.split_at.result.0.now) damage order sum whole some
     (omega (arith, c.split_at.ensures.front_len, c.min.ensures)) cut))
     c.piece_is.ensures.short)
 
@@ -79,14 +79,14 @@ loop-rest-preserved g c = record {
     room = λ block_kind. let h = i.room block_kind in omega (arith, h, sizes);
   };
   there = λ image there.
-      let now : (g.F.Folder.told c.loop-rest.f).files ≡ Some image = ap (λ (t : Told). t.files) c.loop-rest.invariant.told ∙ there in
+      let now : (g.F.Folder.told c.loop-rest.folder).files ≡ Some image = ap (λ (t : Told). t.files) c.loop-rest.invariant.told ∙ there in
       let order = c.loop-rest.invariant.order in
       let some : 0 < length c.loop-rest.rest.now = some_left c.loop-rest.rest.now (sym c.is_empty.ensures ∙ c.loop-rest-test.true) in
       ⊎_elim (λ (h : HasRange image (data_file c.args.addr) (data_start c.args.addr + c.loop-rest.place) (length c.split_at.result.0.now)). inl (omega (arith, h, order)))
       (λ (none : length c.split_at.result.0.now ≡ 0). absurd (omega (arith, none, some, c.split_at.ensures.front_len, c.min.ensures)))
       (c.in_ok-piece_is.ensures.there c.if-not-branch.false image now);
   same =
-      λ image there. let now : (g.F.Folder.told c.loop-rest.f).files ≡ Some image = ap (λ (t : Told). t.files) c.loop-rest.invariant.told ∙ there in
+      λ image there. let now : (g.F.Folder.told c.loop-rest.folder).files ≡ Some image = ap (λ (t : Told). t.files) c.loop-rest.invariant.told ∙ there in
       next_same image c.args.addr c.loop-rest.place c.min.result c.loop-rest.rest.now c.split_at.result.0.now c.split_at.result.1.now c.split_at.ensures.front c.split_at.ensures.back fits
       (c.args.bytes.now ≡ data_at image c.args.addr c.args.at (length c.args.bytes.now))
       ((c.in_ok-piece_is.ensures.same image now).0 c.if-not-branch.false) (c.loop-rest.invariant.same image there);

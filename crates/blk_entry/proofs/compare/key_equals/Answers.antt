@@ -47,7 +47,7 @@ returns-then-head-super_fast_hash-clause-placed g c image there of = absurd (oth
 
 pub returns-clause-bytes : goal.returns-clause-bytes
 returns-clause-bytes g c =
-    ok_weaker c.key_is.result (λ same. ForSome (g.F.Folder.told c.read_head.new.f).files (λ image. IsTrue same ↔ AreKeyBytes c.args.key.now c.args.entry c.in_ok-head.head.key_len c.in_ok-head.head.long_key image))
+    ok_weaker c.key_is.result (λ same. ForSome (g.F.Folder.told c.read_head.new.folder).files (λ image. IsTrue same ↔ AreKeyBytes c.args.key.now c.args.entry c.in_ok-head.head.key_len c.in_ok-head.head.long_key image))
     (λ same. ForSome (g.F.Folder.told c.args.f.now).files (λ image. IsTrue same ↔ HasBytesOf c.args.key.now c.args.entry image))
     (λ same bytes image there.
     let whole = bytes image (ap (λ (t : Told). t.files) c.in_ok-head.ensures.stays ∙ there) in
@@ -58,7 +58,7 @@ returns-clause-bytes g c =
 
 pub returns-clause-equal : goal.returns-clause-equal
 returns-clause-equal g c =
-    ok_weaker c.key_is.result (λ same. ForSome (g.F.Folder.told c.read_head.new.f).files (λ image. IsRecordHead image c.args.entry c.in_ok-head.head → HasReadableKey c.args.entry image → IsTrue same ↔ (key_at image c.args.entry ≡ Some c.args.key.now)))
+    ok_weaker c.key_is.result (λ same. ForSome (g.F.Folder.told c.read_head.new.folder).files (λ image. IsRecordHead image c.args.entry c.in_ok-head.head → HasReadableKey c.args.entry image → IsTrue same ↔ (key_at image c.args.entry ≡ Some c.args.key.now)))
     (λ same. ForSome (g.F.Folder.told c.args.f.now).files (λ image. HasReadableKey c.args.entry image → IsTrue same ↔ IsEntryOf c.args.key.now c.args.entry image))
     (λ same equal image there readable.
     let words = c.in_ok-head.ensures.head image there in
@@ -76,7 +76,7 @@ returns-clause-placed g c =
 
 pub returns-clause-there : goal.returns-clause-there
 returns-clause-there g c =
-    ok_weaker c.key_is.result (λ same. IsTrue same → ForSome (g.F.Folder.told c.read_head.new.f).files (HasData (key_address c.args.entry c.in_ok-head.head.key_len c.in_ok-head.head.long_key) (bytes_before c.in_ok-head.head.key_len) (length c.args.key.now)))
+    ok_weaker c.key_is.result (λ same. IsTrue same → ForSome (g.F.Folder.told c.read_head.new.folder).files (HasData (key_address c.args.entry c.in_ok-head.head.key_len c.in_ok-head.head.long_key) (bytes_before c.in_ok-head.head.key_len) (length c.args.key.now)))
     (λ same. IsTrue same → ForSome (g.F.Folder.told c.args.f.now).files (HasKeyBytes c.args.entry 0 (length c.args.key.now)))
     (λ same has holds image there. key_bytes_there image c.args.entry c.in_ok-head.head (length c.args.key.now) (c.in_ok-head.ensures.head image there) (has holds image (ap (λ (t : Told). t.files) c.in_ok-head.ensures.stays ∙ there)))
     c.key_is.ensures.there

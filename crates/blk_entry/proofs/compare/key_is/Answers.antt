@@ -9,8 +9,8 @@ use Rattle.blk_entry.proofs.compare.key_is.Goals as goal
 
 pub returns-in_err-place-clause-untold : goal.returns-in_err-place-clause-untold
 returns-in_err-place-clause-untold g c can words =
-    damaged_any c.from_residual.result ((g.F.Folder.told c.args.f.now).files ≡ None)
-    (untold_where (g.F.Folder.told c.args.f.now).files
+    damaged_any c.from_residual.result ((g.F.Folder.told c.args.folder.now).files ≡ None)
+    (untold_where (g.F.Folder.told c.args.folder.now).files
     (λ image there. let has = (can image there).key in
     let known = head_facts c.args.files.now image c.args.entry c.args.head.now has.key (can image there).agrees c.requires.kind (words image there) has.is in
     clash (c.in_err-place.ensures.right known.has known.holds)))
@@ -35,8 +35,8 @@ returns-then-head-key-clause-equal g c image there words has = (
 
 pub returns-clause-bytes : goal.returns-clause-bytes
 returns-clause-bytes g c =
-    ok_weaker c.data_is.result (λ same. ForSome (g.F.Folder.told c.args.f.now).files (λ image. IsTrue same ↔ (c.args.key.now ≡ data_at image c.in_ok-place.place.addr c.in_ok-place.place.skip (length c.args.key.now))))
-    (λ same. ForSome (g.F.Folder.told c.args.f.now).files (λ image. IsTrue same ↔ AreKeyBytes c.args.key.now c.args.entry c.args.head.now.key_len c.args.head.now.long_key image))
+    ok_weaker c.data_is.result (λ same. ForSome (g.F.Folder.told c.args.folder.now).files (λ image. IsTrue same ↔ (c.args.key.now ≡ data_at image c.in_ok-place.place.addr c.in_ok-place.place.skip (length c.args.key.now))))
+    (λ same. ForSome (g.F.Folder.told c.args.folder.now).files (λ image. IsTrue same ↔ AreKeyBytes c.args.key.now c.args.entry c.args.head.now.key_len c.args.head.now.long_key image))
     (λ same read_as image there.
     let by_place = bytes_by_place image c.args.entry c.args.head.now.key_len c.args.head.now.long_key c.args.key.now c.in_ok-place.place c.in_ok-place.ensures.place c.if-head-key.false in
     let whole = read_as image there in
@@ -45,8 +45,8 @@ returns-clause-bytes g c =
 
 pub returns-clause-equal : goal.returns-clause-equal
 returns-clause-equal g c =
-    ok_weaker c.data_is.result (λ same. ForSome (g.F.Folder.told c.args.f.now).files (λ image. IsTrue same ↔ (c.args.key.now ≡ data_at image c.in_ok-place.place.addr c.in_ok-place.place.skip (length c.args.key.now))))
-    (λ same. ForSome (g.F.Folder.told c.args.f.now).files (λ image. IsRecordHead image c.args.entry c.args.head.now → HasReadableKey c.args.entry image → IsTrue same ↔ (key_at image c.args.entry ≡ Some c.args.key.now)))
+    ok_weaker c.data_is.result (λ same. ForSome (g.F.Folder.told c.args.folder.now).files (λ image. IsTrue same ↔ (c.args.key.now ≡ data_at image c.in_ok-place.place.addr c.in_ok-place.place.skip (length c.args.key.now))))
+    (λ same. ForSome (g.F.Folder.told c.args.folder.now).files (λ image. IsRecordHead image c.args.entry c.args.head.now → HasReadableKey c.args.entry image → IsTrue same ↔ (key_at image c.args.entry ≡ Some c.args.key.now)))
     (λ same read_as image there words has.
     let by_place = bytes_by_place image c.args.entry c.args.head.now.key_len c.args.head.now.long_key c.args.key.now c.in_ok-place.place c.in_ok-place.ensures.place c.if-head-key.false in
     let by_head = bytes_of_head image c.args.entry c.args.head.now c.args.key.now words in
@@ -61,14 +61,14 @@ returns-clause-placed g c = on_ok_weaker c.data_is.result (λ there size. c.in_o
 pub returns-clause-there : goal.returns-clause-there
 returns-clause-there g c =
     let at = c.in_ok-place.ensures.place in
-    ok_weaker c.data_is.result (λ same. IsTrue same → ForSome (g.F.Folder.told c.args.f.now).files (HasData c.in_ok-place.place.addr c.in_ok-place.place.skip (length c.args.key.now)))
-    (λ same. IsTrue same → ForSome (g.F.Folder.told c.args.f.now).files (HasData (key_address c.args.entry c.args.head.now.key_len c.args.head.now.long_key) (bytes_before c.args.head.now.key_len) (length c.args.key.now)))
+    ok_weaker c.data_is.result (λ same. IsTrue same → ForSome (g.F.Folder.told c.args.folder.now).files (HasData c.in_ok-place.place.addr c.in_ok-place.place.skip (length c.args.key.now)))
+    (λ same. IsTrue same → ForSome (g.F.Folder.told c.args.folder.now).files (HasData (key_address c.args.entry c.args.head.now.key_len c.args.head.now.long_key) (bytes_before c.args.head.now.key_len) (length c.args.key.now)))
     (λ same has holds image there. subst (λ (w : ℕ). HasData w (bytes_before c.args.head.now.key_len) (length c.args.key.now) image) at.addr (subst (λ (i : ℕ). HasData c.in_ok-place.place.addr i (length c.args.key.now) image) at.skip (has holds image there)))
     c.data_is.ensures.there
 
 pub returns-in_err-place-clause-damaged : goal.returns-in_err-place-clause-damaged
 returns-in_err-place-clause-damaged g c =
-    carried c.key_place.result c.from_residual.result c.in_err-place.field-0.0 (IsPlaceDamage c.args.files.now (g.F.Folder.told c.args.f.now) c.args.entry (length c.args.key.now) c.args.head.now.long_key) c.in_err-place.was c.from_residual.ensures.1
+    carried c.key_place.result c.from_residual.result c.in_err-place.field-0.0 (IsPlaceDamage c.args.files.now (g.F.Folder.told c.args.folder.now) c.args.entry (length c.args.key.now) c.args.head.now.long_key) c.in_err-place.was c.from_residual.ensures.1
     (if_damaged_weaker c.key_place.result _ _ (λ damage wrong. inr (subst (λ (k : ℕ). IsMisplacedKey c.args.files.now c.args.entry k c.args.head.now.long_key damage) c.if-head-key.false wrong)) c.key_place.ensures.damaged)
 
 pub returns-clause-damaged : goal.returns-clause-damaged
@@ -77,7 +77,7 @@ returns-clause-damaged g c =
     let len = place.len in
     let size = c.if-head-key.false in
     if_damaged_weaker c.data_is.result _ _
-    (λ damage cut. inl (subst (λ (k : ℕ). IsCutKey c.args.files.now (g.F.Folder.told c.args.f.now) c.args.entry k c.args.head.now.long_key damage) size
-    (key_is_cut c.args.files.now (g.F.Folder.told c.args.f.now) c.args.entry c.args.head.now.key_len c.args.head.now.long_key c.in_ok-place.place damage
-    c.in_ok-place.ensures.placed place (subst (λ (n : ℕ). IsCutPiece (g.F.Folder.told c.args.f.now) c.in_ok-place.place.addr c.in_ok-place.place.skip n damage) (sym size ∙ sym len) cut))))
+    (λ damage cut. inl (subst (λ (k : ℕ). IsCutKey c.args.files.now (g.F.Folder.told c.args.folder.now) c.args.entry k c.args.head.now.long_key damage) size
+    (key_is_cut c.args.files.now (g.F.Folder.told c.args.folder.now) c.args.entry c.args.head.now.key_len c.args.head.now.long_key c.in_ok-place.place damage
+    c.in_ok-place.ensures.placed place (subst (λ (n : ℕ). IsCutPiece (g.F.Folder.told c.args.folder.now) c.in_ok-place.place.addr c.in_ok-place.place.skip n damage) (sym size ∙ sym len) cut))))
     c.data_is.ensures.short

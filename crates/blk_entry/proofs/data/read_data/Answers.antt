@@ -27,14 +27,14 @@ returns-then-is_of-clause-short g c =
     let kind : kind_of c.args.addr ≡ external = eqb-true (kind_of c.args.addr) external (sym c.is_of.ensures ∙ c.if-is_of.true) in
     let small = c.requires.inside.small in
     if_damaged_weaker c.read.result _ _
-    (λ damage few. few_is_cut (g.F.Folder.told c.args.f.now) c.args.addr c.args.at (length c.args.out.now) damage kind (omega (arith, small))
-    (subst (λ (i : ℕ). IsFew (g.F.Folder.told c.args.f.now) (external_number c.args.addr) i (length c.args.out.now) damage) c.from.ensures few))
+    (λ damage few. few_is_cut (g.F.Folder.told c.args.folder.now) c.args.addr c.args.at (length c.args.out.now) damage kind (omega (arith, small))
+    (subst (λ (i : ℕ). IsFew (g.F.Folder.told c.args.folder.now) (external_number c.args.addr) i (length c.args.out.now) damage) c.from.ensures few))
     c.read.ensures.few
 
 pub returns-else-is_of-clause-short : goal.returns-else-is_of-clause-short
 returns-else-is_of-clause-short g c =
     let block_kind : kind_of c.args.addr ≢ external = of_other (kind_of c.args.addr) external (sym c.is_of.ensures ∙ c.if-is_of.false) in
-    if_damaged_weaker c.read_block.result _ _ (λ damage short. short_is_cut (g.F.Folder.told c.args.f.now) c.args.addr c.args.at (length c.args.out.now) damage block_kind short) c.read_block.ensures.short
+    if_damaged_weaker c.read_block.result _ _ (λ damage short. short_is_cut (g.F.Folder.told c.args.folder.now) c.args.addr c.args.at (length c.args.out.now) damage block_kind short) c.read_block.ensures.short
 
 pub returns-then-is_of-clause-checked : goal.returns-then-is_of-clause-checked
 returns-then-is_of-clause-checked g c =

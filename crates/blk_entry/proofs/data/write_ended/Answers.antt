@@ -11,7 +11,7 @@ returns-in_err-write_data-clause-prefix g c = part_only (data_steps c.args.addr 
 
 pub write_data-requires-2-clause-external : goal.write_data-requires-2-clause-external
 write_data-requires-2-clause-external g c image there kind =
-    room_kept (g.F.Folder.told c.args.f.now) (g.F.Folder.told c.write_data.new.f) c.args.addr c.args.at c.args.bytes.now c.in_ok-write_data.ensures.steps c.requires.external image there kind
+    room_kept (g.F.Folder.told c.args.folder.now) (g.F.Folder.told c.write_data.new.folder) c.args.addr c.args.at c.args.bytes.now c.in_ok-write_data.ensures.steps c.requires.external image there kind
 
 pub returns-clause-steps : goal.returns-clause-steps
 unfolding ended_steps

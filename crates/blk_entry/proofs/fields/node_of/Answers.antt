@@ -17,7 +17,7 @@ pub returns-in-None-clause-damaged : goal.returns-in-None-clause-damaged
 returns-in-None-clause-damaged g c =
     let found = c.record_damage.ensures.word.of_word in
     err_damaged ℕ c.record_damage.result c.record_damage.ensures.damage
-    (IsNodeWordDamage c.args.files.now (g.F.Folder.told c.args.f.now) (FileId.Block (file_selector c.args.entry)) (place c.args.entry + node_place)) c.record_damage.ensures.is
+    (IsNodeWordDamage c.args.files.now (g.F.Folder.told c.args.folder.now) (FileId.Block (file_selector c.args.entry)) (place c.args.entry + node_place)) c.record_damage.ensures.is
     (inr (record {
       of_file = c.record_damage.ensures.word.of_file;
       at_place = c.record_damage.ensures.word.at_place;
@@ -27,8 +27,8 @@ returns-in-None-clause-damaged g c =
 
 pub returns-in-None-clause-untold : goal.returns-in-None-clause-untold
 returns-in-None-clause-untold g c agrees names =
-    err_damaged ℕ c.record_damage.result c.record_damage.ensures.damage (λ _. (g.F.Folder.told c.args.f.now).files ≡ None) c.record_damage.ensures.is
-    (untold_where (g.F.Folder.told c.args.f.now).files
+    err_damaged ℕ c.record_damage.result c.record_damage.ensures.damage (λ _. (g.F.Folder.told c.args.folder.now).files ≡ None) c.record_damage.ensures.is
+    (untold_where (g.F.Folder.told c.args.folder.now).files
     (λ image there.
     let none : is_node_among c.args.files.now c.in_ok-word.word ≡ false = none_named (is_node_among c.args.files.now c.in_ok-word.word) c.in_ok-word.word (sym c.in-None.is ∙ c.node.ensures.node) in
     let word : c.in_ok-word.word ≡ (entry_at image c.args.entry).rankings_node = node_read image c.args.entry c.in_ok-word.word (c.in_ok-word.ensures.value image there) in

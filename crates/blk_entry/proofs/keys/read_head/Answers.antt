@@ -17,24 +17,24 @@ use Rattle.blk_entry.proofs.keys.read_head.Goals as goal
 pub read_block-requires-clause-inside : goal.read_block-requires-clause-inside
 read_block-requires-clause-inside g c = let least = entry_room_least c.args.entry c.requires.kind in omega (arith, least)
 
-unsealed_here : (g : given.Over) (c : goal.After-record_damage g) → IsUnsealed (g.F.Folder.told c.args.f.now) c.args.entry c.record_damage.ensures.damage
+unsealed_here : (g : given.Over) (c : goal.After-record_damage g) → IsUnsealed (g.F.Folder.told c.args.folder.now) c.args.entry c.record_damage.ensures.damage
 unsealed_here g c =
     let window : List ℕ = c.read_block.new.out in
     let fails : checks 92 window ≡ false = ap (checks 92) (sym c.in-Some.ensures.same) ∙ sym c.checks.ensures ∙ c.if-not-checks.true in
     let found : c.word.result ≡ word_at (content window) 92 = c.word.ensures ∙ ap (λ (l : List ℕ). word_at (content l) 92) c.in-Some.ensures.same in
-    unsealed_is (g.F.Folder.told c.args.f.now) c.args.entry 92 c.word.result window c.record_damage.ensures.damage (sym (entry_seal c.args.entry c.requires.kind))
+    unsealed_is (g.F.Folder.told c.args.folder.now) c.args.entry 92 c.word.result window c.record_damage.ensures.damage (sym (entry_seal c.args.entry c.requires.kind))
     (ap (λ (b : Bool). if b then None else Some (word_at (content window) 92)) fails ∙ ap Some (sym found)) c.record_damage.ensures.word.of_file c.record_damage.ensures.word.at_place c.record_damage.ensures.word.of_word
     (λ image there. record_read image c.args.entry 96 window (sym (entry_bytes c.args.entry c.requires.kind)) (c.in_ok-read_block.ensures.bytes image there))
 
 pub returns-then-not-checks-clause-damaged : goal.returns-then-not-checks-clause-damaged
 returns-then-not-checks-clause-damaged g c =
-    err_damaged Head c.record_damage.result c.record_damage.ensures.damage (IsHeadDamage (g.F.Folder.told c.args.f.now) c.args.entry)
+    err_damaged Head c.record_damage.result c.record_damage.ensures.damage (IsHeadDamage (g.F.Folder.told c.args.folder.now) c.args.entry)
     c.record_damage.ensures.is (inr (unsealed_here g c))
 
 pub returns-then-not-checks-clause-untold : goal.returns-then-not-checks-clause-untold
 returns-then-not-checks-clause-untold g c agrees good =
-    err_damaged Head c.record_damage.result c.record_damage.ensures.damage (λ _. (g.F.Folder.told c.args.f.now).files ≡ None) c.record_damage.ensures.is
-    (untold_unsealed (g.F.Folder.told c.args.f.now) c.args.entry c.record_damage.ensures.damage (unsealed_here g c) good)
+    err_damaged Head c.record_damage.result c.record_damage.ensures.damage (λ _. (g.F.Folder.told c.args.folder.now).files ≡ None) c.record_damage.ensures.is
+    (untold_unsealed (g.F.Folder.told c.args.folder.now) c.args.entry c.record_damage.ensures.damage (unsealed_here g c) good)
 
 pub returns-clause-head : goal.returns-clause-head
 returns-clause-head g c image there =

@@ -23,16 +23,16 @@ write_ended-requires-in-None-clause-inside g c =
 pub returns-in-Some-clause-steps : goal.returns-in-Some-clause-steps
 returns-in-Some-clause-steps g c =
     on_ok_weaker c.write_ended.result
-    (λ grown. subst (λ (s : List TrailStep). Applies (g.F.Folder.told c.args.f.now) (g.F.Folder.told c.write_ended.new.f) s) (steps_of_key c.args.new.now c.args.key.now _ c.in-Some.is) grown) c.write_ended.ensures.steps
+    (λ grown. subst (λ (s : List TrailStep). Applies (g.F.Folder.told c.args.folder.now) (g.F.Folder.told c.write_ended.new.folder) s) (steps_of_key c.args.new.now c.args.key.now _ c.in-Some.is) grown) c.write_ended.ensures.steps
 
 pub returns-in-Some-clause-prefix : goal.returns-in-Some-clause-prefix
-returns-in-Some-clause-prefix g c = subst (λ (s : List TrailStep). AppliesPrefix (g.F.Folder.told c.args.f.now) (g.F.Folder.told c.write_ended.new.f) s) (steps_of_key c.args.new.now c.args.key.now _ c.in-Some.is) c.write_ended.ensures.prefix
+returns-in-Some-clause-prefix g c = subst (λ (s : List TrailStep). AppliesPrefix (g.F.Folder.told c.args.folder.now) (g.F.Folder.told c.write_ended.new.folder) s) (steps_of_key c.args.new.now c.args.key.now _ c.in-Some.is) c.write_ended.ensures.prefix
 
 pub returns-in-None-clause-steps : goal.returns-in-None-clause-steps
 returns-in-None-clause-steps g c =
     on_ok_weaker c.write_ended-in-None.result
-    (λ grown. subst (λ (s : List TrailStep). Applies (g.F.Folder.told c.args.f.now) (g.F.Folder.told c.write_ended-in-None.new.f) s) (steps_of_key c.args.new.now c.args.key.now _ c.in-None.is) grown) c.write_ended-in-None.ensures.steps
+    (λ grown. subst (λ (s : List TrailStep). Applies (g.F.Folder.told c.args.folder.now) (g.F.Folder.told c.write_ended-in-None.new.folder) s) (steps_of_key c.args.new.now c.args.key.now _ c.in-None.is) grown) c.write_ended-in-None.ensures.steps
 
 pub returns-in-None-clause-prefix : goal.returns-in-None-clause-prefix
 returns-in-None-clause-prefix g c =
-    subst (λ (s : List TrailStep). AppliesPrefix (g.F.Folder.told c.args.f.now) (g.F.Folder.told c.write_ended-in-None.new.f) s) (steps_of_key c.args.new.now c.args.key.now _ c.in-None.is) c.write_ended-in-None.ensures.prefix
+    subst (λ (s : List TrailStep). AppliesPrefix (g.F.Folder.told c.args.folder.now) (g.F.Folder.told c.write_ended-in-None.new.folder) s) (steps_of_key c.args.new.now c.args.key.now _ c.in-None.is) c.write_ended-in-None.ensures.prefix

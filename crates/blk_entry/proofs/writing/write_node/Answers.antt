@@ -16,7 +16,7 @@ write_block-requires-clause-inside g c =
 pub returns-clause-steps : goal.returns-clause-steps
 returns-clause-steps g c =
     on_ok_weaker c.write_block.result
-    (λ grown. subst (λ (s : List TrailStep). Applies (g.F.Folder.told c.args.f.now) (g.F.Folder.told c.write_block.new.f) s) (steps_of_node c.args.new.now c.args.moment c.node_of-bytes.result c.node_of-bytes.ensures) grown) c.write_block.ensures.steps
+    (λ grown. subst (λ (s : List TrailStep). Applies (g.F.Folder.told c.args.folder.now) (g.F.Folder.told c.write_block.new.f) s) (steps_of_node c.args.new.now c.args.moment c.node_of-bytes.result c.node_of-bytes.ensures) grown) c.write_block.ensures.steps
 
 pub returns-clause-prefix : goal.returns-clause-prefix
-returns-clause-prefix g c = subst (AppliesPrefix (g.F.Folder.told c.args.f.now) (g.F.Folder.told c.write_block.new.f)) (steps_of_node c.args.new.now c.args.moment c.node_of-bytes.result c.node_of-bytes.ensures) c.write_block.ensures.prefix
+returns-clause-prefix g c = subst (AppliesPrefix (g.F.Folder.told c.args.folder.now) (g.F.Folder.told c.write_block.new.f)) (steps_of_node c.args.new.now c.args.moment c.node_of-bytes.result c.node_of-bytes.ensures) c.write_block.ensures.prefix

@@ -9,8 +9,8 @@ use Rattle.blk_eraser.proofs.freeing.erase_freed.Given as goal
 abbrev pub invariant-loop-block : goal.invariant-loop-block
 invariant-loop-block g l = record {
   below : l.block ≤ l.end;
-  known : ForSome (g.F.Folder.told l.f).files (λ image. length_of image (file_of l.file) ≡ l.long);
-  applies : Applies (g.F.Folder.told l.initial.f) (g.F.Folder.told l.f) (zeros_over_blocks (frees l.header l.at l.bytes) (file_of l.file) l.size l.long l.block);
+  known : ForSome (g.F.Folder.told l.folder).files (λ image. length_of image (file_of l.file) ≡ l.long);
+  applies : Applies (g.F.Folder.told l.initial.folder) (g.F.Folder.told l.folder) (zeros_over_blocks (frees l.header l.at l.bytes) (file_of l.file) l.size l.long l.block);
 }
 
 abbrev pub decreases-loop-block : goal.decreases-loop-block

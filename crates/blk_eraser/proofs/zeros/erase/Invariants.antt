@@ -12,8 +12,8 @@ invariant-loop-place g l = record {
   above : l.fn.from ≤ l.place;
   below : l.place ≤ l.end;
   edge : ((l.place % 4 ≡ 0) ⊎ (l.place - l.fn.from ≡ 0)) ⊎ (l.end ≤ l.place);
-  inside : ForSome (g.F.Folder.told l.f).files (λ image. l.end ≤ length_of image (file_of l.file));
-  applies : Applies (g.F.Folder.told l.initial.f) (g.F.Folder.told l.f) (words (file_of l.file) l.fn.from (zeros (l.place - l.fn.from)));
+  inside : ForSome (g.F.Folder.told l.folder).files (λ image. l.end ≤ length_of image (file_of l.file));
+  applies : Applies (g.F.Folder.told l.initial.folder) (g.F.Folder.told l.folder) (words (file_of l.file) l.fn.from (zeros (l.place - l.fn.from)));
 }
 
 abbrev pub decreases-loop-place : goal.decreases-loop-place

@@ -67,9 +67,9 @@ pub returns-clause-made : goal.returns-clause-made
 returns-clause-made g c =
     let stays = c.in_ok-number.ensures.stays ∙ c.in_ok-last.ensures.stays in
     let fits = c.in_ok-number.ensures.number c.in-Some.number c.in-Some.is in
-    let made : ForSome (g.F.Folder.told c.make.new.f).files (λ image. Creates image c.in-Some.number) =
+    let made : ForSome (g.F.Folder.told c.make.new.folder).files (λ image. Creates image c.in-Some.number) =
     told_whole (λ image. Creates image c.in-Some.number) c.in_ok-make.ensures.steps (λ image there. made_is image c.in-Some.number (omega (arith, fits.1)) (c.requires.complete image (ap (λ (t : Told). t.files) (sym stays) ∙ there))) in
-    subst (λ (n : ℕ). ForSome (g.F.Folder.told c.make.new.f).files (λ image. Creates image n)) (sym c.address_of.ensures.number) made
+    subst (λ (n : ℕ). ForSome (g.F.Folder.told c.make.new.folder).files (λ image. Creates image n)) (sym c.address_of.ensures.number) made
 
 pub returns-clause-stops : goal.returns-clause-stops
 returns-clause-stops g c from there free =

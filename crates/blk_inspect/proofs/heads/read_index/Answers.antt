@@ -27,4 +27,4 @@ returns-in_err-read_exact-clause-damaged g c =
 pub returns-in_err-read_exact-clause-untold : goal.returns-in_err-read_exact-clause-untold
 returns-in_err-read_exact-clause-untold g c whole =
     converted c.read_exact.result c.from_residual.result c.in_err-read_exact.field-0.0 _ c.in_err-read_exact.was c.from_residual.ensures.1
-    (untold_if c.read_exact.result (g.F.Folder.told c.args.f.now) names.Index 0 368 c.read_exact.ensures.short (λ image there. let e = whole image there in omega (arith, e)))
+    (untold_if c.read_exact.result (g.F.Folder.told c.args.folder.now) names.Index 0 368 c.read_exact.ensures.short (λ image there. let e = whole image there in omega (arith, e)))

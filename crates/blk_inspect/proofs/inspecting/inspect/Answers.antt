@@ -40,7 +40,7 @@ pub returns-in_err-print_findings-clause-cause : goal.returns-in_err-print_findi
 returns-in_err-print_findings-clause-cause g c = at_sink c.from_residual-in_err-print_findings.result (λ s. IfInspectDamaged s (IsInspectDamage (g.F.Folder.told c.args.f.now))) c.from_residual-in_err-print_findings.ensures.1 tt
 
 pub returns-in_err-print_findings-clause-device : goal.returns-in_err-print_findings-clause-device
-returns-in_err-print_findings-clause-device g c = at_sink c.from_residual-in_err-print_findings.result (λ s. IfInspectDevice s (Rises (g.F.Folder.faults c.args.f.now) (g.F.Folder.faults c.find.new.f))) c.from_residual-in_err-print_findings.ensures.1 tt
+returns-in_err-print_findings-clause-device g c = at_sink c.from_residual-in_err-print_findings.result (λ s. IfInspectDevice s (Rises (g.F.Folder.faults c.args.f.now) (g.F.Folder.faults c.find.new.folder))) c.from_residual-in_err-print_findings.ensures.1 tt
 
 pub returns-in_err-print_findings-clause-sink : goal.returns-in_err-print_findings-clause-sink
 returns-in_err-print_findings-clause-sink g c = at_sink c.from_residual-in_err-print_findings.result (λ s. IfInspectSink s (Rises (g.K.Sink.faults c.args.out.now) (g.K.Sink.faults c.print_findings.new.out))) c.from_residual-in_err-print_findings.ensures.1 c.in_err-print_findings.ensures.failed

@@ -34,5 +34,5 @@ returns-in_err-rows-clause-damaged g c =
 
 pub returns-in_err-rows-clause-untold : goal.returns-in_err-rows-clause-untold
 returns-in_err-rows-clause-untold g c =
-    untold_on c.record_rows.result c.from_residual-in_err-rows.result c.in_err-rows.field-0.0 {a = g.F.Folder.told c.args.f.now} (IsOpen c.args.files.now) (Agrees c.args.files.now) (λ image is_open. is_open.agrees) c.in_ok-lists.ensures.stays c.record_rows.ensures.untold
+    untold_on c.record_rows.result c.from_residual-in_err-rows.result c.in_err-rows.field-0.0 {a = g.F.Folder.told c.args.folder.now} (IsOpen c.args.files.now) (Agrees c.args.files.now) (λ image is_open. is_open.agrees) c.in_ok-lists.ensures.stays c.record_rows.ensures.untold
     c.in_err-rows.was c.from_residual-in_err-rows.ensures.1

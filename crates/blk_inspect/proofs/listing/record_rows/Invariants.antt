@@ -7,7 +7,7 @@ use Rattle.blk_inspect.proofs.listing.record_rows.Given as goal
 
 abbrev pub invariant-loop-entry : goal.invariant-loop-entry
 invariant-loop-entry g l = record {
-  rows : ForSome (g.F.Folder.told l.fn.f).files (λ image. AreListsOf image l.lists → l.rows.items ≡ map (record_row_at image) (take l.entry-index l.entries));
-  stays : Stays (g.F.Folder.told l.fn.f) (g.F.Folder.told l.f);
-  later : g.F.Folder.faults l.fn.f ≤ g.F.Folder.faults l.f;
+  rows : ForSome (g.F.Folder.told l.fn.folder).files (λ image. AreListsOf image l.lists → l.rows.items ≡ map (record_row_at image) (take l.entry-index l.entries));
+  stays : Stays (g.F.Folder.told l.fn.folder) (g.F.Folder.told l.folder);
+  later : g.F.Folder.faults l.fn.folder ≤ g.F.Folder.faults l.folder;
 }

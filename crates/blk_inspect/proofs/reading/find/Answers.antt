@@ -7,7 +7,7 @@ use Rattle.blk_inspect.proofs.Found.{finished_shown, unfinished_shown}
 use Rattle.blk_inspect.proofs.reading.find.Goals as goal
 
 pub returns-in_err-look-clause-damaged : goal.returns-in_err-look-clause-damaged
-returns-in_err-look-clause-damaged g c = converted c.look.result c.from_residual.result c.in_err-look.field-0.0 _ c.in_err-look.was c.from_residual.ensures.1 (looked-first c.look.result (g.F.Folder.told c.args.f.now) c.look.ensures.looked)
+returns-in_err-look-clause-damaged g c = converted c.look.result c.from_residual.result c.in_err-look.field-0.0 _ c.in_err-look.was c.from_residual.ensures.1 (looked-first c.look.result (g.F.Folder.told c.args.folder.now) c.look.ensures.looked)
 
 pub returns-in-Unfinished-clause-found : goal.returns-in-Unfinished-clause-found
 returns-in-Unfinished-clause-found g c image there = unfinished_shown c.args.question.now image (looked-as _ _ image c.in-Unfinished.is (c.in_ok-look.ensures.looked image there))

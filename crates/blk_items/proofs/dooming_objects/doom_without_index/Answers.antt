@@ -22,7 +22,7 @@ returns-in_err-doom_plain-clause-untold g c from there state layout number objec
     let t1 = subst (λ (b : Bool). LiesAsTarget b state layout number object c.args.target.now) c.if-is_held.true t in
     let none = parts-none state layout from number object c.args.target.now k t1 c.requires.plain in
     let can = can-be-doomed state layout from number object c.args.target.now k t1 none t1.named in
-    carried c.doom_plain.result c.from_residual.result c.in_err-doom_plain.field-0.0 (λ _. (g.F.Folder.told c.args.f.now).files ≡ None) c.in_err-doom_plain.was c.from_residual.ensures.1
+    carried c.doom_plain.result c.from_residual.result c.in_err-doom_plain.field-0.0 (λ _. (g.F.Folder.told c.args.folder.now).files ≡ None) c.in_err-doom_plain.was c.from_residual.ensures.1
     (c.doom_plain.ensures.untold from there state layout [] number object t1.lies.was k.entries can t1.lies)
 
 pub returns-in_ok-doom_plain-clause-doomed : goal.returns-in_ok-doom_plain-clause-doomed
@@ -44,14 +44,14 @@ returns-in_err-bytes-clause-stops g c from there state layout number object k t 
     let t1 = subst (λ (b : Bool). LiesAsTarget b state layout number object c.args.target.now) c.if-is_held.false t in
     let none = parts-none state layout from number object c.args.target.now k t1 c.requires.plain in
     let goes = goes-alone state layout from number object c.args.target.now k t1 none t1.named in
-    subst (λ (s : State). Passes (g.F.Folder.told c.args.f.now) (g.F.Folder.told c.remove_item.new.f) (FindsEither state s)) (alone-is state layout from number object c.args.target.now k t1 none t1.named) (c.in_err-bytes.ensures.stops from there state layout [] (doomed number state (Some object)).objects (is_of_another object.key) (main object.key) k goes)
+    subst (λ (s : State). Passes (g.F.Folder.told c.args.folder.now) (g.F.Folder.told c.remove_item.new.folder) (FindsEither state s)) (alone-is state layout from number object c.args.target.now k t1 none t1.named) (c.in_err-bytes.ensures.stops from there state layout [] (doomed number state (Some object)).objects (is_of_another object.key) (main object.key) k goes)
 
 pub returns-in_err-bytes-clause-untold : goal.returns-in_err-bytes-clause-untold
 returns-in_err-bytes-clause-untold g c from there state layout number object k t =
     let t1 = subst (λ (b : Bool). LiesAsTarget b state layout number object c.args.target.now) c.if-is_held.false t in
     let none = parts-none state layout from number object c.args.target.now k t1 c.requires.plain in
     let goes = goes-alone state layout from number object c.args.target.now k t1 none t1.named in
-    carried c.remove_item.result c.from_residual-in_err-bytes.result c.in_err-bytes.field-0.0 (λ _. (g.F.Folder.told c.args.f.now).files ≡ None) c.in_err-bytes.was c.from_residual-in_err-bytes.ensures.1
+    carried c.remove_item.result c.from_residual-in_err-bytes.result c.in_err-bytes.field-0.0 (λ _. (g.F.Folder.told c.args.folder.now).files ≡ None) c.in_err-bytes.was c.from_residual-in_err-bytes.ensures.1
     (c.remove_item.ensures.untold from there state layout [] (doomed number state (Some object)).objects (is_of_another object.key) (main object.key) k goes)
 
 pub returns-in_ok-bytes-clause-doomed : goal.returns-in_ok-bytes-clause-doomed
@@ -66,4 +66,4 @@ returns-in_ok-bytes-clause-stops g c from there state layout number object k t =
     let t1 = subst (λ (b : Bool). LiesAsTarget b state layout number object c.args.target.now) c.if-is_held.false t in
     let none = parts-none state layout from number object c.args.target.now k t1 c.requires.plain in
     let goes = goes-alone state layout from number object c.args.target.now k t1 none t1.named in
-    subst (λ (s : State). Passes (g.F.Folder.told c.args.f.now) (g.F.Folder.told c.remove_item.new.f) (FindsEither state s)) (alone-is state layout from number object c.args.target.now k t1 none t1.named) (c.in_ok-bytes.ensures.stops from there state layout [] (doomed number state (Some object)).objects (is_of_another object.key) (main object.key) k goes)
+    subst (λ (s : State). Passes (g.F.Folder.told c.args.folder.now) (g.F.Folder.told c.remove_item.new.folder) (FindsEither state s)) (alone-is state layout from number object c.args.target.now k t1 none t1.named) (c.in_ok-bytes.ensures.stops from there state layout [] (doomed number state (Some object)).objects (is_of_another object.key) (main object.key) k goes)

@@ -12,7 +12,7 @@ use Rattle.blk_items.proofs.dooming_objects.find_target.Goals as goal
 
 pub returns-in_err-found-clause-untold : goal.returns-in_err-found-clause-untold
 returns-in_err-found-clause-untold g c is_open kept =
-    carried c.find.result c.from_residual.result c.in_err-found.field-0.0 (λ _. (g.F.Folder.told c.args.f.now).files ≡ None) c.in_err-found.was c.from_residual.ensures.1
+    carried c.find.result c.from_residual.result c.in_err-found.field-0.0 (λ _. (g.F.Folder.told c.args.folder.now).files ≡ None) c.in_err-found.was c.from_residual.ensures.1
     (c.find.ensures.untold (λ image there. (is_open image there).whole_index) (λ image there. (is_open image there).agrees) (λ image there. let s : KeepsSomeState image = kept image there in can-search s.state s.layout s.unlinked image s.kept c.args.key.now))
 
 pub returns-in_default-clause-target : goal.returns-in_default-clause-target
@@ -22,7 +22,7 @@ returns-in_default-clause-target g c image there state layout unlinked k =
 
 pub returns-in_err-said-clause-untold : goal.returns-in_err-said-clause-untold
 returns-in_err-said-clause-untold g c is_open kept =
-    let old : Told = g.F.Folder.told c.args.f.now in
+    let old : Told = g.F.Folder.told c.args.folder.now in
     let mid : Told = g.F.Folder.told c.find.new.f in
     let back = λ (image : _) (there : mid.files ≡ Some image). let t : old.files ≡ Some image = ap (λ (t : Told). t.files) (sym c.in_ok-found.ensures.stays) ∙ there in t in
     let found = λ (image : _) (there : old.files ≡ Some image) (s : KeepsSomeState image).

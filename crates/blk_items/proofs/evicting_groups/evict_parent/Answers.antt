@@ -18,7 +18,7 @@ use Rattle.blk_object.specs.RemovingObjects.{FindsEither, IsOwnedBy}
 use Rattle.blk_sparse.specs.declared.dropping.Gone.{Gone}
 use Rattle.blk_items.specs.EvictingGroups.{text_of_parts}
 use Rattle.blk_items.specs.RoomLaws.{group_for}
-use Rattle.blk_items.specs.RoomPrinting.{Prints}
+use Rattle.blk_items.specs.RoomPrinting.{PrintsUnlessFailed}
 use Rattle.blk_items.proofs.RoomTexts.{appends-after, appends-longer, printed-on}
 use Rattle.blk_items.proofs.GroupsOut.{if-ok-three, stayed-stops}
 use Rattle.blk_items.proofs.WholeGroups.{doomed-is, may-go, whole-child, whole-is-listed, whole-no-key, whole-out, whole-owner, whole-text}
@@ -33,7 +33,7 @@ record_damage-requires-clause-kind g c = let p = names-parts c.args.files.now c.
 
 pub returns-then-is_no_key-clause-stops : goal.returns-then-is_no_key-clause-stops
 returns-then-is_no_key-clause-stops g c from there by state layout is =
-    stayed-stops (g.F.Folder.told c.args.f.now) (g.F.Folder.told c.args.f.now) state (without (group_for is.last.item is.last.front ∷ []) state) layout from there refl is.kept
+    stayed-stops (g.F.Folder.told c.args.folder.now) (g.F.Folder.told c.args.folder.now) state (without (group_for is.last.item is.last.front ∷ []) state) layout from there refl is.kept
 
 clash : true ≡ false → ⊥
 clash e = cc
@@ -41,12 +41,12 @@ clash e = cc
 pub returns-then-is_no_key-clause-untold : goal.returns-then-is_no_key-clause-untold
 returns-then-is_no_key-clause-untold g c from there by state layout is =
     let none : no_key c.args.key.now ≡ true = search rules in
-    err_damaged Gone c.record_damage.result c.record_damage.ensures.damage (λ _. (g.F.Folder.told c.args.f.now).files ≡ None) c.record_damage.ensures.is
+    err_damaged Gone c.record_damage.result c.record_damage.ensures.damage (λ _. (g.F.Folder.told c.args.folder.now).files ≡ None) c.record_damage.ensures.is
     (absurd (clash (sym none ∙ whole-no-key state layout from c.args.found.now c.args.key.now is)))
 
 pub returns-in_err-at-clause-stops : goal.returns-in_err-at-clause-stops
 returns-in_err-at-clause-stops g c from there by state layout is =
-    stayed-stops (g.F.Folder.told c.args.f.now) (g.F.Folder.told c.find_listed.new.f) state (without (group_for is.last.item is.last.front ∷ []) state) layout from there c.in_err-at.ensures.stays is.kept
+    stayed-stops (g.F.Folder.told c.args.folder.now) (g.F.Folder.told c.find_listed.new.folder) state (without (group_for is.last.item is.last.front ∷ []) state) layout from there c.in_err-at.ensures.stays is.kept
 
 pub returns-in_err-at-clause-front : goal.returns-in_err-at-clause-front
 returns-in_err-at-clause-front g c from there by state layout is =
@@ -58,7 +58,7 @@ returns-in_err-at-clause-is_open g c image there = c.requires.is_open image (tol
 
 pub returns-in_err-at-clause-untold : goal.returns-in_err-at-clause-untold
 returns-in_err-at-clause-untold g c from there by state layout is =
-    carried c.find_listed.result c.from_residual.result c.in_err-at.field-0.0 (λ _. (g.F.Folder.told c.args.f.now).files ≡ None) c.in_err-at.was c.from_residual.ensures.1
+    carried c.find_listed.result c.from_residual.result c.in_err-at.field-0.0 (λ _. (g.F.Folder.told c.args.folder.now).files ≡ None) c.in_err-at.was c.from_residual.ensures.1
     (c.find_listed.ensures.untold c.requires.is_open from there state layout [] is.last.item is.last.loaded is.kept.entries (whole-is-listed state layout from c.args.found.now c.args.key.now is) is.last.here is.key_is (whole-child state layout from c.args.found.now c.args.key.now is))
 
 pub remove_parent-requires-clause-is_open : goal.remove_parent-requires-clause-is_open
@@ -70,8 +70,8 @@ remove_parent-requires-clause-some g c = let some : no_key c.args.key.now ≡ fa
 pub remove_parent-requires-clause-short : goal.remove_parent-requires-clause-short
 remove_parent-requires-clause-short g c = let some : no_key c.args.key.now ≡ false = search rules in grind (arith, nat_tests)
 
-pub remove_parent-requires-clause-room : goal.remove_parent-requires-clause-room
-remove_parent-requires-clause-room g c = let some : no_key c.args.key.now ≡ false = search rules in let room = c.requires.room in grind (arith, nat_tests)
+pub remove_parent-requires-clause-buffer : goal.remove_parent-requires-clause-buffer
+remove_parent-requires-clause-buffer g c = let some : no_key c.args.key.now ≡ false = search rules in let buffer = c.requires.buffer in grind (arith, nat_tests)
 
 pub returns-clause-out : goal.returns-clause-out
 returns-clause-out g c = if-ok-three c.remove_parent.result (λ gone told out session from there by state layout is now then_there.
@@ -96,7 +96,7 @@ returns-clause-prints g c = on_ok_weaker c.remove_parent.result (λ prints from 
     let mid = told_now from c.in_ok-at.ensures.stays there in
     let at_by = subst (λ (w : ℕ). IsOwnedBy w c.args.owned.now from) (is.last.entry ∙ entry) by in
     let o = whole-owner state layout from c.args.found.now c.args.key.now is in
-    subst (λ (text : List ℕ). Prints c.args.failed.now c.remove_parent.new.failed (g.K.Sink.written c.args.out.now) (g.K.Sink.written c.remove_parent.new.out) text) (sym (whole-text state layout from c.args.found.now c.args.key.now is))
+    subst (λ (text : List ℕ). PrintsUnlessFailed c.args.failed.now c.remove_parent.new.failed (g.K.Sink.written c.args.out.now) (g.K.Sink.written c.remove_parent.new.out) text) (sym (whole-text state layout from c.args.found.now c.args.key.now is))
     (printed-on c.args.failed.now c.say_evicted.new.failed c.remove_parent.new.failed (g.K.Sink.written c.args.out.now) (g.K.Sink.written c.say_evicted.new.out) (g.K.Sink.written c.remove_parent.new.out) (evicted_line (main c.args.key.now)) (text_of_parts c.args.key.now (parts_among c.args.key.now state.uses))
     c.say_evicted.ensures.prints (prints from mid at_by state layout [] o.number o.object may)))
     c.remove_parent.ensures.prints
@@ -111,7 +111,7 @@ returns-clause-stops g c from there by state layout is =
     let mid = told_now from c.in_ok-at.ensures.stays there in
     let at_by = subst (λ (w : ℕ). IsOwnedBy w c.args.owned.now from) (is.last.entry ∙ entry) by in
     let o = whole-owner state layout from c.args.found.now c.args.key.now is in
-    passes_stayed c.in_ok-at.ensures.stays (subst (λ (after : State). Passes (g.F.Folder.told c.find_listed.new.f) (g.F.Folder.told c.remove_parent.new.f) (FindsEither state after)) (doomed-is state layout from c.args.found.now c.args.key.now is) (c.remove_parent.ensures.stops from mid at_by state layout [] o.number o.object may))
+    passes_stayed c.in_ok-at.ensures.stays (subst (λ (after : State). Passes (g.F.Folder.told c.find_listed.new.folder) (g.F.Folder.told c.remove_parent.new.folder) (FindsEither state after)) (doomed-is state layout from c.args.found.now c.args.key.now is) (c.remove_parent.ensures.stops from mid at_by state layout [] o.number o.object may))
 
 pub returns-clause-front : goal.returns-clause-front
 returns-clause-front g c from there by state layout is =
@@ -144,8 +144,8 @@ returns-then-is_no_key-clause-damaged g c says =
     let d = c.record_damage.ensures in
     let p = names-parts c.args.files.now c.args.found.now.entry c.requires.record_stands in
     let none : no_key c.args.key.now ≡ true = search rules in
-    err_damaged Gone c.record_damage.result d.damage (IsFailedCheck c.args.files.now (g.F.Folder.told c.args.f.now)) d.is
-    (within-checked c.args.files.now (g.F.Folder.told c.args.f.now) c.args.found.now.entry d.damage p.1.0 p.1.1 (WrongLength (record {
+    err_damaged Gone c.record_damage.result d.damage (IsFailedCheck c.args.files.now (g.F.Folder.told c.args.folder.now)) d.is
+    (within-checked c.args.files.now (g.F.Folder.told c.args.folder.now) c.args.found.now.entry d.damage p.1.0 p.1.1 (WrongLength (record {
       of_word = subst (λ (n : ℕ). IsWordOf c.args.found.now.entry 32 n d.damage) (sym d.word.of_word) d.word;
       unlike = wrong-length c.args.key.now d.damage.found d.word.of_word none;
       there = λ image there. d.word.of_word ∙ ap length (sym (says image there)) ∙ key-length-said image c.args.found.now.entry;
@@ -153,7 +153,7 @@ returns-then-is_no_key-clause-damaged g c says =
 
 pub returns-in_err-at-clause-damaged : goal.returns-in_err-at-clause-damaged
 returns-in_err-at-clause-damaged g c says =
-    carried c.find_listed.result c.from_residual.result c.in_err-at.field-0.0 (IsFailedCheck c.args.files.now (g.F.Folder.told c.find_listed.new.f)) c.in_err-at.was c.from_residual.ensures.1 (c.find_listed.ensures.damaged says)
+    carried c.find_listed.result c.from_residual.result c.in_err-at.field-0.0 (IsFailedCheck c.args.files.now (g.F.Folder.told c.find_listed.new.folder)) c.in_err-at.was c.from_residual.ensures.1 (c.find_listed.ensures.damaged says)
 
 pub returns-clause-damaged : goal.returns-clause-damaged
 returns-clause-damaged g c says =

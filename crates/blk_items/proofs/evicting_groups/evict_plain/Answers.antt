@@ -1,13 +1,13 @@
 use Rattle.std.proofs.Common.{◌∙◌, List, ap, false, subst, sym, ℕ}
 use Rattle.blk_io.specs.Streams.{Appends}
 use Rattle.blk_script.specs.Reply.{evicted_line}
-use Rattle.blk_items.specs.RoomPrinting.{Prints}
+use Rattle.blk_items.specs.RoomPrinting.{PrintsUnlessFailed}
 use Rattle.blk_items.proofs.GroupsOut.{as-text, main-said, on-ok-any}
 use Rattle.blk_items.proofs.evicting_groups.evict_plain.Goals as goal
 
 pub returns-clause-prints : goal.returns-clause-prints
 returns-clause-prints g c = on-ok-any c.remove_alone.result (λ from there state layout is.
-    subst (λ (text : List ℕ). Prints c.args.failed.now c.say_evicted.new.failed (g.K.Sink.written c.args.out.now) (g.K.Sink.written c.say_evicted.new.out) text)
+    subst (λ (text : List ℕ). PrintsUnlessFailed c.args.failed.now c.say_evicted.new.failed (g.K.Sink.written c.args.out.now) (g.K.Sink.written c.say_evicted.new.out) text)
     (sym (as-text state layout from c.args.found.now false c.args.key.now is ∙ ap evicted_line (main-said state layout from c.args.found.now c.args.key.now is)))
     c.say_evicted.ensures.prints)
 

@@ -13,7 +13,7 @@ use Rattle.blk_items.proofs.evicting_groups.find_listed.Goals as goal
 
 pub returns-in_err-at-clause-untold : goal.returns-in_err-at-clause-untold
 returns-in_err-at-clause-untold g c is_open image there state layout unlinked item was k listed here key child =
-    carried c.find.result c.from_residual.result c.in_err-at.field-0.0 (λ _. (g.F.Folder.told c.args.f.now).files ≡ None) c.in_err-at.was c.from_residual.ensures.1
+    carried c.find.result c.from_residual.result c.in_err-at.field-0.0 (λ _. (g.F.Folder.told c.args.folder.now).files ≡ None) c.in_err-at.was c.from_residual.ensures.1
     (c.find.ensures.untold (λ i t. (is_open i t).whole_index) (λ i t. (is_open i t).agrees) (λ i t. subst (CanBeSearched c.args.name.now) (some_inj (sym there ∙ t)) (can-search state layout unlinked image k c.args.name.now)))
 
 pub record_damage-requires-clause-kind : goal.record_damage-requires-clause-kind
@@ -31,14 +31,14 @@ returns-in-Some-clause-behind g c image there state layout unlinked item was k l
 
 pub returns-in-None-clause-untold : goal.returns-in-None-clause-untold
 returns-in-None-clause-untold g c is_open image there state layout unlinked item was k listed here key child =
-    err_damaged Found c.record_damage.result c.record_damage.ensures.damage (λ _. (g.F.Folder.told c.args.f.now).files ≡ None) c.record_damage.ensures.is
+    err_damaged Found c.record_damage.result c.record_damage.ensures.damage (λ _. (g.F.Folder.told c.args.folder.now).files ≡ None) c.record_damage.ensures.is
     (absurd (not-none state layout unlinked image k item was listed here c.args.name.now c.args.is_child key child
     (subst (λ (answer : Option Found). IsAnswer c.args.name.now c.args.is_child answer image) c.in-None.is (c.in_ok-at.ensures.found image there (can-search state layout unlinked image k c.args.name.now)))))
 
 pub returns-in_err-at-clause-damaged : goal.returns-in_err-at-clause-damaged
 returns-in_err-at-clause-damaged g c says =
     handed c.find.result c.from_residual.result c.in_err-at.field-0.0 _ c.args.files.now (g.F.Folder.told c.find.new.f)
-    (λ damage wrong. moved c.args.files.now (g.F.Folder.told c.args.f.now) (g.F.Folder.told c.find.new.f) damage c.find.ensures.stays (search-checked c.args.files.now (g.F.Folder.told c.args.f.now) c.args.name.now c.args.is_child damage wrong))
+    (λ damage wrong. moved c.args.files.now (g.F.Folder.told c.args.folder.now) (g.F.Folder.told c.find.new.f) damage c.find.ensures.stays (search-checked c.args.files.now (g.F.Folder.told c.args.folder.now) c.args.name.now c.args.is_child damage wrong))
     c.in_err-at.was c.from_residual.ensures.1 c.find.ensures.damaged
 
 pub returns-in-None-clause-damaged : goal.returns-in-None-clause-damaged
@@ -46,8 +46,8 @@ returns-in-None-clause-damaged g c says =
     let d = c.record_damage.ensures in
     let p = names-parts c.args.files.now c.args.entry c.requires.record_stands in
     err_damaged Found c.record_damage.result d.damage (IsFailedCheck c.args.files.now (g.F.Folder.told c.find.new.f)) d.is
-    (moved c.args.files.now (g.F.Folder.told c.args.f.now) (g.F.Folder.told c.find.new.f) d.damage c.in_ok-at.ensures.stays
-    (within-checked c.args.files.now (g.F.Folder.told c.args.f.now) c.args.entry d.damage p.1.0 p.1.1 (WrongChain (record {
+    (moved c.args.files.now (g.F.Folder.told c.args.folder.now) (g.F.Folder.told c.find.new.f) d.damage c.in_ok-at.ensures.stays
+    (within-checked c.args.files.now (g.F.Folder.told c.args.folder.now) c.args.entry d.damage p.1.0 p.1.1 (WrongChain (record {
       key = c.args.name.now;
       is_child = c.args.is_child;
       of_word = d.word;

@@ -18,7 +18,7 @@ returns-in_err-next-clause-part g c image there p = part-none c.args.failed.now 
 
 pub returns-in_err-next-clause-untold : goal.returns-in_err-next-clause-untold
 returns-in_err-next-clause-untold g c has =
-    carried c.first.result c.from_residual.result c.in_err-next.field-0.0 (λ _. (g.F.Folder.told c.args.f.now).files ≡ None) c.in_err-next.was c.from_residual.ensures.1
+    carried c.first.result c.from_residual.result c.in_err-next.field-0.0 (λ _. (g.F.Folder.told c.args.folder.now).files ≡ None) c.in_err-next.was c.from_residual.ensures.1
     (c.first.ensures.untold (λ image there. (has image there).is_open.whole_index) (λ image there. (has image there).is_open.agrees) (λ image there. let p = has image there in list-is-at-rest p.state p.layout image p.kept))
 
 pub loop-init : goal.loop-init
@@ -28,7 +28,7 @@ loop-init g c = record {
   goes = c.in_ok-next.ensures.word;
   stands = c.in_ok-next.ensures.stands;
   stands_last = tt;
-  room = c.requires.room;
+  buffer = c.requires.buffer;
   fails = λ was now. absurd (let e : false ≡ true = sym was ∙ now in cc);
   stays = c.in_ok-next.ensures.stays;
   later = c.in_ok-next.ensures.later;
@@ -55,11 +55,11 @@ returns-in_err-print_row-clause-failed g c = faults-on _ _ _ _ _ _ c.loop.invari
 pub returns-in_err-print_row-clause-untold : goal.returns-in_err-print_row-clause-untold
 returns-in_err-print_row-clause-untold g c has =
     subst (λ (t : Told). IfDamaged c.from_residual-in_err-print_row.result (λ _. t.files ≡ None)) c.loop.invariant.stays
-    (carried c.print_row.result c.from_residual-in_err-print_row.result c.in_err-print_row.field-0.0 (λ _. (g.F.Folder.told c.loop.f).files ≡ None) c.in_err-print_row.was c.from_residual-in_err-print_row.ensures.1
+    (carried c.print_row.result c.from_residual-in_err-print_row.result c.in_err-print_row.field-0.0 (λ _. (g.F.Folder.told c.loop.folder).files ≡ None) c.in_err-print_row.was c.from_residual-in_err-print_row.ensures.1
     (c.print_row.ensures.untold
     (λ image now. (has image (ap (λ (t : Told). t.files) (sym c.loop.invariant.stays) ∙ now)).is_open.agrees)
     (λ image now.
-    let there : (g.F.Folder.told c.args.f.now).files ≡ Some image = ap (λ (t : Told). t.files) (sym c.loop.invariant.stays) ∙ now in
+    let there : (g.F.Folder.told c.args.folder.now).files ≡ Some image = ap (λ (t : Told). t.files) (sym c.loop.invariant.stays) ∙ now in
     let p = has image there in
     let w = subst (λ (o : Option ℕ). IsListedTo p.state p.layout o c.loop.counter c.args.failed.now c.loop.failed (g.K.Sink.written c.args.out.now) (g.K.Sink.written c.loop.out)) c.in-Some.is (c.loop.invariant.walks image there p) in (
       (placed p.state p.layout image p.kept c.in-Some.node c.loop.counter c.args.failed.now c.loop.failed (g.K.Sink.written c.args.out.now) (g.K.Sink.written c.loop.out) w).loaded,
@@ -79,11 +79,11 @@ pub returns-in_err-next-2-clause-untold : goal.returns-in_err-next-2-clause-unto
 returns-in_err-next-2-clause-untold g c has =
     let stays = c.in_ok-print_row.ensures.stays ∙ c.loop.invariant.stays in
     subst (λ (t : Told). IfDamaged c.from_residual-in_err-next-2.result (λ _. t.files ≡ None)) stays
-    (carried c.after.result c.from_residual-in_err-next-2.result c.in_err-next-2.field-0.0 (λ _. (g.F.Folder.told c.print_row.new.f).files ≡ None) c.in_err-next-2.was c.from_residual-in_err-next-2.ensures.1
+    (carried c.after.result c.from_residual-in_err-next-2.result c.in_err-next-2.field-0.0 (λ _. (g.F.Folder.told c.print_row.new.folder).files ≡ None) c.in_err-next-2.was c.from_residual-in_err-next-2.ensures.1
     (c.after.ensures.untold
     (λ image now. (has image (ap (λ (t : Told). t.files) (sym stays) ∙ now)).is_open.agrees)
     (λ image now.
-    let there : (g.F.Folder.told c.args.f.now).files ≡ Some image = ap (λ (t : Told). t.files) (sym stays) ∙ now in
+    let there : (g.F.Folder.told c.args.folder.now).files ≡ Some image = ap (λ (t : Told). t.files) (sym stays) ∙ now in
     let p = has image there in
     node-listed p.state p.layout image p.kept c.in-Some.node c.loop.counter c.args.failed.now c.loop.failed (g.K.Sink.written c.args.out.now) (g.K.Sink.written c.loop.out)
     (subst (λ (o : Option ℕ). IsListedTo p.state p.layout o c.loop.counter c.args.failed.now c.loop.failed (g.K.Sink.written c.args.out.now) (g.K.Sink.written c.loop.out)) c.in-Some.is (c.loop.invariant.walks image there p)))))
@@ -103,7 +103,7 @@ loop-preserved g c = record {
   goes = λ image there. c.in_ok-next-2.ensures.word image (ap (λ (t : Told). t.files) (c.in_ok-print_row.ensures.stays ∙ c.loop.invariant.stays) ∙ there);
   stands = c.in_ok-next-2.ensures.stands;
   stands_last = subst (λ (o : Option ℕ). IfSome o (λ n. IsTrue (is_node_among c.args.files.now n))) c.in-Some.is c.loop.invariant.stands;
-  room = (let one = c.print_row.auto.name in let two = c.loop.invariant.room in omega (arith, one, two));
+  buffer = (let one = c.print_row.auto.name in let two = c.loop.invariant.buffer in omega (arith, one, two));
   fails = faults-on _ _ _ _ _ _ c.loop.invariant.fails c.in_ok-print_row.ensures.failed c.loop.invariant.later_out c.in_ok-print_row.ensures.later_out;
   stays = c.in_ok-next-2.ensures.stays ∙ c.in_ok-print_row.ensures.stays ∙ c.loop.invariant.stays;
   later = (let one = c.loop.invariant.later in let two = c.in_ok-print_row.ensures.later in let three = c.in_ok-next-2.ensures.later in omega (arith, one, two, three));
@@ -121,7 +121,7 @@ returns-clause-printed g c =
 pub returns-clause-damaged : goal.returns-clause-damaged
 returns-clause-damaged g c =
     if_damaged_weaker c.end_walk.result _ _
-    (λ damage behind. walk-too-long c.args.files.now (g.F.Folder.told c.loop.f) NodeView.NEXT None c.loop.last c.loop.next c.loop.counter damage (inl refl) (omega (arith, c.loop-test.false)) c.loop.invariant.stands_last c.loop.invariant.stands
+    (λ damage behind. walk-too-long c.args.files.now (g.F.Folder.told c.loop.folder) NodeView.NEXT None c.loop.last c.loop.next c.loop.counter damage (inl refl) (omega (arith, c.loop-test.false)) c.loop.invariant.stands_last c.loop.invariant.stands
     (λ image now. c.loop.invariant.passed image (ap (λ (t : Told). t.files) (sym c.loop.invariant.stays) ∙ now))
     (λ image now. c.loop.invariant.goes image (ap (λ (t : Told). t.files) (sym c.loop.invariant.stays) ∙ now)) behind)
     c.end_walk.ensures.damaged
@@ -129,7 +129,7 @@ returns-clause-damaged g c =
 pub returns-clause-untold : goal.returns-clause-untold
 returns-clause-untold g c has =
     if_damaged_weaker c.end_walk.result _ _
-    (λ damage behind. untold_where (g.F.Folder.told c.args.f.now).files (λ image there.
+    (λ damage behind. untold_where (g.F.Folder.told c.args.folder.now).files (λ image there.
     let p = has image there in
     turns-few p.state p.layout c.loop.next c.loop.counter c.args.failed.now c.loop.failed (g.K.Sink.written c.args.out.now) (g.K.Sink.written c.loop.out) image p.kept (omega (arith, c.loop-test.false)) (c.loop.invariant.walks image there p)))
     c.end_walk.ensures.damaged
@@ -141,13 +141,13 @@ returns-clause-part g c image there p =
 pub returns-in_err-next-clause-damaged : goal.returns-in_err-next-clause-damaged
 returns-in_err-next-clause-damaged g c =
     handed c.first.result c.from_residual.result c.in_err-next.field-0.0 _ c.args.files.now (g.F.Folder.told c.first.new.f)
-    (λ damage wrong. moved c.args.files.now (g.F.Folder.told c.args.f.now) (g.F.Folder.told c.first.new.f) damage c.first.ensures.stays (node-word-checked c.args.files.now (g.F.Folder.told c.args.f.now) _ _ damage wrong))
+    (λ damage wrong. moved c.args.files.now (g.F.Folder.told c.args.folder.now) (g.F.Folder.told c.first.new.f) damage c.first.ensures.stays (node-word-checked c.args.files.now (g.F.Folder.told c.args.folder.now) _ _ damage wrong))
     c.in_err-next.was c.from_residual.ensures.1 c.first.ensures.damaged
 
 pub returns-in_err-next-2-clause-damaged : goal.returns-in_err-next-2-clause-damaged
 returns-in_err-next-2-clause-damaged g c =
     handed c.after.result c.from_residual-in_err-next-2.result c.in_err-next-2.field-0.0 _ c.args.files.now (g.F.Folder.told c.after.new.f)
-    (λ damage wrong. moved c.args.files.now (g.F.Folder.told c.print_row.new.f) (g.F.Folder.told c.after.new.f) damage c.after.ensures.stays (node-word-checked c.args.files.now (g.F.Folder.told c.print_row.new.f) _ _ damage wrong))
+    (λ damage wrong. moved c.args.files.now (g.F.Folder.told c.print_row.new.folder) (g.F.Folder.told c.after.new.f) damage c.after.ensures.stays (node-word-checked c.args.files.now (g.F.Folder.told c.print_row.new.folder) _ _ damage wrong))
     c.in_err-next-2.was c.from_residual-in_err-next-2.ensures.1 c.after.ensures.damaged
 
 pub returns-in_default-clause-ends : goal.returns-in_default-clause-ends

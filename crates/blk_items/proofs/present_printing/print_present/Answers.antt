@@ -8,7 +8,7 @@ use Rattle.blk_model.specs.Reply.{gave}
 use Rattle.blk_chain.proofs.Heads.{names-parts}
 use Rattle.blk_disk.specs.Tables.{is_record_among}
 use Rattle.blk_script.specs.Reply.{reply_text}
-use Rattle.blk_items.specs.RoomPrinting.{Prints, PrintsInPart}
+use Rattle.blk_items.specs.RoomPrinting.{PrintsUnlessFailed, PrintsInPart}
 use Rattle.blk_items.proofs.PresentRanges.{by-files, main-parent, none-bytes, none-has, signed}
 use Rattle.blk_items.proofs.RoomTexts.{part-none}
 use Rattle.blk_items.proofs.present_printing.print_present.Goals as goal
@@ -21,15 +21,15 @@ print_range-requires-clause-names g c = subst (λ (w : ℕ). is_record_among c.a
 pub returns-then-range-eq0-clause-printed : goal.returns-then-range-eq0-clause-printed
 returns-then-range-eq0-clause-printed g c =
     on_ok_weaker c.print_range.result
-    (λ printed image there p. subst (λ (bytes : List ℕ). Prints c.args.failed.now c.print_range.new.failed (g.K.Sink.written c.args.out.now) (g.K.Sink.written c.print_range.new.out) (reply_text (gave bytes))) (none-bytes c.args.files.now c.args.range.now image (c.requires.is_open image there).agrees (g.met.F.Folder.are_bytes c.args.f.now image there) p c.if-range-eq0.true) (printed image there (none-has c.args.files.now c.args.range.now image (c.requires.is_open image there).agrees (g.met.F.Folder.are_bytes c.args.f.now image there) p c.if-range-eq0.true c.stream_range.result c.stream_range.ensures.entry c.stream_range.ensures.count)))
+    (λ printed image there p. subst (λ (bytes : List ℕ). PrintsUnlessFailed c.args.failed.now c.print_range.new.failed (g.K.Sink.written c.args.out.now) (g.K.Sink.written c.print_range.new.out) (reply_text (gave bytes))) (none-bytes c.args.files.now c.args.range.now image (c.requires.is_open image there).agrees (g.met.F.Folder.are_bytes c.args.folder.now image there) p c.if-range-eq0.true) (printed image there (none-has c.args.files.now c.args.range.now image (c.requires.is_open image there).agrees (g.met.F.Folder.are_bytes c.args.folder.now image there) p c.if-range-eq0.true c.stream_range.result c.stream_range.ensures.entry c.stream_range.ensures.count)))
     c.print_range.ensures.printed
 
 pub returns-then-range-eq0-clause-part : goal.returns-then-range-eq0-clause-part
 returns-then-range-eq0-clause-part g c image there p =
-    subst (λ (bytes : List ℕ). PrintsInPart c.args.failed.now (g.K.Sink.written c.args.out.now) (g.K.Sink.written c.print_range.new.out) (reply_text (gave bytes))) (none-bytes c.args.files.now c.args.range.now image (c.requires.is_open image there).agrees (g.met.F.Folder.are_bytes c.args.f.now image there) p c.if-range-eq0.true) (c.print_range.ensures.part image there (none-has c.args.files.now c.args.range.now image (c.requires.is_open image there).agrees (g.met.F.Folder.are_bytes c.args.f.now image there) p c.if-range-eq0.true c.stream_range.result c.stream_range.ensures.entry c.stream_range.ensures.count))
+    subst (λ (bytes : List ℕ). PrintsInPart c.args.failed.now (g.K.Sink.written c.args.out.now) (g.K.Sink.written c.print_range.new.out) (reply_text (gave bytes))) (none-bytes c.args.files.now c.args.range.now image (c.requires.is_open image there).agrees (g.met.F.Folder.are_bytes c.args.folder.now image there) p c.if-range-eq0.true) (c.print_range.ensures.part image there (none-has c.args.files.now c.args.range.now image (c.requires.is_open image there).agrees (g.met.F.Folder.are_bytes c.args.folder.now image there) p c.if-range-eq0.true c.stream_range.result c.stream_range.ensures.entry c.stream_range.ensures.count))
 
 pub returns-then-range-eq0-clause-untold : goal.returns-then-range-eq0-clause-untold
-returns-then-range-eq0-clause-untold g c has = c.print_range.ensures.untold (λ image there. let p = has image there in none-has c.args.files.now c.args.range.now image (c.requires.is_open image there).agrees (g.met.F.Folder.are_bytes c.args.f.now image there) p c.if-range-eq0.true c.stream_range.result c.stream_range.ensures.entry c.stream_range.ensures.count)
+returns-then-range-eq0-clause-untold g c has = c.print_range.ensures.untold (λ image there. let p = has image there in none-has c.args.files.now c.args.range.now image (c.requires.is_open image there).agrees (g.met.F.Folder.are_bytes c.args.folder.now image there) p c.if-range-eq0.true c.stream_range.result c.stream_range.ensures.entry c.stream_range.ensures.count)
 
 -- The signature.
 
@@ -44,7 +44,7 @@ returns-in_err-signature-clause-part g c image there p = part-none c.args.failed
 
 pub returns-in_err-signature-clause-untold : goal.returns-in_err-signature-clause-untold
 returns-in_err-signature-clause-untold g c has =
-    carried c.read_signature.result c.from_residual.result c.in_err-signature.field-0.0 (λ _. (g.F.Folder.told c.args.f.now).files ≡ None) c.in_err-signature.was c.from_residual.ensures.1
+    carried c.read_signature.result c.from_residual.result c.in_err-signature.field-0.0 (λ _. (g.F.Folder.told c.args.folder.now).files ≡ None) c.in_err-signature.was c.from_residual.ensures.1
     (c.read_signature.ensures.untold (λ image there. (c.requires.is_open image there).agrees) (λ image there. main-parent c.args.range.now image (has image there)))
 
 -- The parts.
@@ -64,9 +64,9 @@ returns-in_err-parts-clause-part g c image there p = part-none c.args.failed.now
 pub returns-in_err-parts-clause-untold : goal.returns-in_err-parts-clause-untold
 returns-in_err-parts-clause-untold g c has =
     let same = ap (λ (t : Told). t.files) c.in_ok-signature.ensures.stays in
-    by-files c.from_residual-in_err-parts.result (g.F.Folder.told c.args.f.now).files (λ image there.
+    by-files c.from_residual-in_err-parts.result (g.F.Folder.told c.args.folder.now).files (λ image there.
     let p = has image there in
-    carried c.find_parts.result c.from_residual-in_err-parts.result c.in_err-parts.field-0.0 (λ _. (g.F.Folder.told c.args.f.now).files ≡ None) c.in_err-parts.was c.from_residual-in_err-parts.ensures.1
+    carried c.find_parts.result c.from_residual-in_err-parts.result c.in_err-parts.field-0.0 (λ _. (g.F.Folder.told c.args.folder.now).files ≡ None) c.in_err-parts.was c.from_residual-in_err-parts.ensures.1
     (if_damaged_weaker c.find_parts.result _ _ (λ damage none. sym same ∙ none)
     (c.find_parts.ensures.untold image (ap (λ (t : Told). t.files) c.in_ok-signature.ensures.stays ∙ there) p.state p.layout p.unlinked p.number p.object (signed c.args.range.now image p _ (λ loaded index w role. c.in_ok-signature.ensures.signature image there loaded index w role ∙ sym (of_z-to_z w64 (cast_unsigned w64 c.in_ok-signature.signature) (let small = c.in_ok-signature.ensures.small in omega (arith, small))))))))
 

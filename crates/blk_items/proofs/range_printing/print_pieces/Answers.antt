@@ -23,7 +23,7 @@ returns-in_err-print_piece-clause-part g c image there p =
 pub returns-in_err-print_piece-clause-untold : goal.returns-in_err-print_piece-clause-untold
 returns-in_err-print_piece-clause-untold g c has =
     let same = ap (λ (t : Told). t.files) c.loop-done.invariant.told in
-    carried c.print_piece.result c.from_residual.result c.in_err-print_piece.field-0.0 (λ _. (g.F.Folder.told c.args.f.now).files ≡ None) c.in_err-print_piece.was c.from_residual.ensures.1
+    carried c.print_piece.result c.from_residual.result c.in_err-print_piece.field-0.0 (λ _. (g.F.Folder.told c.args.folder.now).files ≡ None) c.in_err-print_piece.was c.from_residual.ensures.1
     (if_damaged_weaker c.print_piece.result _ _ (λ damage none. sym same ∙ none)
     (c.print_piece.ensures.untold (λ image there.
     let p = has image (sym same ∙ there) in

@@ -22,7 +22,7 @@ returns-in_err-print_pieces-2-clause-part g c image there p q =
 pub returns-in_err-print_pieces-2-clause-untold : goal.returns-in_err-print_pieces-2-clause-untold
 returns-in_err-print_pieces-2-clause-untold g c first second =
     let same = ap (λ (t : Told). t.files) c.in_ok-print_pieces.ensures.stays in
-    carried c.print_pieces-2.result c.from_residual-in_err-print_pieces-2.result c.in_err-print_pieces-2.field-0.0 (λ _. (g.F.Folder.told c.args.f.now).files ≡ None) c.in_err-print_pieces-2.was c.from_residual-in_err-print_pieces-2.ensures.1
+    carried c.print_pieces-2.result c.from_residual-in_err-print_pieces-2.result c.in_err-print_pieces-2.field-0.0 (λ _. (g.F.Folder.told c.args.folder.now).files ≡ None) c.in_err-print_pieces-2.was c.from_residual-in_err-print_pieces-2.ensures.1
     (if_damaged_weaker c.print_pieces-2.result _ _ (λ damage none. sym same ∙ none) (c.print_pieces-2.ensures.untold (λ image is. second image (sym same ∙ is))))
 
 pub returns-clause-part : goal.returns-clause-part

@@ -62,19 +62,19 @@ pub perform-requires-clause-is_open : goal.perform-requires-clause-is_open
 perform-requires-clause-is_open g c = told_stays (IsOpen c.args.files.now) c.in_ok-head.ensures.stays c.requires.is_open
 
 pub returns-clause-steps : goal.returns-clause-steps
-returns-clause-steps g c = whole_as (g.F.Folder.told c.args.f.now) (g.F.Folder.told c.first.new.f) (g.F.Folder.told c.perform.new.f) c.in_ok-head.ensures.stays (map meant c.deref.result.now) (λ from. writes_of 1 c.args.node (list_of from)) (plan_is g c.before) c.perform.result c.perform.ensures.steps
+returns-clause-steps g c = whole_as (g.F.Folder.told c.args.f.now) (g.F.Folder.told c.first.new.f) (g.F.Folder.told c.perform.new.folder) c.in_ok-head.ensures.stays (map meant c.deref.result.now) (λ from. writes_of 1 c.args.node (list_of from)) (plan_is g c.before) c.perform.result c.perform.ensures.steps
 
 pub returns-clause-prefix : goal.returns-clause-prefix
 returns-clause-prefix g c = record {
-  made = part_as (g.F.Folder.told c.args.f.now) (g.F.Folder.told c.first.new.f) (g.F.Folder.told c.perform.new.f) c.in_ok-head.ensures.stays (map meant c.deref.result.now) (λ from. writes_of 1 c.args.node (list_of from)) (plan_is g c.before) c.perform.ensures.prefix.made;
+  made = part_as (g.F.Folder.told c.args.f.now) (g.F.Folder.told c.first.new.f) (g.F.Folder.told c.perform.new.folder) c.in_ok-head.ensures.stays (map meant c.deref.result.now) (λ from. writes_of 1 c.args.node (list_of from)) (plan_is g c.before) c.perform.ensures.prefix.made;
   silent = search rules;
 }
 
 checked_here : (g : given.Over) (c : goal.After-perform g) → OnOk c.perform.result (ForSome (g.F.Folder.told c.args.f.now).files (λ from. CanBeMade from (writes_of 1 c.args.node (list_of from))))
-checked_here g c = checked_as (g.F.Folder.told c.args.f.now) (g.F.Folder.told c.first.new.f) (g.F.Folder.told c.perform.new.f) c.in_ok-head.ensures.stays (map meant c.deref.result.now) (λ from. writes_of 1 c.args.node (list_of from)) (plan_is g c.before) c.perform.result c.perform.ensures.checked
+checked_here g c = checked_as (g.F.Folder.told c.args.f.now) (g.F.Folder.told c.first.new.f) (g.F.Folder.told c.perform.new.folder) c.in_ok-head.ensures.stays (map meant c.deref.result.now) (λ from. writes_of 1 c.args.node (list_of from)) (plan_is g c.before) c.perform.result c.perform.ensures.checked
 
 pub returns-clause-untold : goal.returns-clause-untold
-returns-clause-untold g c holds = untold_as (g.F.Folder.told c.args.f.now) (g.F.Folder.told c.first.new.f) (g.F.Folder.told c.perform.new.f) c.in_ok-head.ensures.stays (map meant c.deref.result.now) (λ from. writes_of 1 c.args.node (list_of from)) (plan_is g c.before) c.perform.result c.perform.ensures.untold (λ from there. inserts-can from c.args.node (walked from) (holds from there))
+returns-clause-untold g c holds = untold_as (g.F.Folder.told c.args.f.now) (g.F.Folder.told c.first.new.f) (g.F.Folder.told c.perform.new.folder) c.in_ok-head.ensures.stays (map meant c.deref.result.now) (λ from. writes_of 1 c.args.node (list_of from)) (plan_is g c.before) c.perform.result c.perform.ensures.untold (λ from there. inserts-can from c.args.node (walked from) (holds from there))
 
 ready_here : (g : given.Over) (c : goal.After-perform g) → ForSome (g.F.Folder.told c.args.f.now).files (IsReady c.args.files.now)
 ready_here g c = told_ready c.args.files.now (g.F.Folder.told c.args.f.now) c.requires.is_open (g.met.F.Folder.are_bytes c.args.f.now)
@@ -86,7 +86,7 @@ pub returns-clause-inserted : goal.returns-clause-inserted
 returns-clause-inserted g c =
     on_ok_weaker c.perform.result
     (λ grows from there can.
-    all_made (g.F.Folder.told c.args.f.now) (g.F.Folder.told c.perform.new.f) from there (steps_of_writes (writes_of 1 c.args.node (list_of from)) from) (HasListAtRest (c.args.node ∷ walked from)) (grows from there)
+    all_made (g.F.Folder.told c.args.f.now) (g.F.Folder.told c.perform.new.folder) from there (steps_of_writes (writes_of 1 c.args.node (list_of from)) from) (HasListAtRest (c.args.node ∷ walked from)) (grows from there)
     (inserts-rest from c.args.node (walked from) (ready_writable (ready_here g c from there)) can))
     (returns-clause-steps g c)
 
@@ -95,12 +95,12 @@ returns-clause-sealed g c =
     on_ok_both c.perform.result
     (λ grows can from there.
     let ws : List ListWrite = writes_of 1 c.args.node (list_of from) in
-    all_made (g.F.Folder.told c.args.f.now) (g.F.Folder.told c.perform.new.f) from there (steps_of_writes ws from) (Seals from ws) (grows from there) (writes_seal ws from (ready_writable (ready_here g c from there)) (can from there)))
+    all_made (g.F.Folder.told c.args.f.now) (g.F.Folder.told c.perform.new.folder) from there (steps_of_writes ws from) (Seals from ws) (grows from there) (writes_seal ws from (ready_writable (ready_here g c from there)) (can from there)))
     (returns-clause-steps g c) (checked_here g c)
 
 pub returns-clause-stops : goal.returns-clause-stops
 returns-clause-stops g c from there can =
     let ws : List ListWrite = writes_of 1 c.args.node (list_of from) in
     let ready = ready_here g c from there in
-    part_passes (g.F.Folder.told c.args.f.now) (g.F.Folder.told c.perform.new.f) from there (steps_of_writes ws from) (quiet-writes ws from) ((returns-clause-prefix g c).made from there) (IsMidOperation c.args.files.now ws (walked from) (c.args.node ∷ walked from) from)
+    part_passes (g.F.Folder.told c.args.f.now) (g.F.Folder.told c.perform.new.folder) from there (steps_of_writes ws from) (quiet-writes ws from) ((returns-clause-prefix g c).made from there) (IsMidOperation c.args.files.now ws (walked from) (c.args.node ∷ walked from) from)
     (along_operation c.args.files.now from ready.kept ws (walked from) (c.args.node ∷ walked from) (inserts-turn c.args.node (list_of from) (walked from) can) (steps_of_writes ws from) (writes-in_turn from ws (ready_writable ready) (inserts-can from c.args.node (walked from) can)))

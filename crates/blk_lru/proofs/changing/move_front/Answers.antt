@@ -52,28 +52,28 @@ move_behind-requires-clause-is_open g c = told_stays (IsOpen c.args.files.now) c
 
 pub returns-in_err-head-clause-untold : goal.returns-in_err-head-clause-untold
 returns-in_err-head-clause-untold g c listed =
-    carried c.first.result c.from_residual.result c.in_err-head.field-0.0 (λ _. (g.F.Folder.told c.args.f.now).files ≡ None) c.in_err-head.was c.from_residual.ensures.1 (c.first.ensures.untold (λ image there. (c.requires.is_open image there).whole_index) (λ image there. (c.requires.is_open image there).agrees) (λ image there. (listed image there).rest))
+    carried c.first.result c.from_residual.result c.in_err-head.field-0.0 (λ _. (g.F.Folder.told c.args.folder.now).files ≡ None) c.in_err-head.was c.from_residual.ensures.1 (c.first.ensures.untold (λ image there. (c.requires.is_open image there).whole_index) (λ image there. (c.requires.is_open image there).agrees) (λ image there. (listed image there).rest))
 
 -- the head is another node
-other : (g : given.Over) (c : goal.After-move_behind g) → ForSome (g.F.Folder.told c.args.f.now).files (λ from. ((list_of from).head == c.args.node) ≡ false)
+other : (g : given.Over) (c : goal.After-move_behind g) → ForSome (g.F.Folder.told c.args.folder.now).files (λ from. ((list_of from).head == c.args.node) ≡ false)
 other g c from there =
     ap (λ (w : ℕ). w == c.args.node) (sym (c.in_ok-head.ensures.word from there)) ∙ apart c.args.files.now c.args.node c.requires.stands c.in_ok-head.head (sym c.eq.ensures ∙ c.if-eq.false)
 
 -- what is written is what a touch writes
-touching : (g : given.Over) (c : goal.After-move_behind g) (P : Image → List ListWrite → Type 0) → ForSome (g.F.Folder.told c.first.new.f).files (λ from. P from (writes_of 3 c.args.node (list_of from))) → ForSome (g.F.Folder.told c.args.f.now).files (λ from. P from (touch_writes c.args.node (list_of from)))
+touching : (g : given.Over) (c : goal.After-move_behind g) (P : Image → List ListWrite → Type 0) → ForSome (g.F.Folder.told c.first.new.f).files (λ from. P from (writes_of 3 c.args.node (list_of from))) → ForSome (g.F.Folder.told c.args.folder.now).files (λ from. P from (touch_writes c.args.node (list_of from)))
 touching g c P holds from there = subst (P from) (some_touch (list_of from) c.args.node (other g c from there)) (holds from (ap (λ (t : Told). t.files) c.in_ok-head.ensures.stays ∙ there))
 
 pub returns-clause-steps : goal.returns-clause-steps
 returns-clause-steps g c =
     on_ok_weaker c.move_behind.result
-    (λ grows. touching g c (λ from ws. Applies (g.F.Folder.told c.args.f.now) (g.F.Folder.told c.move_behind.new.f) (steps_of_writes ws from))
-    (subst (λ (t : Told). ForSome t.files (λ from. Applies t (g.F.Folder.told c.move_behind.new.f) (steps_of_writes (writes_of 3 c.args.node (list_of from)) from)) → ForSome (g.F.Folder.told c.first.new.f).files (λ from. Applies (g.F.Folder.told c.args.f.now) (g.F.Folder.told c.move_behind.new.f) (steps_of_writes (writes_of 3 c.args.node (list_of from)) from))) (sym c.in_ok-head.ensures.stays) (λ h. subst (λ (t : Told). ForSome t.files (λ from. Applies (g.F.Folder.told c.args.f.now) (g.F.Folder.told c.move_behind.new.f) (steps_of_writes (writes_of 3 c.args.node (list_of from)) from))) (sym c.in_ok-head.ensures.stays) h) grows))
+    (λ grows. touching g c (λ from ws. Applies (g.F.Folder.told c.args.folder.now) (g.F.Folder.told c.move_behind.new.folder) (steps_of_writes ws from))
+    (subst (λ (t : Told). ForSome t.files (λ from. Applies t (g.F.Folder.told c.move_behind.new.folder) (steps_of_writes (writes_of 3 c.args.node (list_of from)) from)) → ForSome (g.F.Folder.told c.first.new.f).files (λ from. Applies (g.F.Folder.told c.args.folder.now) (g.F.Folder.told c.move_behind.new.folder) (steps_of_writes (writes_of 3 c.args.node (list_of from)) from))) (sym c.in_ok-head.ensures.stays) (λ h. subst (λ (t : Told). ForSome t.files (λ from. Applies (g.F.Folder.told c.args.folder.now) (g.F.Folder.told c.move_behind.new.folder) (steps_of_writes (writes_of 3 c.args.node (list_of from)) from))) (sym c.in_ok-head.ensures.stays) h) grows))
     c.move_behind.ensures.steps
 
 pub returns-clause-prefix : goal.returns-clause-prefix
 returns-clause-prefix g c = record {
-  made = touching g c (λ from ws. AppliesPrefix (g.F.Folder.told c.args.f.now) (g.F.Folder.told c.move_behind.new.f) (steps_of_writes ws from))
-      (subst (λ (t : Told). ForSome (g.F.Folder.told c.first.new.f).files (λ from. AppliesPrefix t (g.F.Folder.told c.move_behind.new.f) (steps_of_writes (writes_of 3 c.args.node (list_of from)) from))) c.in_ok-head.ensures.stays c.move_behind.ensures.prefix.made);
+  made = touching g c (λ from ws. AppliesPrefix (g.F.Folder.told c.args.folder.now) (g.F.Folder.told c.move_behind.new.folder) (steps_of_writes ws from))
+      (subst (λ (t : Told). ForSome (g.F.Folder.told c.first.new.f).files (λ from. AppliesPrefix t (g.F.Folder.told c.move_behind.new.folder) (steps_of_writes (writes_of 3 c.args.node (list_of from)) from))) c.in_ok-head.ensures.stays c.move_behind.ensures.prefix.made);
   silent = search rules;
 }
 
@@ -88,12 +88,12 @@ returns-clause-untold g c listed =
     subst (λ (t : Told). IfDamaged c.move_behind.result (λ _. t.files ≡ None)) c.in_ok-head.ensures.stays (c.move_behind.ensures.untold (told_stays (IsListed c.args.node) c.in_ok-head.ensures.stays listed))
 
 -- where the node is the head
-is_head : (g : given.Over) (c : goal.Then-eq g) → ForSome (g.F.Folder.told c.args.f.now).files (λ from. (list_of from).head ≡ c.args.node)
+is_head : (g : given.Over) (c : goal.Then-eq g) → ForSome (g.F.Folder.told c.args.folder.now).files (λ from. (list_of from).head ≡ c.args.node)
 is_head g c from there = sym (c.in_ok-head.ensures.word from there) ∙ same_head c.in_ok-head.head c.args.node (sym c.eq.ensures ∙ c.if-eq.true)
 
 pub returns-then-eq-clause-steps : goal.returns-then-eq-clause-steps
 returns-then-eq-clause-steps g c from there =
-    subst (λ (ws : List ListWrite). Applies (g.F.Folder.told c.args.f.now) (g.F.Folder.told c.first.new.f) (steps_of_writes ws from)) (sym (no_touch (list_of from) c.args.node (is_head g c from there))) (grows_none c.in_ok-head.ensures.stays)
+    subst (λ (ws : List ListWrite). Applies (g.F.Folder.told c.args.folder.now) (g.F.Folder.told c.first.new.f) (steps_of_writes ws from)) (sym (no_touch (list_of from) c.args.node (is_head g c from there))) (grows_none c.in_ok-head.ensures.stays)
 
 pub returns-then-eq-clause-checked : goal.returns-then-eq-clause-checked
 returns-then-eq-clause-checked g c from there = subst (CanBeMade from) (sym (no_touch (list_of from) c.args.node (is_head g c from there))) (record { nodes = tt; words = tt })

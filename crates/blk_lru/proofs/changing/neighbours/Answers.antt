@@ -11,13 +11,13 @@ use Rattle.blk_lru.proofs.changing.neighbours.Goals as goal
 
 pub returns-in_err-next-clause-untold : goal.returns-in_err-next-clause-untold
 returns-in_err-next-clause-untold g c listed =
-    carried c.link.result c.from_residual.result c.in_err-next.field-0.0 (λ _. (g.F.Folder.told c.args.f.now).files ≡ None) c.in_err-next.was c.from_residual.ensures.1
+    carried c.link.result c.from_residual.result c.in_err-next.field-0.0 (λ _. (g.F.Folder.told c.args.folder.now).files ≡ None) c.in_err-next.was c.from_residual.ensures.1
     (c.link.ensures.untold c.requires.agrees (λ image there. next_names c.args.files.now image c.args.node (c.requires.agrees image there) c.requires.stands (listed image there)))
 
 pub returns-in_err-prev-clause-untold : goal.returns-in_err-prev-clause-untold
 returns-in_err-prev-clause-untold g c listed =
     let still = c.in_ok-next.ensures.stays in
-    carried c.link-2.result c.from_residual-in_err-prev.result c.in_err-prev.field-0.0 (λ _. (g.F.Folder.told c.args.f.now).files ≡ None) c.in_err-prev.was c.from_residual-in_err-prev.ensures.1
+    carried c.link-2.result c.from_residual-in_err-prev.result c.in_err-prev.field-0.0 (λ _. (g.F.Folder.told c.args.folder.now).files ≡ None) c.in_err-prev.was c.from_residual-in_err-prev.ensures.1
     (subst (λ (t : Told). IfDamaged c.link-2.result (λ _. t.files ≡ None)) still
     (c.link-2.ensures.untold (told_stays (Agrees c.args.files.now) still c.requires.agrees)
     (λ image there. let here = told_before image still there in prev_names c.args.files.now image c.args.node (c.requires.agrees image here) c.requires.stands (listed image here))))

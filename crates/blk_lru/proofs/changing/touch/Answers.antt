@@ -44,11 +44,11 @@ returns-in_err-move_front-clause-prefix g c = record {
 
 pub returns-in_err-move_front-clause-stops : goal.returns-in_err-move_front-clause-stops
 returns-in_err-move_front-clause-stops g c from there prefix suffix rest =
-    passes (g.F.Folder.told c.args.f.now) (g.F.Folder.told c.move_front.new.f) from c.args.files.now there (told_ready c.args.files.now (g.F.Folder.told c.args.f.now) c.requires.is_open (g.met.F.Folder.are_bytes c.args.f.now) from there) c.args.node c.args.moment
+    passes (g.F.Folder.told c.args.f.now) (g.F.Folder.told c.move_front.new.folder) from c.args.files.now there (told_ready c.args.files.now (g.F.Folder.told c.args.f.now) c.requires.is_open (g.met.F.Folder.are_bytes c.args.f.now) from there) c.args.node c.args.moment
     (part_only _ (c.in_err-move_front.ensures.prefix.made from there)) prefix suffix rest
 
 -- the list's part was made
-between_is : (g : given.Over) (c : goal.After-set_times g) (from : Image) → (g.F.Folder.told c.args.f.now).files ≡ Some from → (g.F.Folder.told c.move_front.new.f).files ≡ Some (after (steps_of_writes (touch_writes c.args.node (list_of from)) from) from)
+between_is : (g : given.Over) (c : goal.After-set_times g) (from : Image) → (g.F.Folder.told c.args.f.now).files ≡ Some from → (g.F.Folder.told c.move_front.new.folder).files ≡ Some (after (steps_of_writes (touch_writes c.args.node (list_of from)) from) from)
 between_is g c from there = (c.in_ok-move_front.ensures.steps from there).files ∙ ap (option_map (after (steps_of_writes (touch_writes c.args.node (list_of from)) from))) there
 
 ready_here : (g : given.Over) (c : goal.After-set_times g) → ForSome (g.F.Folder.told c.args.f.now).files (IsReady c.args.files.now)
@@ -69,7 +69,7 @@ returns-clause-checked g c = on_ok_weaker c.set_times.result (λ good from there
 pub returns-clause-steps : goal.returns-clause-steps
 returns-clause-steps g c = on_ok_weaker c.set_times.result (λ grows from there. grows_then (c.in_ok-move_front.ensures.steps from there) (grows _ (between_is g c from there))) c.set_times.ensures.steps
 
-part_here : (g : given.Over) (c : goal.After-set_times g) → ForSome (g.F.Folder.told c.args.f.now).files (λ from. AppliesPrefix (g.F.Folder.told c.args.f.now) (g.F.Folder.told c.set_times.new.f) (steps_of_touch c.args.node c.args.moment from))
+part_here : (g : given.Over) (c : goal.After-set_times g) → ForSome (g.F.Folder.told c.args.f.now).files (λ from. AppliesPrefix (g.F.Folder.told c.args.f.now) (g.F.Folder.told c.set_times.new.folder) (steps_of_touch c.args.node c.args.moment from))
 part_here g c from there = part_then (c.in_ok-move_front.ensures.steps from there) (c.set_times.ensures.prefix.made _ (between_is g c from there))
 
 pub returns-clause-prefix : goal.returns-clause-prefix
@@ -79,23 +79,23 @@ returns-clause-prefix g c = record {
 }
 
 pub returns-clause-stops : goal.returns-clause-stops
-returns-clause-stops g c from there prefix suffix rest = passes (g.F.Folder.told c.args.f.now) (g.F.Folder.told c.set_times.new.f) from c.args.files.now there (ready_here g c from there) c.args.node c.args.moment (part_here g c from there) prefix suffix rest
+returns-clause-stops g c from there prefix suffix rest = passes (g.F.Folder.told c.args.f.now) (g.F.Folder.told c.set_times.new.folder) from c.args.files.now there (ready_here g c from there) c.args.node c.args.moment (part_here g c from there) prefix suffix rest
 
 pub returns-clause-touched : goal.returns-clause-touched
 returns-clause-touched g c =
     on_ok_weaker c.set_times.result
     (λ grows from there prefix suffix rest.
-    all_made (g.F.Folder.told c.args.f.now) (g.F.Folder.told c.set_times.new.f) from there (steps_of_touch c.args.node c.args.moment from) (HasListAtRest (c.args.node ∷ prefix ++ suffix)) (grows from there)
+    all_made (g.F.Folder.told c.args.f.now) (g.F.Folder.told c.set_times.new.folder) from there (steps_of_touch c.args.node c.args.moment from) (HasListAtRest (c.args.node ∷ prefix ++ suffix)) (grows from there)
     (touches-rest from c.args.node c.args.moment prefix suffix (ready_writable (ready_here g c from there)) rest))
     (returns-clause-steps g c)
 
 -- what holds after all of a touch that could be made
 made : (g : given.Over) (c : goal.After-set_times g) (P : Image → Image → Type 0) → ((from : Image) → IsWritable from → CanBeTouched from c.args.node → P from (after (steps_of_touch c.args.node c.args.moment from) from))
-    → OnOk c.set_times.result (ForSome (g.F.Folder.told c.args.f.now).files (λ from. ForSome (g.F.Folder.told c.set_times.new.f).files (P from)))
+    → OnOk c.set_times.result (ForSome (g.F.Folder.told c.args.f.now).files (λ from. ForSome (g.F.Folder.told c.set_times.new.folder).files (P from)))
 made g c P holds =
     on_ok_both c.set_times.result
     (λ grows can from there.
-    all_made (g.F.Folder.told c.args.f.now) (g.F.Folder.told c.set_times.new.f) from there (steps_of_touch c.args.node c.args.moment from) (P from) (grows from there) (holds from (ready_writable (ready_here g c from there)) (can from there)))
+    all_made (g.F.Folder.told c.args.f.now) (g.F.Folder.told c.set_times.new.folder) from there (steps_of_touch c.args.node c.args.moment from) (P from) (grows from there) (holds from (ready_writable (ready_here g c from there)) (can from there)))
     (returns-clause-steps g c) (returns-clause-checked g c)
 
 pub returns-clause-times : goal.returns-clause-times
@@ -113,8 +113,8 @@ returns-clause-damaged g c = if_damaged_weaker c.set_times.result (λ damage nod
 pub returns-clause-untold : goal.returns-clause-untold
 returns-clause-untold g c listed =
     if_damaged_weaker c.set_times.result
-    (λ damage none. told_none (g.F.Folder.told c.args.f.now).files (g.F.Folder.told c.move_front.new.f).files (λ from there. (after (steps_of_writes (touch_writes c.args.node (list_of from)) from) from, between_is g c from there)) none)
-    (c.set_times.ensures.untold (now_has (g.F.Folder.told c.args.f.now) (g.F.Folder.told c.move_front.new.f) (λ from. after (steps_of_writes (touch_writes c.args.node (list_of from)) from) from) (λ image. (list_of image).checks c.args.node ≡ true)
+    (λ damage none. told_none (g.F.Folder.told c.args.f.now).files (g.F.Folder.told c.move_front.new.folder).files (λ from there. (after (steps_of_writes (touch_writes c.args.node (list_of from)) from) from, between_is g c from there)) none)
+    (c.set_times.ensures.untold (now_has (g.F.Folder.told c.args.f.now) (g.F.Folder.told c.move_front.new.folder) (λ from. after (steps_of_writes (touch_writes c.args.node (list_of from)) from) from) (λ image. (list_of image).checks c.args.node ≡ true)
     (λ from there. (
       between_is g c from there,
       (let a = around c.args.node from (listed from there) in

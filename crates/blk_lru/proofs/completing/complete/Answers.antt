@@ -25,7 +25,7 @@ use Rattle.blk_disk.specs.Open.{IsOpen}
 
 pub returns-in_err-plan-clause-stops : goal.returns-in_err-plan-clause-stops
 returns-in_err-plan-clause-stops g c from there =
-    passes_stay (g.F.Folder.told c.args.f.now) (g.F.Folder.told c.pending.new.f) from (IsMidCompletion c.args.files.now from) there c.in_err-plan.ensures.stays
+    passes_stay (g.F.Folder.told c.args.f.now) (g.F.Folder.told c.pending.new.folder) from (IsMidCompletion c.args.files.now from) there c.in_err-plan.ensures.stays
     (before_completion c.args.files.now from (c.requires.is_open from there))
 
 pub returns-in_err-plan-clause-is_open : goal.returns-in_err-plan-clause-is_open
@@ -48,23 +48,23 @@ pub perform-requires-clause-is_open : goal.perform-requires-clause-is_open
 perform-requires-clause-is_open g c = told_stays (IsOpen c.args.files.now) c.in_ok-plan.ensures.stays c.requires.is_open
 
 pub returns-clause-steps : goal.returns-clause-steps
-returns-clause-steps g c = whole_as (g.F.Folder.told c.args.f.now) (g.F.Folder.told c.pending.new.f) (g.F.Folder.told c.perform.new.f) c.in_ok-plan.ensures.stays (map meant c.deref.result.now) (λ from. completion_writes (list_of from)) (plan_is g c.before) c.perform.result c.perform.ensures.steps
+returns-clause-steps g c = whole_as (g.F.Folder.told c.args.f.now) (g.F.Folder.told c.pending.new.folder) (g.F.Folder.told c.perform.new.folder) c.in_ok-plan.ensures.stays (map meant c.deref.result.now) (λ from. completion_writes (list_of from)) (plan_is g c.before) c.perform.result c.perform.ensures.steps
 
 pub returns-clause-prefix : goal.returns-clause-prefix
 returns-clause-prefix g c = record {
-  made = part_as (g.F.Folder.told c.args.f.now) (g.F.Folder.told c.pending.new.f) (g.F.Folder.told c.perform.new.f) c.in_ok-plan.ensures.stays (map meant c.deref.result.now) (λ from. completion_writes (list_of from)) (plan_is g c.before) c.perform.ensures.prefix.made;
+  made = part_as (g.F.Folder.told c.args.f.now) (g.F.Folder.told c.pending.new.folder) (g.F.Folder.told c.perform.new.folder) c.in_ok-plan.ensures.stays (map meant c.deref.result.now) (λ from. completion_writes (list_of from)) (plan_is g c.before) c.perform.ensures.prefix.made;
   silent = search rules;
 }
 
 pub returns-clause-untold : goal.returns-clause-untold
-returns-clause-untold g c = untold_as (g.F.Folder.told c.args.f.now) (g.F.Folder.told c.pending.new.f) (g.F.Folder.told c.perform.new.f) c.in_ok-plan.ensures.stays (map meant c.deref.result.now) (λ from. completion_writes (list_of from)) (plan_is g c.before) c.perform.result c.perform.ensures.untold (λ from there. completions-can from)
+returns-clause-untold g c = untold_as (g.F.Folder.told c.args.f.now) (g.F.Folder.told c.pending.new.folder) (g.F.Folder.told c.perform.new.folder) c.in_ok-plan.ensures.stays (map meant c.deref.result.now) (λ from. completion_writes (list_of from)) (plan_is g c.before) c.perform.result c.perform.ensures.untold (λ from there. completions-can from)
 
 ready_here : (g : given.Over) (c : goal.After-perform g) → ForSome (g.F.Folder.told c.args.f.now).files (IsReady c.args.files.now)
 ready_here g c = told_ready c.args.files.now (g.F.Folder.told c.args.f.now) c.requires.is_open (g.met.F.Folder.are_bytes c.args.f.now)
 
 -- what holds after all of it
-made : (g : given.Over) (c : goal.After-perform g) (P : Image → Image → Type 0) → ((from : Image) → IsReady c.args.files.now from → P from (after (completion_steps from) from)) → OnOk c.perform.result (ForSome (g.F.Folder.told c.args.f.now).files (λ from. ForSome (g.F.Folder.told c.perform.new.f).files (P from)))
-made g c P holds = on_ok_weaker c.perform.result (λ grows from there. all_made (g.F.Folder.told c.args.f.now) (g.F.Folder.told c.perform.new.f) from there (completion_steps from) (P from) (grows from there) (holds from (ready_here g c from there))) (returns-clause-steps g c)
+made : (g : given.Over) (c : goal.After-perform g) (P : Image → Image → Type 0) → ((from : Image) → IsReady c.args.files.now from → P from (after (completion_steps from) from)) → OnOk c.perform.result (ForSome (g.F.Folder.told c.args.f.now).files (λ from. ForSome (g.F.Folder.told c.perform.new.folder).files (P from)))
+made g c P holds = on_ok_weaker c.perform.result (λ grows from there. all_made (g.F.Folder.told c.args.f.now) (g.F.Folder.told c.perform.new.folder) from there (completion_steps from) (P from) (grows from there) (holds from (ready_here g c from there))) (returns-clause-steps g c)
 
 pub returns-clause-done : goal.returns-clause-done
 returns-clause-done g c = made g c IsCompleted (λ from ready. completions-done from (ready_writable ready))
@@ -76,5 +76,5 @@ pub returns-clause-stops : goal.returns-clause-stops
 returns-clause-stops g c from there =
     let ready = ready_here g c from there in
     let ws : List ListWrite = completion_writes (list_of from) in
-    part_passes (g.F.Folder.told c.args.f.now) (g.F.Folder.told c.perform.new.f) from there (completion_steps from) (quiet-writes ws from) ((returns-clause-prefix g c).made from there) (IsMidCompletion c.args.files.now from)
+    part_passes (g.F.Folder.told c.args.f.now) (g.F.Folder.told c.perform.new.folder) from there (completion_steps from) (quiet-writes ws from) ((returns-clause-prefix g c).made from there) (IsMidCompletion c.args.files.now from)
     (along_completion c.args.files.now from ready.kept (completion_steps from) (writes-in_turn from ws (ready_writable ready) (completions-can from)))

@@ -82,8 +82,8 @@ returns-in_default-clause-checked g c image there =
 
 pub returns-in_err-neighbours-in-2-clause-untold : goal.returns-in_err-neighbours-in-2-clause-untold
 returns-in_err-neighbours-in-2-clause-untold g c =
-    untold_on c.usable_links.result c.from_residual-in_err-neighbours-in-2.result c.in_err-neighbours-in-2.field-0.0 {a = g.F.Folder.told c.args.f.now} (IsOpen c.args.files.now) (Agrees c.args.files.now) (λ image is. is.agrees) refl c.usable_links.ensures.untold c.in_err-neighbours-in-2.was c.from_residual-in_err-neighbours-in-2.ensures.1
+    untold_on c.usable_links.result c.from_residual-in_err-neighbours-in-2.result c.in_err-neighbours-in-2.field-0.0 {a = g.F.Folder.told c.args.folder.now} (IsOpen c.args.files.now) (Agrees c.args.files.now) (λ image is. is.agrees) refl c.usable_links.ensures.untold c.in_err-neighbours-in-2.was c.from_residual-in_err-neighbours-in-2.ensures.1
 
 pub returns-in_err-neighbours-in-3-clause-untold : goal.returns-in_err-neighbours-in-3-clause-untold
 returns-in_err-neighbours-in-3-clause-untold g c =
-    untold_on c.usable_links-in-3.result c.from_residual-in_err-neighbours-in-3.result c.in_err-neighbours-in-3.field-0.0 {a = g.F.Folder.told c.args.f.now} (IsOpen c.args.files.now) (Agrees c.args.files.now) (λ image is. is.agrees) c.in_ok-head-in-3.ensures.stays c.usable_links-in-3.ensures.untold c.in_err-neighbours-in-3.was c.from_residual-in_err-neighbours-in-3.ensures.1
+    untold_on c.usable_links-in-3.result c.from_residual-in_err-neighbours-in-3.result c.in_err-neighbours-in-3.field-0.0 {a = g.F.Folder.told c.args.folder.now} (IsOpen c.args.files.now) (Agrees c.args.files.now) (λ image is. is.agrees) c.in_ok-head-in-3.ensures.stays c.usable_links-in-3.ensures.untold c.in_err-neighbours-in-3.was c.from_residual-in_err-neighbours-in-3.ensures.1

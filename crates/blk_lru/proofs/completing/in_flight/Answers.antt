@@ -35,11 +35,11 @@ returns-clause-checked g c =
 
 pub returns-in_err-links-clause-untold : goal.returns-in_err-links-clause-untold
 returns-in_err-links-clause-untold g c =
-    untold_on c.checked.result c.from_residual.result c.in_err-links.field-0.0 {a = g.F.Folder.told c.args.f.now} (IsOpen c.args.files.now) (Agrees c.args.files.now) (λ image is. is.agrees) refl c.checked.ensures.untold c.in_err-links.was c.from_residual.ensures.1
+    untold_on c.checked.result c.from_residual.result c.in_err-links.field-0.0 {a = g.F.Folder.told c.args.folder.now} (IsOpen c.args.files.now) (Agrees c.args.files.now) (λ image is. is.agrees) refl c.checked.ensures.untold c.in_err-links.was c.from_residual.ensures.1
 
 pub returns-in_err-code-clause-untold : goal.returns-in_err-code-clause-untold
 returns-in_err-code-clause-untold g c =
-    untold_on c.word.result c.from_residual-in_err-code.result c.in_err-code.field-0.0 {a = g.F.Folder.told c.args.f.now} (IsOpen c.args.files.now) HasWholeIndex (λ image is. is.whole_index) c.in_ok-links.ensures.stays c.word.ensures.untold c.in_err-code.was c.from_residual-in_err-code.ensures.1
+    untold_on c.word.result c.from_residual-in_err-code.result c.in_err-code.field-0.0 {a = g.F.Folder.told c.args.folder.now} (IsOpen c.args.files.now) HasWholeIndex (λ image is. is.whole_index) c.in_ok-links.ensures.stays c.word.ensures.untold c.in_err-code.was c.from_residual-in_err-code.ensures.1
 
 pub returns-clause-untold : goal.returns-clause-untold
 returns-clause-untold g c =

@@ -49,7 +49,7 @@ returns-in_default-clause-plan g c image there agrees =
     ∙ sym (completion_false (list_of image) (ne_eqb _ 0 (λ zero. c.if-transaction-eq0.false (c.in_ok-transaction.ensures.word image there ∙ zero))) (subst (FindsInFlight (list_of image)) c.in_default.is found))
 
 -- the operation that was found
-finds : (g : given.Over) (c : goal.After-pending_of g) (image : Image) → (g.F.Folder.told c.args.f.now).files ≡ Some image → Agrees c.args.files.now image → FindsInFlight (list_of image) (Some c.in-Some.found)
+finds : (g : given.Over) (c : goal.After-pending_of g) (image : Image) → (g.F.Folder.told c.args.folder.now).files ≡ Some image → Agrees c.args.files.now image → FindsInFlight (list_of image) (Some c.in-Some.found)
 finds g c image there agrees = found_in c.args.files.now image (Some c.in-Some.found) agrees (subst (FindsInFlight (list_among c.args.files.now image)) c.in-Some.is (c.in_ok-found.ensures.found image (told_now image c.in_ok-transaction.ensures.stays there)))
 
 nodes : (g : given.Over) (c : goal.After-pending_of g) → AreNodes c.args.files.now c.in-Some.found
@@ -90,8 +90,8 @@ returns-clause-checked g c image there = record {
 
 pub returns-in_err-transaction-clause-untold : goal.returns-in_err-transaction-clause-untold
 returns-in_err-transaction-clause-untold g c =
-    untold_on c.word.result c.from_residual.result c.in_err-transaction.field-0.0 {a = g.F.Folder.told c.args.f.now} (IsOpen c.args.files.now) HasWholeIndex (λ image is. is.whole_index) refl c.word.ensures.untold c.in_err-transaction.was c.from_residual.ensures.1
+    untold_on c.word.result c.from_residual.result c.in_err-transaction.field-0.0 {a = g.F.Folder.told c.args.folder.now} (IsOpen c.args.files.now) HasWholeIndex (λ image is. is.whole_index) refl c.word.ensures.untold c.in_err-transaction.was c.from_residual.ensures.1
 
 pub returns-in_err-found-clause-untold : goal.returns-in_err-found-clause-untold
 returns-in_err-found-clause-untold g c =
-    untold_on c.in_flight.result c.from_residual-in_err-found.result c.in_err-found.field-0.0 {a = g.F.Folder.told c.args.f.now} (IsOpen c.args.files.now) (IsOpen c.args.files.now) (λ image is. is) c.in_ok-transaction.ensures.stays c.in_flight.ensures.untold c.in_err-found.was c.from_residual-in_err-found.ensures.1
+    untold_on c.in_flight.result c.from_residual-in_err-found.result c.in_err-found.field-0.0 {a = g.F.Folder.told c.args.folder.now} (IsOpen c.args.files.now) (IsOpen c.args.files.now) (λ image is. is) c.in_ok-transaction.ensures.stays c.in_flight.ensures.untold c.in_err-found.was c.from_residual-in_err-found.ensures.1

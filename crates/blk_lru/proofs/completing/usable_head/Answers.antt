@@ -43,8 +43,8 @@ returns-clause-checked g c image there =
 
 pub returns-in_err-head-clause-untold : goal.returns-in_err-head-clause-untold
 returns-in_err-head-clause-untold g c =
-    untold_on c.word.result c.from_residual.result c.in_err-head.field-0.0 {a = g.F.Folder.told c.args.f.now} (IsOpen c.args.files.now) HasWholeIndex (λ image is. is.whole_index) refl c.word.ensures.untold c.in_err-head.was c.from_residual.ensures.1
+    untold_on c.word.result c.from_residual.result c.in_err-head.field-0.0 {a = g.F.Folder.told c.args.folder.now} (IsOpen c.args.files.now) HasWholeIndex (λ image is. is.whole_index) refl c.word.ensures.untold c.in_err-head.was c.from_residual.ensures.1
 
 pub returns-in_err-links-clause-untold : goal.returns-in_err-links-clause-untold
 returns-in_err-links-clause-untold g c =
-    untold_on c.checked.result c.from_residual-in_err-links.result c.in_err-links.field-0.0 {a = g.F.Folder.told c.args.f.now} (IsOpen c.args.files.now) (Agrees c.args.files.now) (λ image is. is.agrees) c.in_ok-head.ensures.stays c.checked.ensures.untold c.in_err-links.was c.from_residual-in_err-links.ensures.1
+    untold_on c.checked.result c.from_residual-in_err-links.result c.in_err-links.field-0.0 {a = g.F.Folder.told c.args.folder.now} (IsOpen c.args.files.now) (Agrees c.args.files.now) (λ image is. is.agrees) c.in_ok-head.ensures.stays c.checked.ensures.untold c.in_err-links.was c.from_residual-in_err-links.ensures.1

@@ -23,7 +23,7 @@ returns-in_err-plan-clause-is_open g c = told_stays (IsOpen c.args.files.now) c.
 words_are : (g : given.Over) (c : goal.After-deref g) (P : List ListWrite → Type 0) → P (map meant c.in_ok-plan.plan.items) → P (map meant c.deref.result.now)
 words_are g c P holds = subst P (ap (map meant) (sym c.deref.ensures.0)) holds
 
-plan_is : (g : given.Over) (c : goal.After-deref g) → ForSome (g.F.Folder.told c.args.f.now).files (λ from. map meant c.deref.result.now ≡ ending_writes (list_of from) c.args.last)
+plan_is : (g : given.Over) (c : goal.After-deref g) → ForSome (g.F.Folder.told c.args.folder.now).files (λ from. map meant c.deref.result.now ≡ ending_writes (list_of from) c.args.last)
 plan_is g c from there = ap (map meant) c.deref.ensures.0 ∙ c.in_ok-plan.ensures.plan from there (c.requires.is_open from there).agrees
 
 pub perform-requires-clause-stand : goal.perform-requires-clause-stand
@@ -36,27 +36,27 @@ pub perform-requires-clause-is_open : goal.perform-requires-clause-is_open
 perform-requires-clause-is_open g c = told_stays (IsOpen c.args.files.now) c.in_ok-plan.ensures.stays c.requires.is_open
 
 pub returns-clause-steps : goal.returns-clause-steps
-returns-clause-steps g c = whole_as (g.F.Folder.told c.args.f.now) (g.F.Folder.told c.ending_of.new.f) (g.F.Folder.told c.perform.new.f) c.in_ok-plan.ensures.stays (map meant c.deref.result.now) (λ from. ending_writes (list_of from) c.args.last) (plan_is g c.before) c.perform.result c.perform.ensures.steps
+returns-clause-steps g c = whole_as (g.F.Folder.told c.args.folder.now) (g.F.Folder.told c.ending_of.new.folder) (g.F.Folder.told c.perform.new.folder) c.in_ok-plan.ensures.stays (map meant c.deref.result.now) (λ from. ending_writes (list_of from) c.args.last) (plan_is g c.before) c.perform.result c.perform.ensures.steps
 
 pub returns-clause-prefix : goal.returns-clause-prefix
 returns-clause-prefix g c = record {
-  made = part_as (g.F.Folder.told c.args.f.now) (g.F.Folder.told c.ending_of.new.f) (g.F.Folder.told c.perform.new.f) c.in_ok-plan.ensures.stays (map meant c.deref.result.now) (λ from. ending_writes (list_of from) c.args.last) (plan_is g c.before) c.perform.ensures.prefix.made;
+  made = part_as (g.F.Folder.told c.args.folder.now) (g.F.Folder.told c.ending_of.new.folder) (g.F.Folder.told c.perform.new.folder) c.in_ok-plan.ensures.stays (map meant c.deref.result.now) (λ from. ending_writes (list_of from) c.args.last) (plan_is g c.before) c.perform.ensures.prefix.made;
   silent = search rules;
 }
 
 pub returns-clause-untold : goal.returns-clause-untold
-returns-clause-untold g c can = untold_as (g.F.Folder.told c.args.f.now) (g.F.Folder.told c.ending_of.new.f) (g.F.Folder.told c.perform.new.f) c.in_ok-plan.ensures.stays (map meant c.deref.result.now) (λ from. ending_writes (list_of from) c.args.last) (plan_is g c.before) c.perform.result c.perform.ensures.untold can
+returns-clause-untold g c can = untold_as (g.F.Folder.told c.args.folder.now) (g.F.Folder.told c.ending_of.new.folder) (g.F.Folder.told c.perform.new.folder) c.in_ok-plan.ensures.stays (map meant c.deref.result.now) (λ from. ending_writes (list_of from) c.args.last) (plan_is g c.before) c.perform.result c.perform.ensures.untold can
 
 pub returns-clause-checked : goal.returns-clause-checked
-returns-clause-checked g c = checked_as (g.F.Folder.told c.args.f.now) (g.F.Folder.told c.ending_of.new.f) (g.F.Folder.told c.perform.new.f) c.in_ok-plan.ensures.stays (map meant c.deref.result.now) (λ from. ending_writes (list_of from) c.args.last) (plan_is g c.before) c.perform.result c.perform.ensures.checked
+returns-clause-checked g c = checked_as (g.F.Folder.told c.args.folder.now) (g.F.Folder.told c.ending_of.new.folder) (g.F.Folder.told c.perform.new.folder) c.in_ok-plan.ensures.stays (map meant c.deref.result.now) (λ from. ending_writes (list_of from) c.args.last) (plan_is g c.before) c.perform.result c.perform.ensures.checked
 
-ready_here : (g : given.Over) (c : goal.After-perform g) → ForSome (g.F.Folder.told c.args.f.now).files (IsReady c.args.files.now)
-ready_here g c = told_ready c.args.files.now (g.F.Folder.told c.args.f.now) c.requires.is_open (g.met.F.Folder.are_bytes c.args.f.now)
+ready_here : (g : given.Over) (c : goal.After-perform g) → ForSome (g.F.Folder.told c.args.folder.now).files (IsReady c.args.files.now)
+ready_here g c = told_ready c.args.files.now (g.F.Folder.told c.args.folder.now) c.requires.is_open (g.met.F.Folder.are_bytes c.args.folder.now)
 
 pub returns-clause-sealed : goal.returns-clause-sealed
 returns-clause-sealed g c =
     on_ok_both c.perform.result
     (λ grows can from there.
     let ws : List ListWrite = ending_writes (list_of from) c.args.last in
-    all_made (g.F.Folder.told c.args.f.now) (g.F.Folder.told c.perform.new.f) from there (steps_of_writes ws from) (Seals from ws) (grows from there) (writes_seal ws from (ready_writable (ready_here g c from there)) (can from there)))
+    all_made (g.F.Folder.told c.args.folder.now) (g.F.Folder.told c.perform.new.folder) from there (steps_of_writes ws from) (Seals from ws) (grows from there) (writes_seal ws from (ready_writable (ready_here g c from there)) (can from there)))
     (returns-clause-steps g c) (returns-clause-checked g c)

@@ -36,11 +36,11 @@ returns-clause-found g c image there =
     let node : ℕ = c.in-Some.node in
     let bytes : List ℕ = c.read_block.new.out in
     let same : c.in-Some.node ≡ c.args.word = search rules in
-    let found = found_in c.args.files.now image node bytes (g.met.F.Folder.are_bytes c.args.f.now image there) (search rules) (c.in_ok-read_block.ensures.bytes image there) in
+    let found = found_in c.args.files.now image node bytes (g.met.F.Folder.are_bytes c.args.folder.now image there) (search rules) (c.in_ok-read_block.ensures.bytes image there) in
     subst (λ (w : ℕ). FindsNode (list_among c.args.files.now image) w c.links_in.result) same
     (subst (λ (o : Option Links). FindsNode (list_among c.args.files.now image) node o) (sym c.links_in.ensures) found)
 
 pub returns-in_err-read_block-clause-damaged : goal.returns-in_err-read_block-clause-damaged
 returns-in_err-read_block-clause-damaged g c =
     carried c.read_block.result c.from_residual.result c.in_err-read_block.field-0.0 (IsShortNode c.args.files.now (g.F.Folder.told c.read_block.new.f)) c.in_err-read_block.was c.from_residual.ensures.1
-    (short_node c.read_block.result c.args.files.now (g.F.Folder.told c.args.f.now) (g.F.Folder.told c.read_block.new.f) c.in-Some.node (search rules) c.read_block.ensures.stays c.read_block.ensures.short)
+    (short_node c.read_block.result c.args.files.now (g.F.Folder.told c.args.folder.now) (g.F.Folder.told c.read_block.new.f) c.in-Some.node (search rules) c.read_block.ensures.stays c.read_block.ensures.short)

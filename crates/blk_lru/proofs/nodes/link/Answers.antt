@@ -19,7 +19,7 @@ read_block-requires-clause-inside g c =
     let enough = node_room c.args.node (node_kind c.args.files.now c.args.node c.requires.stands) in
     ⊎_elim (λ (e : c.args.at ≡ 16). let h : c.args.at + 4 ≤ byte_size c.args.node = omega (arith, e, enough) in h) (λ (e : c.args.at ≡ 20). let h : c.args.at + 4 ≤ byte_size c.args.node = omega (arith, e, enough) in h) c.requires.place
 
-dangling_here : (g : given.Over) (c : goal.After-from-in_default g) → NamesNoNode c.args.files.now (g.F.Folder.told c.args.f.now) (names.Block (file_selector c.args.node)) (place c.args.node + c.args.at) (record { file = c.file_of-file.result; at = 8192 + c.from.result * 36 + c.from-in_default.result; found = c.from_le_bytes-found.result })
+dangling_here : (g : given.Over) (c : goal.After-from-in_default g) → NamesNoNode c.args.files.now (g.F.Folder.told c.args.folder.now) (names.Block (file_selector c.args.node)) (place c.args.node + c.args.at) (record { file = c.file_of-file.result; at = 8192 + c.from.result * 36 + c.from-in_default.result; found = c.from_le_bytes-found.result })
 dangling_here g c =
     let kind = node_kind c.args.files.now c.args.node c.requires.stands in
     record {
@@ -35,7 +35,7 @@ returns-in_default-clause-damaged g c = inr (dangling_here g c)
 pub returns-in_default-clause-untold : goal.returns-in_default-clause-untold
 returns-in_default-clause-untold g c agrees named =
     let unlike : is_node_among c.args.files.now c.from_le_bytes-found.result ≡ false = search rules in
-    dangling_untold (g.F.Folder.told c.args.f.now).files (λ image. is_node_among c.args.files.now (link_at image c.args.node c.args.at) ≡ true)
+    dangling_untold (g.F.Folder.told c.args.folder.now).files (λ image. is_node_among c.args.files.now (link_at image c.args.node c.args.at) ≡ true)
     (λ image there names. clash (sym names ∙ ap (is_node_among c.args.files.now) (sym (read_link image c.args.node c.args.at c.read_block.new.out c.from_le_bytes-found.result (c.in_ok-read_block.ensures.bytes image there) c.from_le_bytes-found.ensures)) ∙ unlike))
     named
   where

@@ -21,11 +21,11 @@ update_sealed-requires-clause-changes g c =
 
 pub returns-clause-untold : goal.returns-clause-untold
 returns-clause-untold g c good =
-    c.update_sealed.ensures.untold (λ image there. record_checks image c.args.node (g.met.F.Folder.are_bytes c.args.f.now image there) (node_kind c.args.files.now c.args.node c.requires.stands) (good image there))
+    c.update_sealed.ensures.untold (λ image there. record_checks image c.args.node (g.met.F.Folder.are_bytes c.args.folder.now image there) (node_kind c.args.files.now c.args.node c.requires.stands) (good image there))
 
 pub returns-clause-checked : goal.returns-clause-checked
 returns-clause-checked g c =
-    on_ok_weaker c.update_sealed.result (λ good image there. checks_back c.args.files.now image c.args.node (c.requires.agrees image there) (g.met.F.Folder.are_bytes c.args.f.now image there) c.requires.stands (good image there)) c.update_sealed.ensures.checked
+    on_ok_weaker c.update_sealed.result (λ good image there. checks_back c.args.files.now image c.args.node (c.requires.agrees image there) (g.met.F.Folder.are_bytes c.args.folder.now image there) c.requires.stands (good image there)) c.update_sealed.ensures.checked
 
 pub returns-clause-damaged : goal.returns-clause-damaged
-returns-clause-damaged g c = short_or_unsealed c.update_sealed.result c.args.files.now (g.F.Folder.told c.args.f.now) (g.F.Folder.told c.update_sealed.new.f) c.args.node c.requires.stands c.update_sealed.ensures.damaged c.update_sealed.ensures.unwritten
+returns-clause-damaged g c = short_or_unsealed c.update_sealed.result c.args.files.now (g.F.Folder.told c.args.folder.now) (g.F.Folder.told c.update_sealed.new.f) c.args.node c.requires.stands c.update_sealed.ensures.damaged c.update_sealed.ensures.unwritten

@@ -25,11 +25,11 @@ returns-in-Prev-clause-untold g c good = c.set_link-in-Prev.ensures.untold (λ i
 
 pub returns-in-Next-clause-steps : goal.returns-in-Next-clause-steps
 unfolding write_steps
-returns-in-Next-clause-steps g c = subst (λ (v : Write). OnOk c.set_link.result (ForSome (g.F.Folder.told c.args.f.now).files (λ from. Applies (g.F.Folder.told c.args.f.now) (g.F.Folder.told c.set_link.new.f) (write_steps (meant v) from)))) (sym c.in-Next.is) c.set_link.ensures.steps
+returns-in-Next-clause-steps g c = subst (λ (v : Write). OnOk c.set_link.result (ForSome (g.F.Folder.told c.args.folder.now).files (λ from. Applies (g.F.Folder.told c.args.folder.now) (g.F.Folder.told c.set_link.new.folder) (write_steps (meant v) from)))) (sym c.in-Next.is) c.set_link.ensures.steps
 
 pub returns-in-Prev-clause-steps : goal.returns-in-Prev-clause-steps
 unfolding write_steps
-returns-in-Prev-clause-steps g c = subst (λ (v : Write). OnOk c.set_link-in-Prev.result (ForSome (g.F.Folder.told c.args.f.now).files (λ from. Applies (g.F.Folder.told c.args.f.now) (g.F.Folder.told c.set_link-in-Prev.new.f) (write_steps (meant v) from)))) (sym c.in-Prev.is) c.set_link-in-Prev.ensures.steps
+returns-in-Prev-clause-steps g c = subst (λ (v : Write). OnOk c.set_link-in-Prev.result (ForSome (g.F.Folder.told c.args.folder.now).files (λ from. Applies (g.F.Folder.told c.args.folder.now) (g.F.Folder.told c.set_link-in-Prev.new.folder) (write_steps (meant v) from)))) (sym c.in-Prev.is) c.set_link-in-Prev.ensures.steps
 
 pub set_link-requires-clause-agrees : goal.set_link-requires-clause-agrees
 set_link-requires-clause-agrees g c image there = (c.requires.is_open image there).agrees

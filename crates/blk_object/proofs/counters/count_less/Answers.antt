@@ -16,9 +16,9 @@ set_counters-requires g c = record { is_open = subst (λ (t : Told). ForSome t.f
 
 pub returns-clause-counted : goal.returns-clause-counted
 returns-clause-counted g c from there image is =
-    counted-less c.in_ok-counters.counters (c.args.charge % 2 ^ 32) from image (c.in_ok-counters.ensures.read from there) (g.met.F.Folder.are_bytes c.args.f.now from there) (below-word c.args.charge)
+    counted-less c.in_ok-counters.counters (c.args.charge % 2 ^ 32) from image (c.in_ok-counters.ensures.read from there) (g.met.F.Folder.are_bytes c.args.folder.now from there) (below-word c.args.charge)
     (c.in_ok-set_counters.ensures.written from (ap (λ (t : Told). t.files) c.in_ok-counters.ensures.stays ∙ there) image is)
 
 pub returns-in_err-counters-clause-damaged : goal.returns-in_err-counters-clause-damaged
 returns-in_err-counters-clause-damaged g c =
-    handed c.read_counters.result c.from_residual.result c.in_err-counters.field-0.0 _ c.args.files.now (g.F.Folder.told c.read_counters.new.f) (λ damage few. FailsShort few) c.in_err-counters.was c.from_residual.ensures.1 c.read_counters.ensures.damaged
+    handed c.read_counters.result c.from_residual.result c.in_err-counters.field-0.0 _ c.args.files.now (g.F.Folder.told c.read_counters.new.folder) (λ damage few. FailsShort few) c.in_err-counters.was c.from_residual.ensures.1 c.read_counters.ensures.damaged

@@ -20,4 +20,4 @@ returns-clause-counted g c from there image is =
 
 pub returns-in_err-counters-clause-damaged : goal.returns-in_err-counters-clause-damaged
 returns-in_err-counters-clause-damaged g c =
-    handed c.read_counters.result c.from_residual.result c.in_err-counters.field-0.0 _ c.args.files.now (g.F.Folder.told c.read_counters.new.f) (λ damage few. FailsShort few) c.in_err-counters.was c.from_residual.ensures.1 c.read_counters.ensures.damaged
+    handed c.read_counters.result c.from_residual.result c.in_err-counters.field-0.0 _ c.args.files.now (g.F.Folder.told c.read_counters.new.folder) (λ damage few. FailsShort few) c.in_err-counters.was c.from_residual.ensures.1 c.read_counters.ensures.damaged

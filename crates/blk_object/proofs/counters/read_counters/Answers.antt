@@ -3,7 +3,7 @@ use Rattle.blk_object.proofs.counters.read_counters.Goals as goal
 
 pub returns-in_err-entries-clause-damaged : goal.returns-in_err-entries-clause-damaged
 returns-in_err-entries-clause-damaged g c =
-    few-handed c.word.result c.from_residual.result c.in_err-entries.field-0.0 (g.F.Folder.told c.args.f.now) (g.F.Folder.told c.word.new.f) _ _ _ c.word.ensures.stays c.in_err-entries.was c.from_residual.ensures.1 c.word.ensures.short
+    few-handed c.word.result c.from_residual.result c.in_err-entries.field-0.0 (g.F.Folder.told c.args.folder.now) (g.F.Folder.told c.word.new.f) _ _ _ c.word.ensures.stays c.in_err-entries.was c.from_residual.ensures.1 c.word.ensures.short
 
 pub returns-in_err-bytes-clause-damaged : goal.returns-in_err-bytes-clause-damaged
 returns-in_err-bytes-clause-damaged g c =

@@ -4,13 +4,13 @@ use Rattle.blk_object.proofs.CounterWords.{counters-open, counters-set, counters
 use Rattle.blk_object.proofs.counters.set_counters.Goals as goal
 
 pub returns-clause-written : goal.returns-clause-written
-returns-clause-written g c = on_ok_weaker c.write_words.result (λ steps. counters-set c.args.files.now (g.F.Folder.told c.args.f.now) (g.F.Folder.told c.write_words.new.f) c.args.entries c.args.bytes c.args.size c.requires.is_open c.ranges.entries.fits c.ranges.bytes.fits c.ranges.size.fits steps) c.write_words.ensures.steps
+returns-clause-written g c = on_ok_weaker c.write_words.result (λ steps. counters-set c.args.files.now (g.F.Folder.told c.args.folder.now) (g.F.Folder.told c.write_words.new.folder) c.args.entries c.args.bytes c.args.size c.requires.is_open c.ranges.entries.fits c.ranges.bytes.fits c.ranges.size.fits steps) c.write_words.ensures.steps
 
 pub returns-clause-stops : goal.returns-clause-stops
-returns-clause-stops g c = counters-stop c.args.files.now (g.F.Folder.told c.args.f.now) (g.F.Folder.told c.write_words.new.f) c.args.entries c.args.bytes c.args.size c.requires.is_open c.ranges.entries.fits c.ranges.bytes.fits c.ranges.size.fits c.write_words.ensures.prefix
+returns-clause-stops g c = counters-stop c.args.files.now (g.F.Folder.told c.args.folder.now) (g.F.Folder.told c.write_words.new.folder) c.args.entries c.args.bytes c.args.size c.requires.is_open c.ranges.entries.fits c.ranges.bytes.fits c.ranges.size.fits c.write_words.ensures.prefix
 
 pub returns-clause-is_open : goal.returns-clause-is_open
-returns-clause-is_open g c = counters-open c.args.files.now (g.F.Folder.told c.args.f.now) (g.F.Folder.told c.write_words.new.f) c.args.entries c.args.bytes c.args.size c.requires.is_open c.ranges.entries.fits c.ranges.bytes.fits c.ranges.size.fits c.write_words.ensures.prefix
+returns-clause-is_open g c = counters-open c.args.files.now (g.F.Folder.told c.args.folder.now) (g.F.Folder.told c.write_words.new.folder) c.args.entries c.args.bytes c.args.size c.requires.is_open c.ranges.entries.fits c.ranges.bytes.fits c.ranges.size.fits c.write_words.ensures.prefix
 
 pub returns-clause-stops_out : goal.returns-clause-stops_out
-returns-clause-stops_out g c = counters-stop-out c.args.files.now (g.F.Folder.told c.args.f.now) (g.F.Folder.told c.write_words.new.f) c.args.entries c.args.bytes c.args.size c.requires.is_open c.ranges.entries.fits c.ranges.bytes.fits c.ranges.size.fits c.write_words.ensures.prefix
+returns-clause-stops_out g c = counters-stop-out c.args.files.now (g.F.Folder.told c.args.folder.now) (g.F.Folder.told c.write_words.new.folder) c.args.entries c.args.bytes c.args.size c.requires.is_open c.ranges.entries.fits c.ranges.bytes.fits c.ranges.size.fits c.write_words.ensures.prefix

@@ -20,17 +20,17 @@ update_sealed-requires-clause-agrees g c image there = (c.requires.is_open image
 
 pub returns-clause-doomed : goal.returns-clause-doomed
 returns-clause-doomed g c = on_ok_weaker c.update_sealed.result
-    (λ steps. doomed-told c.args.files.now (g.F.Folder.told c.args.f.now) (g.F.Folder.told c.update_sealed.new.f) c.args.entry (g.met.F.Folder.are_bytes c.args.f.now) c.requires.is_open steps)
+    (λ steps. doomed-told c.args.files.now (g.F.Folder.told c.args.folder.now) (g.F.Folder.told c.update_sealed.new.f) c.args.entry (g.met.F.Folder.are_bytes c.args.folder.now) c.requires.is_open steps)
     c.update_sealed.ensures.steps
 
 pub returns-clause-stops : goal.returns-clause-stops
 returns-clause-stops g c from there state layout number object loaded chains unlinked o =
-    passes_weaker (c.update_sealed.ensures.stops from there (out-checks state layout number object loaded chains unlinked c.args.entry from o (g.met.F.Folder.are_bytes c.args.f.now from there)))
+    passes_weaker (c.update_sealed.ensures.stops from there (out-checks state layout number object loaded chains unlinked c.args.entry from o (g.met.F.Folder.are_bytes c.args.folder.now from there)))
     (mid-finds state layout number object loaded chains unlinked c.args.entry from o) (mid-finds state layout number object loaded chains unlinked c.args.entry from o)
 
 pub returns-clause-is_open : goal.returns-clause-is_open
 returns-clause-is_open g c image here =
-    (part_kept c.args.files.now (g.F.Folder.told c.args.f.now) (g.F.Folder.told c.update_sealed.new.f) (λ from. sealed_steps from c.args.entry doomed_change)
+    (part_kept c.args.files.now (g.F.Folder.told c.args.folder.now) (g.F.Folder.told c.update_sealed.new.f) (λ from. sealed_steps from c.args.entry doomed_change)
     (λ from there. kept_sealed c.args.files.now c.args.entry doomed_change from (c.requires.is_open from there)) c.update_sealed.ensures.prefix.silent c.update_sealed.ensures.prefix.made image here)
 
 pub returns-clause-silent : goal.returns-clause-silent
@@ -39,10 +39,10 @@ returns-clause-silent g c = c.update_sealed.ensures.prefix.silent
 pub returns-clause-untold : goal.returns-clause-untold
 returns-clause-untold g c from there state layout number object loaded chains unlinked o =
     c.update_sealed.ensures.untold (λ image is. subst (RecordChecks c.args.entry) (some_inj (sym there ∙ is))
-    (out-checks state layout number object loaded chains unlinked c.args.entry from o (g.met.F.Folder.are_bytes c.args.f.now from there)))
+    (out-checks state layout number object loaded chains unlinked c.args.entry from o (g.met.F.Folder.are_bytes c.args.folder.now from there)))
 
 pub returns-clause-damaged : goal.returns-clause-damaged
 returns-clause-damaged g c =
-    checked-where-stays c.update_sealed.result c.args.files.now (g.F.Folder.told c.args.f.now) (g.F.Folder.told c.update_sealed.new.f) _
-    (λ damage failed. record-checked c.args.files.now (g.F.Folder.told c.args.f.now) c.args.entry _ damage (inr c.requires.kind) c.requires.stands failed)
+    checked-where-stays c.update_sealed.result c.args.files.now (g.F.Folder.told c.args.folder.now) (g.F.Folder.told c.update_sealed.new.f) _
+    (λ damage failed. record-checked c.args.files.now (g.F.Folder.told c.args.folder.now) c.args.entry _ damage (inr c.requires.kind) c.requires.stands failed)
     c.update_sealed.ensures.unwritten c.update_sealed.ensures.damaged

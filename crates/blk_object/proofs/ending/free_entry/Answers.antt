@@ -35,7 +35,7 @@ returns-in_err-owned-clause-is_open g c = subst (λ (t : Told). ForSome t.files 
 
 pub returns-in_err-owned-clause-untold : goal.returns-in_err-owned-clause-untold
 returns-in_err-owned-clause-untold g c has =
-    carried c.read_owned.result c.from_residual.result c.in_err-owned.field-0.0 (λ _. (g.F.Folder.told c.args.f.now).files ≡ None) c.in_err-owned.was c.from_residual.ensures.1
+    carried c.read_owned.result c.from_residual.result c.in_err-owned.field-0.0 (λ _. (g.F.Folder.told c.args.folder.now).files ≡ None) c.in_err-owned.was c.from_residual.ensures.1
     (c.read_owned.ensures.untold (λ image is. (c.requires.is_open image is).agrees) (λ image is. ((has image is).0, (has image is).1.lies)))
 
 pub free_owned-requires-clause-is_open : goal.free_owned-requires-clause-is_open
@@ -43,26 +43,26 @@ free_owned-requires-clause-is_open g c = subst (λ (t : Told). ForSome t.files (
 
 pub returns-clause-frees : goal.returns-clause-frees
 returns-clause-frees g c =
-    let old : Told = g.F.Folder.told c.args.f.now in
-    let mid : Told = g.F.Folder.told c.read_owned.new.f in
+    let old : Told = g.F.Folder.told c.args.folder.now in
+    let mid : Told = g.F.Folder.told c.read_owned.new.folder in
     record {
       freed = on_ok_weaker c.free_owned.result
           (λ freed from there loaded lies.
           let words : words_at c.in_ok-owned.owned.places ≡ words_of loaded = c.in_ok-owned.ensures.words from there loaded lies.lies in
-          subst (λ ws. ForSome (g.F.Folder.told c.free_owned.new.f).files (Removes ws from)) words
+          subst (λ ws. ForSome (g.F.Folder.told c.free_owned.new.folder).files (Removes ws from)) words
           (freed from (ap (λ (t : Told). t.files) c.in_ok-owned.ensures.stays ∙ there) (subst (λ ws. AreFreeable ws from) (sym words) lies.freeable)))
           c.free_owned.ensures.freed;
       stops = λ from there loaded lies.
           let words : words_at c.in_ok-owned.owned.places ≡ words_of loaded = c.in_ok-owned.ensures.words from there loaded lies.lies in
           passes_stayed c.in_ok-owned.ensures.stays
-          (subst (λ ws. Passes mid (g.F.Folder.told c.free_owned.new.f) (AreGoing ws from)) words
+          (subst (λ ws. Passes mid (g.F.Folder.told c.free_owned.new.folder) (AreGoing ws from)) words
           (c.free_owned.ensures.stops from (ap (λ (t : Told). t.files) c.in_ok-owned.ensures.stays ∙ there) (subst (λ ws. AreFreeable ws from) (sym words) lies.freeable)));
     }
 
 pub returns-clause-untold : goal.returns-clause-untold
 returns-clause-untold g c has =
-    let old : Told = g.F.Folder.told c.args.f.now in
-    let mid : Told = g.F.Folder.told c.read_owned.new.f in
+    let old : Told = g.F.Folder.told c.args.folder.now in
+    let mid : Told = g.F.Folder.told c.read_owned.new.folder in
     let same : mid.files ≡ old.files = ap (λ (t : Told). t.files) c.in_ok-owned.ensures.stays in
     if_damaged_weaker c.free_owned.result (λ _. mid.files ≡ None) (λ _. old.files ≡ None) (λ damage none. sym same ∙ none)
     (c.free_owned.ensures.untold (λ image is.

@@ -17,7 +17,7 @@ pub returns-clause-freed : goal.returns-clause-freed
 returns-clause-freed g c =
     on_ok_weaker c.delete.result
     (λ none from there formed stands image now. record {
-      removed = inr (deletions-remove c.args.place (g.F.Folder.told c.args.f.now) (g.F.Folder.told c.delete.new.f) c.requires.kind
+      removed = inr (deletions-remove c.args.place (g.F.Folder.told c.args.folder.now) (g.F.Folder.told c.delete.new.f) c.requires.kind
           (λ other is. subst IsWellFormed (some_inj (sym there ∙ is)) formed) (λ other is. subst (λ i. stands_in i c.args.place ≡ true) (some_inj (sym there ∙ is)) stands) c.delete.ensures.stops none from there image now);
       index = λ i. (passes_end (c.delete.ensures.stops from there) image now).outside.bytes Index i refl;
     })
@@ -28,9 +28,9 @@ returns-clause-stops g c from there = passes_weaker (c.delete.ensures.stops from
 
 pub returns-clause-is_open : goal.returns-clause-is_open
 returns-clause-is_open g c =
-    still-open c.args.files.now (g.F.Folder.told c.args.f.now) (g.F.Folder.told c.delete.new.f) (ChangesExternal (whole (named_file c.args.place)) (external_number c.args.place)) (λ from image h. h.outside.lengths Index refl)
+    still-open c.args.files.now (g.F.Folder.told c.args.folder.now) (g.F.Folder.told c.delete.new.f) (ChangesExternal (whole (named_file c.args.place)) (external_number c.args.place)) (λ from image h. h.outside.lengths Index refl)
     (λ from there. passes_end (c.delete.ensures.stops from there)) (silent_part c.delete.ensures.prefix)
-    (agrees_deleted c.args.files.now (g.F.Folder.told c.args.f.now) (g.F.Folder.told c.delete.new.f) (external_number c.args.place) c.delete.ensures.prefix (λ from there. (c.requires.is_open from there).agrees)) c.requires.is_open
+    (agrees_deleted c.args.files.now (g.F.Folder.told c.args.folder.now) (g.F.Folder.told c.delete.new.f) (external_number c.args.place) c.delete.ensures.prefix (λ from there. (c.requires.is_open from there).agrees)) c.requires.is_open
 
 pub returns-clause-silent : goal.returns-clause-silent
 returns-clause-silent g c none = silent_part c.delete.ensures.prefix none

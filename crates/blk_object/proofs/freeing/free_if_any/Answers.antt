@@ -15,7 +15,7 @@ returns-in-Some-clause-untold g c may =
     c.free_place.ensures.untold (λ image there. first-may c.in-Some.addr [] image (one-may c.args.place c.in-Some.addr image c.in-Some.is (may image there)))
 
 pub returns-in-Some-clause-back : goal.returns-in-Some-clause-back
-returns-in-Some-clause-back g c none = told_back (g.F.Folder.told c.args.f.now) (g.F.Folder.told c.free_place.new.f) (IsPlaceGoing c.in-Some.addr) c.free_place.ensures.stops none
+returns-in-Some-clause-back g c none = told_back (g.F.Folder.told c.args.folder.now) (g.F.Folder.told c.free_place.new.folder) (IsPlaceGoing c.in-Some.addr) c.free_place.ensures.stops none
 
 pub returns-in-Some-clause-freed : goal.returns-in-Some-clause-freed
 returns-in-Some-clause-freed g c =

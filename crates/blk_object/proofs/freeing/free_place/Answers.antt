@@ -16,12 +16,12 @@ pub returns-else-is_external-clause-freed : goal.returns-else-is_external-clause
 returns-else-is_external-clause-freed g c =
     let blocky : kind_of c.args.place ≢ external = of_other (kind_of c.args.place) external (sym c.is_external.ensures ∙ c.if-is_external.false) in
     on_ok_weaker c.free.result
-    (λ freed from there formed stands image now. record { removed = inl (frees-remove c.args.files.now c.args.place (g.F.Folder.told c.args.f.now) (g.F.Folder.told c.free.new.f) (c.requires.stands blocky) c.free.ensures.stops freed from there image now); index = λ i. (freed from there image now).same.bytes Index i refl })
+    (λ freed from there formed stands image now. record { removed = inl (frees-remove c.args.files.now c.args.place (g.F.Folder.told c.args.folder.now) (g.F.Folder.told c.free.new.f) (c.requires.stands blocky) c.free.ensures.stops freed from there image now); index = λ i. (freed from there image now).same.bytes Index i refl })
     c.free.ensures.freed
 
 pub returns-else-is_external-clause-stops : goal.returns-else-is_external-clause-stops
 returns-else-is_external-clause-stops g c from there =
-    passes_weaker (frees-stay c.args.place (g.F.Folder.told c.args.f.now) (g.F.Folder.told c.free.new.f) c.free.ensures.stops from there) (λ image stays. inl stays) (λ image stays. inl stays)
+    passes_weaker (frees-stay c.args.place (g.F.Folder.told c.args.folder.now) (g.F.Folder.told c.free.new.f) c.free.ensures.stops from there) (λ image stays. inl stays) (λ image stays. inl stays)
 
 pub returns-else-is_external-clause-untold : goal.returns-else-is_external-clause-untold
 returns-else-is_external-clause-untold g c may =
@@ -32,10 +32,10 @@ free-requires-clause-agrees g c from there = (c.requires.is_open from there).agr
 
 pub returns-else-is_external-clause-is_open : goal.returns-else-is_external-clause-is_open
 returns-else-is_external-clause-is_open g c =
-    still-open c.args.files.now (g.F.Folder.told c.args.f.now) (g.F.Folder.told c.free.new.f) (FreesOrStops c.args.place) (λ from image h. (freed_only c.args.place from image h).lengths Index refl)
+    still-open c.args.files.now (g.F.Folder.told c.args.folder.now) (g.F.Folder.told c.free.new.f) (FreesOrStops c.args.place) (λ from image h. (freed_only c.args.place from image h).lengths Index refl)
     (λ from there. passes_end (c.free.ensures.stops from there)) c.free.ensures.silent c.free.ensures.agrees c.requires.is_open
 
 pub returns-else-is_external-clause-damaged : goal.returns-else-is_external-clause-damaged
 returns-else-is_external-clause-damaged g c =
     let blocky : kind_of c.args.place ≢ external = of_other (kind_of c.args.place) external (sym c.is_external.ensures ∙ c.if-is_external.false) in
-    checked-where-stays c.free.result c.args.files.now (g.F.Folder.told c.args.f.now) (g.F.Folder.told c.free.new.f) _ (λ damage cause. cause-checked c.args.files.now (g.F.Folder.told c.args.f.now) _ _ _ false damage (stands_linked c.args.files.now c.args.place (c.requires.stands blocky)) cause) c.free.ensures.unwritten c.free.ensures.cause
+    checked-where-stays c.free.result c.args.files.now (g.F.Folder.told c.args.folder.now) (g.F.Folder.told c.free.new.f) _ (λ damage cause. cause-checked c.args.files.now (g.F.Folder.told c.args.folder.now) _ _ _ false damage (stands_linked c.args.files.now c.args.place (c.requires.stands blocky)) cause) c.free.ensures.unwritten c.free.ensures.cause

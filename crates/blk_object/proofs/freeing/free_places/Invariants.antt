@@ -6,7 +6,7 @@ use Rattle.blk_object.proofs.freeing.free_places.Given as goal
 
 abbrev pub invariant-loop-place : goal.invariant-loop-place
 invariant-loop-place g l = record {
-  has : HasFreedPlaces (g.F.Folder.told l.fn.f) (g.F.Folder.told l.f) l.places l.place-index;
-  is_open : ForSome (g.F.Folder.told l.f).files (IsOpen l.files);
-  later : g.F.Folder.faults l.fn.f ≤ g.F.Folder.faults l.f;
+  has : HasFreedPlaces (g.F.Folder.told l.fn.folder) (g.F.Folder.told l.folder) l.places l.place-index;
+  is_open : ForSome (g.F.Folder.told l.folder).files (IsOpen l.files);
+  later : g.F.Folder.faults l.fn.folder ≤ g.F.Folder.faults l.folder;
 }

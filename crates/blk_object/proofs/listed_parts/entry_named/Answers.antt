@@ -25,8 +25,8 @@ node_damage-requires g c = record { kind = node_kind c.args.files.now c.args.nod
 pub returns-in_default-clause-untold : goal.returns-in_default-clause-untold
 returns-in_default-clause-untold g c agrees lies =
     let unlike : is_record_among c.args.files.now c.from_le_bytes-found.result ≡ false = search rules in
-    err_damaged ℕ c.node_damage.result c.node_damage.ensures.damage (λ _. (g.F.Folder.told c.args.f.now).files ≡ None) c.node_damage.ensures.is
-    (dangling_untold (g.F.Folder.told c.args.f.now).files (λ image. (loaded : Loaded) × LoadsAt c.args.node loaded image)
+    err_damaged ℕ c.node_damage.result c.node_damage.ensures.damage (λ _. (g.F.Folder.told c.args.folder.now).files ≡ None) c.node_damage.ensures.is
+    (dangling_untold (g.F.Folder.told c.args.folder.now).files (λ image. (loaded : Loaded) × LoadsAt c.args.node loaded image)
     (λ image there at. clash (sym (record-named c.args.files.now image c.args.node at.0 (agrees image there) at.1)
     ∙ ap (is_record_among c.args.files.now) (sym (read_link image c.args.node 24 c.read_block.new.out c.from_le_bytes-found.result (c.in_ok-read_block.ensures.bytes image there) c.from_le_bytes-found.ensures ∙ contents-word image c.args.node)) ∙ unlike))
     lies)
@@ -42,10 +42,10 @@ returns-clause-entry g c image there =
 pub returns-in_err-read_block-clause-damaged : goal.returns-in_err-read_block-clause-damaged
 returns-in_err-read_block-clause-damaged g c =
     handed c.read_block.result c.from_residual.result c.in_err-read_block.field-0.0 _ c.args.files.now (g.F.Folder.told c.read_block.new.f)
-    (λ damage short. moved c.args.files.now (g.F.Folder.told c.args.f.now) (g.F.Folder.told c.read_block.new.f) damage c.read_block.ensures.stays (short-checked c.args.files.now (g.F.Folder.told c.args.f.now) _ _ _ damage short))
+    (λ damage short. moved c.args.files.now (g.F.Folder.told c.args.folder.now) (g.F.Folder.told c.read_block.new.f) damage c.read_block.ensures.stays (short-checked c.args.files.now (g.F.Folder.told c.args.folder.now) _ _ _ damage short))
     c.in_err-read_block.was c.from_residual.ensures.1 c.read_block.ensures.short
 
-nameless : (g : given.Over) (c : goal.After-node_damage g) → NamesNoRecord c.args.files.now (g.F.Folder.told c.args.f.now) (names.Block (file_selector c.args.node)) (place c.args.node + 24) c.node_damage.ensures.damage
+nameless : (g : given.Over) (c : goal.After-node_damage g) → NamesNoRecord c.args.files.now (g.F.Folder.told c.args.folder.now) (names.Block (file_selector c.args.node)) (place c.args.node + 24) c.node_damage.ensures.damage
 nameless g c =
     let word = c.node_damage.ensures.word in
     let none : is_record_among c.args.files.now c.from_le_bytes-found.result ≡ false = search rules in
@@ -59,4 +59,4 @@ nameless g c =
 pub returns-in_default-clause-damaged : goal.returns-in_default-clause-damaged
 returns-in_default-clause-damaged g c =
     err_damaged ℕ c.node_damage.result c.node_damage.ensures.damage (IsFailedCheck c.args.files.now (g.F.Folder.told c.read_block.new.f)) c.node_damage.ensures.is
-    (moved c.args.files.now (g.F.Folder.told c.args.f.now) (g.F.Folder.told c.read_block.new.f) _ c.in_ok-read_block.ensures.stays (FailsPlace (OfRecord _ _ (nameless g c))))
+    (moved c.args.files.now (g.F.Folder.told c.args.folder.now) (g.F.Folder.told c.read_block.new.f) _ c.in_ok-read_block.ensures.stays (FailsPlace (OfRecord _ _ (nameless g c))))

@@ -20,7 +20,7 @@ use Rattle.blk_object.proofs.listed_parts.next_part.Goals as goal
 
 pub returns-in_err-next-clause-untold : goal.returns-in_err-next-clause-untold
 returns-in_err-next-clause-untold g c from there state layout keep chains unlinked items k are =
-    carried c.node_behind.result c.from_residual.result c.in_err-next.field-0.0 (λ _. (g.F.Folder.told c.args.f.now).files ≡ None) c.in_err-next.was c.from_residual.ensures.1
+    carried c.node_behind.result c.from_residual.result c.in_err-next.field-0.0 (λ _. (g.F.Folder.told c.args.folder.now).files ≡ None) c.in_err-next.was c.from_residual.ensures.1
     (c.node_behind.ensures.untold from there state layout keep chains unlinked items k are)
 
 pub loop-init : goal.loop-init
@@ -30,7 +30,7 @@ loop-init g c = record {
   goes = c.in_ok-next.ensures.word;
   stands = c.in_ok-next.ensures.stands;
   stands_last = c.requires.from;
-  room = c.requires.room;
+  buffer = c.requires.buffer;
   stays = c.in_ok-next.ensures.stays;
   later = c.in_ok-next.ensures.later;
 }
@@ -43,7 +43,7 @@ returns-in_default-clause-part g c from there state layout keep chains unlinked 
 pub returns-in_err-found-clause-untold : goal.returns-in_err-found-clause-untold
 returns-in_err-found-clause-untold g c from there state layout keep chains unlinked items k are =
     subst (λ (t : Told). IfDamaged c.from_residual-in_err-found.result (λ _. t.files ≡ None)) c.loop.invariant.stays
-    (carried c.part_at.result c.from_residual-in_err-found.result c.in_err-found.field-0.0 (λ _. (g.F.Folder.told c.loop.f).files ≡ None) c.in_err-found.was c.from_residual-in_err-found.ensures.1
+    (carried c.part_at.result c.from_residual-in_err-found.result c.in_err-found.field-0.0 (λ _. (g.F.Folder.told c.loop.folder).files ≡ None) c.in_err-found.was c.from_residual-in_err-found.ensures.1
     (c.part_at.ensures.untold (subst (λ (t : Told). ForSome t.files (Agrees c.args.files.now)) (sym c.loop.invariant.stays) (λ image is. (c.requires.is_open image is).agrees))
     (λ image now. subst (λ (i : Image). (loaded : Loaded) × LoadsAt c.in-Some.node loaded i) (some_inj (sym there ∙ ap (λ (t : Told). t.files) (sym c.loop.invariant.stays) ∙ now))
     (step-loads state layout keep chains unlinked c.args.key.now items c.in-Some.node c.loop.counter from k (subst (λ (o : Option ℕ). IsWalkedTo layout c.args.key.now (filter keep state.uses) items o c.loop.counter) c.in-Some.is (c.loop.invariant.walks from there state layout keep chains unlinked items k are))))))
@@ -59,7 +59,7 @@ pub returns-in_err-next-2-clause-untold : goal.returns-in_err-next-2-clause-unto
 returns-in_err-next-2-clause-untold g c from there state layout keep chains unlinked items k are =
     let stays = c.in_ok-found.ensures.stays ∙ c.loop.invariant.stays in
     subst (λ (t : Told). IfDamaged c.from_residual-in_err-next-2.result (λ _. t.files ≡ None)) stays
-    (carried c.after.result c.from_residual-in_err-next-2.result c.in_err-next-2.field-0.0 (λ _. (g.F.Folder.told c.part_at.new.f).files ≡ None) c.in_err-next-2.was c.from_residual-in_err-next-2.ensures.1
+    (carried c.after.result c.from_residual-in_err-next-2.result c.in_err-next-2.field-0.0 (λ _. (g.F.Folder.told c.part_at.new.folder).files ≡ None) c.in_err-next-2.was c.from_residual-in_err-next-2.ensures.1
     (c.after.ensures.untold (subst (λ (t : Told). ForSome t.files (Agrees c.args.files.now)) (sym stays) (λ image is. (c.requires.is_open image is).agrees))
     (λ image now. subst (IsListed c.in-Some.node) (some_inj (sym there ∙ ap (λ (t : Told). t.files) (sym stays) ∙ now))
     (step-listed state layout keep chains unlinked c.args.key.now items c.in-Some.node c.loop.counter from k (subst (λ (o : Option ℕ). IsWalkedTo layout c.args.key.now (filter keep state.uses) items o c.loop.counter) c.in-Some.is (c.loop.invariant.walks from there state layout keep chains unlinked items k are))))))
@@ -78,7 +78,7 @@ loop-preserved g c = record {
   goes = λ image there. c.in_ok-next-2.ensures.word image (ap (λ (t : Told). t.files) (c.in_ok-found.ensures.stays ∙ c.loop.invariant.stays) ∙ there);
   stands = c.in_ok-next-2.ensures.stands;
   stands_last = subst (λ (o : Option ℕ). IfSome o (λ n. IsTrue (is_node_among c.args.files.now n))) c.in-Some.is c.loop.invariant.stands;
-  room = (let one = c.part_at.auto.room in let two = c.loop.invariant.room in omega (arith, one, two));
+  buffer = (let one = c.part_at.auto.buffer in let two = c.loop.invariant.buffer in omega (arith, one, two));
   stays = c.in_ok-next-2.ensures.stays ∙ c.in_ok-found.ensures.stays ∙ c.loop.invariant.stays;
   later = (let one = c.loop.invariant.later in let two = c.in_ok-found.ensures.later in let three = c.in_ok-next-2.ensures.later in omega (arith, one, two, three));
 }
@@ -90,7 +90,7 @@ returns-clause-part g c from there state layout keep chains unlinked items k are
 pub returns-in_err-next-2-clause-damaged : goal.returns-in_err-next-2-clause-damaged
 returns-in_err-next-2-clause-damaged g c =
     handed c.after.result c.from_residual-in_err-next-2.result c.in_err-next-2.field-0.0 _ c.args.files.now (g.F.Folder.told c.after.new.f)
-    (λ damage wrong. moved c.args.files.now (g.F.Folder.told c.part_at.new.f) (g.F.Folder.told c.after.new.f) damage c.after.ensures.stays (node-word-checked c.args.files.now (g.F.Folder.told c.part_at.new.f) _ _ damage wrong))
+    (λ damage wrong. moved c.args.files.now (g.F.Folder.told c.part_at.new.folder) (g.F.Folder.told c.after.new.f) damage c.after.ensures.stays (node-word-checked c.args.files.now (g.F.Folder.told c.part_at.new.folder) _ _ damage wrong))
     c.in_err-next-2.was c.from_residual-in_err-next-2.ensures.1 c.after.ensures.damaged
 
 pub returns-then-is_some-clause-named : goal.returns-then-is_some-clause-named
@@ -108,8 +108,8 @@ end_walk-requires g c = record { kind = nodes-kinds c.args.files.now c.loop.last
 
 pub returns-in_err-end_walk-clause-damaged : goal.returns-in_err-end_walk-clause-damaged
 returns-in_err-end_walk-clause-damaged g c =
-    handed c.end_walk.result c.from_residual-in_err-end_walk.result c.in_err-end_walk.field-0.0 _ c.args.files.now (g.F.Folder.told c.loop.f)
-    (λ damage behind. walk-too-long c.args.files.now (g.F.Folder.told c.loop.f) NodeView.NEXT c.args.from c.loop.last c.loop.next c.loop.counter damage (inl refl) (omega (arith, c.loop-test.false)) c.loop.invariant.stands_last c.loop.invariant.stands
+    handed c.end_walk.result c.from_residual-in_err-end_walk.result c.in_err-end_walk.field-0.0 _ c.args.files.now (g.F.Folder.told c.loop.folder)
+    (λ damage behind. walk-too-long c.args.files.now (g.F.Folder.told c.loop.folder) NodeView.NEXT c.args.from c.loop.last c.loop.next c.loop.counter damage (inl refl) (omega (arith, c.loop-test.false)) c.loop.invariant.stands_last c.loop.invariant.stands
     (λ image now. c.loop.invariant.passed image (ap (λ (t : Told). t.files) (sym c.loop.invariant.stays) ∙ now))
     (λ image now. c.loop.invariant.goes image (ap (λ (t : Told). t.files) (sym c.loop.invariant.stays) ∙ now)) behind)
     c.in_err-end_walk.was c.from_residual-in_err-end_walk.ensures.1 c.end_walk.ensures.damaged

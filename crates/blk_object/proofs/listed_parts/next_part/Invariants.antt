@@ -10,12 +10,12 @@ use Rattle.blk_object.proofs.listed_parts.next_part.Given as goal
 
 abbrev pub invariant-loop : goal.invariant-loop
 invariant-loop g l = record {
-  walks : ForSome (g.F.Folder.told l.fn.f).files (Walks l.fn.from l.key l.next l.counter);
-  passed : ForSome (g.F.Folder.told l.fn.f).files (HasPassedNodes l.files NodeView.NEXT l.fn.from l.last l.counter);
-  goes : ForSome (g.F.Folder.told l.fn.f).files (λ image. GoesTo NodeView.NEXT image l.last l.next);
+  walks : ForSome (g.F.Folder.told l.fn.folder).files (Walks l.fn.from l.key l.next l.counter);
+  passed : ForSome (g.F.Folder.told l.fn.folder).files (HasPassedNodes l.files NodeView.NEXT l.fn.from l.last l.counter);
+  goes : ForSome (g.F.Folder.told l.fn.folder).files (λ image. GoesTo NodeView.NEXT image l.last l.next);
   stands : IfSome l.next (λ n. IsTrue (is_node_among l.files n));
   stands_last : IfSome l.last (λ n. IsTrue (is_node_among l.files n));
-  room : most_key ≤ length l.room;
-  stays : Stays (g.F.Folder.told l.fn.f) (g.F.Folder.told l.f);
-  later : g.F.Folder.faults l.fn.f ≤ g.F.Folder.faults l.f;
+  buffer : most_key ≤ length l.buffer;
+  stays : Stays (g.F.Folder.told l.fn.folder) (g.F.Folder.told l.folder);
+  later : g.F.Folder.faults l.fn.folder ≤ g.F.Folder.faults l.folder;
 }

@@ -12,10 +12,10 @@ use Rattle.blk_object.proofs.listed_parts.part_at.Goals as goal
 pub returns-in_err-number-clause-untold : goal.returns-in_err-number-clause-untold
 returns-in_err-number-clause-untold g c agrees lies =
     subst (λ (t : Told). IfDamaged c.from_residual-in_err-number.result (λ _. t.files ≡ None)) c.in_ok-entry.ensures.stays
-    (carried c.number_of.result c.from_residual-in_err-number.result c.in_err-number.field-0.0 (λ _. (g.F.Folder.told c.entry_named.new.f).files ≡ None) c.in_err-number.was c.from_residual-in_err-number.ensures.1
+    (carried c.number_of.result c.from_residual-in_err-number.result c.in_err-number.field-0.0 (λ _. (g.F.Folder.told c.entry_named.new.folder).files ≡ None) c.in_err-number.was c.from_residual-in_err-number.ensures.1
     (c.number_of.ensures.untold (subst (λ (t : Told). ForSome t.files (Agrees c.args.files.now)) (sym c.in_ok-entry.ensures.stays) agrees)
     (λ image now.
-    let there : (g.F.Folder.told c.args.f.now).files ≡ Some image = ap (λ (t : Told). t.files) (sym c.in_ok-entry.ensures.stays) ∙ now in
+    let there : (g.F.Folder.told c.args.folder.now).files ≡ Some image = ap (λ (t : Told). t.files) (sym c.in_ok-entry.ensures.stays) ∙ now in
     ((lies image there).0, at-with image c.args.node c.in_ok-entry.entry (lies image there).0 (c.in_ok-entry.ensures.entry image there) (lies image there).1))))
 
 pub returns-in-Some-clause-part : goal.returns-in-Some-clause-part

@@ -16,7 +16,7 @@ use Rattle.blk_io.proofs.Carried.{if_damaged_weaker}
 use Rattle.blk_object.proofs.making.write_new.Goals as goal
 
 pub returns-in_err-next-clause-stops : goal.returns-in_err-next-clause-stops
-returns-in_err-next-clause-stops g c = nothing-finds (words_of_places c.args.places.now) (g.F.Folder.told c.args.f.now) (g.F.Folder.told c.bucket.new.f) c.in_err-next.ensures.stays
+returns-in_err-next-clause-stops g c = nothing-finds (words_of_places c.args.places.now) (g.F.Folder.told c.args.folder.now) (g.F.Folder.told c.bucket.new.f) c.in_err-next.ensures.stays
 
 pub returns-in_err-next-clause-is_open : goal.returns-in_err-next-clause-is_open
 returns-in_err-next-clause-is_open g c = subst (λ (t : Told). ForSome t.files (IsOpen c.args.files.now)) (sym c.in_err-next.ensures.stays) c.requires.is_open
@@ -40,7 +40,7 @@ returns-clause-stops g c =
 
 pub returns-clause-written : goal.returns-clause-written
 returns-clause-written g c =
-    let a : Told = g.F.Folder.told c.args.f.now in
+    let a : Told = g.F.Folder.told c.args.folder.now in
     let b : Told = g.F.Folder.told c.bucket.new.f in
     let d : Told = g.F.Folder.told c.write_entry.new.f in
     on-ok-three c.write_entry.result
@@ -60,7 +60,7 @@ returns-clause-times g c =
 pub returns-in_err-next-clause-damaged : goal.returns-in_err-next-clause-damaged
 returns-in_err-next-clause-damaged g c =
     handed c.bucket.result c.from_residual.result c.in_err-next.field-0.0 _ c.args.files.now (g.F.Folder.told c.bucket.new.f)
-    (λ damage short. moved c.args.files.now (g.F.Folder.told c.args.f.now) (g.F.Folder.told c.bucket.new.f) damage c.bucket.ensures.stays (short-checked c.args.files.now (g.F.Folder.told c.args.f.now) _ _ _ damage short))
+    (λ damage short. moved c.args.files.now (g.F.Folder.told c.args.folder.now) (g.F.Folder.told c.bucket.new.f) damage c.bucket.ensures.stays (short-checked c.args.files.now (g.F.Folder.told c.args.folder.now) _ _ _ damage short))
     c.in_err-next.was c.from_residual.ensures.1 c.bucket.ensures.short
 
 pub returns-clause-damaged : goal.returns-clause-damaged

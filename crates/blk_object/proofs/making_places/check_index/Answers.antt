@@ -14,7 +14,7 @@ long-or-none (Some bytes) = refl
 
 pub returns-then-length-ne-INDEX_LEN-clause-untold : goal.returns-then-length-ne-INDEX_LEN-clause-untold
 returns-then-length-ne-INDEX_LEN-clause-untold g c whole =
-    untold_where (g.F.Folder.told c.args.f.now).files
+    untold_where (g.F.Folder.told c.args.folder.now).files
     (λ image there. c.if-length-ne-INDEX_LEN.true (c.unwrap_or-length.ensures ∙ ap (λ (o : Option ℕ). unwrap_or o 0) (c.in_ok-length.ensures.length image there) ∙ long-or-none (image Index) ∙ whole image there))
 
 pub returns-then-length-ne-INDEX_LEN-clause-damaged : goal.returns-then-length-ne-INDEX_LEN-clause-damaged
@@ -26,5 +26,5 @@ returns-then-length-ne-INDEX_LEN-clause-damaged g c =
       found = λ image there. ap (λ (n : ℕ). n % 2 ^ 32) (length-is image there);
     })
   where
-    length-is : (image : Image) → (g.F.Folder.told c.args.f.now).files ≡ Some image → c.unwrap_or-length.result ≡ length_of image Index
+    length-is : (image : Image) → (g.F.Folder.told c.args.folder.now).files ≡ Some image → c.unwrap_or-length.result ≡ length_of image Index
     length-is image there = c.unwrap_or-length.ensures ∙ ap (λ (o : Option ℕ). unwrap_or o 0) (c.in_ok-length.ensures.length image there) ∙ long-or-none (image Index)

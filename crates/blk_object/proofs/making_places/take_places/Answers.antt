@@ -20,38 +20,38 @@ take_blocks-requires-clause-few g c = subst (λ (n : ℕ). n ≤ 4) (sym c.entry
 
 pub returns-in_err-entry-clause-untold : goal.returns-in_err-entry-clause-untold
 returns-in_err-entry-clause-untold g c room =
-    carried c.take_blocks.result c.from_residual.result c.in_err-entry.field-0.0 (λ _. (g.F.Folder.told c.args.f.now).files ≡ None) c.in_err-entry.was c.from_residual.ensures.1
+    carried c.take_blocks.result c.from_residual.result c.in_err-entry.field-0.0 (λ _. (g.F.Folder.told c.args.folder.now).files ≡ None) c.in_err-entry.was c.from_residual.ensures.1
     (c.take_blocks.ensures.untold (λ from there. room-for-one 2 from (room from there)))
 
 pub returns-in_err-node-clause-stops : goal.returns-in_err-node-clause-stops
 returns-in_err-node-clause-stops g c =
-    two-find (g.F.Folder.told c.args.f.now) (g.F.Folder.told c.take_blocks.new.f) (g.F.Folder.told c.take_blocks-2.new.f) 1 c.in_ok-entry.entry 0 c.take_blocks.ensures.stops c.in_ok-entry.ensures.taken c.take_blocks-2.ensures.stops
+    two-find (g.F.Folder.told c.args.folder.now) (g.F.Folder.told c.take_blocks.new.folder) (g.F.Folder.told c.take_blocks-2.new.folder) 1 c.in_ok-entry.entry 0 c.take_blocks.ensures.stops c.in_ok-entry.ensures.taken c.take_blocks-2.ensures.stops
 
 pub returns-in_err-node-clause-untold : goal.returns-in_err-node-clause-untold
 returns-in_err-node-clause-untold g c room =
-    let a : Told = g.F.Folder.told c.args.f.now in
-    let b : Told = g.F.Folder.told c.take_blocks.new.f in
-    let d : Told = g.F.Folder.told c.take_blocks-2.new.f in
+    let a : Told = g.F.Folder.told c.args.folder.now in
+    let b : Told = g.F.Folder.told c.take_blocks.new.folder in
+    let d : Told = g.F.Folder.told c.take_blocks-2.new.folder in
     carried c.take_blocks-2.result c.from_residual-in_err-node.result c.in_err-node.field-0.0 (λ _. a.files ≡ None) c.in_err-node.was c.from_residual-in_err-node.ensures.1
     (if_damaged_weaker c.take_blocks-2.result (λ _. b.files ≡ None) (λ _. a.files ≡ None) (λ damage none. tells-first a b d 1 c.in_ok-entry.entry 0 c.take_blocks.ensures.stops c.in_ok-entry.ensures.taken c.take_blocks-2.ensures.stops room none)
     (c.take_blocks-2.ensures.untold (λ mid now. room-for-one 1 mid (room-after a b d 1 c.in_ok-entry.entry 0 c.take_blocks.ensures.stops c.in_ok-entry.ensures.taken c.take_blocks-2.ensures.stops c.take_blocks.ensures.silent room mid now))))
 
 pub returns-in_err-long_key-clause-stops : goal.returns-in_err-long_key-clause-stops
 returns-in_err-long_key-clause-stops g c =
-    let a : Told = g.F.Folder.told c.args.f.now in
-    let b : Told = g.F.Folder.told c.take_blocks.new.f in
-    let d : Told = g.F.Folder.told c.take_blocks-2.new.f in
-    three-find a d (g.F.Folder.told c.take_long_key.new.f) (record { entry = c.in_ok-entry.entry; node = c.in_ok-node.node; long_key = None })
+    let a : Told = g.F.Folder.told c.args.folder.now in
+    let b : Told = g.F.Folder.told c.take_blocks.new.folder in
+    let d : Told = g.F.Folder.told c.take_blocks-2.new.folder in
+    three-find a d (g.F.Folder.told c.take_long_key.new.folder) (record { entry = c.in_ok-entry.entry; node = c.in_ok-node.node; long_key = None })
     (two-find a b d 1 c.in_ok-entry.entry c.in_ok-node.node c.take_blocks.ensures.stops c.in_ok-entry.ensures.taken c.take_blocks-2.ensures.stops)
     (two-taken a b d 1 c.in_ok-entry.entry c.in_ok-node.node c.take_blocks.ensures.stops c.in_ok-entry.ensures.taken c.take_blocks-2.ensures.stops c.in_ok-node.ensures.taken)
     c.take_long_key.ensures.stops
 
 pub returns-in_err-long_key-clause-untold : goal.returns-in_err-long_key-clause-untold
 returns-in_err-long_key-clause-untold g c room =
-    let a : Told = g.F.Folder.told c.args.f.now in
-    let b : Told = g.F.Folder.told c.take_blocks.new.f in
-    let d : Told = g.F.Folder.told c.take_blocks-2.new.f in
-    let e : Told = g.F.Folder.told c.take_long_key.new.f in
+    let a : Told = g.F.Folder.told c.args.folder.now in
+    let b : Told = g.F.Folder.told c.take_blocks.new.folder in
+    let d : Told = g.F.Folder.told c.take_blocks-2.new.folder in
+    let e : Told = g.F.Folder.told c.take_long_key.new.folder in
     let places : Places = record { entry = c.in_ok-entry.entry; node = c.in_ok-node.node; long_key = None } in
     let two : ForSome a.files (λ from. LeavesRoom 3 from → Passes a d (StillFinds [] from)) = two-find a b d 1 c.in_ok-entry.entry c.in_ok-node.node c.take_blocks.ensures.stops c.in_ok-entry.ensures.taken c.take_blocks-2.ensures.stops in
     let taken : ForSome a.files (λ from. LeavesRoom 3 from → ForSome d.files (Takes (c.in_ok-node.node ∷ c.in_ok-entry.entry ∷ []) from)) =
@@ -62,20 +62,20 @@ returns-in_err-long_key-clause-untold g c room =
 
 pub returns-in_err-check_apart-clause-stops : goal.returns-in_err-check_apart-clause-stops
 returns-in_err-check_apart-clause-stops g c =
-    let a : Told = g.F.Folder.told c.args.f.now in
-    let b : Told = g.F.Folder.told c.take_blocks.new.f in
-    let d : Told = g.F.Folder.told c.take_blocks-2.new.f in
-    three-find a d (g.F.Folder.told c.take_long_key.new.f) (record { entry = c.in_ok-entry.entry; node = c.in_ok-node.node; long_key = c.in_ok-long_key.long_key })
+    let a : Told = g.F.Folder.told c.args.folder.now in
+    let b : Told = g.F.Folder.told c.take_blocks.new.folder in
+    let d : Told = g.F.Folder.told c.take_blocks-2.new.folder in
+    three-find a d (g.F.Folder.told c.take_long_key.new.folder) (record { entry = c.in_ok-entry.entry; node = c.in_ok-node.node; long_key = c.in_ok-long_key.long_key })
     (two-find a b d 1 c.in_ok-entry.entry c.in_ok-node.node c.take_blocks.ensures.stops c.in_ok-entry.ensures.taken c.take_blocks-2.ensures.stops)
     (two-taken a b d 1 c.in_ok-entry.entry c.in_ok-node.node c.take_blocks.ensures.stops c.in_ok-entry.ensures.taken c.take_blocks-2.ensures.stops c.in_ok-node.ensures.taken)
     c.take_long_key.ensures.stops
 
 pub returns-in_err-check_apart-clause-untold : goal.returns-in_err-check_apart-clause-untold
 returns-in_err-check_apart-clause-untold g c room =
-    let a : Told = g.F.Folder.told c.args.f.now in
-    let b : Told = g.F.Folder.told c.take_blocks.new.f in
-    let d : Told = g.F.Folder.told c.take_blocks-2.new.f in
-    let e : Told = g.F.Folder.told c.take_long_key.new.f in
+    let a : Told = g.F.Folder.told c.args.folder.now in
+    let b : Told = g.F.Folder.told c.take_blocks.new.folder in
+    let d : Told = g.F.Folder.told c.take_blocks-2.new.folder in
+    let e : Told = g.F.Folder.told c.take_long_key.new.folder in
     let places : Places = record { entry = c.in_ok-entry.entry; node = c.in_ok-node.node; long_key = c.in_ok-long_key.long_key } in
     let two : ForSome a.files (λ from. LeavesRoom 3 from → Passes a d (StillFinds [] from)) = two-find a b d 1 c.in_ok-entry.entry c.in_ok-node.node c.take_blocks.ensures.stops c.in_ok-entry.ensures.taken c.take_blocks-2.ensures.stops in
     let taken : ForSome a.files (λ from. LeavesRoom 3 from → ForSome d.files (Takes (c.in_ok-node.node ∷ c.in_ok-entry.entry ∷ []) from)) =
@@ -88,26 +88,26 @@ returns-in_err-check_apart-clause-untold g c room =
 
 pub returns-clause-stops : goal.returns-clause-stops
 returns-clause-stops g c =
-    let a : Told = g.F.Folder.told c.args.f.now in
-    let b : Told = g.F.Folder.told c.take_blocks.new.f in
-    let d : Told = g.F.Folder.told c.take_blocks-2.new.f in
-    three-find a d (g.F.Folder.told c.take_long_key.new.f) (record { entry = c.in_ok-entry.entry; node = c.in_ok-node.node; long_key = c.in_ok-long_key.long_key })
+    let a : Told = g.F.Folder.told c.args.folder.now in
+    let b : Told = g.F.Folder.told c.take_blocks.new.folder in
+    let d : Told = g.F.Folder.told c.take_blocks-2.new.folder in
+    three-find a d (g.F.Folder.told c.take_long_key.new.folder) (record { entry = c.in_ok-entry.entry; node = c.in_ok-node.node; long_key = c.in_ok-long_key.long_key })
     (two-find a b d 1 c.in_ok-entry.entry c.in_ok-node.node c.take_blocks.ensures.stops c.in_ok-entry.ensures.taken c.take_blocks-2.ensures.stops)
     (two-taken a b d 1 c.in_ok-entry.entry c.in_ok-node.node c.take_blocks.ensures.stops c.in_ok-entry.ensures.taken c.take_blocks-2.ensures.stops c.in_ok-node.ensures.taken)
     c.take_long_key.ensures.stops
 
 pub returns-clause-taken : goal.returns-clause-taken
 returns-clause-taken g c =
-    let a : Told = g.F.Folder.told c.args.f.now in
-    let b : Told = g.F.Folder.told c.take_blocks.new.f in
-    let d : Told = g.F.Folder.told c.take_blocks-2.new.f in
-    three-taken a d (g.F.Folder.told c.take_long_key.new.f) (record { entry = c.in_ok-entry.entry; node = c.in_ok-node.node; long_key = c.in_ok-long_key.long_key })
+    let a : Told = g.F.Folder.told c.args.folder.now in
+    let b : Told = g.F.Folder.told c.take_blocks.new.folder in
+    let d : Told = g.F.Folder.told c.take_blocks-2.new.folder in
+    three-taken a d (g.F.Folder.told c.take_long_key.new.folder) (record { entry = c.in_ok-entry.entry; node = c.in_ok-node.node; long_key = c.in_ok-long_key.long_key })
     (two-find a b d 1 c.in_ok-entry.entry c.in_ok-node.node c.take_blocks.ensures.stops c.in_ok-entry.ensures.taken c.take_blocks-2.ensures.stops)
     (two-taken a b d 1 c.in_ok-entry.entry c.in_ok-node.node c.take_blocks.ensures.stops c.in_ok-entry.ensures.taken c.take_blocks-2.ensures.stops c.in_ok-node.ensures.taken)
     c.take_long_key.ensures.stops c.in_ok-long_key.ensures.taken
 
 pub returns-in_err-check_apart-clause-damaged : goal.returns-in_err-check_apart-clause-damaged
 returns-in_err-check_apart-clause-damaged g c =
-    handed c.check_apart.result c.from_residual-in_err-check_apart.result c.in_err-check_apart.field-0.0 _ c.take_long_key.new.files (g.F.Folder.told c.take_long_key.new.f)
+    handed c.check_apart.result c.from_residual-in_err-check_apart.result c.in_err-check_apart.field-0.0 _ c.take_long_key.new.files (g.F.Folder.told c.take_long_key.new.folder)
     (λ damage key. FailsPlace (OfSharedBlocks (record { entry = c.in_ok-entry.entry; long_key = c.in_ok-long_key.long_key; kind = c.in_ok-entry.ensures.kind.0; stands = c.take_long_key.ensures.keeps c.in_ok-entry.entry (c.take_blocks-2.ensures.keeps c.in_ok-entry.entry c.in_ok-entry.ensures.stands); key = key })))
     c.in_err-check_apart.was c.from_residual-in_err-check_apart.ensures.1 c.check_apart.ensures.damaged

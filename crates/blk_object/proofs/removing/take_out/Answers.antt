@@ -10,33 +10,33 @@ use Rattle.blk_object.proofs.removing.take_out.Goals as goal
 
 pub returns-in_err-remove-clause-stops : goal.returns-in_err-remove-clause-stops
 returns-in_err-remove-clause-stops g c from there may =
-    passes_weaker (listing-stops c.args.files.now c.args.node c.args.found.now.entry c.args.found.now.before (g.F.Folder.told c.args.f.now) (g.F.Folder.told c.remove.new.f) c.in_err-remove.ensures.stops from there may) (λ image p. inl p) (λ image p. inl p)
+    passes_weaker (listing-stops c.args.files.now c.args.node c.args.found.now.entry c.args.found.now.before (g.F.Folder.told c.args.folder.now) (g.F.Folder.told c.remove.new.f) c.in_err-remove.ensures.stops from there may) (λ image p. inl p) (λ image p. inl p)
 
 pub returns-in_err-remove-clause-untold : goal.returns-in_err-remove-clause-untold
 returns-in_err-remove-clause-untold g c may =
-    carried c.remove.result c.from_residual.result c.in_err-remove.field-0.0 (λ _. (g.F.Folder.told c.args.f.now).files ≡ None) c.in_err-remove.was c.from_residual.ensures.1
+    carried c.remove.result c.from_residual.result c.in_err-remove.field-0.0 (λ _. (g.F.Folder.told c.args.folder.now).files ≡ None) c.in_err-remove.was c.from_residual.ensures.1
     (c.remove.ensures.untold (λ image there. amid-listed c.args.node image (may image there).listed))
 
 pub returns-clause-taken : goal.returns-clause-taken
 returns-clause-taken g c =
     on_ok_both c.unlink.result
-    (λ unlinked sealed from there may. taken-out c.args.files.now c.args.node c.args.found.now.entry c.args.found.now.before (g.F.Folder.told c.args.f.now) (g.F.Folder.told c.remove.new.f) (g.F.Folder.told c.unlink.new.f)
-    (g.met.F.Folder.are_bytes c.args.f.now) (g.met.F.Folder.are_bytes c.remove.new.f) c.requires.is_open c.in_ok-remove.ensures.stops c.in_ok-remove.ensures.steps from there may unlinked sealed (g.met.F.Folder.are_bytes c.unlink.new.f))
+    (λ unlinked sealed from there may. taken-out c.args.files.now c.args.node c.args.found.now.entry c.args.found.now.before (g.F.Folder.told c.args.folder.now) (g.F.Folder.told c.remove.new.f) (g.F.Folder.told c.unlink.new.f)
+    (g.met.F.Folder.are_bytes c.args.folder.now) (g.met.F.Folder.are_bytes c.remove.new.f) c.requires.is_open c.in_ok-remove.ensures.stops c.in_ok-remove.ensures.steps from there may unlinked sealed (g.met.F.Folder.are_bytes c.unlink.new.f))
     c.unlink.ensures.unlinked c.unlink.ensures.sealed
 
 pub returns-clause-stops : goal.returns-clause-stops
 returns-clause-stops g c from there may =
-    taking-stops c.args.files.now c.args.node c.args.found.now.entry c.args.found.now.before (g.F.Folder.told c.args.f.now) (g.F.Folder.told c.remove.new.f) (g.F.Folder.told c.unlink.new.f)
-    (g.met.F.Folder.are_bytes c.args.f.now) (g.met.F.Folder.are_bytes c.remove.new.f) c.requires.is_open c.in_ok-remove.ensures.stops c.in_ok-remove.ensures.steps from there may c.unlink.ensures.commits
+    taking-stops c.args.files.now c.args.node c.args.found.now.entry c.args.found.now.before (g.F.Folder.told c.args.folder.now) (g.F.Folder.told c.remove.new.f) (g.F.Folder.told c.unlink.new.f)
+    (g.met.F.Folder.are_bytes c.args.folder.now) (g.met.F.Folder.are_bytes c.remove.new.f) c.requires.is_open c.in_ok-remove.ensures.stops c.in_ok-remove.ensures.steps from there may c.unlink.ensures.commits
 
 pub returns-clause-untold : goal.returns-clause-untold
 returns-clause-untold g c may =
     if_damaged_weaker c.unlink.result _ _
-    (λ damage none. part-back (g.F.Folder.told c.args.f.now) (g.F.Folder.told c.remove.new.f) (λ from. operation_steps remove c.args.node from) c.in_ok-remove.ensures.prefix none)
+    (λ damage none. part-back (g.F.Folder.told c.args.folder.now) (g.F.Folder.told c.remove.new.f) (λ from. operation_steps remove c.args.node from) c.in_ok-remove.ensures.prefix none)
     (c.unlink.ensures.untold (λ between here.
-    let start = part-told (g.F.Folder.told c.args.f.now) (g.F.Folder.told c.remove.new.f) (λ from. operation_steps remove c.args.node from) c.in_ok-remove.ensures.prefix between here in
-    before-good c.args.files.now c.args.node c.args.found.now.entry c.args.found.now.before (g.F.Folder.told c.args.f.now) (g.F.Folder.told c.remove.new.f) (g.F.Folder.told c.unlink.new.f)
-    (g.met.F.Folder.are_bytes c.args.f.now) (g.met.F.Folder.are_bytes c.remove.new.f) c.requires.is_open c.in_ok-remove.ensures.stops c.in_ok-remove.ensures.steps start.0 start.1 (may start.0 start.1) between here))
+    let start = part-told (g.F.Folder.told c.args.folder.now) (g.F.Folder.told c.remove.new.f) (λ from. operation_steps remove c.args.node from) c.in_ok-remove.ensures.prefix between here in
+    before-good c.args.files.now c.args.node c.args.found.now.entry c.args.found.now.before (g.F.Folder.told c.args.folder.now) (g.F.Folder.told c.remove.new.f) (g.F.Folder.told c.unlink.new.f)
+    (g.met.F.Folder.are_bytes c.args.folder.now) (g.met.F.Folder.are_bytes c.remove.new.f) c.requires.is_open c.in_ok-remove.ensures.stops c.in_ok-remove.ensures.steps start.0 start.1 (may start.0 start.1) between here))
 
 pub returns-in_err-remove-clause-damaged : goal.returns-in_err-remove-clause-damaged
 returns-in_err-remove-clause-damaged g c =

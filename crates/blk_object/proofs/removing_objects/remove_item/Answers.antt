@@ -26,22 +26,22 @@ remove_read-requires-clause-is_open g c =
 
 pub returns-in_err-remove_read-clause-stops : goal.returns-in_err-remove_read-clause-stops
 returns-in_err-remove_read-clause-stops g c from there state layout unlinked objects keep item k p =
-    passes_stayed c.in_ok-owned.ensures.stays (c.in_err-remove_read.ensures.stops from (told_now from c.in_ok-owned.ensures.stays there) (owned-by (g.F.Folder.told c.args.f.now) c.args.found.now.entry c.in_ok-owned.owned c.in_ok-owned.ensures.words c.in_ok-owned.ensures.charge from there) state layout unlinked objects keep item k p)
+    passes_stayed c.in_ok-owned.ensures.stays (c.in_err-remove_read.ensures.stops from (told_now from c.in_ok-owned.ensures.stays there) (owned-by (g.F.Folder.told c.args.folder.now) c.args.found.now.entry c.in_ok-owned.owned c.in_ok-owned.ensures.words c.in_ok-owned.ensures.charge from there) state layout unlinked objects keep item k p)
 
 pub returns-in_err-remove_read-clause-untold : goal.returns-in_err-remove_read-clause-untold
 returns-in_err-remove_read-clause-untold g c from there state layout unlinked objects keep item k p =
     subst (λ (t : Told). IfDamaged c.from_residual-in_err-remove_read.result (λ _. t.files ≡ None)) c.in_ok-owned.ensures.stays
-    (carried c.remove_read.result c.from_residual-in_err-remove_read.result c.in_err-remove_read.field-0.0 (λ _. (g.F.Folder.told c.read_owned.new.f).files ≡ None) c.in_err-remove_read.was c.from_residual-in_err-remove_read.ensures.1
-    (c.remove_read.ensures.untold from (told_now from c.in_ok-owned.ensures.stays there) (owned-by (g.F.Folder.told c.args.f.now) c.args.found.now.entry c.in_ok-owned.owned c.in_ok-owned.ensures.words c.in_ok-owned.ensures.charge from there) state layout unlinked objects keep item k p))
+    (carried c.remove_read.result c.from_residual-in_err-remove_read.result c.in_err-remove_read.field-0.0 (λ _. (g.F.Folder.told c.read_owned.new.folder).files ≡ None) c.in_err-remove_read.was c.from_residual-in_err-remove_read.ensures.1
+    (c.remove_read.ensures.untold from (told_now from c.in_ok-owned.ensures.stays there) (owned-by (g.F.Folder.told c.args.folder.now) c.args.found.now.entry c.in_ok-owned.owned c.in_ok-owned.ensures.words c.in_ok-owned.ensures.charge from there) state layout unlinked objects keep item k p))
 
 pub returns-clause-removed : goal.returns-clause-removed
 returns-clause-removed g c from there state layout unlinked objects keep item k p =
-    c.in_ok-remove_read.ensures.removed from (told_now from c.in_ok-owned.ensures.stays there) (owned-by (g.F.Folder.told c.args.f.now) c.args.found.now.entry c.in_ok-owned.owned c.in_ok-owned.ensures.words c.in_ok-owned.ensures.charge from there) state layout unlinked objects keep item k p
+    c.in_ok-remove_read.ensures.removed from (told_now from c.in_ok-owned.ensures.stays there) (owned-by (g.F.Folder.told c.args.folder.now) c.args.found.now.entry c.in_ok-owned.owned c.in_ok-owned.ensures.words c.in_ok-owned.ensures.charge from there) state layout unlinked objects keep item k p
 
 pub returns-clause-stops : goal.returns-clause-stops
 returns-clause-stops g c from there state layout unlinked objects keep item k p =
-    passes_stayed c.in_ok-owned.ensures.stays (c.in_ok-remove_read.ensures.stops from (told_now from c.in_ok-owned.ensures.stays there) (owned-by (g.F.Folder.told c.args.f.now) c.args.found.now.entry c.in_ok-owned.owned c.in_ok-owned.ensures.words c.in_ok-owned.ensures.charge from there) state layout unlinked objects keep item k p)
+    passes_stayed c.in_ok-owned.ensures.stays (c.in_ok-remove_read.ensures.stops from (told_now from c.in_ok-owned.ensures.stays there) (owned-by (g.F.Folder.told c.args.folder.now) c.args.found.now.entry c.in_ok-owned.owned c.in_ok-owned.ensures.words c.in_ok-owned.ensures.charge from there) state layout unlinked objects keep item k p)
 
 pub returns-clause-session : goal.returns-clause-session
 returns-clause-session g c from there state layout unlinked objects keep item k p =
-    c.in_ok-remove_read.ensures.session from (told_now from c.in_ok-owned.ensures.stays there) (owned-by (g.F.Folder.told c.args.f.now) c.args.found.now.entry c.in_ok-owned.owned c.in_ok-owned.ensures.words c.in_ok-owned.ensures.charge from there) state layout unlinked objects keep item k p
+    c.in_ok-remove_read.ensures.session from (told_now from c.in_ok-owned.ensures.stays there) (owned-by (g.F.Folder.told c.args.folder.now) c.args.found.now.entry c.in_ok-owned.owned c.in_ok-owned.ensures.words c.in_ok-owned.ensures.charge from there) state layout unlinked objects keep item k p

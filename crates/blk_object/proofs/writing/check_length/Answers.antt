@@ -12,7 +12,7 @@ use Rattle.blk_object.proofs.writing.check_length.Goals as goal
 pub returns-then-length-from-clause-untold : goal.returns-then-length-from-clause-untold
 returns-then-length-from-clause-untold g c there =
     let kind : kind_of c.args.addr ≡ external = eqb-true (kind_of c.args.addr) external (sym c.is_external.ensures ∙ c.if-not-is_external.false) in
-    untold_where (g.F.Folder.told c.args.f.now).files
+    untold_where (g.F.Folder.told c.args.folder.now).files
     (λ image is.
     let long = length_found image c.args.addr c.unwrap_or-length.result c.in_ok-length.field-0 c.file_of-file.result kind c.file_of-file.ensures (c.in_ok-length.ensures.length image is) c.unwrap_or-length.ensures in
     let inside = there image is kind in
@@ -29,6 +29,6 @@ returns-then-length-from-clause-damaged g c =
       file = c.file_of-file.result;
       start = 0;
       count = c.args.size;
-      short = reads-short (g.F.Folder.told c.args.f.now) c.file_of-file.result c.args.size c.unwrap_or-length.result (omega (arith, c.from.ensures, c.if-length-from.true)) (omega (arith, c.ranges.size.fits))
+      short = reads-short (g.F.Folder.told c.args.folder.now) c.file_of-file.result c.args.size c.unwrap_or-length.result (omega (arith, c.from.ensures, c.if-length-from.true)) (omega (arith, c.ranges.size.fits))
           (λ image is. length_read image c.unwrap_or-length.result c.in_ok-length.field-0 c.file_of-file.result (c.in_ok-length.ensures.length image is) c.unwrap_or-length.ensures);
     })

@@ -13,8 +13,8 @@ use Rattle.blk_object.proofs.writing.check_stream.Goals as goal
 
 pub returns-in_default-clause-untold : goal.returns-in_default-clause-untold
 returns-in_default-clause-untold g c agrees has =
-    damaged_any {A = Unit {0}} (Err c.unplaced.result) ((g.F.Folder.told c.args.f.now).files ≡ None)
-    (untold_where (g.F.Folder.told c.args.f.now).files
+    damaged_any {A = Unit {0}} (Err c.unplaced.result) ((g.F.Folder.told c.args.folder.now).files ≡ None)
+    (untold_where (g.F.Folder.told c.args.folder.now).files
     (λ image there.
     let head = c.in_ok-head.ensures.head image there in
     let size = size_in_head image c.args.entry c.args.stream c.from.result c.in_ok-head.head head c.from.ensures in
@@ -25,10 +25,10 @@ returns-in_default-clause-untold g c agrees has =
 
 pub returns-clause-untold : goal.returns-clause-untold
 returns-clause-untold g c agrees has =
-    if_damaged_weaker c.check_length.result (λ _. (g.F.Folder.told c.read_head.new.f).files ≡ None) (λ _. (g.F.Folder.told c.args.f.now).files ≡ None) (λ damage none. ap (λ (t : Told). t.files) (sym c.in_ok-head.ensures.stays) ∙ none)
+    if_damaged_weaker c.check_length.result (λ _. (g.F.Folder.told c.read_head.new.folder).files ≡ None) (λ _. (g.F.Folder.told c.args.folder.now).files ≡ None) (λ damage none. ap (λ (t : Told). t.files) (sym c.in_ok-head.ensures.stays) ∙ none)
     (c.check_length.ensures.untold
     (λ image now.
-    let there : (g.F.Folder.told c.args.f.now).files ≡ Some image = ap (λ (t : Told). t.files) (sym c.in_ok-head.ensures.stays) ∙ now in
+    let there : (g.F.Folder.told c.args.folder.now).files ≡ Some image = ap (λ (t : Told). t.files) (sym c.in_ok-head.ensures.stays) ∙ now in
     let head = c.in_ok-head.ensures.head image there in
     let size = size_in_head image c.args.entry c.args.stream c.from.result c.in_ok-head.head head c.from.ensures in
     let word = word_in_head image c.args.entry c.args.stream c.from-2.result c.in_ok-head.head head c.from-2.ensures in
@@ -38,14 +38,14 @@ returns-clause-untold g c agrees has =
 
 pub returns-in_err-head-clause-damaged : goal.returns-in_err-head-clause-damaged
 returns-in_err-head-clause-damaged g c =
-    handed c.read_head.result c.from_residual.result c.in_err-head.field-0.0 _ c.args.files.now (g.F.Folder.told c.read_head.new.f)
-    (λ damage head. moved c.args.files.now (g.F.Folder.told c.args.f.now) (g.F.Folder.told c.read_head.new.f) damage c.read_head.ensures.stays (head-checked c.args.files.now (g.F.Folder.told c.args.f.now) c.args.entry damage c.requires.kind c.requires.stands head)) c.in_err-head.was c.from_residual.ensures.1 c.read_head.ensures.damaged
+    handed c.read_head.result c.from_residual.result c.in_err-head.field-0.0 _ c.args.files.now (g.F.Folder.told c.read_head.new.folder)
+    (λ damage head. moved c.args.files.now (g.F.Folder.told c.args.folder.now) (g.F.Folder.told c.read_head.new.folder) damage c.read_head.ensures.stays (head-checked c.args.files.now (g.F.Folder.told c.args.folder.now) c.args.entry damage c.requires.kind c.requires.stands head)) c.in_err-head.was c.from_residual.ensures.1 c.read_head.ensures.damaged
 
 pub returns-in_default-clause-damaged : goal.returns-in_default-clause-damaged
 returns-in_default-clause-damaged g c =
     let size : ℕ = slice_index_or c.in_ok-head.head.sizes c.from.result 0 in
     let word : ℕ = slice_index_or c.in_ok-head.head.addrs c.from-2.result 0 in
-    unplaced-checked c.args.files.now (g.F.Folder.told c.read_head.new.f) c.args.entry c.args.stream size word c.unplaced.result c.requires.kind c.requires.stands (more_than_none size size c.if-size-eq0.false refl)
+    unplaced-checked c.args.files.now (g.F.Folder.told c.read_head.new.folder) c.args.entry c.args.stream size word c.unplaced.result c.requires.kind c.requires.stands (more_than_none size size c.if-size-eq0.false refl)
     (none_address word c.from_word.result c.from_word.ensures c.in_default.is) c.unplaced.ensures
 
 pub returns-clause-damaged : goal.returns-clause-damaged

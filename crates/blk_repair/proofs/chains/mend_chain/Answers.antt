@@ -11,12 +11,12 @@ use Rattle.blk_disk.specs.declared.tables.BlockFiles.{BlockFiles}
 use Rattle.blk_disk.specs.Open.{IsOpen}
 use Rattle.spec_folder.specs.ListView.{first_or}
 use Rattle.law_recovery.specs.ChainRepair.{bucket_steps, chain_steps, next_words_steps}
-use Rattle.blk_repair.specs.Chains.{IsFront}
+use Rattle.blk_repair.specs.Chains.{IsBucketWord}
 use Rattle.blk_repair.specs.Damages.{AllCheck}
 use Rattle.blk_repair.proofs.Choices.{index_word-open, links-open}
 use Rattle.blk_repair.proofs.ChainRuns.{chain-leads, links-lead}
 use Rattle.blk_repair.proofs.RecordRuns.{index_word-checks}
-use Rattle.blk_repair.proofs.FrontRuns.{others-front, others-kept}
+use Rattle.blk_repair.proofs.BucketWordRuns.{others-front, others-kept}
 use Rattle.blk_repair.proofs.Progress.{Progress, begun, ended, stays-open, stopped, told_is, untold_part, went_on}
 use Rattle.blk_repair.proofs.chains.mend_chain.Given as given
 use Rattle.blk_repair.proofs.chains.mend_chain.Goals as goal
@@ -45,20 +45,20 @@ returns-clause-silent g c none = c.link.ensures.prefix.silent (silent_part c.in_
 
 pub returns-clause-is_open : goal.returns-clause-is_open
 returns-clause-is_open g c =
-    stays-open c.args.files.now (g.F.Folder.told c.set_front.new.f) (g.F.Folder.told c.link.new.f) (next_words_steps c.args.records.now) (links-open c.args.files.now c.args.records.now)
+    stays-open c.args.files.now (g.F.Folder.told c.set_front.new.folder) (g.F.Folder.told c.link.new.folder) (next_words_steps c.args.records.now) (links-open c.args.files.now c.args.records.now)
     (open-still c.args.files.now c.args.bucket c.first_word.result c.requires.is_open c.in_ok-set_front.ensures.only) c.link.ensures.prefix.made c.link.ensures.prefix.silent
 
 pub returns-clause-others : goal.returns-clause-others
 returns-clause-others g c =
     on_ok_weaker c.link.result
-    (λ made. others-kept (g.F.Folder.told c.args.f.now) (g.F.Folder.told c.set_front.new.f) (g.F.Folder.told c.link.new.f) c.args.bucket c.args.records.now (others-front c.args.bucket c.first_word.result c.in_ok-set_front.ensures.only) made c.link.ensures.prefix.silent)
+    (λ made. others-kept (g.F.Folder.told c.args.folder.now) (g.F.Folder.told c.set_front.new.folder) (g.F.Folder.told c.link.new.folder) c.args.bucket c.args.records.now (others-front c.args.bucket c.first_word.result c.in_ok-set_front.ensures.only) made c.link.ensures.prefix.silent)
     c.link.ensures.steps
 
 pub returns-clause-untold : goal.returns-clause-untold
 returns-clause-untold g c all =
     if_damaged_weaker c.link.result _ _ (λ damage none. untold_part c.in_ok-set_front.ensures.only none)
     (c.link.ensures.untold
-    (told_at_end (g.F.Folder.told c.args.f.now).files (g.F.Folder.told c.set_front.new.f).files (AllCheck c.args.records.now) (silent_part c.in_ok-set_front.ensures.only)
+    (told_at_end (g.F.Folder.told c.args.folder.now).files (g.F.Folder.told c.set_front.new.folder).files (AllCheck c.args.records.now) (silent_part c.in_ok-set_front.ensures.only)
     (λ from there.
     told_part (AllCheck c.args.records.now) c.in_ok-set_front.ensures.only
     (λ x at. index_word-checks c.args.records.now (place_of_bucket c.args.bucket) c.first_word.result x (all x at)))))
@@ -67,19 +67,19 @@ returns-clause-untold g c all =
 
 pub returns-in_err-set_front-clause-prefix : goal.returns-in_err-set_front-clause-prefix
 returns-in_err-set_front-clause-prefix g c from there read =
-    stopped (begun (g.F.Folder.told c.args.f.now) (g.F.Folder.told c.args.f.now) (chain_steps c.args.bucket c.args.records.now) refl) (bucket_steps c.args.bucket (first_or 0 c.args.records.now)) (next_words_steps c.args.records.now) (g.F.Folder.told c.set_front.new.f)
+    stopped (begun (g.F.Folder.told c.args.folder.now) (g.F.Folder.told c.args.folder.now) (chain_steps c.args.bucket c.args.records.now) refl) (bucket_steps c.args.bucket (first_or 0 c.args.records.now)) (next_words_steps c.args.records.now) (g.F.Folder.told c.set_front.new.folder)
     (chain-leads c.args.bucket c.args.records.now)
-    (front c.args.records.now c.args.bucket c.first_word.result (λ (s : Image → List TrailStep). ForSome (g.F.Folder.told c.args.f.now).files (λ from. AppliesPrefix (g.F.Folder.told c.args.f.now) (g.F.Folder.told c.set_front.new.f) (s from))) c.first_word.ensures
-    (told_is (λ x. AppliesPrefix (g.F.Folder.told c.args.f.now) (g.F.Folder.told c.set_front.new.f) (bucket_steps c.args.bucket c.first_word.result x)) from there (c.in_err-set_front.ensures.prefix from there read)))
+    (front c.args.records.now c.args.bucket c.first_word.result (λ (s : Image → List TrailStep). ForSome (g.F.Folder.told c.args.folder.now).files (λ from. AppliesPrefix (g.F.Folder.told c.args.folder.now) (g.F.Folder.told c.set_front.new.folder) (s from))) c.first_word.ensures
+    (told_is (λ x. AppliesPrefix (g.F.Folder.told c.args.folder.now) (g.F.Folder.told c.set_front.new.folder) (bucket_steps c.args.bucket c.first_word.result x)) from there (c.in_err-set_front.ensures.prefix from there read)))
     from there
 
 -- the word of the bucket was written, and the links are left
-half : (g : given.Over) (c : goal.After-link g) → ForSome (g.F.Folder.told c.args.f.now).files (IsFront c.args.front c.args.bucket)
-    → Progress (g.F.Folder.told c.args.f.now) (g.F.Folder.told c.set_front.new.f) (chain_steps c.args.bucket c.args.records.now) (next_words_steps c.args.records.now)
+half : (g : given.Over) (c : goal.After-link g) → ForSome (g.F.Folder.told c.args.folder.now).files (IsBucketWord c.args.front c.args.bucket)
+    → Progress (g.F.Folder.told c.args.folder.now) (g.F.Folder.told c.set_front.new.folder) (chain_steps c.args.bucket c.args.records.now) (next_words_steps c.args.records.now)
 half g c read =
-    went_on (begun (g.F.Folder.told c.args.f.now) (g.F.Folder.told c.args.f.now) (chain_steps c.args.bucket c.args.records.now) refl) (bucket_steps c.args.bucket (first_or 0 c.args.records.now)) (next_words_steps c.args.records.now) (g.F.Folder.told c.set_front.new.f)
+    went_on (begun (g.F.Folder.told c.args.folder.now) (g.F.Folder.told c.args.folder.now) (chain_steps c.args.bucket c.args.records.now) refl) (bucket_steps c.args.bucket (first_or 0 c.args.records.now)) (next_words_steps c.args.records.now) (g.F.Folder.told c.set_front.new.folder)
     (chain-leads c.args.bucket c.args.records.now)
-    (front c.args.records.now c.args.bucket c.first_word.result (λ (s : Image → List TrailStep). ForSome (g.F.Folder.told c.args.f.now).files (λ from. Applies (g.F.Folder.told c.args.f.now) (g.F.Folder.told c.set_front.new.f) (s from))) c.first_word.ensures
+    (front c.args.records.now c.args.bucket c.first_word.result (λ (s : Image → List TrailStep). ForSome (g.F.Folder.told c.args.folder.now).files (λ from. Applies (g.F.Folder.told c.args.folder.now) (g.F.Folder.told c.set_front.new.folder) (s from))) c.first_word.ensures
     (λ from there. c.in_ok-set_front.ensures.steps from there (read from there)))
     (silent_part c.in_ok-set_front.ensures.only)
 
@@ -87,8 +87,8 @@ pub returns-clause-steps : goal.returns-clause-steps
 returns-clause-steps g c =
     on_ok_weaker c.link.result
     (λ made from there read.
-    ended (went_on (half g c (told_is (IsFront c.args.front c.args.bucket) from there read)) (next_words_steps c.args.records.now) (λ _. []) (g.F.Folder.told c.link.new.f) (links-lead c.args.records.now) made c.link.ensures.prefix.silent) (λ image. refl) from there)
+    ended (went_on (half g c (told_is (IsBucketWord c.args.front c.args.bucket) from there read)) (next_words_steps c.args.records.now) (λ _. []) (g.F.Folder.told c.link.new.folder) (links-lead c.args.records.now) made c.link.ensures.prefix.silent) (λ image. refl) from there)
     c.link.ensures.steps
 
 pub returns-clause-prefix : goal.returns-clause-prefix
-returns-clause-prefix g c from there read = stopped (half g c (told_is (IsFront c.args.front c.args.bucket) from there read)) (next_words_steps c.args.records.now) (λ _. []) (g.F.Folder.told c.link.new.f) (links-lead c.args.records.now) c.link.ensures.prefix.made from there
+returns-clause-prefix g c from there read = stopped (half g c (told_is (IsBucketWord c.args.front c.args.bucket) from there read)) (next_words_steps c.args.records.now) (λ _. []) (g.F.Folder.told c.link.new.folder) (links-lead c.args.records.now) c.link.ensures.prefix.made from there

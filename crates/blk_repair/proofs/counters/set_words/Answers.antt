@@ -7,23 +7,23 @@ use Rattle.blk_repair.proofs.Progress.{begun, ended, stopped, was_untold, went_o
 use Rattle.blk_repair.proofs.counters.set_words.Goals as goal
 
 pub loop-word-init : goal.loop-word-init
-loop-word-init g c = record { progress = begun (g.F.Folder.told c.args.f.now) (g.F.Folder.told c.args.f.now) (index_words_steps c.args.words.now) refl; complete = c.requires.complete; later = omega arith }
+loop-word-init g c = record { progress = begun (g.F.Folder.told c.args.folder.now) (g.F.Folder.told c.args.folder.now) (index_words_steps c.args.words.now) refl; complete = c.requires.complete; later = omega arith }
 
 pub returns-in_err-set_where_other-clause-prefix : goal.returns-in_err-set_where_other-clause-prefix
 returns-in_err-set_where_other-clause-prefix g c = record {
-  made = stopped c.loop-word.invariant.progress (index_word_steps (get_or c.args.words.now c.loop-word.word-index (0, 0)).0 (get_or c.args.words.now c.loop-word.word-index (0, 0)).1) (index_words_steps (drop (c.loop-word.word-index + 1) c.args.words.now)) (g.F.Folder.told c.set_where_other.new.f)
+  made = stopped c.loop-word.invariant.progress (index_word_steps (get_or c.args.words.now c.loop-word.word-index (0, 0)).0 (get_or c.args.words.now c.loop-word.word-index (0, 0)).1) (index_words_steps (drop (c.loop-word.word-index + 1) c.args.words.now)) (g.F.Folder.told c.set_where_other.new.folder)
       (words-lead c.args.words.now c.loop-word.word-index (0, 0) c.loop-word-test.true) c.in_err-set_where_other.ensures.prefix.made;
   silent = λ none. c.in_err-set_where_other.ensures.prefix.silent (c.loop-word.invariant.progress.silent none);
 }
 
 pub returns-in_err-set_where_other-clause-untold : goal.returns-in_err-set_where_other-clause-untold
 returns-in_err-set_where_other-clause-untold g c =
-    carried c.set_where_other.result c.from_residual.result c.in_err-set_where_other.field-0.0 (λ _. (g.F.Folder.told c.args.f.now).files ≡ None) c.in_err-set_where_other.was c.from_residual.ensures.1
+    carried c.set_where_other.result c.from_residual.result c.in_err-set_where_other.field-0.0 (λ _. (g.F.Folder.told c.args.folder.now).files ≡ None) c.in_err-set_where_other.was c.from_residual.ensures.1
     (if_damaged_weaker c.set_where_other.result _ _ (λ damage none. was_untold c.loop-word.invariant.progress none) c.set_where_other.ensures.untold)
 
 pub loop-word-preserved : goal.loop-word-preserved
 loop-word-preserved g c = record {
-  progress = went_on c.loop-word.invariant.progress (index_word_steps (get_or c.args.words.now c.loop-word.word-index (0, 0)).0 (get_or c.args.words.now c.loop-word.word-index (0, 0)).1) (index_words_steps (drop (c.loop-word.word-index + 1) c.args.words.now)) (g.F.Folder.told c.set_where_other.new.f)
+  progress = went_on c.loop-word.invariant.progress (index_word_steps (get_or c.args.words.now c.loop-word.word-index (0, 0)).0 (get_or c.args.words.now c.loop-word.word-index (0, 0)).1) (index_words_steps (drop (c.loop-word.word-index + 1) c.args.words.now)) (g.F.Folder.told c.set_where_other.new.folder)
       (words-lead c.args.words.now c.loop-word.word-index (0, 0) c.loop-word-test.true) c.in_ok-set_where_other.ensures.steps c.in_ok-set_where_other.ensures.prefix.silent;
   complete = c.in_ok-set_where_other.ensures.complete;
   later = omega (arith, c.loop-word.invariant.later, c.in_ok-set_where_other.ensures.later);

@@ -7,7 +7,7 @@ use Rattle.blk_repair.proofs.counters.set_words.Given as goal
 
 abbrev pub invariant-loop-word : goal.invariant-loop-word
 invariant-loop-word g l = record {
-  progress : Progress (g.F.Folder.told l.fn.f) (g.F.Folder.told l.f) (index_words_steps l.words) (index_words_steps (drop l.word-index l.words));
-  complete : ForSome (g.F.Folder.told l.f).files HasWholeIndex;
-  later : g.F.Folder.faults l.fn.f ≤ g.F.Folder.faults l.f;
+  progress : Progress (g.F.Folder.told l.fn.folder) (g.F.Folder.told l.folder) (index_words_steps l.words) (index_words_steps (drop l.word-index l.words));
+  complete : ForSome (g.F.Folder.told l.folder).files HasWholeIndex;
+  later : g.F.Folder.faults l.fn.folder ≤ g.F.Folder.faults l.folder;
 }

@@ -9,8 +9,8 @@ abbrev pub invariant-loop-number : goal.invariant-loop-number
 invariant-loop-number g l = record {
   small : file_number (file_of l.last) < 2 ^ 32;
   past : IsBefore (file_of l.last) (Block 255) → ⊥;
-  deleted : HasDeletedExternals l.claims (file_of l.last) (g.F.Folder.told l.fn.f) (g.F.Folder.told l.f);
-  later : g.F.Folder.faults l.fn.f ≤ g.F.Folder.faults l.f;
+  deleted : HasDeletedExternals l.claims (file_of l.last) (g.F.Folder.told l.fn.folder) (g.F.Folder.told l.folder);
+  later : g.F.Folder.faults l.fn.folder ≤ g.F.Folder.faults l.folder;
 }
 
 abbrev pub decreases-loop-number : goal.decreases-loop-number

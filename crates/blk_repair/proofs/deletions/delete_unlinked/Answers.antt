@@ -7,7 +7,7 @@ use Rattle.blk_repair.proofs.DeletionRuns.{blocks-all, blocks-begin, blocks-next
 use Rattle.blk_repair.proofs.deletions.delete_unlinked.Goals as goal
 
 pub loop-n-init : goal.loop-n-init
-loop-n-init g c = record { deleted = blocks-begin c.args.files.now (g.F.Folder.told c.args.f.now) c.requires.is_open; later = omega arith }
+loop-n-init g c = record { deleted = blocks-begin c.args.files.now (g.F.Folder.told c.args.folder.now) c.requires.is_open; later = omega arith }
 
 pub returns-in_err-n-clause-prefix : goal.returns-in_err-n-clause-prefix
 returns-in_err-n-clause-prefix g c = (Block c.loop-n.last, (blocks-stay c.loop-n.invariant.deleted c.in_err-n.ensures.stays).made)
@@ -30,21 +30,21 @@ returns-in_err-delete_block-clause-is_open g c = (blocks-stay (blocks-stay c.loo
 pub loop-n-preserved : goal.loop-n-preserved
 loop-n-preserved g c =
     let stays = c.in_ok-n.ensures.stays in
-    let next : ForSome (g.F.Folder.told c.next_block.new.f).files (λ image. IsNextFile image (Some (Block c.loop-n.last)) (Some (Block c.in-Some.n))) = (λ image there. c.in_ok-n.ensures.next c.in-Some.n c.in-Some.is image (ap (λ (t : Told). t.files) (sym stays) ∙ there)) in
+    let next : ForSome (g.F.Folder.told c.next_block.new.folder).files (λ image. IsNextFile image (Some (Block c.loop-n.last)) (Some (Block c.in-Some.n))) = (λ image there. c.in_ok-n.ensures.next c.in-Some.n c.in-Some.is image (ap (λ (t : Told). t.files) (sym stays) ∙ there)) in
     record {
-      deleted = blocks-next c.args.files.now c.loop-n.last c.in-Some.n (g.F.Folder.told c.args.f.now) (g.F.Folder.told c.next_block.new.f) (g.F.Folder.told c.delete_block.new.f)
+      deleted = blocks-next c.args.files.now c.loop-n.last c.in-Some.n (g.F.Folder.told c.args.folder.now) (g.F.Folder.told c.next_block.new.folder) (g.F.Folder.told c.delete_block.new.folder)
           (blocks-stay c.loop-n.invariant.deleted stays) (omega arith) next c.in_ok-delete_block.ensures.steps;
       later = omega (arith, c.loop-n.invariant.later, c.next_block.ensures.later, c.delete_block.ensures.later);
     }
 
 pub returns-clause-linked : goal.returns-clause-linked
 returns-clause-linked g c =
-    blocks-only c.args.files.now c.loop-n.last (g.F.Folder.told c.args.f.now) (g.F.Folder.told c.next_block.new.f) (blocks-stay c.loop-n.invariant.deleted c.in_ok-n.ensures.stays)
+    blocks-only c.args.files.now c.loop-n.last (g.F.Folder.told c.args.folder.now) (g.F.Folder.told c.next_block.new.folder) (blocks-stay c.loop-n.invariant.deleted c.in_ok-n.ensures.stays)
     (λ image there n late. c.in_ok-n.ensures.none (ap Ok c.in_default.is) image (ap (λ (t : Told). t.files) (sym c.in_ok-n.ensures.stays) ∙ there) n late)
 
 pub returns-clause-steps : goal.returns-clause-steps
 returns-clause-steps g c =
-    blocks-all c.args.files.now c.loop-n.last (g.F.Folder.told c.args.f.now) (g.F.Folder.told c.next_block.new.f) (blocks-stay c.loop-n.invariant.deleted c.in_ok-n.ensures.stays)
+    blocks-all c.args.files.now c.loop-n.last (g.F.Folder.told c.args.folder.now) (g.F.Folder.told c.next_block.new.folder) (blocks-stay c.loop-n.invariant.deleted c.in_ok-n.ensures.stays)
     (λ image there n late. c.in_ok-n.ensures.none (ap Ok c.in_default.is) image (ap (λ (t : Told). t.files) (sym c.in_ok-n.ensures.stays) ∙ there) n late)
 
 pub returns-clause-prefix : goal.returns-clause-prefix

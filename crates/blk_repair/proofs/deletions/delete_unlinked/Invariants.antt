@@ -4,8 +4,8 @@ use Rattle.blk_repair.proofs.deletions.delete_unlinked.Given as goal
 
 abbrev pub invariant-loop-n : goal.invariant-loop-n
 invariant-loop-n g l = record {
-  deleted : HasDeletedBlocks l.files l.last (g.F.Folder.told l.fn.f) (g.F.Folder.told l.f);
-  later : g.F.Folder.faults l.fn.f ≤ g.F.Folder.faults l.f;
+  deleted : HasDeletedBlocks l.files l.last (g.F.Folder.told l.fn.folder) (g.F.Folder.told l.folder);
+  later : g.F.Folder.faults l.fn.folder ≤ g.F.Folder.faults l.folder;
 }
 
 abbrev pub decreases-loop-n : goal.decreases-loop-n

@@ -18,7 +18,7 @@ field-requires-clause-stands g c = entry_stands c.args.files.now c.args.entry c.
 
 pub returns-in_err-now-clause-untold : goal.returns-in_err-now-clause-untold
 returns-in_err-now-clause-untold g c good =
-    carried c.field.result c.from_residual.result c.in_err-now.field-0.0 (λ _. (g.F.Folder.told c.args.f.now).files ≡ None) c.in_err-now.was c.from_residual.ensures.1
+    carried c.field.result c.from_residual.result c.in_err-now.field-0.0 (λ _. (g.F.Folder.told c.args.folder.now).files ≡ None) c.in_err-now.was c.from_residual.ensures.1
     (c.field.ensures.untold (λ image there. (c.requires.is_open image there).agrees))
 
 pub returns-then-now-word-clause-checked : goal.returns-then-now-word-clause-checked
@@ -27,7 +27,7 @@ returns-then-now-word-clause-checked g c image there =
 
 pub returns-then-now-word-clause-steps : goal.returns-then-now-word-clause-steps
 returns-then-now-word-clause-steps g c image there =
-    subst (Applies (g.F.Folder.told c.args.f.now) (g.F.Folder.told c.field.new.f))
+    subst (Applies (g.F.Folder.told c.args.folder.now) (g.F.Folder.told c.field.new.f))
     (sym (next-right image c.args.entry c.args.word c.in_ok-now.now (next_is c.args.files.now image c.args.entry c.in_ok-now.now (c.requires.is_open image there).agrees c.requires.stands (c.in_ok-now.ensures.value image there)) c.if-now-word.true))
     (grows_none c.in_ok-now.ensures.stays)
 
@@ -46,12 +46,12 @@ update_sealed-requires-clause-agrees g c = subst (λ (t : Told). ForSome t.files
 pub returns-clause-steps : goal.returns-clause-steps
 returns-clause-steps g c =
     on_ok_weaker c.update_sealed.result
-    (λ whole. next-later c.args.files.now (g.F.Folder.told c.args.f.now) (g.F.Folder.told c.field.new.f) c.args.entry c.args.word c.in_ok-now.now (λ (t : Told) (s : List TrailStep). Applies t (g.F.Folder.told c.update_sealed.new.f) s)
+    (λ whole. next-later c.args.files.now (g.F.Folder.told c.args.folder.now) (g.F.Folder.told c.field.new.f) c.args.entry c.args.word c.in_ok-now.now (λ (t : Told) (s : List TrailStep). Applies t (g.F.Folder.told c.update_sealed.new.f) s)
     c.requires.is_open c.requires.stands c.in_ok-now.ensures.value c.if-now-word.false c.in_ok-now.ensures.stays whole) c.update_sealed.ensures.steps
 
 pub returns-clause-prefix : goal.returns-clause-prefix
 returns-clause-prefix g c = record {
-  made = next-later c.args.files.now (g.F.Folder.told c.args.f.now) (g.F.Folder.told c.field.new.f) c.args.entry c.args.word c.in_ok-now.now (λ (t : Told) (s : List TrailStep). AppliesPrefix t (g.F.Folder.told c.update_sealed.new.f) s)
+  made = next-later c.args.files.now (g.F.Folder.told c.args.folder.now) (g.F.Folder.told c.field.new.f) c.args.entry c.args.word c.in_ok-now.now (λ (t : Told) (s : List TrailStep). AppliesPrefix t (g.F.Folder.told c.update_sealed.new.f) s)
       c.requires.is_open c.requires.stands c.in_ok-now.ensures.value c.if-now-word.false c.in_ok-now.ensures.stays c.update_sealed.ensures.prefix.made;
   silent = search rules;
 }

@@ -6,29 +6,29 @@ use Rattle.blk_repair.proofs.PartRuns.{rebuilds-made}
 use Rattle.blk_repair.proofs.maps.mend_files.Goals as goal
 
 pub returns-in_err-rebuild-clause-stops : goal.returns-in_err-rebuild-clause-stops
-returns-in_err-rebuild-clause-stops g c = rebuilding-passes (g.F.Folder.told c.args.f.now) (g.F.Folder.told c.rebuild.new.f) c.args.claims.now (all_files c.args.files.now) c.rebuild.ensures.stops
+returns-in_err-rebuild-clause-stops g c = rebuilding-passes (g.F.Folder.told c.args.folder.now) (g.F.Folder.told c.rebuild.new.f) c.args.claims.now (all_files c.args.files.now) c.rebuild.ensures.stops
 
 pub returns-clause-stops : goal.returns-clause-stops
-returns-clause-stops g c = rebuilding-passes (g.F.Folder.told c.args.f.now) (g.F.Folder.told c.rebuild.new.f) c.args.claims.now (all_files c.args.files.now) c.rebuild.ensures.stops
+returns-clause-stops g c = rebuilding-passes (g.F.Folder.told c.args.folder.now) (g.F.Folder.told c.rebuild.new.f) c.args.claims.now (all_files c.args.files.now) c.rebuild.ensures.stops
 
 pub returns-in_err-rebuild-clause-is_open : goal.returns-in_err-rebuild-clause-is_open
 returns-in_err-rebuild-clause-is_open g c image there = record {
   agrees = c.rebuild.ensures.agrees image there;
-  whole_index = told_at_end (g.F.Folder.told c.args.f.now).files (g.F.Folder.told c.rebuild.new.f).files HasWholeIndex c.rebuild.ensures.silent
-      (λ from was now here. index-whole c.args.claims.now (all_files c.args.files.now) from now (rebuilding-ends (g.F.Folder.told c.args.f.now) (g.F.Folder.told c.rebuild.new.f) c.args.claims.now (all_files c.args.files.now) c.rebuild.ensures.stops from was now here) (c.requires.is_open from was).whole_index) image there;
+  whole_index = told_at_end (g.F.Folder.told c.args.folder.now).files (g.F.Folder.told c.rebuild.new.f).files HasWholeIndex c.rebuild.ensures.silent
+      (λ from was now here. index-whole c.args.claims.now (all_files c.args.files.now) from now (rebuilding-ends (g.F.Folder.told c.args.folder.now) (g.F.Folder.told c.rebuild.new.f) c.args.claims.now (all_files c.args.files.now) c.rebuild.ensures.stops from was now here) (c.requires.is_open from was).whole_index) image there;
 }
 
 pub returns-clause-is_open : goal.returns-clause-is_open
 returns-clause-is_open g c image there = record {
   agrees = c.rebuild.ensures.agrees image there;
-  whole_index = told_at_end (g.F.Folder.told c.args.f.now).files (g.F.Folder.told c.rebuild.new.f).files HasWholeIndex c.rebuild.ensures.silent
-      (λ from was now here. index-whole c.args.claims.now (all_files c.args.files.now) from now (rebuilding-ends (g.F.Folder.told c.args.f.now) (g.F.Folder.told c.rebuild.new.f) c.args.claims.now (all_files c.args.files.now) c.rebuild.ensures.stops from was now here) (c.requires.is_open from was).whole_index) image there;
+  whole_index = told_at_end (g.F.Folder.told c.args.folder.now).files (g.F.Folder.told c.rebuild.new.f).files HasWholeIndex c.rebuild.ensures.silent
+      (λ from was now here. index-whole c.args.claims.now (all_files c.args.files.now) from now (rebuilding-ends (g.F.Folder.told c.args.folder.now) (g.F.Folder.told c.rebuild.new.f) c.args.claims.now (all_files c.args.files.now) c.rebuild.ensures.stops from was now here) (c.requires.is_open from was).whole_index) image there;
 }
 
 pub returns-clause-mended : goal.returns-clause-mended
 returns-clause-mended g c from was entry next now here =
     files-mended-now entry from now c.args.claims.now c.args.files.now c.rebuild.new.files next
-    (rebuilding-ends (g.F.Folder.told c.args.f.now) (g.F.Folder.told c.rebuild.new.f) c.args.claims.now (all_files c.args.files.now) c.rebuild.ensures.stops from was now here)
+    (rebuilding-ends (g.F.Folder.told c.args.folder.now) (g.F.Folder.told c.rebuild.new.f) c.args.claims.now (all_files c.args.files.now) c.rebuild.ensures.stops from was now here)
     (c.in_ok-rebuild.ensures.rebuilt now here) (c.in_ok-rebuild.ensures.allocations from was now here) c.in_ok-rebuild.ensures.fitted (c.rebuild.ensures.agrees now here)
     (g.met.F.Folder.are_bytes c.rebuild.new.f now here) (returns-clause-is_open g c now here).whole_index
 

@@ -4,7 +4,7 @@ use Rattle.blk_repair.proofs.removals.remove_others.Given as goal
 
 abbrev pub invariant-loop-i : goal.invariant-loop-i
 invariant-loop-i g l = record {
-  taken : HasTaken (g.F.Folder.told l.fn.f) (g.F.Folder.told l.f) l.files l.walked l.kept l.i l.passed;
+  taken : HasTaken (g.F.Folder.told l.fn.folder) (g.F.Folder.told l.folder) l.files l.walked l.kept l.i l.passed;
   few : l.passed ≤ l.i;
-  later : g.F.Folder.faults l.fn.f ≤ g.F.Folder.faults l.f;
+  later : g.F.Folder.faults l.fn.folder ≤ g.F.Folder.faults l.folder;
 }

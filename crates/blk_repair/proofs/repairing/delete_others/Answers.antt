@@ -14,12 +14,12 @@ pub returns-clause-mended : goal.returns-clause-mended
 returns-clause-mended g c =
     on_ok_weaker c.delete_unclaimed.result
     (λ claimed from there entry next.
-    deletions-done c.args.claims.now (g.F.Folder.told c.args.f.now) (g.F.Folder.told c.delete_unlinked.new.f) (g.F.Folder.told c.delete_unclaimed.new.f) entry from there next (c.delete_unlinked.ensures.stops from there entry next.holds).passes
+    deletions-done c.args.claims.now (g.F.Folder.told c.args.folder.now) (g.F.Folder.told c.delete_unlinked.new.folder) (g.F.Folder.told c.delete_unclaimed.new.folder) entry from there next (c.delete_unlinked.ensures.stops from there entry next.holds).passes
     (λ mid here entry rest. (c.delete_unclaimed.ensures.stops mid here entry rest).passes) c.in_ok-delete_unlinked.ensures.linked claimed) c.delete_unclaimed.ensures.claimed
 
 pub returns-clause-stops : goal.returns-clause-stops
 returns-clause-stops g c from there entry next =
-    deletions-break c.args.claims.now (g.F.Folder.told c.args.f.now) (g.F.Folder.told c.delete_unlinked.new.f) (g.F.Folder.told c.delete_unclaimed.new.f) entry from there next (c.delete_unlinked.ensures.stops from there entry next.holds) c.delete_unclaimed.ensures.stops
+    deletions-break c.args.claims.now (g.F.Folder.told c.args.folder.now) (g.F.Folder.told c.delete_unlinked.new.folder) (g.F.Folder.told c.delete_unclaimed.new.folder) entry from there next (c.delete_unlinked.ensures.stops from there entry next.holds) c.delete_unclaimed.ensures.stops
 
 pub returns-clause-is_open : goal.returns-clause-is_open
 returns-clause-is_open g c = c.delete_unclaimed.ensures.is_open c.args.files.now c.delete_unlinked.ensures.is_open
@@ -35,6 +35,6 @@ pub returns-clause-steps : goal.returns-clause-steps
 returns-clause-steps g c =
     on_ok_weaker c.delete_unclaimed.result
     (λ all from there.
-    in-turn (g.F.Folder.told c.delete_unclaimed.new.f) (Deletes (is_unlinked c.args.files.now) last_first_file) (Deletes (is_unclaimed c.args.claims.now) last_block_file) from there
+    in-turn (g.F.Folder.told c.delete_unclaimed.new.folder) (Deletes (is_unlinked c.args.files.now) last_first_file) (Deletes (is_unclaimed c.args.claims.now) last_block_file) from there
     (deletes-made (is_unlinked c.args.files.now) last_first_file from there c.in_ok-delete_unlinked.ensures.steps)
     (λ mid here. deletes-made (is_unclaimed c.args.claims.now) last_block_file mid here all)) c.delete_unclaimed.ensures.steps

@@ -14,7 +14,7 @@ pub returns-clause-mended : goal.returns-clause-mended
 returns-clause-mended g c =
     on_ok_weaker c.mend_behind.result
     (λ made from there is.
-    led (g.F.Folder.told c.mend_behind.new.f) (AreLinksMended c.args.scan.now from) (IsRepairedFor c.args.this_id from) from there (c.mend_links.ensures.stops from there is).passes (c.in_ok-mend_links.ensures.mended from there is) (λ mid here next. made mid here from next))
+    led (g.F.Folder.told c.mend_behind.new.folder) (AreLinksMended c.args.scan.now from) (IsRepairedFor c.args.this_id from) from there (c.mend_links.ensures.stops from there is).passes (c.in_ok-mend_links.ensures.mended from there is) (λ mid here next. made mid here from next))
     c.mend_behind.ensures.mended
 
 pub returns-clause-stops : goal.returns-clause-stops
@@ -28,9 +28,9 @@ returns-clause-last g c =
 pub returns-clause-untold : goal.returns-clause-untold
 returns-clause-untold g c all =
     if_damaged_weaker c.mend_behind.result _ _
-    (λ damage none. none-before (g.F.Folder.told c.args.f.now) (g.F.Folder.told c.mend_links.new.f) (λ from there. still-told from there (c.mend_links.ensures.stops from there (all from there)).passes) none)
+    (λ damage none. none-before (g.F.Folder.told c.args.folder.now) (g.F.Folder.told c.mend_links.new.folder) (λ from there. still-told from there (c.mend_links.ensures.stops from there (all from there)).passes) none)
     (c.mend_behind.ensures.untold
-    (told_at_end (g.F.Folder.told c.args.f.now).files (g.F.Folder.told c.mend_links.new.f).files (λ mid. (entry : Image) × AreLinksMended c.args.scan.now entry mid) c.mend_links.ensures.silent
+    (told_at_end (g.F.Folder.told c.args.folder.now).files (g.F.Folder.told c.mend_links.new.folder).files (λ mid. (entry : Image) × AreLinksMended c.args.scan.now entry mid) c.mend_links.ensures.silent
     (λ from there mid here. (from, c.in_ok-mend_links.ensures.mended from there (all from there) mid here))))
 
 pub returns-clause-clean : goal.returns-clause-clean
@@ -39,11 +39,11 @@ returns-clause-clean g c =
     (λ clean from there is needs.
     let same = c.in_ok-mend_links.ensures.clean from there is needs.links in
     let here = here-still from there same in
-    subst (λ (t : Told). Applies t (g.F.Folder.told c.mend_behind.new.f) (counting_steps from c.args.this_id from)) same (clean from here from (c.in_ok-mend_links.ensures.mended from there is from here) needs)) c.mend_behind.ensures.clean
+    subst (λ (t : Told). Applies t (g.F.Folder.told c.mend_behind.new.folder) (counting_steps from c.args.this_id from)) same (clean from here from (c.in_ok-mend_links.ensures.mended from there is from here) needs)) c.mend_behind.ensures.clean
 
 pub returns-clause-steps : goal.returns-clause-steps
 returns-clause-steps g c =
     on_ok_weaker c.mend_behind.result
     (λ made from there is.
-    in-turn (g.F.Folder.told c.mend_behind.new.f) MendsLinks (InTurn (MendsFiles c.args.files.now c.args.scan.now.claims) (MendsRest c.args.scan.now from c.args.this_id)) from there (c.in_ok-mend_links.ensures.steps from there is)
+    in-turn (g.F.Folder.told c.mend_behind.new.folder) MendsLinks (InTurn (MendsFiles c.args.files.now c.args.scan.now.claims) (MendsRest c.args.scan.now from c.args.this_id)) from there (c.in_ok-mend_links.ensures.steps from there is)
     (λ mid here. made mid here from (c.in_ok-mend_links.ensures.mended from there is mid here))) c.mend_behind.ensures.steps

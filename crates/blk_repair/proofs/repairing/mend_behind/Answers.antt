@@ -6,7 +6,7 @@ use Rattle.spec_image.specs.Told.{Told, Applies}
 use Rattle.blk_io.proofs.Carried.{if_damaged_weaker, told_at_end}
 use Rattle.law_recovery.specs.MendedChanges.{IsMidRepair}
 use Rattle.blk_addr.specs.declared.claim_set.Claims.{Claims}
-use Rattle.blk_repair.specs.Endings.{BreaksOff}
+use Rattle.blk_repair.specs.Endings.{RepairBreaksOff}
 use Rattle.blk_repair.specs.Parts.{AppliesOf}
 use Rattle.blk_repair.specs.Repair.{AreLinksMended, IsNextFinished, IsRepairedFor, MendsFiles, MendsRest, counting_steps}
 use Rattle.blk_repair.proofs.EndingRuns.{joined-either, joined-ends}
@@ -15,13 +15,13 @@ use Rattle.blk_repair.proofs.RepairRuns.{files-next, finished-next, here-still, 
 use Rattle.blk_repair.proofs.repairing.mend_behind.Given as given
 use Rattle.blk_repair.proofs.repairing.mend_behind.Goals as goal
 
-module _ (g : given.Over) (c : goal.After-mend_rest g) (from : Image) (there : (g.F.Folder.told c.args.f.now).files ≡ Some from) (entry : Image) (links : AreLinksMended c.args.scan.now entry from) where
+module _ (g : given.Over) (c : goal.After-mend_rest g) (from : Image) (there : (g.F.Folder.told c.args.folder.now).files ≡ Some from) (entry : Image) (links : AreLinksMended c.args.scan.now entry from) where
   -- the files were repaired
-  first : BreaksOff (g.F.Folder.told c.args.f.now) (g.F.Folder.told c.mend_store.new.f) (IsMidRepair entry)
+  first : RepairBreaksOff (g.F.Folder.told c.args.folder.now) (g.F.Folder.told c.mend_store.new.folder) (IsMidRepair entry)
   first = c.mend_store.ensures.stops from there entry (files-next c.args.scan.now c.claims.result.now c.claims.ensures entry from links)
 
   -- and the rest is next
-  handed : ForSome (g.F.Folder.told c.mend_store.new.f).files (IsNextFinished c.args.scan.now entry)
+  handed : ForSome (g.F.Folder.told c.mend_store.new.folder).files (IsNextFinished c.args.scan.now entry)
   handed mid here =
       finished-next c.args.scan.now c.claims.result.now c.claims.ensures entry from mid links (c.in_ok-mend_store.ensures.mended from there entry (files-next c.args.scan.now c.claims.result.now c.claims.ensures entry from links) mid here)
 
@@ -29,7 +29,7 @@ pub returns-clause-mended : goal.returns-clause-mended
 returns-clause-mended g c =
     on_ok_weaker c.mend_rest.result
     (λ made from there entry links.
-    led (g.F.Folder.told c.mend_rest.new.f) (IsNextFinished c.args.scan.now entry) (IsRepairedFor c.args.this_id entry) from there (first g c from there entry links).passes (handed g c from there entry links) (λ mid here next. made mid here entry next))
+    led (g.F.Folder.told c.mend_rest.new.folder) (IsNextFinished c.args.scan.now entry) (IsRepairedFor c.args.this_id entry) from there (first g c from there entry links).passes (handed g c from there entry links) (λ mid here next. made mid here entry next))
     c.mend_rest.ensures.mended
 
 pub returns-clause-stops : goal.returns-clause-stops
@@ -43,9 +43,9 @@ returns-clause-last g c =
 pub returns-clause-untold : goal.returns-clause-untold
 returns-clause-untold g c some =
     if_damaged_weaker c.mend_rest.result _ _
-    (λ damage none. none-before (g.F.Folder.told c.args.f.now) (g.F.Folder.told c.mend_store.new.f) (λ from there. still-told from there (first g c from there (some from there).0 (some from there).1).passes) none)
+    (λ damage none. none-before (g.F.Folder.told c.args.folder.now) (g.F.Folder.told c.mend_store.new.folder) (λ from there. still-told from there (first g c from there (some from there).0 (some from there).1).passes) none)
     (c.mend_rest.ensures.untold
-    (told_at_end (g.F.Folder.told c.args.f.now).files (g.F.Folder.told c.mend_store.new.f).files (λ mid. (entry : Image) × IsNextFinished c.args.scan.now entry mid) c.mend_store.ensures.silent
+    (told_at_end (g.F.Folder.told c.args.folder.now).files (g.F.Folder.told c.mend_store.new.folder).files (λ mid. (entry : Image) × IsNextFinished c.args.scan.now entry mid) c.mend_store.ensures.silent
     (λ from there mid here. ((some from there).0, handed g c from there (some from there).0 (some from there).1 mid here))))
 
 pub returns-clause-clean : goal.returns-clause-clean
@@ -54,12 +54,12 @@ returns-clause-clean g c =
     (λ clean from there entry links needs.
     let same = c.in_ok-mend_store.ensures.clean from there entry (files-next c.args.scan.now c.claims.result.now c.claims.ensures entry from links) needs.files needs.only in
     let here = here-still from there same in
-    subst (λ (t : Told). Applies t (g.F.Folder.told c.mend_rest.new.f) (counting_steps entry c.args.this_id from)) same (clean from here entry (handed g c from there entry links from here) needs)) c.mend_rest.ensures.clean
+    subst (λ (t : Told). Applies t (g.F.Folder.told c.mend_rest.new.folder) (counting_steps entry c.args.this_id from)) same (clean from here entry (handed g c from there entry links from here) needs)) c.mend_rest.ensures.clean
 
 pub returns-clause-steps : goal.returns-clause-steps
 returns-clause-steps g c =
     on_ok_weaker c.mend_rest.result
     (λ made from there entry links.
-    in-turn (g.F.Folder.told c.mend_rest.new.f) (MendsFiles c.args.files.now c.args.scan.now.claims) (MendsRest c.args.scan.now entry c.args.this_id) from there
-    (subst (λ (cs : Claims). AppliesOf (MendsFiles c.args.files.now cs) from (g.F.Folder.told c.args.f.now) (g.F.Folder.told c.mend_store.new.f)) c.claims.ensures (c.in_ok-mend_store.ensures.steps from there))
+    in-turn (g.F.Folder.told c.mend_rest.new.folder) (MendsFiles c.args.files.now c.args.scan.now.claims) (MendsRest c.args.scan.now entry c.args.this_id) from there
+    (subst (λ (cs : Claims). AppliesOf (MendsFiles c.args.files.now cs) from (g.F.Folder.told c.args.folder.now) (g.F.Folder.told c.mend_store.new.folder)) c.claims.ensures (c.in_ok-mend_store.ensures.steps from there))
     (λ mid here. made mid here entry (handed g c from there entry links mid here))) c.mend_rest.ensures.steps

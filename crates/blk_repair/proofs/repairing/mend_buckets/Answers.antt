@@ -29,14 +29,14 @@ pub returns-in-Some-clause-clean : goal.returns-in-Some-clause-clean
 returns-in-Some-clause-clean g c =
     on_ok_weaker c.mend_chains.result
     (λ made from there is links.
-    chains-clean (g.F.Folder.told c.args.f.now) (g.F.Folder.told c.mend_chains.new.f) from links
+    chains-clean (g.F.Folder.told c.args.folder.now) (g.F.Folder.told c.mend_chains.new.folder) from links
     (made from there
     (chains-told c.in-Some.chains.now c.records.result.now c.ends.result.now c.whole.result.now from c.records.ensures c.ends.ensures c.whole.ensures (subst (λ (o : Option KeptChains). AreBucketsScanned o from) (sym c.in-Some.ensures) is))))
     c.mend_chains.ensures.steps
 
 pub returns-in-None-clause-steps : goal.returns-in-None-clause-steps
 returns-in-None-clause-steps g c from there is =
-    subst (Applies (g.F.Folder.told c.args.f.now) (g.F.Folder.told c.args.f.now)) (sym (none-asked from (subst (λ (o : Option KeptChains). AreBucketsScanned o from) (sym c.in-None.ensures) is))) (grows_none refl)
+    subst (Applies (g.F.Folder.told c.args.folder.now) (g.F.Folder.told c.args.folder.now)) (sym (none-asked from (subst (λ (o : Option KeptChains). AreBucketsScanned o from) (sym c.in-None.ensures) is))) (grows_none refl)
 
 pub returns-in-Some-clause-steps : goal.returns-in-Some-clause-steps
 returns-in-Some-clause-steps g c =
@@ -47,7 +47,7 @@ returns-in-Some-clause-steps g c =
 
 pub returns-in-Some-clause-stops : goal.returns-in-Some-clause-stops
 returns-in-Some-clause-stops g c from there is =
-    chains-break (g.F.Folder.told c.args.f.now) (g.F.Folder.told c.mend_chains.new.f) c.records.result.now c.ends.result.now c.whole.result.now c.mend_chains.ensures.prefix from there
+    chains-break (g.F.Folder.told c.args.folder.now) (g.F.Folder.told c.mend_chains.new.folder) c.records.result.now c.ends.result.now c.whole.result.now c.mend_chains.ensures.prefix from there
     (chains-told c.in-Some.chains.now c.records.result.now c.ends.result.now c.whole.result.now from c.records.ensures c.ends.ensures c.whole.ensures (subst (λ (o : Option KeptChains). AreBucketsScanned o from) (sym c.in-Some.ensures) is))
 
 pub returns-in-None-clause-stops : goal.returns-in-None-clause-stops

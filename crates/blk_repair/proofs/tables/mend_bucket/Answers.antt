@@ -10,7 +10,7 @@ use Rattle.blk_repair.proofs.tables.mend_bucket.Goals as goal
 
 pub returns-then-whole-clause-steps : goal.returns-then-whole-clause-steps
 returns-then-whole-clause-steps g c image there entry next =
-    subst (Applies (g.F.Folder.told c.args.f.now) (g.F.Folder.told c.args.f.now))
+    subst (Applies (g.F.Folder.told c.args.folder.now) (g.F.Folder.told c.args.folder.now))
     (sym (whole-steps entry c.args.bucket c.args.front c.args.records.now image (subst (λ (b : Bool). IsNextBucket entry c.args.bucket c.args.front c.args.records.now b image) c.if-whole.true next))) (grows_none refl)
 
 pub returns-then-whole-clause-prefix : goal.returns-then-whole-clause-prefix

@@ -13,7 +13,7 @@ pub loop-number-init : goal.loop-number-init
 loop-number-init g c = record {
   plays = λ w refused far left at. (generated_begins c.args.seed c.args.count _ _ c.new-draws.ensures c.new-counts.ensures far (KeepsState c.args.cache.now) c.args.cache.now.notes left _ at, none_within _ c.new-counts.ensures);
   is_open = c.requires.is_open;
-  room = refl;
+  buffer = refl;
   later = omega arith;
 }
 
@@ -40,7 +40,7 @@ loop-number-preserved g c = record {
         within_weaker (5 * c.loop-number.number + 5) (5 * (c.loop-number.number + 1)) c.play_turn.new.counts (omega arith) played.within,
       );
   is_open = c.in_ok-play_turn.ensures.is_open;
-  room = c.play_turn.auto.room ∙ c.loop-number.invariant.room;
+  buffer = c.play_turn.auto.buffer ∙ c.loop-number.invariant.buffer;
   later = let a = c.loop-number.invariant.later in let b = c.in_ok-play_turn.ensures.later in omega (arith, a, b);
 }
 
@@ -55,5 +55,5 @@ pub play_turn-requires : goal.play_turn-requires
 play_turn-requires g c = record {
   is_open = c.loop-number.invariant.is_open;
   key = c.turn-turn.ensures.key;
-  room = let few = c.turn-turn.ensures.few in let long = c.loop-number.invariant.room in omega (arith, few, long);
+  buffer = let few = c.turn-turn.ensures.few in let long = c.loop-number.invariant.buffer in omega (arith, few, long);
 }

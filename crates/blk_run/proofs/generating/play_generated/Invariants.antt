@@ -15,6 +15,6 @@ invariant-loop-number g l = record {
       → (PlaysUpTo (turns (gen_script l.seed l.count)) (turns (turns_script (l.count - l.number) l.number l.draws.value l.counts)) far (KeepsState l.cache) (l.cache.notes) (left + 2 * (5 * (l.count - l.number)))
       (unshown (g.F.Folder.told l.initial.folder) written (g.C.Clock.readings l.initial.clock) refused) (unshown (g.F.Folder.told l.folder) written (g.C.Clock.readings l.clock) refused)) × AreWithin (5 * l.number) l.counts;
   is_open : ForSome (g.F.Folder.told l.folder).files (IsOpen l.cache.files);
-  room : length l.room ≡ 20000;
+  buffer : length l.buffer ≡ 20000;
   later : g.F.Folder.faults l.initial.folder ≤ g.F.Folder.faults l.folder;
 }

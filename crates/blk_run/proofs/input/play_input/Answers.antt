@@ -14,7 +14,7 @@ loop-n-init g c = record {
   is_open = c.requires.is_open;
   played = no_input c.args.budget (g.S.Source.left c.args.input.now) c.args.line.now c.args.played.now.lines (KeepsState c.args.cache.now) (c.args.cache.now.notes) (around (g.F.Folder.told c.args.folder.now) (g.K.Sink.written c.args.out.now) (g.C.Clock.readings c.args.clock.now) c.args.played.now.refused) (let f = c.requires.first in omega (arith, f)) c.requires.nothing;
   lines = let f = c.requires.first in omega (arith, f);
-  room = refl;
+  buffer = refl;
   later = omega arith;
   sink = omega arith;
   source = omega arith;
@@ -74,7 +74,7 @@ loop-n-preserved g c =
           (c.loop-n.left - c.min-usable.result) (ap (λ (n : ℕ). c.loop-n.left - n) (sym size)) c.play_bytes.new.line c.play_bytes.new.played.lines (c.in_ok-play_bytes.ensures.holds before c.loop-n.invariant.played.holds) (c.in_ok-play_bytes.ensures.counted before c.loop-n.invariant.played.holds)
           (all_used (g.S.Source.left c.loop-n.input) (g.S.Source.left c.take_piece.new.input) c.take_piece.new.piece c.front.result.now c.in-Ok.n c.min-usable.result c.front.ensures c.in-Ok.ensures.bytes c.in-Ok.ensures.left (omega (arith, min_is, all))) (c.in_ok-play_bytes.ensures.played before c.loop-n.invariant.played.holds);
       lines = let so_far = c.loop-n.invariant.lines in let next = c.in_ok-play_bytes.ensures.lines in omega (arith, so_far, next, size, min_is);
-      room = c.play_bytes.auto.room ∙ c.loop-n.invariant.room;
+      buffer = c.play_bytes.auto.buffer ∙ c.loop-n.invariant.buffer;
       later = let now = c.loop-n.invariant.later in let next = c.in_ok-play_bytes.ensures.later in omega (arith, now, next);
       sink = let now = c.loop-n.invariant.sink in let next = c.in_ok-play_bytes.ensures.printed_later in omega (arith, now, next);
       source = let now = c.loop-n.invariant.source in let next = c.in-Ok.ensures.later in omega (arith, now, next);

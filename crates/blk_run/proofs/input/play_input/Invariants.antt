@@ -13,7 +13,7 @@ invariant-loop-n g l = record {
   played : IsInputPlayed l.budget l.left (g.S.Source.left l.initial.input) (g.S.Source.left l.input) l.line l.played.lines (KeepsState l.initial.cache) (KeepsState l.cache) (l.initial.cache.notes) (l.cache.notes)
       (around (g.F.Folder.told l.initial.folder) (g.K.Sink.written l.initial.out) (g.C.Clock.readings l.initial.clock) l.initial.played.refused) (around (g.F.Folder.told l.folder) (g.K.Sink.written l.out) (g.C.Clock.readings l.clock) l.played.refused);
   lines : l.played.lines + pending l.line + l.left ≤ l.budget;
-  room : length l.room ≡ length l.initial.room;
+  buffer : length l.buffer ≡ length l.initial.buffer;
   later : g.F.Folder.faults l.initial.folder ≤ g.F.Folder.faults l.folder;
   sink : g.K.Sink.faults l.initial.out ≤ g.K.Sink.faults l.out;
   source : g.S.Source.faults l.initial.input ≤ g.S.Source.faults l.input;

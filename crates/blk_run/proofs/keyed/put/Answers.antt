@@ -18,13 +18,13 @@ lent n front rest all is long = is ∙ (ap (λ (k : ℕ). take k (front ++ rest)
 pub returns-in-Ok-read_input-clause-performs : goal.returns-in-Ok-read_input-clause-performs
 returns-in-Ok-read_input-clause-performs g c =
     let key = same_key (c.in-Ok-decode_key.ensures ∙ c.requires.spelled) in
-    let long : length c.read_input.new.room ≡ c.in-Ok-take_room.bytes.len = search rules in
-    let same = lent c.in-Ok-take_room.bytes.len c.read_input.new.room _ c.deref.result.now c.deref.ensures.value long in
+    let long : length c.read_input.new.buffer ≡ c.in-Ok-take_buffer.bytes.len = search rules in
+    let same = lent c.in-Ok-take_buffer.bytes.len c.read_input.new.buffer _ c.deref.result.now c.deref.ensures.value long in
     put_performs c.run_script.result (bounds_of c.args.limits) _ _ _ _
     (record { folder = g.F.Folder.told c.args.folder.now; written = g.K.Sink.written c.args.out.now; left = g.S.Source.left c.args.input.now; clock = g.C.Clock.readings c.args.clock.now })
     (record { folder = g.F.Folder.told c.run_script.new.folder; written = g.K.Sink.written c.run_script.new.out; left = g.S.Source.left c.read_input.new.input; clock = g.C.Clock.readings c.run_script.new.clock })
-    (put_script (percent_decode c.args.key.now) c.args.stream) (take c.in-Ok-read_input.len c.read_input.new.room) _ (ap (λ (k : List ℕ). put_script k c.args.stream (take c.in-Ok-read_input.len c.deref.result.now)) key ∙ ap (λ (l : List ℕ). put_script (percent_decode c.args.key.now) c.args.stream (take c.in-Ok-read_input.len l)) same)
-    (read_whole c.in-Ok-read_input.len c.read_input.new.room _ _ c.in-Ok-read_input.ensures.reads.1)
+    (put_script (percent_decode c.args.key.now) c.args.stream) (take c.in-Ok-read_input.len c.read_input.new.buffer) _ (ap (λ (k : List ℕ). put_script k c.args.stream (take c.in-Ok-read_input.len c.deref.result.now)) key ∙ ap (λ (l : List ℕ). put_script (percent_decode c.args.key.now) c.args.stream (take c.in-Ok-read_input.len l)) same)
+    (read_whole c.in-Ok-read_input.len c.read_input.new.buffer _ _ c.in-Ok-read_input.ensures.reads.1)
     (record {
       plays = λ from there usable readings clock. c.run_script.ensures.script from there usable readings clock (g.S.Source.left c.read_input.new.input);
       complete = λ from there usable readings clock no_device no_sink. c.run_script.ensures.complete from there usable readings clock (g.S.Source.left c.read_input.new.input) no_device no_sink;
@@ -39,5 +39,5 @@ returns-clause-performs g c =
     (record { folder = g.F.Folder.told c.args.folder.now; written = g.K.Sink.written c.args.out.now; left = g.S.Source.left c.read_input.new.input; clock = g.C.Clock.readings c.args.clock.now })
     (past c.in-Err-TooLong.field-0 c.in-Err-TooLong.field-0-is c.in-Err-TooLong.ensures.reads) (record { unwritten = refl; unprinted = refl })
   where
-    past : (why : InputFault) → why ≡ fault.TooLong → Reads (Err why) (g.S.Source.left c.args.input.now) (g.S.Source.left c.read_input.new.input) c.read_input.new.room → ForSome (g.S.Source.left c.args.input.now) (IsTakenPast longest_input (g.S.Source.left c.read_input.new.input))
-    past why is reads = subst (λ (w : InputFault). Reads (Err w) (g.S.Source.left c.args.input.now) (g.S.Source.left c.read_input.new.input) c.read_input.new.room) is reads
+    past : (why : InputFault) → why ≡ fault.TooLong → Reads (Err why) (g.S.Source.left c.args.input.now) (g.S.Source.left c.read_input.new.input) c.read_input.new.buffer → ForSome (g.S.Source.left c.args.input.now) (IsTakenPast longest_input (g.S.Source.left c.read_input.new.input))
+    past why is reads = subst (λ (w : InputFault). Reads (Err w) (g.S.Source.left c.args.input.now) (g.S.Source.left c.read_input.new.input) c.read_input.new.buffer) is reads

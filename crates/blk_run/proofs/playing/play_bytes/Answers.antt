@@ -10,7 +10,7 @@ loop-end-init g c = record {
   is_open = c.requires.is_open;
   played = λ before holds. none_played before c.args.bytes.now c.args.line.now c.args.played.now.lines (KeepsState c.args.cache.now) (c.args.cache.now.notes) (around (g.F.Folder.told c.args.folder.now) (g.K.Sink.written c.args.out.now) (g.C.Clock.readings c.args.clock.now) c.args.played.now.refused) holds;
   lines = omega arith;
-  room = refl;
+  buffer = refl;
   later = omega arith;
   sink = omega arith;
 }
@@ -37,7 +37,7 @@ loop-end-preserved g c = record {
       let one = c.in_ok-play_line.ensures.lines in
       let none = c.clear.ensures.none in
       omega (arith, fewer, so_far, one, none);
-  room = c.play_line.auto.room ∙ c.loop-end.invariant.room;
+  buffer = c.play_line.auto.buffer ∙ c.loop-end.invariant.buffer;
   later = let now = c.loop-end.invariant.later in let next = c.in_ok-play_line.ensures.later in omega (arith, now, next);
   sink = let now = c.loop-end.invariant.sink in let next = c.in_ok-play_line.ensures.printed_later in omega (arith, now, next);
 }

@@ -5,9 +5,9 @@ use Rattle.blk_run.proofs.whole_input.read_input.Given as goal
 
 abbrev pub invariant-loop-len : goal.invariant-loop-len
 invariant-loop-len g l = record {
-  room : length l.room ≡ 1048577;
+  buffer : length l.buffer ≡ 1048577;
   within : l.len ≤ 1048577;
-  taken : ForSome (g.S.Source.left l.initial.input) (IsTakenSoFar l.len (g.S.Source.left l.input) l.room);
+  taken : ForSome (g.S.Source.left l.initial.input) (IsTakenSoFar l.len (g.S.Source.left l.input) l.buffer);
   later : g.S.Source.faults l.initial.input ≤ g.S.Source.faults l.input;
 }
 

@@ -28,5 +28,5 @@ loop-i-preserved g c = record {
 
 pub returns-in_err-add_record-clause-untold : goal.returns-in_err-add_record-clause-untold
 returns-in_err-add_record-clause-untold g c =
-    untold_on c.add_record.result c.from_residual.result c.in_err-add_record.field-0.0 {a = g.F.Folder.told c.args.f.now} (Agrees c.args.files.now) (Agrees c.args.files.now) (λ image agrees. agrees) c.loop-i.invariant.stays c.add_record.ensures.untold
+    untold_on c.add_record.result c.from_residual.result c.in_err-add_record.field-0.0 {a = g.F.Folder.told c.args.folder.now} (Agrees c.args.files.now) (Agrees c.args.files.now) (λ image agrees. agrees) c.loop-i.invariant.stays c.add_record.ensures.untold
     c.in_err-add_record.was c.from_residual.ensures.1

@@ -11,8 +11,8 @@ use Rattle.blk_scan.proofs.bare.add_records.Given as goal
 
 abbrev pub invariant-loop-i : goal.invariant-loop-i
 invariant-loop-i g l = record {
-  bare : ForSome (g.F.Folder.told l.fn.f).files (λ image. AreListsOf image l.lists → All (λ w. is_record_among l.files w ≡ true) l.entries → l.bare.items ≡ l.fn.bare.items ++ filter (is_bare_record image) (take l.i l.entries));
+  bare : ForSome (g.F.Folder.told l.fn.folder).files (λ image. AreListsOf image l.lists → All (λ w. is_record_among l.files w ≡ true) l.entries → l.bare.items ≡ l.fn.bare.items ++ filter (is_bare_record image) (take l.i l.entries));
   stand : All (CanBeSealed l.files) l.fn.bare.items → All (CanBeSealed l.files) l.bare.items;
-  stays : Stays (g.F.Folder.told l.fn.f) (g.F.Folder.told l.f);
-  later : g.F.Folder.faults l.fn.f ≤ g.F.Folder.faults l.f;
+  stays : Stays (g.F.Folder.told l.fn.folder) (g.F.Folder.told l.folder);
+  later : g.F.Folder.faults l.fn.folder ≤ g.F.Folder.faults l.folder;
 }

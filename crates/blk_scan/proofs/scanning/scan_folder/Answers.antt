@@ -12,7 +12,7 @@ use Rattle.blk_scan.proofs.scanning.scan_folder.Given as given
 use Rattle.blk_scan.proofs.scanning.scan_folder.Goals as goal
 
 pub returns-in_err-look-clause-damaged : goal.returns-in_err-look-clause-damaged
-returns-in_err-look-clause-damaged g c = converted c.look.result c.from_residual.result c.in_err-look.field-0.0 _ c.in_err-look.was c.from_residual.ensures.1 (looked-first c.look.result (g.F.Folder.told c.args.f.now) c.look.ensures.looked)
+returns-in_err-look-clause-damaged g c = converted c.look.result c.from_residual.result c.in_err-look.field-0.0 _ c.in_err-look.was c.from_residual.ensures.1 (looked-first c.look.result (g.F.Folder.told c.args.folder.now) c.look.ensures.looked)
 
 pub returns-in-Unfinished-clause-scanned : goal.returns-in-Unfinished-clause-scanned
 returns-in-Unfinished-clause-scanned g c image there well = absurd ((finished_whole image well).finished (looked-as _ _ image c.in-Unfinished.is (c.in_ok-look.ensures.looked image there)))

@@ -4,8 +4,8 @@ use Rattle.blk_script.proofs.Decoding.{data_field-none, data_field-long, data_fi
 use Rattle.blk_script.proofs.data.decode_data.Goals as goal
 
 -- half as many bytes as there are digits fit into the buffer
-half_fits : (field room : List ℕ) → length field ≤ length room → length field / 2 ≡ length (take (length field / 2) room)
-half_fits field room fits = simp length-take (omega arith)
+half_fits : (field buffer : List ℕ) → length field ≤ length buffer → length field / 2 ≡ length (take (length field / 2) buffer)
+half_fits field buffer fits = simp length-take (omega arith)
 
 pub returns-then-eq : goal.returns-then-eq
 returns-then-eq c = sym (data_field-none c.args.field.now (dash_is _ _ _ _ c.eq.ensures c.as_slice.ensures c.if-eq.true))

@@ -5,6 +5,6 @@ use Rattle.blk_script.proofs.key.decode_into.Given as goal
 
 abbrev pub invariant-loop-byte : goal.invariant-loop-byte
 invariant-loop-byte l = record {
-  within : l.length ≤ length l.room;
-  bytes : take l.length l.room ++ decoded_bytes l.byte-iterator ≡ percent_decode l.field;
+  within : l.length ≤ length l.buffer;
+  bytes : take l.length l.buffer ++ decoded_bytes l.byte-iterator ≡ percent_decode l.field;
 }

@@ -20,17 +20,17 @@ update_sealed-requires-clause-agrees g c image there = (c.requires.is_open image
 
 pub returns-clause-marked : goal.returns-clause-marked
 returns-clause-marked g c = on_ok_weaker c.update_sealed.result
-    (λ steps. marked-told c.args.files.now (g.F.Folder.told c.args.f.now) (g.F.Folder.told c.update_sealed.new.f) c.args.entry (g.met.F.Folder.are_bytes c.args.f.now) c.requires.is_open steps)
+    (λ steps. marked-told c.args.files.now (g.F.Folder.told c.args.folder.now) (g.F.Folder.told c.update_sealed.new.f) c.args.entry (g.met.F.Folder.are_bytes c.args.folder.now) c.requires.is_open steps)
     c.update_sealed.ensures.steps
 
 pub returns-clause-stops : goal.returns-clause-stops
 returns-clause-stops g c from there state layout unlinked number object was index t =
-    passes_weaker (c.update_sealed.ensures.stops from there (index-checks state layout unlinked number object was index c.args.entry from t (g.met.F.Folder.are_bytes c.args.f.now from there)))
-    (index-mid state layout unlinked number object was index c.args.entry from t (g.met.F.Folder.are_bytes c.args.f.now from there)) (index-mid state layout unlinked number object was index c.args.entry from t (g.met.F.Folder.are_bytes c.args.f.now from there))
+    passes_weaker (c.update_sealed.ensures.stops from there (index-checks state layout unlinked number object was index c.args.entry from t (g.met.F.Folder.are_bytes c.args.folder.now from there)))
+    (index-mid state layout unlinked number object was index c.args.entry from t (g.met.F.Folder.are_bytes c.args.folder.now from there)) (index-mid state layout unlinked number object was index c.args.entry from t (g.met.F.Folder.are_bytes c.args.folder.now from there))
 
 pub returns-clause-is_open : goal.returns-clause-is_open
 returns-clause-is_open g c image here =
-    (part_kept c.args.files.now (g.F.Folder.told c.args.f.now) (g.F.Folder.told c.update_sealed.new.f) (λ from. sealed_steps from c.args.entry parent_change)
+    (part_kept c.args.files.now (g.F.Folder.told c.args.folder.now) (g.F.Folder.told c.update_sealed.new.f) (λ from. sealed_steps from c.args.entry parent_change)
     (λ from there. kept_sealed c.args.files.now c.args.entry parent_change from (c.requires.is_open from there)) c.update_sealed.ensures.prefix.silent c.update_sealed.ensures.prefix.made image here)
 
 pub returns-clause-silent : goal.returns-clause-silent
@@ -39,10 +39,10 @@ returns-clause-silent g c = c.update_sealed.ensures.prefix.silent
 pub returns-clause-untold : goal.returns-clause-untold
 returns-clause-untold g c from there state layout unlinked number object was index t =
     c.update_sealed.ensures.untold (λ image is. subst (RecordChecks c.args.entry) (some_inj (sym there ∙ is))
-    (index-checks state layout unlinked number object was index c.args.entry from t (g.met.F.Folder.are_bytes c.args.f.now from there)))
+    (index-checks state layout unlinked number object was index c.args.entry from t (g.met.F.Folder.are_bytes c.args.folder.now from there)))
 
 pub returns-clause-damaged : goal.returns-clause-damaged
 returns-clause-damaged g c =
-    checked-where-stays c.update_sealed.result c.args.files.now (g.F.Folder.told c.args.f.now) (g.F.Folder.told c.update_sealed.new.f) _
-    (λ damage failed. record-checked c.args.files.now (g.F.Folder.told c.args.f.now) c.args.entry _ damage (inr c.requires.kind) c.requires.stands failed)
+    checked-where-stays c.update_sealed.result c.args.files.now (g.F.Folder.told c.args.folder.now) (g.F.Folder.told c.update_sealed.new.f) _
+    (λ damage failed. record-checked c.args.files.now (g.F.Folder.told c.args.folder.now) c.args.entry _ damage (inr c.requires.kind) c.requires.stands failed)
     c.update_sealed.ensures.unwritten c.update_sealed.ensures.damaged

@@ -12,19 +12,19 @@ use Rattle.blk_sparse.proofs.children.read_key.Goals as goal
 
 pub returns-in_err-len-clause-untold : goal.returns-in_err-len-clause-untold
 returns-in_err-len-clause-untold g c agrees lies =
-    carried c.key_piece.result c.from_residual.result c.in_err-len.field-0.0 (λ _. (g.F.Folder.told c.args.f.now).files ≡ None) c.in_err-len.was c.from_residual.ensures.1
+    carried c.key_piece.result c.from_residual.result c.in_err-len.field-0.0 (λ _. (g.F.Folder.told c.args.folder.now).files ≡ None) c.in_err-len.was c.from_residual.ensures.1
     (c.key_piece.ensures.untold (λ image there.
     let has = (lies image there).1 in
     record {
       agrees = agrees image there;
-      checks = loaded-checks image c.args.entry has.loaded (g.met.F.Folder.are_bytes c.args.f.now image there) has.loads;
+      checks = loaded-checks image c.args.entry has.loaded (g.met.F.Folder.are_bytes c.args.folder.now image there) has.loads;
       key = key-readable image c.args.entry has.loaded has.loads;
     }))
 
 pub returns-then-len-eq0-clause-untold : goal.returns-then-len-eq0-clause-untold
 returns-then-len-eq0-clause-untold g c agrees lies =
-    damaged_any {A = ℕ} (Err c.record_damage.result) ((g.F.Folder.told c.args.f.now).files ≡ None)
-    (untold_where (g.F.Folder.told c.args.f.now).files (λ image there.
+    damaged_any {A = ℕ} (Err c.record_damage.result) ((g.F.Folder.told c.args.folder.now).files ≡ None)
+    (untold_where (g.F.Folder.told c.args.folder.now).files (λ image there.
     let key = (lies image there).0 in
     let has = (lies image there).1 in
     let len = key-len image c.args.entry key c.args.name.now c.key_piece.new.out c.in_ok-len.len has c.requires.name (c.in_ok-len.ensures.piece image there) in
@@ -41,7 +41,7 @@ returns-clause-key g c image there key has = key-read image c.args.entry key c.a
 pub returns-in_err-len-clause-damaged : goal.returns-in_err-len-clause-damaged
 returns-in_err-len-clause-damaged g c =
     handed c.key_piece.result c.from_residual.result c.in_err-len.field-0.0 _ c.args.files.now (g.F.Folder.told c.key_piece.new.f)
-    (λ damage wrong. moved c.args.files.now (g.F.Folder.told c.args.f.now) (g.F.Folder.told c.key_piece.new.f) damage c.key_piece.ensures.stays (part-checked c.args.files.now (g.F.Folder.told c.args.f.now) c.args.entry _ _ damage c.requires.kind c.requires.stands wrong))
+    (λ damage wrong. moved c.args.files.now (g.F.Folder.told c.args.folder.now) (g.F.Folder.told c.key_piece.new.f) damage c.key_piece.ensures.stays (part-checked c.args.files.now (g.F.Folder.told c.args.folder.now) c.args.entry _ _ damage c.requires.kind c.requires.stands wrong))
     c.in_err-len.was c.from_residual.ensures.1 c.key_piece.ensures.damaged
 
 pub returns-then-len-eq0-clause-damaged : goal.returns-then-len-eq0-clause-damaged
@@ -50,8 +50,8 @@ returns-then-len-eq0-clause-damaged g c =
     let least = c.min-found.ensures in
     let found : d.damage.found ≡ c.min-found.result = d.word.of_word in
     err_damaged ℕ c.record_damage.result d.damage (IsFailedCheck c.args.files.now (g.F.Folder.told c.key_piece.new.f)) d.is
-    (moved c.args.files.now (g.F.Folder.told c.args.f.now) (g.F.Folder.told c.key_piece.new.f) d.damage c.in_ok-len.ensures.stays
-    (within-checked c.args.files.now (g.F.Folder.told c.args.f.now) c.args.entry d.damage c.requires.kind c.requires.stands (WrongLength (record {
+    (moved c.args.files.now (g.F.Folder.told c.args.folder.now) (g.F.Folder.told c.key_piece.new.f) d.damage c.in_ok-len.ensures.stays
+    (within-checked c.args.files.now (g.F.Folder.told c.args.folder.now) c.args.entry d.damage c.requires.kind c.requires.stands (WrongLength (record {
       of_word = subst (λ (n : ℕ). IsWordOf c.args.entry 32 n d.damage) (sym found) d.word;
       unlike = elim c.then-len-eq0.branch [
         | then-len-eq0-via-then-len-eq0 w ↦ let none = w.if-len-eq0 in inl (omega (arith, none, found, least))

@@ -9,19 +9,19 @@ use Rattle.blk_sparse.proofs.dropping.drop_indexed_with.Goals as goal
 
 pub returns-then-not-indexed-clause-out : goal.returns-then-not-indexed-clause-out
 returns-then-not-indexed-clause-out g c from there state layout keep chains unlinked number object left has =
-    (unwalked _ (λ p x q. goal.E-step g p x tt q) (g.F.Folder.told c.args.f.now) c.args.each.now state layout keep chains unlinked c.args.key.now number object from there left c.args.indexed has c.if-not-indexed.true).out
+    (unwalked _ (λ p x q. goal.E-step g p x tt q) (g.F.Folder.told c.args.folder.now) c.args.each.now state layout keep chains unlinked c.args.key.now number object from there left c.args.indexed has c.if-not-indexed.true).out
 
 pub returns-then-not-indexed-clause-gone : goal.returns-then-not-indexed-clause-gone
 returns-then-not-indexed-clause-gone g c from there state layout keep chains unlinked number object left has =
-    (unwalked _ (λ p x q. goal.E-step g p x tt q) (g.F.Folder.told c.args.f.now) c.args.each.now state layout keep chains unlinked c.args.key.now number object from there left c.args.indexed has c.if-not-indexed.true).gone_is
+    (unwalked _ (λ p x q. goal.E-step g p x tt q) (g.F.Folder.told c.args.folder.now) c.args.each.now state layout keep chains unlinked c.args.key.now number object from there left c.args.indexed has c.if-not-indexed.true).gone_is
 
 pub returns-then-not-indexed-clause-each : goal.returns-then-not-indexed-clause-each
 returns-then-not-indexed-clause-each g c from there state layout keep chains unlinked number object left has =
-    (unwalked _ (λ p x q. goal.E-step g p x tt q) (g.F.Folder.told c.args.f.now) c.args.each.now state layout keep chains unlinked c.args.key.now number object from there left c.args.indexed has c.if-not-indexed.true).called
+    (unwalked _ (λ p x q. goal.E-step g p x tt q) (g.F.Folder.told c.args.folder.now) c.args.each.now state layout keep chains unlinked c.args.key.now number object from there left c.args.indexed has c.if-not-indexed.true).called
 
 pub returns-then-not-indexed-clause-stops : goal.returns-then-not-indexed-clause-stops
 returns-then-not-indexed-clause-stops g c from there state layout keep chains unlinked number object left has =
-    (unwalked _ (λ p x q. goal.E-step g p x tt q) (g.F.Folder.told c.args.f.now) c.args.each.now state layout keep chains unlinked c.args.key.now number object from there left c.args.indexed has c.if-not-indexed.true).passes
+    (unwalked _ (λ p x q. goal.E-step g p x tt q) (g.F.Folder.told c.args.folder.now) c.args.each.now state layout keep chains unlinked c.args.key.now number object from there left c.args.indexed has c.if-not-indexed.true).passes
 
 pub returns-clause-out : goal.returns-clause-out
 returns-clause-out g c = on_ok_weaker c.drop_parts_with.result

@@ -8,17 +8,17 @@ use Rattle.blk_sparse.specs.Dropping.{HasSignature, IsDropOfNext}
 use Rattle.blk_sparse.specs.declared.dropping.Dropped.{Dropped}
 use Rattle.blk_sparse.proofs.PartsNext.{of-some}
 use Rattle.blk_sparse.proofs.PartsOut.{left-finds, none-some}
-use Rattle.blk_sparse.proofs.PartsDropped.{called-front, dropping-begins, dropping-next, ends-none, ends-over}
+use Rattle.blk_sparse.proofs.PartsDropped.{called-prefix, dropping-begins, dropping-next, ends-none, ends-over}
 use Rattle.blk_sparse.proofs.dropping.drop_parts_with.Goals as goal
 
 pub loop-init : goal.loop-init
 loop-init g c = record {
-  dropping = λ from there. dropping-begins _ (λ p x q. goal.E-step g p x tt q) (g.F.Folder.told c.args.f.now) c.args.key.now _ c.args.each.now from there (λ state layout keep chains unlinked number object left. left-finds state layout keep chains unlinked c.args.key.now number object from left);
+  dropping = λ from there. dropping-begins _ (λ p x q. goal.E-step g p x tt q) (g.F.Folder.told c.args.folder.now) c.args.key.now _ c.args.each.now from there (λ state layout keep chains unlinked number object left. left-finds state layout keep chains unlinked c.args.key.now number object from left);
   calls = ([], refl);
   stands = tt;
   few = omega arith;
   light = omega arith;
-  room = c.requires.room;
+  buffer = c.requires.buffer;
   callable = c.requires.callable;
   is_open = c.requires.is_open;
   silent = λ none. none;
@@ -38,7 +38,7 @@ pub returns-in_err-dropped-clause-front : goal.returns-in_err-dropped-clause-fro
 returns-in_err-dropped-clause-front g c from there state layout keep chains unlinked number object left sig =
     let same : HasSignature layout c.args.key.now _ = subst (HasSignature layout c.args.key.now) (sym (of_z-to_z w64 (cast_unsigned w64 c.args.signature) (let small = c.requires.signature in omega (arith, small)))) sig in
     let d = c.loop.invariant.dropping from there state layout keep chains unlinked number object left same in
-    called-front _ _ _ _ _ _ _ _ _ _ _ _ _ _ _ _ _ d
+    called-prefix _ _ _ _ _ _ _ _ _ _ _ _ _ _ _ _ _ d
 
 pub returns-in_err-dropped-clause-stops : goal.returns-in_err-dropped-clause-stops
 returns-in_err-dropped-clause-stops g c from there state layout keep chains unlinked number object left sig =
@@ -50,7 +50,7 @@ pub returns-in_err-dropped-clause-untold : goal.returns-in_err-dropped-clause-un
 returns-in_err-dropped-clause-untold g c from there state layout keep chains unlinked number object left sig =
     let same : HasSignature layout c.args.key.now _ = subst (HasSignature layout c.args.key.now) (sym (of_z-to_z w64 (cast_unsigned w64 c.args.signature) (let small = c.requires.signature in omega (arith, small)))) sig in
     let d = c.loop.invariant.dropping from there state layout keep chains unlinked number object left same in
-    carried c.drop_next.result c.from_residual.result c.in_err-dropped.field-0.0 (λ _. (g.F.Folder.told c.args.f.now).files ≡ None) c.in_err-dropped.was c.from_residual.ensures.1
+    carried c.drop_next.result c.from_residual.result c.in_err-dropped.field-0.0 (λ _. (g.F.Folder.told c.args.folder.now).files ≡ None) c.in_err-dropped.was c.from_residual.ensures.1
     (if_damaged_weaker c.drop_next.result _ _ (λ damage none. absurd (none-some (sym none ∙ d.told))) (c.drop_next.ensures.untold d.image d.told state layout d.keeps d.chains unlinked number object d.left same d.walked.is))
 
 pub returns-in_default-clause-out : goal.returns-in_default-clause-out
@@ -58,48 +58,48 @@ returns-in_default-clause-out g c from there state layout keep chains unlinked n
     let same : HasSignature layout c.args.key.now _ = subst (HasSignature layout c.args.key.now) (sym (of_z-to_z w64 (cast_unsigned w64 c.args.signature) (let small = c.requires.signature in omega (arith, small)))) sig in
     let d = c.loop.invariant.dropping from there state layout keep chains unlinked number object left same in
     let none : c.in_ok-dropped.field-0 ≡ None = search rules in
-    (ends-none _ _ _ _ _ _ _ _ _ _ _ _ _ _ _ _ _ d (g.F.Folder.told c.drop_next.new.f) c.in_ok-dropped.field-0 none (c.in_ok-dropped.ensures.stops d.image d.told state layout d.keeps d.chains unlinked number object d.left same d.walked.is) (c.in_ok-dropped.ensures.next d.image d.told state layout d.keeps d.chains unlinked number object d.left same d.walked.is)).out
+    (ends-none _ _ _ _ _ _ _ _ _ _ _ _ _ _ _ _ _ d (g.F.Folder.told c.drop_next.new.folder) c.in_ok-dropped.field-0 none (c.in_ok-dropped.ensures.stops d.image d.told state layout d.keeps d.chains unlinked number object d.left same d.walked.is) (c.in_ok-dropped.ensures.next d.image d.told state layout d.keeps d.chains unlinked number object d.left same d.walked.is)).out
 
 pub returns-in_default-clause-gone : goal.returns-in_default-clause-gone
 returns-in_default-clause-gone g c from there state layout keep chains unlinked number object left sig =
     let same : HasSignature layout c.args.key.now _ = subst (HasSignature layout c.args.key.now) (sym (of_z-to_z w64 (cast_unsigned w64 c.args.signature) (let small = c.requires.signature in omega (arith, small)))) sig in
     let d = c.loop.invariant.dropping from there state layout keep chains unlinked number object left same in
     let none : c.in_ok-dropped.field-0 ≡ None = search rules in
-    (ends-none _ _ _ _ _ _ _ _ _ _ _ _ _ _ _ _ _ d (g.F.Folder.told c.drop_next.new.f) c.in_ok-dropped.field-0 none (c.in_ok-dropped.ensures.stops d.image d.told state layout d.keeps d.chains unlinked number object d.left same d.walked.is) (c.in_ok-dropped.ensures.next d.image d.told state layout d.keeps d.chains unlinked number object d.left same d.walked.is)).gone_is
+    (ends-none _ _ _ _ _ _ _ _ _ _ _ _ _ _ _ _ _ d (g.F.Folder.told c.drop_next.new.folder) c.in_ok-dropped.field-0 none (c.in_ok-dropped.ensures.stops d.image d.told state layout d.keeps d.chains unlinked number object d.left same d.walked.is) (c.in_ok-dropped.ensures.next d.image d.told state layout d.keeps d.chains unlinked number object d.left same d.walked.is)).gone_is
 
 pub returns-in_default-clause-session : goal.returns-in_default-clause-session
 returns-in_default-clause-session g c from there state layout keep chains unlinked number object left sig =
     let same : HasSignature layout c.args.key.now _ = subst (HasSignature layout c.args.key.now) (sym (of_z-to_z w64 (cast_unsigned w64 c.args.signature) (let small = c.requires.signature in omega (arith, small)))) sig in
     let d = c.loop.invariant.dropping from there state layout keep chains unlinked number object left same in
     let none : c.in_ok-dropped.field-0 ≡ None = search rules in
-    (ends-none _ _ _ _ _ _ _ _ _ _ _ _ _ _ _ _ _ d (g.F.Folder.told c.drop_next.new.f) c.in_ok-dropped.field-0 none (c.in_ok-dropped.ensures.stops d.image d.told state layout d.keeps d.chains unlinked number object d.left same d.walked.is) (c.in_ok-dropped.ensures.next d.image d.told state layout d.keeps d.chains unlinked number object d.left same d.walked.is)).session
+    (ends-none _ _ _ _ _ _ _ _ _ _ _ _ _ _ _ _ _ d (g.F.Folder.told c.drop_next.new.folder) c.in_ok-dropped.field-0 none (c.in_ok-dropped.ensures.stops d.image d.told state layout d.keeps d.chains unlinked number object d.left same d.walked.is) (c.in_ok-dropped.ensures.next d.image d.told state layout d.keeps d.chains unlinked number object d.left same d.walked.is)).session
 
 pub returns-in_default-clause-keeps : goal.returns-in_default-clause-keeps
 returns-in_default-clause-keeps g c from there state layout keep chains unlinked number object left sig =
     let same : HasSignature layout c.args.key.now _ = subst (HasSignature layout c.args.key.now) (sym (of_z-to_z w64 (cast_unsigned w64 c.args.signature) (let small = c.requires.signature in omega (arith, small)))) sig in
     let d = c.loop.invariant.dropping from there state layout keep chains unlinked number object left same in
     let none : c.in_ok-dropped.field-0 ≡ None = search rules in
-    (ends-none _ _ _ _ _ _ _ _ _ _ _ _ _ _ _ _ _ d (g.F.Folder.told c.drop_next.new.f) c.in_ok-dropped.field-0 none (c.in_ok-dropped.ensures.stops d.image d.told state layout d.keeps d.chains unlinked number object d.left same d.walked.is) (c.in_ok-dropped.ensures.next d.image d.told state layout d.keeps d.chains unlinked number object d.left same d.walked.is)).keeps
+    (ends-none _ _ _ _ _ _ _ _ _ _ _ _ _ _ _ _ _ d (g.F.Folder.told c.drop_next.new.folder) c.in_ok-dropped.field-0 none (c.in_ok-dropped.ensures.stops d.image d.told state layout d.keeps d.chains unlinked number object d.left same d.walked.is) (c.in_ok-dropped.ensures.next d.image d.told state layout d.keeps d.chains unlinked number object d.left same d.walked.is)).keeps
 
 pub returns-in_default-clause-each : goal.returns-in_default-clause-each
 returns-in_default-clause-each g c from there state layout keep chains unlinked number object left sig =
     let same : HasSignature layout c.args.key.now _ = subst (HasSignature layout c.args.key.now) (sym (of_z-to_z w64 (cast_unsigned w64 c.args.signature) (let small = c.requires.signature in omega (arith, small)))) sig in
     let d = c.loop.invariant.dropping from there state layout keep chains unlinked number object left same in
     let none : c.in_ok-dropped.field-0 ≡ None = search rules in
-    (ends-none _ _ _ _ _ _ _ _ _ _ _ _ _ _ _ _ _ d (g.F.Folder.told c.drop_next.new.f) c.in_ok-dropped.field-0 none (c.in_ok-dropped.ensures.stops d.image d.told state layout d.keeps d.chains unlinked number object d.left same d.walked.is) (c.in_ok-dropped.ensures.next d.image d.told state layout d.keeps d.chains unlinked number object d.left same d.walked.is)).called
+    (ends-none _ _ _ _ _ _ _ _ _ _ _ _ _ _ _ _ _ d (g.F.Folder.told c.drop_next.new.folder) c.in_ok-dropped.field-0 none (c.in_ok-dropped.ensures.stops d.image d.told state layout d.keeps d.chains unlinked number object d.left same d.walked.is) (c.in_ok-dropped.ensures.next d.image d.told state layout d.keeps d.chains unlinked number object d.left same d.walked.is)).called
 
 pub returns-in_default-clause-stops : goal.returns-in_default-clause-stops
 returns-in_default-clause-stops g c from there state layout keep chains unlinked number object left sig =
     let same : HasSignature layout c.args.key.now _ = subst (HasSignature layout c.args.key.now) (sym (of_z-to_z w64 (cast_unsigned w64 c.args.signature) (let small = c.requires.signature in omega (arith, small)))) sig in
     let d = c.loop.invariant.dropping from there state layout keep chains unlinked number object left same in
     let none : c.in_ok-dropped.field-0 ≡ None = search rules in
-    (ends-none _ _ _ _ _ _ _ _ _ _ _ _ _ _ _ _ _ d (g.F.Folder.told c.drop_next.new.f) c.in_ok-dropped.field-0 none (c.in_ok-dropped.ensures.stops d.image d.told state layout d.keeps d.chains unlinked number object d.left same d.walked.is) (c.in_ok-dropped.ensures.next d.image d.told state layout d.keeps d.chains unlinked number object d.left same d.walked.is)).passes
+    (ends-none _ _ _ _ _ _ _ _ _ _ _ _ _ _ _ _ _ d (g.F.Folder.told c.drop_next.new.folder) c.in_ok-dropped.field-0 none (c.in_ok-dropped.ensures.stops d.image d.told state layout d.keeps d.chains unlinked number object d.left same d.walked.is) (c.in_ok-dropped.ensures.next d.image d.told state layout d.keeps d.chains unlinked number object d.left same d.walked.is)).passes
 
 pub returns-in_default-clause-front : goal.returns-in_default-clause-front
 returns-in_default-clause-front g c from there state layout keep chains unlinked number object left sig =
     let same : HasSignature layout c.args.key.now _ = subst (HasSignature layout c.args.key.now) (sym (of_z-to_z w64 (cast_unsigned w64 c.args.signature) (let small = c.requires.signature in omega (arith, small)))) sig in
     let d = c.loop.invariant.dropping from there state layout keep chains unlinked number object left same in
-    called-front _ _ _ _ _ _ _ _ _ _ _ _ _ _ _ _ _ d
+    called-prefix _ _ _ _ _ _ _ _ _ _ _ _ _ _ _ _ _ d
 
 pub returns-clause-out : goal.returns-clause-out
 returns-clause-out g c from there state layout keep chains unlinked number object left sig =
@@ -141,13 +141,13 @@ pub returns-clause-front : goal.returns-clause-front
 returns-clause-front g c from there state layout keep chains unlinked number object left sig =
     let same : HasSignature layout c.args.key.now _ = subst (HasSignature layout c.args.key.now) (sym (of_z-to_z w64 (cast_unsigned w64 c.args.signature) (let small = c.requires.signature in omega (arith, small)))) sig in
     let d = c.loop.invariant.dropping from there state layout keep chains unlinked number object left same in
-    called-front _ _ _ _ _ _ _ _ _ _ _ _ _ _ _ _ _ d
+    called-prefix _ _ _ _ _ _ _ _ _ _ _ _ _ _ _ _ _ d
 
 pub loop-preserved : goal.loop-preserved
 loop-preserved g c = record {
   dropping = λ from there state layout keep chains unlinked number object left sig.
       let d = c.loop.invariant.dropping from there state layout keep chains unlinked number object left sig in
-      dropping-next _ _ _ _ _ _ _ _ _ _ _ _ _ _ _ _ _ d (g.F.Folder.told c.drop_next.new.f) _ c.in-Some.dropped _ _ sig refl refl c.each.ensures
+      dropping-next _ _ _ _ _ _ _ _ _ _ _ _ _ _ _ _ _ d (g.F.Folder.told c.drop_next.new.folder) _ c.in-Some.dropped _ _ sig refl refl c.each.ensures
       (c.in_ok-dropped.ensures.stops d.image d.told state layout d.keeps d.chains unlinked number object d.left sig d.walked.is)
       (c.in_ok-dropped.ensures.session d.image d.told state layout d.keeps d.chains unlinked number object d.left sig d.walked.is)
       (c.in_ok-dropped.ensures.keeps d.image d.told state layout d.keeps d.chains unlinked number object d.left sig d.walked.is)
@@ -157,7 +157,7 @@ loop-preserved g c = record {
   stands = of-some c.in_ok-dropped.field-0 c.in-Some.dropped _ c.in-Some.is c.in_ok-dropped.ensures.stands;
   few = let few = c.loop.invariant.few in omega (arith, few);
   light = let light = c.loop.invariant.light in let small = of-some c.in_ok-dropped.field-0 c.in-Some.dropped _ c.in-Some.is c.in_ok-dropped.ensures.small in omega (arith, light, small);
-  room = let one = c.drop_next.auto.room in let two = c.loop.invariant.room in omega (arith, one, two);
+  buffer = let one = c.drop_next.auto.buffer in let two = c.loop.invariant.buffer in omega (arith, one, two);
   callable = search (rules, of_calls);
   is_open = c.in_ok-dropped.ensures.is_open;
   silent = λ none. c.in_ok-dropped.ensures.silent (c.loop.invariant.silent none);

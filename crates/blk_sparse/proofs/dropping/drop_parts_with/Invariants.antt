@@ -10,14 +10,14 @@ use Rattle.blk_sparse.proofs.dropping.drop_parts_with.Given as goal
 
 abbrev pub invariant-loop : goal.invariant-loop
 invariant-loop g l = record {
-  dropping : ForSome (g.F.Folder.told l.fn.f).files (AreDropping _ (λ p x q. goal.E-step g p x tt q) (g.F.Folder.told l.fn.f) (g.F.Folder.told l.f) l.key (cast_unsigned w64 l.signature) l.behind l.counter l.gone l.fn.each l.each);
+  dropping : ForSome (g.F.Folder.told l.fn.folder).files (AreDropping _ (λ p x q. goal.E-step g p x tt q) (g.F.Folder.told l.fn.folder) (g.F.Folder.told l.folder) l.key (cast_unsigned w64 l.signature) l.behind l.counter l.gone l.fn.each l.each);
   calls : (numbers : List ℕ) × FoldsTo (λ p x q. goal.E-step g p x tt q) l.fn.each numbers l.each;
   stands : IfSome l.behind (λ n. IsTrue (is_node_among l.files n));
   few : l.gone.items ≤ l.counter;
   light : l.gone.bytes ≤ l.counter * 2 ^ 34;
-  room : longest_name ≤ length l.room;
+  buffer : longest_name ≤ length l.buffer;
   callable : goal.E-IsAlwaysCallable g l.each;
-  is_open : ForSome (g.F.Folder.told l.f).files (IsOpen l.files);
-  silent : (g.F.Folder.told l.fn.f).files ≡ None → (g.F.Folder.told l.f).files ≡ None;
-  later : g.F.Folder.faults l.fn.f ≤ g.F.Folder.faults l.f;
+  is_open : ForSome (g.F.Folder.told l.folder).files (IsOpen l.files);
+  silent : (g.F.Folder.told l.fn.folder).files ≡ None → (g.F.Folder.told l.folder).files ≡ None;
+  later : g.F.Folder.faults l.fn.folder ≤ g.F.Folder.faults l.folder;
 }

@@ -11,7 +11,7 @@ use Rattle.blk_sparse.proofs.finding.find_covered.Goals as goal
 
 pub returns-in_err-first-clause-untold : goal.returns-in_err-first-clause-untold
 returns-in_err-first-clause-untold g c from there state layout unlinked number object node entry p of_key =
-    carried c.find_part.result c.from_residual.result c.in_err-first.field-0.0 (λ _. (g.F.Folder.told c.args.f.now).files ≡ None) c.in_err-first.was c.from_residual.ensures.1
+    carried c.find_part.result c.from_residual.result c.in_err-first.field-0.0 (λ _. (g.F.Folder.told c.args.folder.now).files ≡ None) c.in_err-first.was c.from_residual.ensures.1
     (c.find_part.ensures.untold from there state layout unlinked number object node entry (signed-parent state layout unlinked number object node entry (cast_unsigned w64 c.args.signature) _ from (of_z-to_z w64 (cast_unsigned w64 c.args.signature) (let small = c.requires.signature in omega (arith, small))) p) of_key)
 
 pub returns-then-count-from-clause-parts : goal.returns-then-count-from-clause-parts
@@ -27,14 +27,14 @@ find_part-requires-2-clause-is_open g c image is =
 
 pub returns-in_err-second-clause-untold : goal.returns-in_err-second-clause-untold
 returns-in_err-second-clause-untold g c from there state layout unlinked number object node entry p of_key =
-    let at = stays-there (g.F.Folder.told c.args.f.now) (g.F.Folder.told c.find_part.new.f) from there c.in_ok-first.ensures.stays in
+    let at = stays-there (g.F.Folder.told c.args.folder.now) (g.F.Folder.told c.find_part.new.folder) from there c.in_ok-first.ensures.stays in
     subst (λ (t : Told). IfDamaged c.from_residual-in_err-second.result (λ _. t.files ≡ None)) c.in_ok-first.ensures.stays
-    (carried c.find_part-2.result c.from_residual-in_err-second.result c.in_err-second.field-0.0 (λ _. (g.F.Folder.told c.find_part.new.f).files ≡ None) c.in_err-second.was c.from_residual-in_err-second.ensures.1
+    (carried c.find_part-2.result c.from_residual-in_err-second.result c.in_err-second.field-0.0 (λ _. (g.F.Folder.told c.find_part.new.folder).files ≡ None) c.in_err-second.was c.from_residual-in_err-second.ensures.1
     (c.find_part-2.ensures.untold from at state layout unlinked number object node entry (signed-parent state layout unlinked number object node entry (cast_unsigned w64 c.args.signature) _ from (of_z-to_z w64 (cast_unsigned w64 c.args.signature) (let small = c.requires.signature in omega (arith, small))) p) of_key))
 
 pub returns-clause-parts : goal.returns-clause-parts
 returns-clause-parts g c from there state layout unlinked number object node entry p of_key =
-    let at = stays-there (g.F.Folder.told c.args.f.now) (g.F.Folder.told c.find_part.new.f) from there c.in_ok-first.ensures.stays in
+    let at = stays-there (g.F.Folder.told c.args.folder.now) (g.F.Folder.told c.find_part.new.folder) from there c.in_ok-first.ensures.stays in
     record {
       first = subst (λ (n : ℕ). IsPartFound layout object n c.in_ok-first.first) c.child_of-number.ensures.part (c.in_ok-first.ensures.part from there state layout unlinked number object node entry (signed-parent state layout unlinked number object node entry (cast_unsigned w64 c.args.signature) _ from (of_z-to_z w64 (cast_unsigned w64 c.args.signature) (let small = c.requires.signature in omega (arith, small))) p) of_key);
       second = λ _. subst (λ (n : ℕ). IsPartFound layout object n c.in_ok-second.second) (ap (λ (n : ℕ). n + 1) c.child_of-number.ensures.part) (c.in_ok-second.ensures.part from at state layout unlinked number object node entry (signed-parent state layout unlinked number object node entry (cast_unsigned w64 c.args.signature) _ from (of_z-to_z w64 (cast_unsigned w64 c.args.signature) (let small = c.requires.signature in omega (arith, small))) p) of_key);

@@ -13,7 +13,7 @@ use Rattle.blk_sparse.proofs.measuring.measure_covered.Goals as goal
 
 pub returns-in_err-piece-clause-untold : goal.returns-in_err-piece-clause-untold
 returns-in_err-piece-clause-untold g c from there state layout unlinked number object node entry p of_key =
-    carried c.measure_piece.result c.from_residual.result c.in_err-piece.field-0.0 (λ _. (g.F.Folder.told c.args.f.now).files ≡ None) c.in_err-piece.was c.from_residual.ensures.1
+    carried c.measure_piece.result c.from_residual.result c.in_err-piece.field-0.0 (λ _. (g.F.Folder.told c.args.folder.now).files ≡ None) c.in_err-piece.was c.from_residual.ensures.1
     (c.measure_piece.ensures.untold from there state layout unlinked number object node entry (signed-parent state layout unlinked number object node entry (cast_unsigned w64 c.args.signature) _ from (of_z-to_z w64 (cast_unsigned w64 c.args.signature) (let small = c.requires.signature in omega (arith, small))) p) of_key)
 
 pub returns-then-end-size-clause-measured : goal.returns-then-end-size-clause-measured
@@ -34,7 +34,7 @@ returns-then-end-size-clause-measured g c from there state layout unlinked numbe
 
 pub returns-in_err-front-clause-untold : goal.returns-in_err-front-clause-untold
 returns-in_err-front-clause-untold g c from there state layout unlinked number object node entry p of_key =
-    carried c.measure_piece-2.result c.from_residual-in_err-front.result c.in_err-front.field-0.0 (λ _. (g.F.Folder.told c.args.f.now).files ≡ None) c.in_err-front.was c.from_residual-in_err-front.ensures.1
+    carried c.measure_piece-2.result c.from_residual-in_err-front.result c.in_err-front.field-0.0 (λ _. (g.F.Folder.told c.args.folder.now).files ≡ None) c.in_err-front.was c.from_residual-in_err-front.ensures.1
     (c.measure_piece-2.ensures.untold from there state layout unlinked number object node entry (signed-parent state layout unlinked number object node entry (cast_unsigned w64 c.args.signature) _ from (of_z-to_z w64 (cast_unsigned w64 c.args.signature) (let small = c.requires.signature in omega (arith, small))) p) of_key)
 
 pub measure_piece-requires-3-clause-is_open : goal.measure_piece-requires-3-clause-is_open
@@ -42,14 +42,14 @@ measure_piece-requires-3-clause-is_open g c image is = c.requires.is_open image 
 
 pub returns-in_err-back-clause-untold : goal.returns-in_err-back-clause-untold
 returns-in_err-back-clause-untold g c from there state layout unlinked number object node entry p of_key =
-    let at = stays-there (g.F.Folder.told c.args.f.now) (g.F.Folder.told c.measure_piece-2.new.f) from there c.in_ok-front.ensures.stays in
+    let at = stays-there (g.F.Folder.told c.args.folder.now) (g.F.Folder.told c.measure_piece-2.new.folder) from there c.in_ok-front.ensures.stays in
     subst (λ (t : Told). IfDamaged c.from_residual-in_err-back.result (λ _. t.files ≡ None)) c.in_ok-front.ensures.stays
-    (carried c.measure_piece-3.result c.from_residual-in_err-back.result c.in_err-back.field-0.0 (λ _. (g.F.Folder.told c.measure_piece-2.new.f).files ≡ None) c.in_err-back.was c.from_residual-in_err-back.ensures.1
+    (carried c.measure_piece-3.result c.from_residual-in_err-back.result c.in_err-back.field-0.0 (λ _. (g.F.Folder.told c.measure_piece-2.new.folder).files ≡ None) c.in_err-back.was c.from_residual-in_err-back.ensures.1
     (c.measure_piece-3.ensures.untold from at state layout unlinked number object node entry (signed-parent state layout unlinked number object node entry (cast_unsigned w64 c.args.signature) _ from (of_z-to_z w64 (cast_unsigned w64 c.args.signature) (let small = c.requires.signature in omega (arith, small))) p) of_key))
 
 pub returns-clause-measured : goal.returns-clause-measured
 returns-clause-measured g c from there state layout unlinked number object node entry p of_key =
-    let at = stays-there (g.F.Folder.told c.args.f.now) (g.F.Folder.told c.measure_piece-2.new.f) from there c.in_ok-front.ensures.stays in
+    let at = stays-there (g.F.Folder.told c.args.folder.now) (g.F.Folder.told c.measure_piece-2.new.folder) from there c.in_ok-front.ensures.stays in
     let sig = of_z-to_z w64 (cast_unsigned w64 c.args.signature) (let small = c.requires.signature in omega (arith, small)) in
     let place = c.child_of-number.ensures.place in
     let wide = c.from.ensures in

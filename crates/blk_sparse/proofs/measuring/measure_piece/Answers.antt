@@ -14,20 +14,20 @@ use Rattle.blk_sparse.proofs.measuring.measure_piece.Goals as goal
 
 pub returns-in_err-part-clause-untold : goal.returns-in_err-part-clause-untold
 returns-in_err-part-clause-untold g c from there state layout unlinked number object node entry p of_key =
-    carried c.find_part.result c.from_residual.result c.in_err-part.field-0.0 (λ _. (g.F.Folder.told c.args.f.now).files ≡ None) c.in_err-part.was c.from_residual.ensures.1
+    carried c.find_part.result c.from_residual.result c.in_err-part.field-0.0 (λ _. (g.F.Folder.told c.args.folder.now).files ≡ None) c.in_err-part.was c.from_residual.ensures.1
     (c.find_part.ensures.untold from there state layout unlinked number object node entry (signed-parent state layout unlinked number object node entry (cast_unsigned w64 c.args.signature) _ from (of_z-to_z w64 (cast_unsigned w64 c.args.signature) (let small = c.requires.signature in omega (arith, small))) p) of_key)
 
 pub returns-in-Some-clause-measured : goal.returns-in-Some-clause-measured
 returns-in-Some-clause-measured g c = IfOk-weaker c.measure_there.result _ _
     (λ _ m from there state layout unlinked number object node entry p of_key.
-    let at = stays-there (g.F.Folder.told c.args.f.now) (g.F.Folder.told c.find_part.new.f) from there c.in_ok-part.ensures.stays in
+    let at = stays-there (g.F.Folder.told c.args.folder.now) (g.F.Folder.told c.find_part.new.folder) from there c.in_ok-part.ensures.stays in
     let has = subst (IsPartFound layout object c.args.number) c.in-Some.is (c.in_ok-part.ensures.part from there state layout unlinked number object node entry (signed-parent state layout unlinked number object node entry (cast_unsigned w64 c.args.signature) _ from (of_z-to_z w64 (cast_unsigned w64 c.args.signature) (let small = c.requires.signature in omega (arith, small))) p) of_key) in
     m from at state layout unlinked number object node entry (cast_unsigned w64 c.args.signature) c.args.number p has)
     c.measure_there.ensures.measured
 
 pub returns-in-Some-clause-untold : goal.returns-in-Some-clause-untold
 returns-in-Some-clause-untold g c from there state layout unlinked number object node entry p of_key =
-    let at = stays-there (g.F.Folder.told c.args.f.now) (g.F.Folder.told c.find_part.new.f) from there c.in_ok-part.ensures.stays in
+    let at = stays-there (g.F.Folder.told c.args.folder.now) (g.F.Folder.told c.find_part.new.folder) from there c.in_ok-part.ensures.stays in
     let has = subst (IsPartFound layout object c.args.number) c.in-Some.is (c.in_ok-part.ensures.part from there state layout unlinked number object node entry (signed-parent state layout unlinked number object node entry (cast_unsigned w64 c.args.signature) _ from (of_z-to_z w64 (cast_unsigned w64 c.args.signature) (let small = c.requires.signature in omega (arith, small))) p) of_key) in
     subst (λ (t : Told). IfDamaged c.measure_there.result (λ _. t.files ≡ None)) c.in_ok-part.ensures.stays
     (c.measure_there.ensures.untold from at state layout unlinked number object node entry (cast_unsigned w64 c.args.signature) c.args.number p has)

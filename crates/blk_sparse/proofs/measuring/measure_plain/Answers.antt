@@ -11,7 +11,7 @@ use Rattle.blk_sparse.proofs.measuring.measure_plain.Goals as goal
 
 pub returns-in_err-len-clause-untold : goal.returns-in_err-len-clause-untold
 returns-in_err-len-clause-untold g c from there state layout unlinked number object node p =
-    carried c.read_key.result c.from_residual.result c.in_err-len.field-0.0 (λ _. (g.F.Folder.told c.args.f.now).files ≡ None) c.in_err-len.was c.from_residual.ensures.1
+    carried c.read_key.result c.from_residual.result c.in_err-len.field-0.0 (λ _. (g.F.Folder.told c.args.folder.now).files ≡ None) c.in_err-len.was c.from_residual.ensures.1
     (c.read_key.ensures.untold (λ image is. (c.requires.is_open image is).agrees) (λ image is. (object.key, subst (HasParentKey c.args.entry object.key) (some_inj (sym there ∙ is)) (plain-key state layout unlinked number object node c.args.entry from p))))
 
 pub returns-clause-measured : goal.returns-clause-measured

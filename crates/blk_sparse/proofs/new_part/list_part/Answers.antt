@@ -12,12 +12,12 @@ use Rattle.blk_sparse.proofs.new_part.list_part.Goals as goal
 
 pub returns-in_err-insert_front-clause-stops : goal.returns-in_err-insert_front-clause-stops
 returns-in_err-insert_front-clause-stops g c from there state objects layout unlinked key n was seen loaded t record_is node_is =
-    inserting-finds (g.F.Folder.told c.args.f.now) (g.F.Folder.told c.insert_front.new.f) c.args.files.now c.args.entry c.args.node state objects layout unlinked key n was seen loaded from there t record_is node_is c.insert_front.ensures.stops
+    inserting-finds (g.F.Folder.told c.args.folder.now) (g.F.Folder.told c.insert_front.new.f) c.args.files.now c.args.entry c.args.node state objects layout unlinked key n was seen loaded from there t record_is node_is c.insert_front.ensures.stops
 
 pub returns-in_err-insert_front-clause-untold : goal.returns-in_err-insert_front-clause-untold
 returns-in_err-insert_front-clause-untold g c from there state objects layout unlinked key n was seen loaded t record_is node_is =
-    carried c.insert_front.result c.from_residual.result c.in_err-insert_front.field-0.0 (λ _. (g.F.Folder.told c.args.f.now).files ≡ None) c.in_err-insert_front.was c.from_residual.ensures.1
-    (c.insert_front.ensures.untold (told-at (λ i. CanBeInserted (list_of i) (walked i) c.args.node) (g.F.Folder.told c.args.f.now).files from there (can-insert-it (g.F.Folder.told c.args.f.now) (g.F.Folder.told c.insert_front.new.f) c.args.files.now c.args.entry c.args.node state objects layout unlinked key n was seen loaded from there t record_is node_is)))
+    carried c.insert_front.result c.from_residual.result c.in_err-insert_front.field-0.0 (λ _. (g.F.Folder.told c.args.folder.now).files ≡ None) c.in_err-insert_front.was c.from_residual.ensures.1
+    (c.insert_front.ensures.untold (told-at (λ i. CanBeInserted (list_of i) (walked i) c.args.node) (g.F.Folder.told c.args.folder.now).files from there (can-insert-it (g.F.Folder.told c.args.folder.now) (g.F.Folder.told c.insert_front.new.f) c.args.files.now c.args.entry c.args.node state objects layout unlinked key n was seen loaded from there t record_is node_is)))
 
 pub returns-in_err-insert_front-clause-damaged : goal.returns-in_err-insert_front-clause-damaged
 returns-in_err-insert_front-clause-damaged g c =
@@ -33,17 +33,17 @@ pub returns-clause-listed : goal.returns-clause-listed
 returns-clause-listed g c =
     on_ok_weaker c.link_front.result
     (λ linked from there state objects layout unlinked key n was seen loaded t record_is node_is.
-    listing-listed (g.F.Folder.told c.args.f.now) (g.F.Folder.told c.insert_front.new.f) c.args.files.now c.args.entry c.args.node state objects layout unlinked key n was seen loaded from there t record_is node_is c.insert_front.ensures.stops (g.met.F.Folder.are_bytes c.args.f.now) c.requires.is_open c.in_ok-insert_front.ensures.steps (g.F.Folder.told c.link_front.new.f) linked)
+    listing-listed (g.F.Folder.told c.args.folder.now) (g.F.Folder.told c.insert_front.new.f) c.args.files.now c.args.entry c.args.node state objects layout unlinked key n was seen loaded from there t record_is node_is c.insert_front.ensures.stops (g.met.F.Folder.are_bytes c.args.folder.now) c.requires.is_open c.in_ok-insert_front.ensures.steps (g.F.Folder.told c.link_front.new.f) linked)
     c.link_front.ensures.linked
 
 pub returns-clause-stops : goal.returns-clause-stops
 returns-clause-stops g c from there state objects layout unlinked key n was seen loaded t record_is node_is =
-    listing-finds (g.F.Folder.told c.args.f.now) (g.F.Folder.told c.insert_front.new.f) c.args.files.now c.args.entry c.args.node state objects layout unlinked key n was seen loaded from there t record_is node_is c.insert_front.ensures.stops (g.met.F.Folder.are_bytes c.args.f.now) c.requires.is_open c.in_ok-insert_front.ensures.steps (g.F.Folder.told c.link_front.new.f) c.link_front.ensures.commits
+    listing-finds (g.F.Folder.told c.args.folder.now) (g.F.Folder.told c.insert_front.new.f) c.args.files.now c.args.entry c.args.node state objects layout unlinked key n was seen loaded from there t record_is node_is c.insert_front.ensures.stops (g.met.F.Folder.are_bytes c.args.folder.now) c.requires.is_open c.in_ok-insert_front.ensures.steps (g.F.Folder.told c.link_front.new.f) c.link_front.ensures.commits
 
 pub returns-clause-untold : goal.returns-clause-untold
 returns-clause-untold g c from there state objects layout unlinked key n was seen loaded t record_is node_is =
-    if_damaged_weaker c.link_front.result (λ _. (g.F.Folder.told c.insert_front.new.f).files ≡ None) (λ _. (g.F.Folder.told c.args.f.now).files ≡ None)
-    (λ damage none. part-tells (g.F.Folder.told c.args.f.now) (g.F.Folder.told c.insert_front.new.f) (operation_steps insert c.args.node) c.insert_front.ensures.prefix none) c.link_front.ensures.untold
+    if_damaged_weaker c.link_front.result (λ _. (g.F.Folder.told c.insert_front.new.f).files ≡ None) (λ _. (g.F.Folder.told c.args.folder.now).files ≡ None)
+    (λ damage none. part-tells (g.F.Folder.told c.args.folder.now) (g.F.Folder.told c.insert_front.new.f) (operation_steps insert c.args.node) c.insert_front.ensures.prefix none) c.link_front.ensures.untold
 
 pub returns-clause-damaged : goal.returns-clause-damaged
 returns-clause-damaged g c =

@@ -29,5 +29,5 @@ returns-clause-stops g c from there checks = passes_weaker (c.update_sealed.ensu
 pub returns-clause-is_open : goal.returns-clause-is_open
 returns-clause-is_open g c checks image now =
     let changes : List (ℕ × ℕ) = (44, c.args.size) ∷ (48, 192) ∷ (60, c.word.result) ∷ (64, c.word-2.result) ∷ [] in
-    (part_kept c.args.files.now (g.F.Folder.told c.args.f.now) (g.F.Folder.told c.update_sealed.new.f) (λ from. sealed_steps from c.args.entry changes)
+    (part_kept c.args.files.now (g.F.Folder.told c.args.folder.now) (g.F.Folder.told c.update_sealed.new.f) (λ from. sealed_steps from c.args.entry changes)
     (λ from there. kept_sealed c.args.files.now c.args.entry changes from (c.requires.is_open from there)) c.update_sealed.ensures.prefix.silent c.update_sealed.ensures.prefix.made image now)

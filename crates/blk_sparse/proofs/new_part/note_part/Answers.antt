@@ -7,14 +7,14 @@ use Rattle.blk_sparse.proofs.NewKept.{no-file}
 use Rattle.blk_sparse.proofs.new_part.note_part.Goals as goal
 
 pub returns-in_err-addr-clause-stops : goal.returns-in_err-addr-clause-stops
-returns-in_err-addr-clause-stops g c = nothing-noted c.args.files.now c.args.parent c.args.part (g.F.Folder.told c.args.f.now) (g.F.Folder.told c.index_place.new.f) c.index_place.ensures.stays
+returns-in_err-addr-clause-stops g c = nothing-noted c.args.files.now c.args.parent c.args.part (g.F.Folder.told c.args.folder.now) (g.F.Folder.told c.index_place.new.folder) c.index_place.ensures.stays
 
 pub returns-in_err-addr-clause-is_open : goal.returns-in_err-addr-clause-is_open
 returns-in_err-addr-clause-is_open g c image now = c.requires.is_open image (ap (λ (t : Told). t.files) (sym c.index_place.ensures.stays) ∙ now)
 
 pub returns-in_err-addr-clause-untold : goal.returns-in_err-addr-clause-untold
 returns-in_err-addr-clause-untold g c has =
-    carried c.index_place.result c.from_residual.result c.in_err-addr.field-0.0 (λ _. (g.F.Folder.told c.args.f.now).files ≡ None) c.in_err-addr.was c.from_residual.ensures.1
+    carried c.index_place.result c.from_residual.result c.in_err-addr.field-0.0 (λ _. (g.F.Folder.told c.args.folder.now).files ≡ None) c.in_err-addr.was c.from_residual.ensures.1
     (c.index_place.ensures.untold (λ image there. (c.requires.is_open image there).agrees) has)
 
 pub read_data-requires : goal.read_data-requires
@@ -23,15 +23,15 @@ read_data-requires g c = record {
 }
 
 pub returns-in_err-read_data-clause-stops : goal.returns-in_err-read_data-clause-stops
-returns-in_err-read_data-clause-stops g c = nothing-noted c.args.files.now c.args.parent c.args.part (g.F.Folder.told c.args.f.now) (g.F.Folder.told c.read_data.new.f) (c.read_data.ensures.stays ∙ c.index_place.ensures.stays)
+returns-in_err-read_data-clause-stops g c = nothing-noted c.args.files.now c.args.parent c.args.part (g.F.Folder.told c.args.folder.now) (g.F.Folder.told c.read_data.new.folder) (c.read_data.ensures.stays ∙ c.index_place.ensures.stays)
 
 pub returns-in_err-read_data-clause-is_open : goal.returns-in_err-read_data-clause-is_open
 returns-in_err-read_data-clause-is_open g c image now = c.requires.is_open image (ap (λ (t : Told). t.files) (sym (c.read_data.ensures.stays ∙ c.index_place.ensures.stays)) ∙ now)
 
 pub returns-in_err-read_data-clause-untold : goal.returns-in_err-read_data-clause-untold
 returns-in_err-read_data-clause-untold g c has =
-    carried c.read_data.result c.from_residual-in_err-read_data.result c.in_err-read_data.field-0.0 (λ _. (g.F.Folder.told c.args.f.now).files ≡ None) c.in_err-read_data.was c.from_residual-in_err-read_data.ensures.1
-    (if_damaged_weaker c.read_data.result (λ _. (g.F.Folder.told c.index_place.new.f).files ≡ None) (λ _. (g.F.Folder.told c.args.f.now).files ≡ None) (λ damage none. ap (λ (t : Told). t.files) (sym c.index_place.ensures.stays) ∙ none)
+    carried c.read_data.result c.from_residual-in_err-read_data.result c.in_err-read_data.field-0.0 (λ _. (g.F.Folder.told c.args.folder.now).files ≡ None) c.in_err-read_data.was c.from_residual-in_err-read_data.ensures.1
+    (if_damaged_weaker c.read_data.result (λ _. (g.F.Folder.told c.index_place.new.folder).files ≡ None) (λ _. (g.F.Folder.told c.args.folder.now).files ≡ None) (λ damage none. ap (λ (t : Told). t.files) (sym c.index_place.ensures.stays) ∙ none)
     (c.read_data.ensures.untold (λ image now. (c.requires.is_open image (ap (λ (t : Told). t.files) (sym c.index_place.ensures.stays) ∙ now)).agrees)
     (λ image now external. absurd (no-file c.args.files.now c.in_ok-addr.addr c.in_ok-addr.ensures.stores external))))
 
@@ -49,25 +49,25 @@ write_data-requires-clause-external g c image now external = absurd (no-file c.a
 
 pub returns-in_err-write_data-clause-stops : goal.returns-in_err-write_data-clause-stops
 returns-in_err-write_data-clause-stops g c =
-    let a : Told = g.F.Folder.told c.args.f.now in
-    let d : Told = g.F.Folder.told c.read_data.new.f in
-    let e : Told = g.F.Folder.told c.write_data.new.f in
+    let a : Told = g.F.Folder.told c.args.folder.now in
+    let d : Told = g.F.Folder.told c.read_data.new.folder in
+    let e : Told = g.F.Folder.told c.write_data.new.folder in
     being-noted c.args.files.now c.args.parent c.args.part c.in_ok-addr.addr a e c.in_ok-addr.ensures.stores c.in_ok-addr.ensures.place
     (moved-outside d e a c.in_ok-addr.addr c.place_of_part-at.result (64 + c.args.part / 8) (c.read_data.ensures.stays ∙ c.index_place.ensures.stays) c.place_of_part-at.ensures c.write_data.ensures.outside)
 
 pub returns-in_err-write_data-clause-is_open : goal.returns-in_err-write_data-clause-is_open
 returns-in_err-write_data-clause-is_open g c =
-    let d : Told = g.F.Folder.told c.read_data.new.f in
-    let e : Told = g.F.Folder.told c.write_data.new.f in
+    let d : Told = g.F.Folder.told c.read_data.new.folder in
+    let e : Told = g.F.Folder.told c.write_data.new.folder in
     open-after c.args.files.now c.in_ok-addr.addr c.args.part c.place_of_part-at.result d e c.in_ok-addr.ensures.stores c.write_data.ensures.outside (silent_part c.write_data.ensures.prefix) c.write_data.ensures.agrees
     (λ image now. c.requires.is_open image (ap (λ (t : Told). t.files) (sym (c.read_data.ensures.stays ∙ c.index_place.ensures.stays)) ∙ now))
 
 pub returns-clause-noted : goal.returns-clause-noted
 returns-clause-noted g c =
-    let a : Told = g.F.Folder.told c.args.f.now in
-    let b : Told = g.F.Folder.told c.index_place.new.f in
-    let d : Told = g.F.Folder.told c.read_data.new.f in
-    let e : Told = g.F.Folder.told c.write_data.new.f in
+    let a : Told = g.F.Folder.told c.args.folder.now in
+    let b : Told = g.F.Folder.told c.index_place.new.folder in
+    let d : Told = g.F.Folder.told c.read_data.new.folder in
+    let e : Told = g.F.Folder.told c.write_data.new.folder in
     let p : ℕ = 64 + c.args.part / 8 in
     let was : ℕ = slice_index_or c.read_data.new.out 0 0 in
     noted-after c.args.files.now c.args.parent c.args.part c.in_ok-addr.addr was a e c.in_ok-addr.ensures.place
@@ -79,15 +79,15 @@ returns-clause-noted g c =
 
 pub returns-clause-stops : goal.returns-clause-stops
 returns-clause-stops g c =
-    let a : Told = g.F.Folder.told c.args.f.now in
-    let d : Told = g.F.Folder.told c.read_data.new.f in
-    let e : Told = g.F.Folder.told c.write_data.new.f in
+    let a : Told = g.F.Folder.told c.args.folder.now in
+    let d : Told = g.F.Folder.told c.read_data.new.folder in
+    let e : Told = g.F.Folder.told c.write_data.new.folder in
     being-noted c.args.files.now c.args.parent c.args.part c.in_ok-addr.addr a e c.in_ok-addr.ensures.stores c.in_ok-addr.ensures.place
     (moved-outside d e a c.in_ok-addr.addr c.place_of_part-at.result (64 + c.args.part / 8) (c.read_data.ensures.stays ∙ c.index_place.ensures.stays) c.place_of_part-at.ensures c.write_data.ensures.outside)
 
 pub returns-clause-is_open : goal.returns-clause-is_open
 returns-clause-is_open g c =
-    let d : Told = g.F.Folder.told c.read_data.new.f in
-    let e : Told = g.F.Folder.told c.write_data.new.f in
+    let d : Told = g.F.Folder.told c.read_data.new.folder in
+    let e : Told = g.F.Folder.told c.write_data.new.folder in
     open-after c.args.files.now c.in_ok-addr.addr c.args.part c.place_of_part-at.result d e c.in_ok-addr.ensures.stores c.write_data.ensures.outside (silent_part c.write_data.ensures.prefix) c.write_data.ensures.agrees
     (λ image now. c.requires.is_open image (ap (λ (t : Told). t.files) (sym (c.read_data.ensures.stays ∙ c.index_place.ensures.stays)) ∙ now))

@@ -21,18 +21,18 @@ returns-in_err-index-clause-stops g c from there room = c.take_stream.ensures.st
 
 pub returns-in_err-index-clause-untold : goal.returns-in_err-index-clause-untold
 returns-in_err-index-clause-untold g c room =
-    carried c.take_stream.result c.from_residual.result c.in_err-index.field-0.0 (λ _. (g.F.Folder.told c.args.f.now).files ≡ None) c.in_err-index.was c.from_residual.ensures.1
+    carried c.take_stream.result c.from_residual.result c.in_err-index.field-0.0 (λ _. (g.F.Folder.told c.args.folder.now).files ≡ None) c.in_err-index.was c.from_residual.ensures.1
     (c.take_stream.ensures.untold (λ from there. fewer 1 4 from (room from there)))
 
 pub returns-in_err-stored-clause-stops : goal.returns-in_err-stored-clause-stops
 returns-in_err-stored-clause-stops g c from there room =
     let i : ℕ = c.in_ok-index.index in
-    both-find (g.F.Folder.told c.args.f.now) (g.F.Folder.told c.take_stream.new.f) 1 1 (i ∷ []) (one-word i) c.take_stream.ensures.stops c.in_ok-index.ensures.taken (g.F.Folder.told c.take_stream-2.new.f) c.take_stream-2.ensures.stops from there (fewer 2 3 from room)
+    both-find (g.F.Folder.told c.args.folder.now) (g.F.Folder.told c.take_stream.new.folder) 1 1 (i ∷ []) (one-word i) c.take_stream.ensures.stops c.in_ok-index.ensures.taken (g.F.Folder.told c.take_stream-2.new.folder) c.take_stream-2.ensures.stops from there (fewer 2 3 from room)
 
 pub returns-in_err-stored-clause-untold : goal.returns-in_err-stored-clause-untold
 returns-in_err-stored-clause-untold g c room =
-    let a : Told = g.F.Folder.told c.args.f.now in
-    let b : Told = g.F.Folder.told c.take_stream.new.f in
+    let a : Told = g.F.Folder.told c.args.folder.now in
+    let b : Told = g.F.Folder.told c.take_stream.new.folder in
     let i : ℕ = c.in_ok-index.index in
     carried c.take_stream-2.result c.from_residual-in_err-stored.result c.in_err-stored.field-0.0 (λ _. a.files ≡ None) c.in_err-stored.was c.from_residual-in_err-stored.ensures.1
     (if_damaged_weaker c.take_stream-2.result (λ _. b.files ≡ None) (λ _. a.files ≡ None) (λ damage none. tells-first a b 1 4 (i ∷ []) (one-word i) c.take_stream.ensures.stops room none)
@@ -40,20 +40,20 @@ returns-in_err-stored-clause-untold g c room =
 
 pub returns-in_err-places-clause-stops : goal.returns-in_err-places-clause-stops
 returns-in_err-places-clause-stops g c =
-    let a : Told = g.F.Folder.told c.args.f.now in
-    let b : Told = g.F.Folder.told c.take_stream.new.f in
-    let d : Told = g.F.Folder.told c.take_stream-2.new.f in
+    let a : Told = g.F.Folder.told c.args.folder.now in
+    let b : Told = g.F.Folder.told c.take_stream.new.folder in
+    let d : Told = g.F.Folder.told c.take_stream-2.new.folder in
     let i : ℕ = c.in_ok-index.index in
     let s : ℕ = c.in_ok-stored.stored in
     both-find a d 2 3 (s ∷ i ∷ []) (two-words s i) (both-find a b 1 1 (i ∷ []) (one-word i) c.take_stream.ensures.stops c.in_ok-index.ensures.taken d c.take_stream-2.ensures.stops)
     (both-taken a b 1 1 (i ∷ []) (one-word i) c.take_stream.ensures.stops c.in_ok-index.ensures.taken d c.take_stream-2.ensures.stops (s ∷ []) c.in_ok-stored.ensures.taken)
-    (g.F.Folder.told c.take_places.new.f) c.take_places.ensures.stops
+    (g.F.Folder.told c.take_places.new.folder) c.take_places.ensures.stops
 
 pub returns-in_err-places-clause-untold : goal.returns-in_err-places-clause-untold
 returns-in_err-places-clause-untold g c room =
-    let a : Told = g.F.Folder.told c.args.f.now in
-    let b : Told = g.F.Folder.told c.take_stream.new.f in
-    let d : Told = g.F.Folder.told c.take_stream-2.new.f in
+    let a : Told = g.F.Folder.told c.args.folder.now in
+    let b : Told = g.F.Folder.told c.take_stream.new.folder in
+    let d : Told = g.F.Folder.told c.take_stream-2.new.folder in
     let i : ℕ = c.in_ok-index.index in
     let s : ℕ = c.in_ok-stored.stored in
     let two : ForSome a.files (λ from. LeavesRoom 2 from → Passes a d (StillFinds [] from)) = both-find a b 1 1 (i ∷ []) (one-word i) c.take_stream.ensures.stops c.in_ok-index.ensures.taken d c.take_stream-2.ensures.stops in
@@ -64,21 +64,21 @@ returns-in_err-places-clause-untold g c room =
 
 pub returns-clause-stops : goal.returns-clause-stops
 returns-clause-stops g c =
-    let a : Told = g.F.Folder.told c.args.f.now in
-    let b : Told = g.F.Folder.told c.take_stream.new.f in
-    let d : Told = g.F.Folder.told c.take_stream-2.new.f in
+    let a : Told = g.F.Folder.told c.args.folder.now in
+    let b : Told = g.F.Folder.told c.take_stream.new.folder in
+    let d : Told = g.F.Folder.told c.take_stream-2.new.folder in
     let i : ℕ = c.in_ok-index.index in
     let s : ℕ = c.in_ok-stored.stored in
     both-find a d 2 3 (s ∷ i ∷ []) (two-words s i) (both-find a b 1 1 (i ∷ []) (one-word i) c.take_stream.ensures.stops c.in_ok-index.ensures.taken d c.take_stream-2.ensures.stops)
     (both-taken a b 1 1 (i ∷ []) (one-word i) c.take_stream.ensures.stops c.in_ok-index.ensures.taken d c.take_stream-2.ensures.stops (s ∷ []) c.in_ok-stored.ensures.taken)
-    (g.F.Folder.told c.take_places.new.f) c.take_places.ensures.stops
+    (g.F.Folder.told c.take_places.new.folder) c.take_places.ensures.stops
 
 pub returns-clause-taken : goal.returns-clause-taken
 returns-clause-taken g c from there room image now =
-    let a : Told = g.F.Folder.told c.args.f.now in
-    let b : Told = g.F.Folder.told c.take_stream.new.f in
-    let d : Told = g.F.Folder.told c.take_stream-2.new.f in
-    let e : Told = g.F.Folder.told c.take_places.new.f in
+    let a : Told = g.F.Folder.told c.args.folder.now in
+    let b : Told = g.F.Folder.told c.take_stream.new.folder in
+    let d : Told = g.F.Folder.told c.take_stream-2.new.folder in
+    let e : Told = g.F.Folder.told c.take_places.new.folder in
     let i : ℕ = c.in_ok-index.index in
     let s : ℕ = c.in_ok-stored.stored in
     let two : ForSome a.files (λ from. LeavesRoom 2 from → Passes a d (StillFinds [] from)) = both-find a b 1 1 (i ∷ []) (one-word i) c.take_stream.ensures.stops c.in_ok-index.ensures.taken d c.take_stream-2.ensures.stops in

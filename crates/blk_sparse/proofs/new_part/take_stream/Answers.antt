@@ -22,28 +22,28 @@ store_new-requires-clause-complete g c from there = (c.requires.is_open from the
 
 pub returns-in_err-addr-clause-stops : goal.returns-in_err-addr-clause-stops
 returns-in_err-addr-clause-stops g c =
-    storing-finds (g.F.Folder.told c.args.f.now) (g.F.Folder.told c.store_new.new.f) c.args.files.now c.store_new.new.files (c.args.offset + length c.args.bytes.now) (omega (arith, c.requires.some)) c.requires.is_open c.store_new.ensures.stages
+    storing-finds (g.F.Folder.told c.args.folder.now) (g.F.Folder.told c.store_new.new.folder) c.args.files.now c.store_new.new.files (c.args.offset + length c.args.bytes.now) (omega (arith, c.requires.some)) c.requires.is_open c.store_new.ensures.stages
 
 pub returns-in_err-addr-clause-untold : goal.returns-in_err-addr-clause-untold
 returns-in_err-addr-clause-untold g c room =
-    carried c.store_new.result c.from_residual.result c.in_err-addr.field-0.0 (λ _. (g.F.Folder.told c.args.f.now).files ≡ None) c.in_err-addr.was c.from_residual.ensures.1
-    (c.store_new.ensures.untold (λ from there. can-place (g.F.Folder.told c.args.f.now) (g.F.Folder.told c.store_new.new.f) c.args.files.now c.store_new.new.files (c.args.offset + length c.args.bytes.now) (omega (arith, c.requires.some)) c.requires.is_open from there (room from there)))
+    carried c.store_new.result c.from_residual.result c.in_err-addr.field-0.0 (λ _. (g.F.Folder.told c.args.folder.now).files ≡ None) c.in_err-addr.was c.from_residual.ensures.1
+    (c.store_new.ensures.untold (λ from there. can-place (g.F.Folder.told c.args.folder.now) (g.F.Folder.told c.store_new.new.folder) c.args.files.now c.store_new.new.files (c.args.offset + length c.args.bytes.now) (omega (arith, c.requires.some)) c.requires.is_open from there (room from there)))
 
 pub returns-in_err-addr-clause-damaged : goal.returns-in_err-addr-clause-damaged
 returns-in_err-addr-clause-damaged g c =
-    handed c.store_new.result c.from_residual.result c.in_err-addr.field-0.0 _ c.store_new.new.files (g.F.Folder.told c.store_new.new.f)
-    (λ damage why. refused-checked c.args.files.now c.store_new.new.files (c.args.offset + length c.args.bytes.now) (g.F.Folder.told c.args.f.now) (g.F.Folder.told c.store_new.new.f) damage c.store_new.ensures.keeps why)
+    handed c.store_new.result c.from_residual.result c.in_err-addr.field-0.0 _ c.store_new.new.files (g.F.Folder.told c.store_new.new.folder)
+    (λ damage why. refused-checked c.args.files.now c.store_new.new.files (c.args.offset + length c.args.bytes.now) (g.F.Folder.told c.args.folder.now) (g.F.Folder.told c.store_new.new.folder) damage c.store_new.ensures.keeps why)
     c.in_err-addr.was c.from_residual.ensures.1 c.store_new.ensures.damaged
 
 pub returns-in_err-check_index-clause-stops : goal.returns-in_err-check_index-clause-stops
 returns-in_err-check_index-clause-stops g c from there room =
-    then-stays (g.F.Folder.told c.args.f.now) (g.F.Folder.told c.store_new.new.f) (g.F.Folder.told c.check_index.new.f) c.check_index.ensures.stays
-    (storing-finds (g.F.Folder.told c.args.f.now) (g.F.Folder.told c.store_new.new.f) c.args.files.now c.store_new.new.files (c.args.offset + length c.args.bytes.now) (omega (arith, c.requires.some)) c.requires.is_open c.store_new.ensures.stages from there room)
+    then-stays (g.F.Folder.told c.args.folder.now) (g.F.Folder.told c.store_new.new.folder) (g.F.Folder.told c.check_index.new.folder) c.check_index.ensures.stays
+    (storing-finds (g.F.Folder.told c.args.folder.now) (g.F.Folder.told c.store_new.new.folder) c.args.files.now c.store_new.new.files (c.args.offset + length c.args.bytes.now) (omega (arith, c.requires.some)) c.requires.is_open c.store_new.ensures.stages from there room)
 
 pub returns-in_err-check_index-clause-untold : goal.returns-in_err-check_index-clause-untold
 returns-in_err-check_index-clause-untold g c room =
-    let a : Told = g.F.Folder.told c.args.f.now in
-    let b : Told = g.F.Folder.told c.store_new.new.f in
+    let a : Told = g.F.Folder.told c.args.folder.now in
+    let b : Told = g.F.Folder.told c.store_new.new.folder in
     let size : ℕ = c.args.offset + length c.args.bytes.now in
     carried c.check_index.result c.from_residual-in_err-check_index.result c.in_err-check_index.field-0.0 (λ _. a.files ≡ None) c.in_err-check_index.was c.from_residual-in_err-check_index.ensures.1
     (if_damaged_weaker c.check_index.result (λ _. b.files ≡ None) (λ _. a.files ≡ None) (λ damage none. storing-tells a b c.args.files.now c.store_new.new.files size (omega (arith, c.requires.some)) c.requires.is_open c.store_new.ensures.stages room none)
@@ -51,26 +51,26 @@ returns-in_err-check_index-clause-untold g c room =
 
 pub returns-in_err-check_index-clause-damaged : goal.returns-in_err-check_index-clause-damaged
 returns-in_err-check_index-clause-damaged g c =
-    handed c.check_index.result c.from_residual-in_err-check_index.result c.in_err-check_index.field-0.0 _ c.store_new.new.files (g.F.Folder.told c.check_index.new.f) (λ damage other. FailsLength other) c.in_err-check_index.was c.from_residual-in_err-check_index.ensures.1 c.check_index.ensures.damaged
+    handed c.check_index.result c.from_residual-in_err-check_index.result c.in_err-check_index.field-0.0 _ c.store_new.new.files (g.F.Folder.told c.check_index.new.folder) (λ damage other. FailsLength other) c.in_err-check_index.was c.from_residual-in_err-check_index.ensures.1 c.check_index.ensures.damaged
 
 pub returns-clause-address : goal.returns-clause-address
 returns-clause-address g c = ap is_address (sym c.word-word.ensures.word) ∙ c.word-word.ensures.address
 
 pub returns-clause-stops : goal.returns-clause-stops
 returns-clause-stops g c from there room =
-    then-stays (g.F.Folder.told c.args.f.now) (g.F.Folder.told c.store_new.new.f) (g.F.Folder.told c.check_index.new.f) c.check_index.ensures.stays
-    (storing-finds (g.F.Folder.told c.args.f.now) (g.F.Folder.told c.store_new.new.f) c.args.files.now c.store_new.new.files (c.args.offset + length c.args.bytes.now) (omega (arith, c.requires.some)) c.requires.is_open c.store_new.ensures.stages from there room)
+    then-stays (g.F.Folder.told c.args.folder.now) (g.F.Folder.told c.store_new.new.folder) (g.F.Folder.told c.check_index.new.folder) c.check_index.ensures.stays
+    (storing-finds (g.F.Folder.told c.args.folder.now) (g.F.Folder.told c.store_new.new.folder) c.args.files.now c.store_new.new.files (c.args.offset + length c.args.bytes.now) (omega (arith, c.requires.some)) c.requires.is_open c.store_new.ensures.stages from there room)
 
 pub returns-clause-taken : goal.returns-clause-taken
 returns-clause-taken g c =
-    let a : Told = g.F.Folder.told c.args.f.now in
+    let a : Told = g.F.Folder.told c.args.folder.now in
     subst (λ (t : Told). ForSome a.files (λ from. LeavesRoom 1 from → ForSome t.files (Takes (c.in_ok-addr.addr ∷ []) from))) (sym c.check_index.ensures.stays)
-    (stored-taken a (g.F.Folder.told c.store_new.new.f) c.args.files.now c.store_new.new.files (c.args.offset + length c.args.bytes.now) (omega (arith, c.requires.some)) c.requires.is_open c.store_new.ensures.stages c.in_ok-addr.addr c.in_ok-addr.ensures.staged)
+    (stored-taken a (g.F.Folder.told c.store_new.new.folder) c.args.files.now c.store_new.new.files (c.args.offset + length c.args.bytes.now) (omega (arith, c.requires.some)) c.requires.is_open c.store_new.ensures.stages c.in_ok-addr.addr c.in_ok-addr.ensures.staged)
 
 pub returns-clause-stored : goal.returns-clause-stored
 returns-clause-stored g c from there room image now =
-    let a : Told = g.F.Folder.told c.args.f.now in
-    let b : Told = g.F.Folder.told c.store_new.new.f in
+    let a : Told = g.F.Folder.told c.args.folder.now in
+    let b : Told = g.F.Folder.told c.store_new.new.folder in
     let size : ℕ = c.args.offset + length c.args.bytes.now in
     ap (λ (n : ℕ). (store_of image).stored n c.in_ok-addr.addr) (new-long c.args.offset c.args.bytes.now)
     ∙ c.in_ok-addr.ensures.stored from there (can-place a b c.args.files.now c.store_new.new.files size (omega (arith, c.requires.some)) c.requires.is_open from there room) image (ap (λ (t : Told). t.files) (sym c.check_index.ensures.stays) ∙ now)

@@ -17,7 +17,7 @@ use Rattle.blk_sparse.proofs.NewRecords.{child-written, fits-child, on-ok-both, 
 use Rattle.blk_sparse.proofs.new_part.write_child.Goals as goal
 
 pub returns-in_err-next-clause-stops : goal.returns-in_err-next-clause-stops
-returns-in_err-next-clause-stops g c = nothing-finds (words_of_places c.args.places.now) (g.F.Folder.told c.args.f.now) (g.F.Folder.told c.bucket.new.f) c.in_err-next.ensures.stays
+returns-in_err-next-clause-stops g c = nothing-finds (words_of_places c.args.places.now) (g.F.Folder.told c.args.folder.now) (g.F.Folder.told c.bucket.new.f) c.in_err-next.ensures.stays
 
 pub returns-in_err-next-clause-is_open : goal.returns-in_err-next-clause-is_open
 returns-in_err-next-clause-is_open g c = subst (λ (t : Told). ForSome t.files (IsOpen c.args.files.now)) (sym c.in_err-next.ensures.stays) c.requires.is_open
@@ -25,7 +25,7 @@ returns-in_err-next-clause-is_open g c = subst (λ (t : Told). ForSome t.files (
 pub returns-in_err-next-clause-damaged : goal.returns-in_err-next-clause-damaged
 returns-in_err-next-clause-damaged g c =
     handed c.bucket.result c.from_residual.result c.in_err-next.field-0.0 _ c.args.files.now (g.F.Folder.told c.bucket.new.f)
-    (λ damage short. moved c.args.files.now (g.F.Folder.told c.args.f.now) (g.F.Folder.told c.bucket.new.f) damage c.bucket.ensures.stays (short-checked c.args.files.now (g.F.Folder.told c.args.f.now) _ _ _ damage short))
+    (λ damage short. moved c.args.files.now (g.F.Folder.told c.args.folder.now) (g.F.Folder.told c.bucket.new.f) damage c.bucket.ensures.stays (short-checked c.args.files.now (g.F.Folder.told c.args.folder.now) _ _ _ damage short))
     c.in_err-next.was c.from_residual.ensures.1 c.bucket.ensures.short
 
 pub write_entry-requires-clause-agrees : goal.write_entry-requires-clause-agrees

@@ -24,8 +24,8 @@ name_streams-requires-clause-stands g c = c.requires.fits.entry_stands
 
 pub returns-clause-stops : goal.returns-clause-stops
 returns-clause-stops g c from there =
-    let a : Told = g.F.Folder.told c.args.f.now in
-    let b : Told = g.F.Folder.told c.write_child.new.f in
+    let a : Told = g.F.Folder.told c.args.folder.now in
+    let b : Told = g.F.Folder.told c.write_child.new.folder in
     let finds : (image : Image) → StillFinds (words_of_places c.args.places.now.places) from image → StillFinds (words_of_part c.args.places.now) from image = child-finds c.args.places.now from in
     let one = passes_weaker (c.write_child.ensures.stops from there) finds finds in
     let mid = told-mid a b from there one in
@@ -38,8 +38,8 @@ returns-clause-is_open g c = c.name_streams.ensures.is_open c.in_ok-write_child.
 
 pub returns-clause-untold : goal.returns-clause-untold
 returns-clause-untold g c =
-    let a : Told = g.F.Folder.told c.args.f.now in
-    let b : Told = g.F.Folder.told c.write_child.new.f in
+    let a : Told = g.F.Folder.told c.args.folder.now in
+    let b : Told = g.F.Folder.told c.write_child.new.folder in
     if_damaged_weaker c.name_streams.result (λ _. b.files ≡ None) (λ _. a.files ≡ None)
     (λ damage none. none-before a b (λ from there. told-mid a b from there (c.write_child.ensures.stops from there)) none)
     (c.name_streams.ensures.untold c.in_ok-write_child.ensures.checks)
@@ -48,9 +48,9 @@ pub returns-clause-written : goal.returns-clause-written
 returns-clause-written g c =
     on_ok_weaker c.name_streams.result
     (λ named from there image now bytes index role streams long.
-    let mid = told-mid (g.F.Folder.told c.args.f.now) (g.F.Folder.told c.write_child.new.f) from there (c.write_child.ensures.stops from there) in
+    let mid = told-mid (g.F.Folder.told c.args.folder.now) (g.F.Folder.told c.write_child.new.folder) from there (c.write_child.ensures.stops from there) in
     let w = c.in_ok-write_child.ensures.written from there mid.0 mid.1 in
     all-written c.args.files.now c.args.places.now c.args.name.now c.args.moment bytes index role from mid.0 image c.requires.fits c.requires.apart c.requires.streams c.name_streams.ensures.words
-    (g.met.F.Folder.are_bytes c.write_child.new.f mid.0 mid.1) (g.met.F.Folder.are_bytes c.name_streams.new.f image now) streams w
+    (g.met.F.Folder.are_bytes c.write_child.new.folder mid.0 mid.1) (g.met.F.Folder.are_bytes c.name_streams.new.folder image now) streams w
     (named mid.0 mid.1 image now bytes index long streams.long (c.in_ok-write_child.ensures.checks mid.0 mid.1)))
     c.name_streams.ensures.named

@@ -24,7 +24,7 @@ returns-in_err-parts-clause-stops g c from there state layout keep chains unlink
 
 pub returns-in_err-parts-clause-untold : goal.returns-in_err-parts-clause-untold
 returns-in_err-parts-clause-untold g c from there state layout keep chains unlinked number object left has =
-    carried c.drop_indexed_with.result c.from_residual.result c.in_err-parts.field-0.0 (λ _. (g.F.Folder.told c.args.f.now).files ≡ None) c.in_err-parts.was c.from_residual.ensures.1
+    carried c.drop_indexed_with.result c.from_residual.result c.in_err-parts.field-0.0 (λ _. (g.F.Folder.told c.args.folder.now).files ≡ None) c.in_err-parts.was c.from_residual.ensures.1
     (c.drop_indexed_with.ensures.untold from there state layout keep chains (words_at c.args.owned.now.places ++ unlinked) number object left has)
 
 pub returns-in_err-free_owned-clause-front : goal.returns-in_err-free_owned-clause-front
@@ -33,21 +33,21 @@ returns-in_err-free_owned-clause-front g c from there state layout keep chains u
 
 pub returns-in_err-free_owned-clause-stops : goal.returns-in_err-free_owned-clause-stops
 returns-in_err-free_owned-clause-stops g c from there state layout keep chains unlinked number object left has =
-    let mid = told_then (g.F.Folder.told c.args.f.now) (g.F.Folder.told c.drop_indexed_with.new.f) from (Finds (rest (doomed number state (Some object)))) there (c.in_ok-parts.ensures.stops from there state layout keep chains (words_at c.args.owned.now.places ++ unlinked) number object left has) in
+    let mid = told_then (g.F.Folder.told c.args.folder.now) (g.F.Folder.told c.drop_indexed_with.new.folder) from (Finds (rest (doomed number state (Some object)))) there (c.in_ok-parts.ensures.stops from there state layout keep chains (words_at c.args.owned.now.places ++ unlinked) number object left has) in
     let out = c.in_ok-parts.ensures.out from there state layout keep chains (words_at c.args.owned.now.places ++ unlinked) number object left has mid.image mid.is in
     passes_then (c.in_ok-parts.ensures.stops from there state layout keep chains (words_at c.args.owned.now.places ++ unlinked) number object left has)
     (passes_weaker (c.in_err-free_owned.ensures.stops mid.image mid.is (may-free (words_at c.args.owned.now.places) state layout unlinked c.args.key.now number object mid.image out)) (freeing-finds (words_at c.args.owned.now.places) state layout unlinked c.args.key.now number object mid.image out keep chains from left) (freeing-finds (words_at c.args.owned.now.places) state layout unlinked c.args.key.now number object mid.image out keep chains from left))
 
 pub returns-in_err-free_owned-clause-untold : goal.returns-in_err-free_owned-clause-untold
 returns-in_err-free_owned-clause-untold g c from there state layout keep chains unlinked number object left has =
-    let mid = told_then (g.F.Folder.told c.args.f.now) (g.F.Folder.told c.drop_indexed_with.new.f) from (Finds (rest (doomed number state (Some object)))) there (c.in_ok-parts.ensures.stops from there state layout keep chains (words_at c.args.owned.now.places ++ unlinked) number object left has) in
+    let mid = told_then (g.F.Folder.told c.args.folder.now) (g.F.Folder.told c.drop_indexed_with.new.folder) from (Finds (rest (doomed number state (Some object)))) there (c.in_ok-parts.ensures.stops from there state layout keep chains (words_at c.args.owned.now.places ++ unlinked) number object left has) in
     let out = c.in_ok-parts.ensures.out from there state layout keep chains (words_at c.args.owned.now.places ++ unlinked) number object left has mid.image mid.is in
-    carried c.free_owned.result c.from_residual-in_err-free_owned.result c.in_err-free_owned.field-0.0 (λ _. (g.F.Folder.told c.args.f.now).files ≡ None) c.in_err-free_owned.was c.from_residual-in_err-free_owned.ensures.1
+    carried c.free_owned.result c.from_residual-in_err-free_owned.result c.in_err-free_owned.field-0.0 (λ _. (g.F.Folder.told c.args.folder.now).files ≡ None) c.in_err-free_owned.was c.from_residual-in_err-free_owned.ensures.1
     (if_damaged_weaker c.free_owned.result _ _ (λ damage none. absurd (none-some (sym none ∙ mid.is))) (c.free_owned.ensures.untold (λ image is. subst (AreFreeable (words_at c.args.owned.now.places)) (some_inj (sym mid.is ∙ is)) (may-free (words_at c.args.owned.now.places) state layout unlinked c.args.key.now number object mid.image out))))
 
 pub returns-clause-out : goal.returns-clause-out
 returns-clause-out g c from there state layout keep chains unlinked number object left has image is =
-    let mid = told_then (g.F.Folder.told c.args.f.now) (g.F.Folder.told c.drop_indexed_with.new.f) from (Finds (rest (doomed number state (Some object)))) there (c.in_ok-parts.ensures.stops from there state layout keep chains (words_at c.args.owned.now.places ++ unlinked) number object left has) in
+    let mid = told_then (g.F.Folder.told c.args.folder.now) (g.F.Folder.told c.drop_indexed_with.new.folder) from (Finds (rest (doomed number state (Some object)))) there (c.in_ok-parts.ensures.stops from there state layout keep chains (words_at c.args.owned.now.places ++ unlinked) number object left has) in
     let out = c.in_ok-parts.ensures.out from there state layout keep chains (words_at c.args.owned.now.places ++ unlinked) number object left has mid.image mid.is in
     freed-whole (words_at c.args.owned.now.places) state layout unlinked c.args.key.now number object mid.image out image (c.in_ok-free_owned.ensures.freed mid.image mid.is (may-free (words_at c.args.owned.now.places) state layout unlinked c.args.key.now number object mid.image out) image is)
 
@@ -57,7 +57,7 @@ returns-clause-gone g c from there state layout keep chains unlinked number obje
 
 pub returns-clause-session : goal.returns-clause-session
 returns-clause-session g c from there state layout keep chains unlinked number object left has image is =
-    let mid = told_then (g.F.Folder.told c.args.f.now) (g.F.Folder.told c.drop_indexed_with.new.f) from (Finds (rest (doomed number state (Some object)))) there (c.in_ok-parts.ensures.stops from there state layout keep chains (words_at c.args.owned.now.places ++ unlinked) number object left has) in
+    let mid = told_then (g.F.Folder.told c.args.folder.now) (g.F.Folder.told c.drop_indexed_with.new.folder) from (Finds (rest (doomed number state (Some object)))) there (c.in_ok-parts.ensures.stops from there state layout keep chains (words_at c.args.owned.now.places ++ unlinked) number object left has) in
     let out = c.in_ok-parts.ensures.out from there state layout keep chains (words_at c.args.owned.now.places ++ unlinked) number object left has mid.image mid.is in
     then-session from mid.image image (c.in_ok-parts.ensures.session from there state layout keep chains (words_at c.args.owned.now.places ++ unlinked) number object left has mid.image mid.is) (freed-session (words_at c.args.owned.now.places) mid.image image (c.in_ok-free_owned.ensures.freed mid.image mid.is (may-free (words_at c.args.owned.now.places) state layout unlinked c.args.key.now number object mid.image out) image is))
 
@@ -71,7 +71,7 @@ returns-clause-front g c from there state layout keep chains unlinked number obj
 
 pub returns-clause-stops : goal.returns-clause-stops
 returns-clause-stops g c from there state layout keep chains unlinked number object left has =
-    let mid = told_then (g.F.Folder.told c.args.f.now) (g.F.Folder.told c.drop_indexed_with.new.f) from (Finds (rest (doomed number state (Some object)))) there (c.in_ok-parts.ensures.stops from there state layout keep chains (words_at c.args.owned.now.places ++ unlinked) number object left has) in
+    let mid = told_then (g.F.Folder.told c.args.folder.now) (g.F.Folder.told c.drop_indexed_with.new.folder) from (Finds (rest (doomed number state (Some object)))) there (c.in_ok-parts.ensures.stops from there state layout keep chains (words_at c.args.owned.now.places ++ unlinked) number object left has) in
     let out = c.in_ok-parts.ensures.out from there state layout keep chains (words_at c.args.owned.now.places ++ unlinked) number object left has mid.image mid.is in
     passes_then (c.in_ok-parts.ensures.stops from there state layout keep chains (words_at c.args.owned.now.places ++ unlinked) number object left has)
     (passes_weaker (c.in_ok-free_owned.ensures.stops mid.image mid.is (may-free (words_at c.args.owned.now.places) state layout unlinked c.args.key.now number object mid.image out)) (freeing-finds (words_at c.args.owned.now.places) state layout unlinked c.args.key.now number object mid.image out keep chains from left) (freeing-finds (words_at c.args.owned.now.places) state layout unlinked c.args.key.now number object mid.image out keep chains from left))

@@ -19,10 +19,10 @@ room = let long = length-replicate {A = ℕ} 8256 0 in omega (arith, long)
 
 pub returns-in_err-len-clause-untold : goal.returns-in_err-len-clause-untold
 returns-in_err-len-clause-untold g c agrees lies =
-    carried c.read.result c.from_residual.result c.in_err-len.field-0.0 (λ _. (g.F.Folder.told c.args.f.now).files ≡ None) c.in_err-len.was c.from_residual.ensures.1
+    carried c.read.result c.from_residual.result c.in_err-len.field-0.0 (λ _. (g.F.Folder.told c.args.folder.now).files ≡ None) c.in_err-len.was c.from_residual.ensures.1
     (c.read.ensures.untold (λ image there.
     let l = lies image there in
-    record { agrees = agrees image there; checks = loaded-checks image c.args.entry l.loaded (g.met.F.Folder.are_bytes c.args.f.now image there) l.loads; has = record { streams = l.loaded.streams; is = streams-there image c.args.entry l.loaded l.loads } }))
+    record { agrees = agrees image there; checks = loaded-checks image c.args.entry l.loaded (g.met.F.Folder.are_bytes c.args.folder.now image there) l.loads; has = record { streams = l.loaded.streams; is = streams-there image c.args.entry l.loaded l.loads } }))
 
 pub returns-in-Some-clause-signature : goal.returns-in-Some-clause-signature
 returns-in-Some-clause-signature g c image there loaded index w role =
@@ -33,8 +33,8 @@ returns-in-Some-clause-signature g c image there loaded index w role =
 
 pub returns-in-None-clause-untold : goal.returns-in-None-clause-untold
 returns-in-None-clause-untold g c agrees lies =
-    damaged_any {A = IndexedParts} (Err c.record_damage.result) ((g.F.Folder.told c.args.f.now).files ≡ None)
-    (untold_where (g.F.Folder.told c.args.f.now).files (λ image there.
+    damaged_any {A = IndexedParts} (Err c.record_damage.result) ((g.F.Folder.told c.args.folder.now).files ≡ None)
+    (untold_where (g.F.Folder.told c.args.folder.now).files (λ image there.
     let l = lies image there in
     none-read image c.args.entry l.loaded l.index l.loads l.role (replicate 8256 0) c.read.new.out c.in_ok-len.len room (c.in_ok-len.ensures.piece image there) c.read-2.result c.in-None.is c.read-2.ensures.fields))
 
@@ -45,15 +45,15 @@ returns-in-Some-clause-none g c image there loaded index w role none =
 pub returns-in_err-len-clause-damaged : goal.returns-in_err-len-clause-damaged
 returns-in_err-len-clause-damaged g c =
     handed c.read.result c.from_residual.result c.in_err-len.field-0.0 _ c.args.files.now (g.F.Folder.told c.read.new.f)
-    (λ damage wrong. moved c.args.files.now (g.F.Folder.told c.args.f.now) (g.F.Folder.told c.read.new.f) damage c.read.ensures.stays (read-checked c.args.files.now (g.F.Folder.told c.args.f.now) c.args.entry _ _ _ damage c.requires.kind c.requires.stands wrong))
+    (λ damage wrong. moved c.args.files.now (g.F.Folder.told c.args.folder.now) (g.F.Folder.told c.read.new.f) damage c.read.ensures.stays (read-checked c.args.files.now (g.F.Folder.told c.args.folder.now) c.args.entry _ _ _ damage c.requires.kind c.requires.stands wrong))
     c.in_err-len.was c.from_residual.ensures.1 c.read.ensures.damaged
 
 pub returns-in-None-clause-damaged : goal.returns-in-None-clause-damaged
 returns-in-None-clause-damaged g c =
     let d = c.record_damage.ensures in
     err_damaged IndexedParts c.record_damage.result d.damage (IsFailedCheck c.args.files.now (g.F.Folder.told c.read.new.f)) d.is
-    (moved c.args.files.now (g.F.Folder.told c.args.f.now) (g.F.Folder.told c.read.new.f) d.damage c.in_ok-len.ensures.stays
-    (within-checked c.args.files.now (g.F.Folder.told c.args.f.now) c.args.entry d.damage c.requires.kind c.requires.stands (WrongIndex (record {
+    (moved c.args.files.now (g.F.Folder.told c.args.folder.now) (g.F.Folder.told c.read.new.f) d.damage c.in_ok-len.ensures.stays
+    (within-checked c.args.files.now (g.F.Folder.told c.args.folder.now) c.args.entry d.damage c.requires.kind c.requires.stands (WrongIndex (record {
       of_word = d.word;
       unlike = λ image there. no-index (stream_bytes image c.args.entry 2) (replicate 8256 0) c.read.new.out c.in_ok-len.len (c.in_ok-len.ensures.bytes image there) room c.read-2.result c.in-None.is c.read-2.ensures.fields;
     }))))

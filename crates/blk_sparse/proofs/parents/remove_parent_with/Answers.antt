@@ -12,7 +12,7 @@ use Rattle.std.proofs.lemmas.Result.{on_ok_weaker}
 use Rattle.blk_object.specs.Freeing.{words_at}
 use Rattle.blk_object.specs.RemovingObjects.{FindsEither}
 use Rattle.blk_object.proofs.Sessions.{then-session}
-use Rattle.blk_sparse.specs.Dropping.{IsCalledAtFront}
+use Rattle.blk_sparse.specs.Dropping.{IsCalledOverPrefix}
 use Rattle.blk_sparse.specs.Parents.{AreGoneBeside, LoadsAsParent}
 use Rattle.blk_sparse.proofs.PartsOut.{if_ok_weaker, none-some, stays-passes, stays-there}
 use Rattle.blk_sparse.proofs.ParentsOut.{all-among, as-parent, at-rest, gone-whole, group-told, has-indexed, main-loads, not-yet, own-lies, parts-left}
@@ -24,7 +24,7 @@ returns-in_err-indexed-clause-front g c from there by state layout unlinked numb
 
 pub returns-in_err-indexed-clause-stops : goal.returns-in_err-indexed-clause-stops
 returns-in_err-indexed-clause-stops g c from there by state layout unlinked number object m =
-    stays-passes (g.F.Folder.told c.args.f.now) (g.F.Folder.told c.read_index.new.f) from (FindsEither state (doomed number state (Some object))) there c.in_err-indexed.ensures.stays (at-rest state layout unlinked number object c.args.key.now c.args.node c.args.found.now.entry c.args.found.now.before from m)
+    stays-passes (g.F.Folder.told c.args.folder.now) (g.F.Folder.told c.read_index.new.folder) from (FindsEither state (doomed number state (Some object))) there c.in_err-indexed.ensures.stays (at-rest state layout unlinked number object c.args.key.now c.args.node c.args.found.now.entry c.args.found.now.before from m)
 
 pub returns-in_err-indexed-clause-is_open : goal.returns-in_err-indexed-clause-is_open
 returns-in_err-indexed-clause-is_open g c image is =
@@ -32,7 +32,7 @@ returns-in_err-indexed-clause-is_open g c image is =
 
 pub returns-in_err-indexed-clause-untold : goal.returns-in_err-indexed-clause-untold
 returns-in_err-indexed-clause-untold g c from there by state layout unlinked number object m =
-    carried c.read_index.result c.from_residual.result c.in_err-indexed.field-0.0 (λ _. (g.F.Folder.told c.args.f.now).files ≡ None) c.in_err-indexed.was c.from_residual.ensures.1
+    carried c.read_index.result c.from_residual.result c.in_err-indexed.field-0.0 (λ _. (g.F.Folder.told c.args.folder.now).files ≡ None) c.in_err-indexed.was c.from_residual.ensures.1
     (c.read_index.ensures.untold (λ image is. (c.requires.is_open image is).agrees) (λ image is. subst (LoadsAsParent c.args.found.now.entry) (some_inj (sym there ∙ is)) (as-parent state layout unlinked number object c.args.key.now c.args.node c.args.found.now.entry c.args.found.now.before from m)))
 
 pub take_main-requires-clause-is_open : goal.take_main-requires-clause-is_open
@@ -45,15 +45,15 @@ returns-in_err-take_main-clause-front g c from there by state layout unlinked nu
 pub returns-in_err-take_main-clause-stops : goal.returns-in_err-take_main-clause-stops
 returns-in_err-take_main-clause-stops g c from there by state layout unlinked number object m =
     let stays = c.in_ok-indexed.ensures.stays in
-    let at = stays-there (g.F.Folder.told c.args.f.now) (g.F.Folder.told c.read_index.new.f) from there stays in
+    let at = stays-there (g.F.Folder.told c.args.folder.now) (g.F.Folder.told c.read_index.new.folder) from there stays in
     passes_stayed stays (c.in_err-take_main.ensures.stops from at state layout unlinked number object m.kept.entries m.here m.live (own-lies state layout unlinked number object c.args.key.now c.args.node c.args.found.now.entry c.args.found.now.before from m))
 
 pub returns-in_err-take_main-clause-untold : goal.returns-in_err-take_main-clause-untold
 returns-in_err-take_main-clause-untold g c from there by state layout unlinked number object m =
     let stays = c.in_ok-indexed.ensures.stays in
-    let at = stays-there (g.F.Folder.told c.args.f.now) (g.F.Folder.told c.read_index.new.f) from there stays in
+    let at = stays-there (g.F.Folder.told c.args.folder.now) (g.F.Folder.told c.read_index.new.folder) from there stays in
     subst (λ (t : Told). IfDamaged c.from_residual-in_err-take_main.result (λ _. t.files ≡ None)) stays
-    (carried c.take_main.result c.from_residual-in_err-take_main.result c.in_err-take_main.field-0.0 (λ _. (g.F.Folder.told c.read_index.new.f).files ≡ None) c.in_err-take_main.was c.from_residual-in_err-take_main.ensures.1
+    (carried c.take_main.result c.from_residual-in_err-take_main.result c.in_err-take_main.field-0.0 (λ _. (g.F.Folder.told c.read_index.new.folder).files ≡ None) c.in_err-take_main.was c.from_residual-in_err-take_main.ensures.1
     (c.take_main.ensures.untold from at state layout unlinked number object m.kept.entries m.here m.live (own-lies state layout unlinked number object c.args.key.now c.args.node c.args.found.now.entry c.args.found.now.before from m)))
 
 pub returns-clause-removed : goal.returns-clause-removed
@@ -61,10 +61,10 @@ returns-clause-removed g c =
     on_ok_weaker c.drop_and_free.result
     (λ ends from there by state layout unlinked number object m image is.
     let stays = c.in_ok-indexed.ensures.stays in
-    let at = stays-there (g.F.Folder.told c.args.f.now) (g.F.Folder.told c.read_index.new.f) from there stays in
+    let at = stays-there (g.F.Folder.told c.args.folder.now) (g.F.Folder.told c.read_index.new.folder) from there stays in
     let charge = by.charge m.lies.was (main-loads state layout unlinked number object c.args.key.now c.args.node c.args.found.now.entry c.args.found.now.before from m) in
     let words = by.words m.lies.was (main-loads state layout unlinked number object c.args.key.now c.args.node c.args.found.now.entry c.args.found.now.before from m) in
-    let mid = told_then (g.F.Folder.told c.read_index.new.f) (g.F.Folder.told c.take_main.new.f) from (FindsEither state (doomed number state (Some object))) at (c.in_ok-take_main.ensures.stops from at state layout unlinked number object m.kept.entries m.here m.live (own-lies state layout unlinked number object c.args.key.now c.args.node c.args.found.now.entry c.args.found.now.before from m)) in
+    let mid = told_then (g.F.Folder.told c.read_index.new.folder) (g.F.Folder.told c.take_main.new.folder) from (FindsEither state (doomed number state (Some object))) at (c.in_ok-take_main.ensures.stops from at state layout unlinked number object m.kept.entries m.here m.live (own-lies state layout unlinked number object c.args.key.now c.args.node c.args.found.now.entry c.args.found.now.before from m)) in
     let left = parts-left state layout unlinked number object c.args.key.now c.args.node c.args.found.now.entry c.args.found.now.before from m (words_at c.args.owned.now.places) mid.image (ap (λ (ws : List ℕ). ws ++ unlinked) words) (c.in_ok-take_main.ensures.out from at state layout unlinked number object m.kept.entries m.here m.live (own-lies state layout unlinked number object c.args.key.now c.args.node c.args.found.now.entry c.args.found.now.before from m) m.kept.counters charge mid.image mid.is) in
     let has = has-indexed state layout unlinked number object c.args.key.now c.args.node c.args.found.now.entry c.args.found.now.before from m c.in_ok-indexed.indexed (c.in_ok-indexed.ensures.signature from there m.lies.was m.index (main-loads state layout unlinked number object c.args.key.now c.args.node c.args.found.now.entry c.args.found.now.before from m) m.role) (c.in_ok-indexed.ensures.none from there m.lies.was m.index (main-loads state layout unlinked number object c.args.key.now c.args.node c.args.found.now.entry c.args.found.now.before from m) m.role) in
     gone-whole state layout unlinked number object c.args.key.now c.args.node c.args.found.now.entry c.args.found.now.before from m image (ends mid.image mid.is state layout _ _ unlinked number object left has image is))
@@ -75,10 +75,10 @@ returns-clause-session g c =
     on_ok_weaker c.drop_and_free.result
     (λ ends from there by state layout unlinked number object m image is.
     let stays = c.in_ok-indexed.ensures.stays in
-    let at = stays-there (g.F.Folder.told c.args.f.now) (g.F.Folder.told c.read_index.new.f) from there stays in
+    let at = stays-there (g.F.Folder.told c.args.folder.now) (g.F.Folder.told c.read_index.new.folder) from there stays in
     let charge = by.charge m.lies.was (main-loads state layout unlinked number object c.args.key.now c.args.node c.args.found.now.entry c.args.found.now.before from m) in
     let words = by.words m.lies.was (main-loads state layout unlinked number object c.args.key.now c.args.node c.args.found.now.entry c.args.found.now.before from m) in
-    let mid = told_then (g.F.Folder.told c.read_index.new.f) (g.F.Folder.told c.take_main.new.f) from (FindsEither state (doomed number state (Some object))) at (c.in_ok-take_main.ensures.stops from at state layout unlinked number object m.kept.entries m.here m.live (own-lies state layout unlinked number object c.args.key.now c.args.node c.args.found.now.entry c.args.found.now.before from m)) in
+    let mid = told_then (g.F.Folder.told c.read_index.new.folder) (g.F.Folder.told c.take_main.new.folder) from (FindsEither state (doomed number state (Some object))) at (c.in_ok-take_main.ensures.stops from at state layout unlinked number object m.kept.entries m.here m.live (own-lies state layout unlinked number object c.args.key.now c.args.node c.args.found.now.entry c.args.found.now.before from m)) in
     let left = parts-left state layout unlinked number object c.args.key.now c.args.node c.args.found.now.entry c.args.found.now.before from m (words_at c.args.owned.now.places) mid.image (ap (λ (ws : List ℕ). ws ++ unlinked) words) (c.in_ok-take_main.ensures.out from at state layout unlinked number object m.kept.entries m.here m.live (own-lies state layout unlinked number object c.args.key.now c.args.node c.args.found.now.entry c.args.found.now.before from m) m.kept.counters charge mid.image mid.is) in
     let has = has-indexed state layout unlinked number object c.args.key.now c.args.node c.args.found.now.entry c.args.found.now.before from m c.in_ok-indexed.indexed (c.in_ok-indexed.ensures.signature from there m.lies.was m.index (main-loads state layout unlinked number object c.args.key.now c.args.node c.args.found.now.entry c.args.found.now.before from m) m.role) (c.in_ok-indexed.ensures.none from there m.lies.was m.index (main-loads state layout unlinked number object c.args.key.now c.args.node c.args.found.now.entry c.args.found.now.before from m) m.role) in
     then-session from mid.image image (c.in_ok-take_main.ensures.session from at state layout unlinked number object m.kept.entries m.here m.live (own-lies state layout unlinked number object c.args.key.now c.args.node c.args.found.now.entry c.args.found.now.before from m) mid.image mid.is) (ends mid.image mid.is state layout _ _ unlinked number object left has image is))
@@ -89,10 +89,10 @@ returns-clause-each g c =
     on_ok_weaker c.drop_and_free.result
     (λ ends from there by state layout unlinked number object m.
     let stays = c.in_ok-indexed.ensures.stays in
-    let at = stays-there (g.F.Folder.told c.args.f.now) (g.F.Folder.told c.read_index.new.f) from there stays in
+    let at = stays-there (g.F.Folder.told c.args.folder.now) (g.F.Folder.told c.read_index.new.folder) from there stays in
     let charge = by.charge m.lies.was (main-loads state layout unlinked number object c.args.key.now c.args.node c.args.found.now.entry c.args.found.now.before from m) in
     let words = by.words m.lies.was (main-loads state layout unlinked number object c.args.key.now c.args.node c.args.found.now.entry c.args.found.now.before from m) in
-    let mid = told_then (g.F.Folder.told c.read_index.new.f) (g.F.Folder.told c.take_main.new.f) from (FindsEither state (doomed number state (Some object))) at (c.in_ok-take_main.ensures.stops from at state layout unlinked number object m.kept.entries m.here m.live (own-lies state layout unlinked number object c.args.key.now c.args.node c.args.found.now.entry c.args.found.now.before from m)) in
+    let mid = told_then (g.F.Folder.told c.read_index.new.folder) (g.F.Folder.told c.take_main.new.folder) from (FindsEither state (doomed number state (Some object))) at (c.in_ok-take_main.ensures.stops from at state layout unlinked number object m.kept.entries m.here m.live (own-lies state layout unlinked number object c.args.key.now c.args.node c.args.found.now.entry c.args.found.now.before from m)) in
     let left = parts-left state layout unlinked number object c.args.key.now c.args.node c.args.found.now.entry c.args.found.now.before from m (words_at c.args.owned.now.places) mid.image (ap (λ (ws : List ℕ). ws ++ unlinked) words) (c.in_ok-take_main.ensures.out from at state layout unlinked number object m.kept.entries m.here m.live (own-lies state layout unlinked number object c.args.key.now c.args.node c.args.found.now.entry c.args.found.now.before from m) m.kept.counters charge mid.image mid.is) in
     let has = has-indexed state layout unlinked number object c.args.key.now c.args.node c.args.found.now.entry c.args.found.now.before from m c.in_ok-indexed.indexed (c.in_ok-indexed.ensures.signature from there m.lies.was m.index (main-loads state layout unlinked number object c.args.key.now c.args.node c.args.found.now.entry c.args.found.now.before from m) m.role) (c.in_ok-indexed.ensures.none from there m.lies.was m.index (main-loads state layout unlinked number object c.args.key.now c.args.node c.args.found.now.entry c.args.found.now.before from m) m.role) in
     subst (λ (ns : List ℕ). FoldsTo (λ p x q. goal.E-step g p x tt q) c.args.each.now ns c.drop_and_free.new.each) (all-among c.args.key.now object.key state.uses) (ends mid.image mid.is state layout _ _ unlinked number object left has))
@@ -103,10 +103,10 @@ returns-clause-gone g c =
     if_ok_weaker c.drop_and_free.result _ _
     (λ gone ends from there by state layout unlinked number object m.
     let stays = c.in_ok-indexed.ensures.stays in
-    let at = stays-there (g.F.Folder.told c.args.f.now) (g.F.Folder.told c.read_index.new.f) from there stays in
+    let at = stays-there (g.F.Folder.told c.args.folder.now) (g.F.Folder.told c.read_index.new.folder) from there stays in
     let charge = by.charge m.lies.was (main-loads state layout unlinked number object c.args.key.now c.args.node c.args.found.now.entry c.args.found.now.before from m) in
     let words = by.words m.lies.was (main-loads state layout unlinked number object c.args.key.now c.args.node c.args.found.now.entry c.args.found.now.before from m) in
-    let mid = told_then (g.F.Folder.told c.read_index.new.f) (g.F.Folder.told c.take_main.new.f) from (FindsEither state (doomed number state (Some object))) at (c.in_ok-take_main.ensures.stops from at state layout unlinked number object m.kept.entries m.here m.live (own-lies state layout unlinked number object c.args.key.now c.args.node c.args.found.now.entry c.args.found.now.before from m)) in
+    let mid = told_then (g.F.Folder.told c.read_index.new.folder) (g.F.Folder.told c.take_main.new.folder) from (FindsEither state (doomed number state (Some object))) at (c.in_ok-take_main.ensures.stops from at state layout unlinked number object m.kept.entries m.here m.live (own-lies state layout unlinked number object c.args.key.now c.args.node c.args.found.now.entry c.args.found.now.before from m)) in
     let left = parts-left state layout unlinked number object c.args.key.now c.args.node c.args.found.now.entry c.args.found.now.before from m (words_at c.args.owned.now.places) mid.image (ap (λ (ws : List ℕ). ws ++ unlinked) words) (c.in_ok-take_main.ensures.out from at state layout unlinked number object m.kept.entries m.here m.live (own-lies state layout unlinked number object c.args.key.now c.args.node c.args.found.now.entry c.args.found.now.before from m) m.kept.counters charge mid.image mid.is) in
     let has = has-indexed state layout unlinked number object c.args.key.now c.args.node c.args.found.now.entry c.args.found.now.before from m c.in_ok-indexed.indexed (c.in_ok-indexed.ensures.signature from there m.lies.was m.index (main-loads state layout unlinked number object c.args.key.now c.args.node c.args.found.now.entry c.args.found.now.before from m) m.role) (c.in_ok-indexed.ensures.none from there m.lies.was m.index (main-loads state layout unlinked number object c.args.key.now c.args.node c.args.found.now.entry c.args.found.now.before from m) m.role) in
     group-told state layout unlinked number object c.args.key.now c.args.node c.args.found.now.entry c.args.found.now.before from m c.args.owned.now.charge gone charge (subst (λ (ns : List ℕ). AreGoneBeside layout (map (part c.args.key.now) ns) c.args.owned.now.charge gone) (all-among c.args.key.now object.key state.uses) (ends mid.image mid.is state layout _ _ unlinked number object left has)))
@@ -115,21 +115,21 @@ returns-clause-gone g c =
 pub returns-clause-front : goal.returns-clause-front
 returns-clause-front g c from there by state layout unlinked number object m =
     let stays = c.in_ok-indexed.ensures.stays in
-    let at = stays-there (g.F.Folder.told c.args.f.now) (g.F.Folder.told c.read_index.new.f) from there stays in
+    let at = stays-there (g.F.Folder.told c.args.folder.now) (g.F.Folder.told c.read_index.new.folder) from there stays in
     let charge = by.charge m.lies.was (main-loads state layout unlinked number object c.args.key.now c.args.node c.args.found.now.entry c.args.found.now.before from m) in
     let words = by.words m.lies.was (main-loads state layout unlinked number object c.args.key.now c.args.node c.args.found.now.entry c.args.found.now.before from m) in
-    let mid = told_then (g.F.Folder.told c.read_index.new.f) (g.F.Folder.told c.take_main.new.f) from (FindsEither state (doomed number state (Some object))) at (c.in_ok-take_main.ensures.stops from at state layout unlinked number object m.kept.entries m.here m.live (own-lies state layout unlinked number object c.args.key.now c.args.node c.args.found.now.entry c.args.found.now.before from m)) in
+    let mid = told_then (g.F.Folder.told c.read_index.new.folder) (g.F.Folder.told c.take_main.new.folder) from (FindsEither state (doomed number state (Some object))) at (c.in_ok-take_main.ensures.stops from at state layout unlinked number object m.kept.entries m.here m.live (own-lies state layout unlinked number object c.args.key.now c.args.node c.args.found.now.entry c.args.found.now.before from m)) in
     let left = parts-left state layout unlinked number object c.args.key.now c.args.node c.args.found.now.entry c.args.found.now.before from m (words_at c.args.owned.now.places) mid.image (ap (λ (ws : List ℕ). ws ++ unlinked) words) (c.in_ok-take_main.ensures.out from at state layout unlinked number object m.kept.entries m.here m.live (own-lies state layout unlinked number object c.args.key.now c.args.node c.args.found.now.entry c.args.found.now.before from m) m.kept.counters charge mid.image mid.is) in
     let has = has-indexed state layout unlinked number object c.args.key.now c.args.node c.args.found.now.entry c.args.found.now.before from m c.in_ok-indexed.indexed (c.in_ok-indexed.ensures.signature from there m.lies.was m.index (main-loads state layout unlinked number object c.args.key.now c.args.node c.args.found.now.entry c.args.found.now.before from m) m.role) (c.in_ok-indexed.ensures.none from there m.lies.was m.index (main-loads state layout unlinked number object c.args.key.now c.args.node c.args.found.now.entry c.args.found.now.before from m) m.role) in
-    subst (λ (ns : List ℕ). IsCalledAtFront _ (λ p x q. goal.E-step g p x tt q) ns c.args.each.now c.drop_and_free.new.each) (all-among c.args.key.now object.key state.uses) (c.drop_and_free.ensures.front mid.image mid.is state layout _ _ unlinked number object left has)
+    subst (λ (ns : List ℕ). IsCalledOverPrefix _ (λ p x q. goal.E-step g p x tt q) ns c.args.each.now c.drop_and_free.new.each) (all-among c.args.key.now object.key state.uses) (c.drop_and_free.ensures.front mid.image mid.is state layout _ _ unlinked number object left has)
 
 pub returns-clause-stops : goal.returns-clause-stops
 returns-clause-stops g c from there by state layout unlinked number object m =
     let stays = c.in_ok-indexed.ensures.stays in
-    let at = stays-there (g.F.Folder.told c.args.f.now) (g.F.Folder.told c.read_index.new.f) from there stays in
+    let at = stays-there (g.F.Folder.told c.args.folder.now) (g.F.Folder.told c.read_index.new.folder) from there stays in
     let charge = by.charge m.lies.was (main-loads state layout unlinked number object c.args.key.now c.args.node c.args.found.now.entry c.args.found.now.before from m) in
     let words = by.words m.lies.was (main-loads state layout unlinked number object c.args.key.now c.args.node c.args.found.now.entry c.args.found.now.before from m) in
-    let mid = told_then (g.F.Folder.told c.read_index.new.f) (g.F.Folder.told c.take_main.new.f) from (FindsEither state (doomed number state (Some object))) at (c.in_ok-take_main.ensures.stops from at state layout unlinked number object m.kept.entries m.here m.live (own-lies state layout unlinked number object c.args.key.now c.args.node c.args.found.now.entry c.args.found.now.before from m)) in
+    let mid = told_then (g.F.Folder.told c.read_index.new.folder) (g.F.Folder.told c.take_main.new.folder) from (FindsEither state (doomed number state (Some object))) at (c.in_ok-take_main.ensures.stops from at state layout unlinked number object m.kept.entries m.here m.live (own-lies state layout unlinked number object c.args.key.now c.args.node c.args.found.now.entry c.args.found.now.before from m)) in
     let left = parts-left state layout unlinked number object c.args.key.now c.args.node c.args.found.now.entry c.args.found.now.before from m (words_at c.args.owned.now.places) mid.image (ap (λ (ws : List ℕ). ws ++ unlinked) words) (c.in_ok-take_main.ensures.out from at state layout unlinked number object m.kept.entries m.here m.live (own-lies state layout unlinked number object c.args.key.now c.args.node c.args.found.now.entry c.args.found.now.before from m) m.kept.counters charge mid.image mid.is) in
     let has = has-indexed state layout unlinked number object c.args.key.now c.args.node c.args.found.now.entry c.args.found.now.before from m c.in_ok-indexed.indexed (c.in_ok-indexed.ensures.signature from there m.lies.was m.index (main-loads state layout unlinked number object c.args.key.now c.args.node c.args.found.now.entry c.args.found.now.before from m) m.role) (c.in_ok-indexed.ensures.none from there m.lies.was m.index (main-loads state layout unlinked number object c.args.key.now c.args.node c.args.found.now.entry c.args.found.now.before from m) m.role) in
     passes_stayed stays (passes_then (c.in_ok-take_main.ensures.stops from at state layout unlinked number object m.kept.entries m.here m.live (own-lies state layout unlinked number object c.args.key.now c.args.node c.args.found.now.entry c.args.found.now.before from m)) (passes_weaker (c.drop_and_free.ensures.stops mid.image mid.is state layout _ _ unlinked number object left has) (λ image found. inr found) (λ image found. inr found)))
@@ -137,10 +137,10 @@ returns-clause-stops g c from there by state layout unlinked number object m =
 pub returns-clause-untold : goal.returns-clause-untold
 returns-clause-untold g c from there by state layout unlinked number object m =
     let stays = c.in_ok-indexed.ensures.stays in
-    let at = stays-there (g.F.Folder.told c.args.f.now) (g.F.Folder.told c.read_index.new.f) from there stays in
+    let at = stays-there (g.F.Folder.told c.args.folder.now) (g.F.Folder.told c.read_index.new.folder) from there stays in
     let charge = by.charge m.lies.was (main-loads state layout unlinked number object c.args.key.now c.args.node c.args.found.now.entry c.args.found.now.before from m) in
     let words = by.words m.lies.was (main-loads state layout unlinked number object c.args.key.now c.args.node c.args.found.now.entry c.args.found.now.before from m) in
-    let mid = told_then (g.F.Folder.told c.read_index.new.f) (g.F.Folder.told c.take_main.new.f) from (FindsEither state (doomed number state (Some object))) at (c.in_ok-take_main.ensures.stops from at state layout unlinked number object m.kept.entries m.here m.live (own-lies state layout unlinked number object c.args.key.now c.args.node c.args.found.now.entry c.args.found.now.before from m)) in
+    let mid = told_then (g.F.Folder.told c.read_index.new.folder) (g.F.Folder.told c.take_main.new.folder) from (FindsEither state (doomed number state (Some object))) at (c.in_ok-take_main.ensures.stops from at state layout unlinked number object m.kept.entries m.here m.live (own-lies state layout unlinked number object c.args.key.now c.args.node c.args.found.now.entry c.args.found.now.before from m)) in
     let left = parts-left state layout unlinked number object c.args.key.now c.args.node c.args.found.now.entry c.args.found.now.before from m (words_at c.args.owned.now.places) mid.image (ap (λ (ws : List ℕ). ws ++ unlinked) words) (c.in_ok-take_main.ensures.out from at state layout unlinked number object m.kept.entries m.here m.live (own-lies state layout unlinked number object c.args.key.now c.args.node c.args.found.now.entry c.args.found.now.before from m) m.kept.counters charge mid.image mid.is) in
     let has = has-indexed state layout unlinked number object c.args.key.now c.args.node c.args.found.now.entry c.args.found.now.before from m c.in_ok-indexed.indexed (c.in_ok-indexed.ensures.signature from there m.lies.was m.index (main-loads state layout unlinked number object c.args.key.now c.args.node c.args.found.now.entry c.args.found.now.before from m) m.role) (c.in_ok-indexed.ensures.none from there m.lies.was m.index (main-loads state layout unlinked number object c.args.key.now c.args.node c.args.found.now.entry c.args.found.now.before from m) m.role) in
     if_damaged_weaker c.drop_and_free.result _ _ (λ damage none. absurd (none-some (sym none ∙ mid.is))) (c.drop_and_free.ensures.untold mid.image mid.is state layout _ _ unlinked number object left has)

@@ -20,14 +20,14 @@ returns-in_err-node-clause-stops g c from there state layout unlinked item l =
 
 pub returns-in_err-node-clause-untold : goal.returns-in_err-node-clause-untold
 returns-in_err-node-clause-untold g c from there state layout unlinked item l =
-    carried c.node_of.result c.from_residual.result c.in_err-node.field-0.0 (λ _. (g.F.Folder.told c.args.f.now).files ≡ None) c.in_err-node.was c.from_residual.ensures.1
+    carried c.node_of.result c.from_residual.result c.in_err-node.field-0.0 (λ _. (g.F.Folder.told c.args.folder.now).files ≡ None) c.in_err-node.was c.from_residual.ensures.1
     (c.node_of.ensures.untold (λ image is. (c.requires.is_open image is).agrees)
     (λ image is. subst (λ (i : Image). is_node_among c.args.files.now (entry_at i c.args.entry).rankings_node ≡ true) (some_inj (sym there ∙ is)) (node-there state layout unlinked item c.args.entry from l c.args.files.now (c.requires.is_open from there).agrees)))
 
 pub returns-in_err-node-clause-damaged : goal.returns-in_err-node-clause-damaged
 returns-in_err-node-clause-damaged g c =
-    handed c.node_of.result c.from_residual.result c.in_err-node.field-0.0 _ c.args.files.now (g.F.Folder.told c.node_of.new.f)
-    (λ damage wrong. moved c.args.files.now (g.F.Folder.told c.args.f.now) (g.F.Folder.told c.node_of.new.f) damage c.node_of.ensures.stays (node-word-checked c.args.files.now (g.F.Folder.told c.args.f.now) _ _ damage wrong))
+    handed c.node_of.result c.from_residual.result c.in_err-node.field-0.0 _ c.args.files.now (g.F.Folder.told c.node_of.new.folder)
+    (λ damage wrong. moved c.args.files.now (g.F.Folder.told c.args.folder.now) (g.F.Folder.told c.node_of.new.folder) damage c.node_of.ensures.stays (node-word-checked c.args.files.now (g.F.Folder.told c.args.folder.now) _ _ damage wrong))
     c.in_err-node.was c.from_residual.ensures.1 c.node_of.ensures.damaged
 
 pub returns-in_err-node-clause-is_open : goal.returns-in_err-node-clause-is_open
@@ -41,21 +41,21 @@ touch-requires-clause-is_open g c = subst (λ (t : Told). ForSome t.files (IsOpe
 
 pub returns-clause-stops : goal.returns-clause-stops
 returns-clause-stops g c from there state layout unlinked item l =
-    used-stops c.args.files.now (g.F.Folder.told c.args.f.now) (g.F.Folder.told c.node_of.new.f) (g.F.Folder.told c.touch.new.f) c.args.entry c.in_ok-node.node c.args.moment c.in_ok-node.ensures.stays c.in_ok-node.ensures.node from there state layout unlinked item l c.touch.ensures.stops
+    used-stops c.args.files.now (g.F.Folder.told c.args.folder.now) (g.F.Folder.told c.node_of.new.folder) (g.F.Folder.told c.touch.new.f) c.args.entry c.in_ok-node.node c.args.moment c.in_ok-node.ensures.stays c.in_ok-node.ensures.node from there state layout unlinked item l c.touch.ensures.stops
 
 pub returns-clause-used : goal.returns-clause-used
 returns-clause-used g c = on_ok_weaker c.touch.result
     (λ steps from there state layout unlinked item l.
-    used-end c.args.files.now (g.F.Folder.told c.args.f.now) (g.F.Folder.told c.node_of.new.f) (g.F.Folder.told c.touch.new.f) c.args.entry c.in_ok-node.node c.args.moment c.in_ok-node.ensures.stays c.in_ok-node.ensures.node from there state layout unlinked item l
-    (subst TellsBytes (sym c.in_ok-node.ensures.stays) (g.met.F.Folder.are_bytes c.args.f.now)) (subst (λ (t : Told). ForSome t.files (IsOpen c.args.files.now)) (sym c.in_ok-node.ensures.stays) c.requires.is_open) steps)
+    used-end c.args.files.now (g.F.Folder.told c.args.folder.now) (g.F.Folder.told c.node_of.new.folder) (g.F.Folder.told c.touch.new.f) c.args.entry c.in_ok-node.node c.args.moment c.in_ok-node.ensures.stays c.in_ok-node.ensures.node from there state layout unlinked item l
+    (subst TellsBytes (sym c.in_ok-node.ensures.stays) (g.met.F.Folder.are_bytes c.args.folder.now)) (subst (λ (t : Told). ForSome t.files (IsOpen c.args.files.now)) (sym c.in_ok-node.ensures.stays) c.requires.is_open) steps)
     c.touch.ensures.steps
 
 pub returns-clause-untold : goal.returns-clause-untold
 returns-clause-untold g c from there state layout unlinked item l =
     let same = ap (λ (t : Told). t.files) c.in_ok-node.ensures.stays in
     if_damaged_weaker c.touch.result _ _ (λ damage none. sym same ∙ none)
-    (c.touch.ensures.untold (mid-listed c.args.files.now (g.F.Folder.told c.args.f.now) (g.F.Folder.told c.node_of.new.f) (g.F.Folder.told c.touch.new.f) c.args.entry c.in_ok-node.node c.args.moment c.in_ok-node.ensures.stays c.in_ok-node.ensures.node from there state layout unlinked item l))
+    (c.touch.ensures.untold (mid-listed c.args.files.now (g.F.Folder.told c.args.folder.now) (g.F.Folder.told c.node_of.new.folder) (g.F.Folder.told c.touch.new.f) c.args.entry c.in_ok-node.node c.args.moment c.in_ok-node.ensures.stays c.in_ok-node.ensures.node from there state layout unlinked item l))
 
 pub returns-clause-damaged : goal.returns-clause-damaged
 returns-clause-damaged g c =
-    if_damaged_weaker c.touch.result _ _ (λ damage wrong. touch-checked c.in_ok-node.node c.args.files.now (g.F.Folder.told c.node_of.new.f) (g.F.Folder.told c.touch.new.f) damage wrong) c.touch.ensures.damaged
+    if_damaged_weaker c.touch.result _ _ (λ damage wrong. touch-checked c.in_ok-node.node c.args.files.now (g.F.Folder.told c.node_of.new.folder) (g.F.Folder.told c.touch.new.f) damage wrong) c.touch.ensures.damaged

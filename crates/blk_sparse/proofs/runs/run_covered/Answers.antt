@@ -17,7 +17,7 @@ returns-then-count-eq0-clause-run g c from there state layout unlinked number ob
 
 pub returns-in_err-one-clause-untold : goal.returns-in_err-one-clause-untold
 returns-in_err-one-clause-untold g c from there state layout unlinked number object node entry p of_key =
-    carried c.run_of_part.result c.from_residual.result c.in_err-one.field-0.0 (λ _. (g.F.Folder.told c.args.f.now).files ≡ None) c.in_err-one.was c.from_residual.ensures.1
+    carried c.run_of_part.result c.from_residual.result c.in_err-one.field-0.0 (λ _. (g.F.Folder.told c.args.folder.now).files ≡ None) c.in_err-one.was c.from_residual.ensures.1
     (c.run_of_part.ensures.untold from there state layout unlinked number object node entry (signed-parent state layout unlinked number object node entry (cast_unsigned w64 c.args.signature) _ from (of_z-to_z w64 (cast_unsigned w64 c.args.signature) (let small = c.requires.signature in omega (arith, small))) p) of_key)
 
 pub returns-then-from-count-clause-run : goal.returns-then-from-count-clause-run
@@ -32,14 +32,14 @@ run_of_part-requires-2-clause-is_open g c image is =
 
 pub returns-in_err-two-clause-untold : goal.returns-in_err-two-clause-untold
 returns-in_err-two-clause-untold g c from there state layout unlinked number object node entry p of_key =
-    let at = stays-there (g.F.Folder.told c.args.f.now) (g.F.Folder.told c.run_of_part.new.f) from there c.in_ok-one.ensures.stays in
+    let at = stays-there (g.F.Folder.told c.args.folder.now) (g.F.Folder.told c.run_of_part.new.folder) from there c.in_ok-one.ensures.stays in
     subst (λ (t : Told). IfDamaged c.from_residual-in_err-two.result (λ _. t.files ≡ None)) c.in_ok-one.ensures.stays
-    (carried c.run_of_part-2.result c.from_residual-in_err-two.result c.in_err-two.field-0.0 (λ _. (g.F.Folder.told c.run_of_part.new.f).files ≡ None) c.in_err-two.was c.from_residual-in_err-two.ensures.1
+    (carried c.run_of_part-2.result c.from_residual-in_err-two.result c.in_err-two.field-0.0 (λ _. (g.F.Folder.told c.run_of_part.new.folder).files ≡ None) c.in_err-two.was c.from_residual-in_err-two.ensures.1
     (c.run_of_part-2.ensures.untold from at state layout unlinked number object node entry (signed-parent state layout unlinked number object node entry (cast_unsigned w64 c.args.signature) _ from (of_z-to_z w64 (cast_unsigned w64 c.args.signature) (let small = c.requires.signature in omega (arith, small))) p) of_key))
 
 pub returns-clause-run : goal.returns-clause-run
 returns-clause-run g c from there state layout unlinked number object node entry p of_key =
-    let at = stays-there (g.F.Folder.told c.args.f.now) (g.F.Folder.told c.run_of_part.new.f) from there c.in_ok-one.ensures.stays in
+    let at = stays-there (g.F.Folder.told c.args.folder.now) (g.F.Folder.told c.run_of_part.new.folder) from there c.in_ok-one.ensures.stays in
     let least = c.min-cut.ensures in
     let place = c.child_of-first.ensures.place in
     let same = c.from-2.ensures in

@@ -6,7 +6,7 @@ use Rattle.spec_image.specs.Told.{Along, AppliesPrefix}
 use Rattle.spec_image.proofs.Runs.{passes_part, some_inj}
 use Rattle.spec_format.specs.Sealed.{IsUpdated, record_at, sealed, sealed_steps, seal_place}
 use Rattle.blk_io.proofs.Carried.{silent_part}
-use Rattle.blk_disk.proofs.SealedWrites.{front_read}
+use Rattle.blk_disk.proofs.SealedWrites.{prefix_read}
 use Rattle.spec_format.proofs.SealedRecords.{entry_bytes}
 use Rattle.law_folder.proofs.lists.WriteSteps.{quiet-sealed}
 use Rattle.blk_stream.specs.Changing.{NamesInProgress, place_changes}
@@ -50,11 +50,11 @@ returns-clause-named g c =
     c.update_record.ensures.updated
 
 -- a prefix of the steps was made
-part : (g : given.Over) (c : goal.After-slice_known-2-1 g) (from : Image) → (g.F.Folder.told c.args.f.now).files ≡ Some from → c.args.bytes.now ≡ record_at from c.args.entry
-    → AppliesPrefix (g.F.Folder.told c.args.f.now) (g.F.Folder.told c.update_record.new.f) (sealed_steps from c.args.entry (place_changes c.args.stream c.args.size c.args.word))
+part : (g : given.Over) (c : goal.After-slice_known-2-1 g) (from : Image) → (g.F.Folder.told c.args.folder.now).files ≡ Some from → c.args.bytes.now ≡ record_at from c.args.entry
+    → AppliesPrefix (g.F.Folder.told c.args.folder.now) (g.F.Folder.told c.update_record.new.folder) (sealed_steps from c.args.entry (place_changes c.args.stream c.args.size c.args.word))
 part g c from there read =
-    subst (λ (l : List (ℕ × ℕ)). AppliesPrefix (g.F.Folder.told c.args.f.now) (g.F.Folder.told c.update_record.new.f) (sealed_steps from c.args.entry l)) (changes_are g c)
-    (front_read c.args.entry ((c.size_at.result, c.args.size) ∷ (c.addr_at.result, c.args.word) ∷ []) c.args.bytes.now (g.F.Folder.told c.args.f.now) (g.F.Folder.told c.args.f.now) (g.F.Folder.told c.update_record.new.f) refl
+    subst (λ (l : List (ℕ × ℕ)). AppliesPrefix (g.F.Folder.told c.args.folder.now) (g.F.Folder.told c.update_record.new.folder) (sealed_steps from c.args.entry l)) (changes_are g c)
+    (prefix_read c.args.entry ((c.size_at.result, c.args.size) ∷ (c.addr_at.result, c.args.word) ∷ []) c.args.bytes.now (g.F.Folder.told c.args.folder.now) (g.F.Folder.told c.args.folder.now) (g.F.Folder.told c.update_record.new.folder) refl
     (λ image now. subst (λ (i : Image). c.args.bytes.now ≡ record_at i c.args.entry) (some_inj (sym there ∙ now)) read) c.update_record.ensures.prefix from there)
 
 pub returns-clause-stages : goal.returns-clause-stages
@@ -63,7 +63,7 @@ returns-clause-stages g c from there read good =
     let steps : List TrailStep = sealed_steps from c.args.entry (place_changes c.args.stream c.args.size c.args.word) in
     passes_part P P (part g c from there read) (quiet-sealed from c.args.entry (place_changes c.args.stream c.args.size c.args.word)) (λ image h. h)
     (λ image now. subst (λ (i : Image). Along P i steps) (some_inj (sym there ∙ now))
-    (naming_shown c.args.files.now c.args.entry c.args.stream c.args.size c.args.word from c.requires.kind c.requires.stands c.requires.stream (c.requires.agrees from there) (g.met.F.Folder.are_bytes c.args.f.now from there) good))
+    (naming_shown c.args.files.now c.args.entry c.args.stream c.args.size c.args.word from c.requires.kind c.requires.stands c.requires.stream (c.requires.agrees from there) (g.met.F.Folder.are_bytes c.args.folder.now from there) good))
 
 pub returns-clause-stops : goal.returns-clause-stops
 returns-clause-stops g c from there read good =
@@ -77,6 +77,6 @@ pub returns-clause-sealed : goal.returns-clause-sealed
 returns-clause-sealed g c =
     on_ok_weaker c.update_record.result
     (λ updated from there read image now.
-    updated_sealed from image c.args.entry (place_changes c.args.stream c.args.size c.args.word) (g.met.F.Folder.are_bytes c.update_record.new.f image now) c.requires.kind (place_are c.args.entry c.args.stream (size_place c.args.stream) (address_place c.args.stream) c.args.size c.args.word c.requires.kind c.requires.stream refl refl)
+    updated_sealed from image c.args.entry (place_changes c.args.stream c.args.size c.args.word) (g.met.F.Folder.are_bytes c.update_record.new.folder image now) c.requires.kind (place_are c.args.entry c.args.stream (size_place c.args.stream) (address_place c.args.stream) c.args.size c.args.word c.requires.kind c.requires.stream refl refl)
     (subst (λ (l : List (ℕ × ℕ)). IsUpdated from c.args.entry l image) (changes_are g c) (updated from there read image now)))
     c.update_record.ensures.updated

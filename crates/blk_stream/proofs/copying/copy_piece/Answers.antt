@@ -16,11 +16,11 @@ write_data-requires-clause-agrees g c = subst (λ (t : Told). ForSome t.files (A
 
 pub returns-clause-steps : goal.returns-clause-steps
 returns-clause-steps g c from there =
-    let now : (g.F.Folder.told c.read_data.new.f).files ≡ Some from = ap (λ (t : Told). t.files) c.in_ok-read_data.ensures.stays ∙ there in
-    subst (λ (t : Told). Applies t (g.F.Folder.told c.write_data.new.f) (data_steps c.args.to c.args.at (data_at from c.args.from c.args.at (length c.args.piece.now)))) c.in_ok-read_data.ensures.stays
-    (subst (λ (bytes : List ℕ). Applies (g.F.Folder.told c.read_data.new.f) (g.F.Folder.told c.write_data.new.f) (data_steps c.args.to c.args.at bytes)) (c.in_ok-read_data.ensures.bytes from there) c.in_ok-write_data.ensures.steps)
+    let now : (g.F.Folder.told c.read_data.new.folder).files ≡ Some from = ap (λ (t : Told). t.files) c.in_ok-read_data.ensures.stays ∙ there in
+    subst (λ (t : Told). Applies t (g.F.Folder.told c.write_data.new.folder) (data_steps c.args.to c.args.at (data_at from c.args.from c.args.at (length c.args.piece.now)))) c.in_ok-read_data.ensures.stays
+    (subst (λ (bytes : List ℕ). Applies (g.F.Folder.told c.read_data.new.folder) (g.F.Folder.told c.write_data.new.folder) (data_steps c.args.to c.args.at bytes)) (c.in_ok-read_data.ensures.bytes from there) c.in_ok-write_data.ensures.steps)
 
 pub returns-in_err-read_data-clause-damaged : goal.returns-in_err-read_data-clause-damaged
 returns-in_err-read_data-clause-damaged g c =
-    carried c.read_data.result c.from_residual.result c.in_err-read_data.field-0.0 (IsCut (g.F.Folder.told c.read_data.new.f) c.args.from c.args.at (length c.args.piece.now)) c.in_err-read_data.was c.from_residual.ensures.1
+    carried c.read_data.result c.from_residual.result c.in_err-read_data.field-0.0 (IsCut (g.F.Folder.told c.read_data.new.folder) c.args.from c.args.at (length c.args.piece.now)) c.in_err-read_data.was c.from_residual.ensures.1
     (subst (λ (t : Told). IfDamaged c.read_data.result (IsCut t c.args.from c.args.at (length c.args.piece.now))) (sym c.in_err-read_data.ensures.stays) c.read_data.ensures.short)

@@ -22,8 +22,8 @@ returns-in_err-old-clause-stops g c from there read checks =
 
 pub returns-in_err-old-clause-untold : goal.returns-in_err-old-clause-untold
 returns-in_err-old-clause-untold g c can =
-    damaged_any c.from_residual.result ((g.F.Folder.told c.args.f.now).files ≡ None)
-    (untold_where (g.F.Folder.told c.args.f.now).files
+    damaged_any c.from_residual.result ((g.F.Folder.told c.args.folder.now).files ≡ None)
+    (untold_where (g.F.Folder.told c.args.folder.now).files
     (λ image there.
     let size = read_size image c.args.entry c.args.stream c.args.bytes.now c.requires.kind c.requires.stream (can image there).0 in
     let word = read_word image c.args.entry c.args.stream c.args.bytes.now c.requires.kind c.requires.stream (can image there).0 in

@@ -26,14 +26,14 @@ returns-in_err-read_record-clause-stops g c from there good =
 
 pub returns-in_err-read_record-clause-damaged : goal.returns-in_err-read_record-clause-damaged
 returns-in_err-read_record-clause-damaged g c =
-    carried c.read_record.result c.from_residual.result c.in_err-read_record.field-0.0 (IsDropDamage c.args.files.now (g.F.Folder.told c.args.f.now) (g.F.Folder.told c.read_record.new.f) c.args.entry) c.in_err-read_record.was c.from_residual.ensures.1
+    carried c.read_record.result c.from_residual.result c.in_err-read_record.field-0.0 (IsDropDamage c.args.files.now (g.F.Folder.told c.args.f.now) (g.F.Folder.told c.read_record.new.folder) c.args.entry) c.in_err-read_record.was c.from_residual.ensures.1
     (if_damaged_weaker c.read_record.result _ _
     (λ damage d. inl (c.in_err-read_record.ensures.stays, subst (λ (n : ℕ). IsShort (g.F.Folder.told c.args.f.now) (FileId.Block (file_selector c.args.entry)) (place c.args.entry) n damage ⊎ IsUnsealed (g.F.Folder.told c.args.f.now) c.args.entry damage) (entry_bytes c.args.entry c.requires.kind) d))
     c.read_record.ensures.damaged)
 
 pub loop-stream-init : goal.loop-stream-init
 loop-stream-init g c = record {
-  has = begun (g.F.Folder.told c.read_record.new.f) c.args.files.now c.args.entry c.read_record.new.bytes
+  has = begun (g.F.Folder.told c.read_record.new.folder) c.args.files.now c.args.entry c.read_record.new.bytes
       (subst (λ (t : Told). ForSome t.files (Agrees c.args.files.now)) (sym c.in_ok-read_record.ensures.stays) c.requires.agrees)
       (subst (λ (t : Told). ForSome t.files (λ image. c.read_record.new.bytes ≡ record_at image c.args.entry)) (sym c.in_ok-read_record.ensures.stays) c.in_ok-read_record.ensures.bytes)
       (subst (λ (t : Told). ForSome t.files (RecordChecks c.args.entry)) (sym c.in_ok-read_record.ensures.stays) c.in_ok-read_record.ensures.checked)
@@ -44,7 +44,7 @@ loop-stream-init g c = record {
 pub returns-in_err-drop_stream-clause-stops : goal.returns-in_err-drop_stream-clause-stops
 returns-in_err-drop_stream-clause-stops g c from there good =
     passes_stayed c.in_ok-read_record.ensures.stays
-    (next_passes (g.F.Folder.told c.read_record.new.f) (g.F.Folder.told c.loop-stream.f) (g.F.Folder.told c.drop_stream.new.f) c.args.files.now c.args.entry c.loop-stream.stream c.loop-stream.bytes c.loop-stream.bytes c.loop-stream-test.true c.loop-stream.invariant.has
+    (next_passes (g.F.Folder.told c.read_record.new.folder) (g.F.Folder.told c.loop-stream.f) (g.F.Folder.told c.drop_stream.new.folder) c.args.files.now c.args.entry c.loop-stream.stream c.loop-stream.bytes c.loop-stream.bytes c.loop-stream-test.true c.loop-stream.invariant.has
     (λ mid at. c.drop_stream.ensures.stops mid at (c.loop-stream.invariant.has.read mid at) (c.loop-stream.invariant.has.checks mid at)) from (ap (λ (t : Told). t.files) c.in_ok-read_record.ensures.stays ∙ there))
 
 pub returns-in_err-drop_stream-clause-untold : goal.returns-in_err-drop_stream-clause-untold
@@ -56,17 +56,17 @@ returns-in_err-drop_stream-clause-untold g c can =
     (λ mid at. (
       has.read mid at,
       has.checks mid at,
-      can_next (g.F.Folder.told c.read_record.new.f) (g.F.Folder.told c.loop-stream.f) (g.F.Folder.told c.drop_stream.new.f) c.args.files.now c.args.entry c.loop-stream.stream c.loop-stream.bytes c.loop-stream.bytes c.loop-stream-test.true has
+      can_next (g.F.Folder.told c.read_record.new.folder) (g.F.Folder.told c.loop-stream.f) (g.F.Folder.told c.drop_stream.new.folder) c.args.files.now c.args.entry c.loop-stream.stream c.loop-stream.bytes c.loop-stream.bytes c.loop-stream-test.true has
           (subst (λ (t : Told). ForSome t.files (Agrees c.args.files.now)) (sym c.in_ok-read_record.ensures.stays) c.requires.agrees)
           (subst (λ (t : Told). ForSome t.files (StreamsCanBeDropped c.args.entry)) (sym c.in_ok-read_record.ensures.stays) can) mid at,
     ))))
 
 pub loop-stream-preserved : goal.loop-stream-preserved
 loop-stream-preserved g c = record {
-  has = next_has (g.F.Folder.told c.read_record.new.f) (g.F.Folder.told c.loop-stream.f) (g.F.Folder.told c.drop_stream.new.f) c.args.files.now c.args.entry c.loop-stream.stream c.loop-stream.bytes c.drop_stream.new.bytes c.loop-stream-test.true c.loop-stream.invariant.has
+  has = next_has (g.F.Folder.told c.read_record.new.folder) (g.F.Folder.told c.loop-stream.f) (g.F.Folder.told c.drop_stream.new.folder) c.args.files.now c.args.entry c.loop-stream.stream c.loop-stream.bytes c.drop_stream.new.bytes c.loop-stream-test.true c.loop-stream.invariant.has
       (λ mid at. c.drop_stream.ensures.stops mid at (c.loop-stream.invariant.has.read mid at) (c.loop-stream.invariant.has.checks mid at))
       (λ mid at. c.in_ok-drop_stream.ensures.dropped mid at (c.loop-stream.invariant.has.read mid at) (c.loop-stream.invariant.has.checks mid at))
-      (told_at_end (g.F.Folder.told c.loop-stream.f).files (g.F.Folder.told c.drop_stream.new.f).files (λ image. c.drop_stream.new.bytes ≡ record_at image c.args.entry) c.drop_stream.ensures.silent (λ mid at. c.in_ok-drop_stream.ensures.read mid at (c.loop-stream.invariant.has.read mid at)))
+      (told_at_end (g.F.Folder.told c.loop-stream.f).files (g.F.Folder.told c.drop_stream.new.folder).files (λ image. c.drop_stream.new.bytes ≡ record_at image c.args.entry) c.drop_stream.ensures.silent (λ mid at. c.in_ok-drop_stream.ensures.read mid at (c.loop-stream.invariant.has.read mid at)))
       c.drop_stream.ensures.agrees c.drop_stream.ensures.silent c.drop_stream.ensures.long;
   later = let one = c.loop-stream.invariant.later in let other = c.drop_stream.ensures.later in omega (arith, one, other);
 }

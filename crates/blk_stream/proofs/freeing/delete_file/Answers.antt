@@ -14,11 +14,11 @@ returns-clause-freed g c = on_ok_weaker c.delete.result (λ none from there imag
 
 pub returns-clause-stops : goal.returns-clause-stops
 returns-clause-stops g c from there =
-    subst (λ (F : Footprint). Passes (g.F.Folder.told c.args.f.now) (g.F.Folder.told c.delete.new.f) (SameOutside F from)) (sym (freeing_external c.args.addr c.requires.kind))
+    subst (λ (F : Footprint). Passes (g.F.Folder.told c.args.folder.now) (g.F.Folder.told c.delete.new.f) (SameOutside F from)) (sym (freeing_external c.args.addr c.requires.kind))
     (passes_weaker (c.delete.ensures.stops from there) (λ image h. h.outside) (λ image h. h.outside))
 
 pub returns-clause-agrees : goal.returns-clause-agrees
-returns-clause-agrees g c = agrees_deleted c.args.files.now (g.F.Folder.told c.args.f.now) (g.F.Folder.told c.delete.new.f) (external_number c.args.addr) c.delete.ensures.prefix c.requires.agrees
+returns-clause-agrees g c = agrees_deleted c.args.files.now (g.F.Folder.told c.args.folder.now) (g.F.Folder.told c.delete.new.f) (external_number c.args.addr) c.delete.ensures.prefix c.requires.agrees
 
 pub returns-clause-silent : goal.returns-clause-silent
 returns-clause-silent g c none = silent_part c.delete.ensures.prefix none

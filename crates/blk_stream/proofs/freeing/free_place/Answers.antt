@@ -18,7 +18,7 @@ returns-else-is_of-clause-freed g c =
 pub returns-else-is_of-clause-stops : goal.returns-else-is_of-clause-stops
 returns-else-is_of-clause-stops g c from there =
     let blocky : kind_of c.args.addr ≢ external = of_other (kind_of c.args.addr) external (sym c.is_of.ensures ∙ c.if-is_of.false) in
-    subst (λ (F : Footprint). Passes (g.F.Folder.told c.args.f.now) (g.F.Folder.told c.free.new.f) (SameOutside F from)) (sym (freeing_blocks c.args.addr blocky))
+    subst (λ (F : Footprint). Passes (g.F.Folder.told c.args.folder.now) (g.F.Folder.told c.free.new.f) (SameOutside F from)) (sym (freeing_blocks c.args.addr blocky))
     (passes_weaker (c.free.ensures.stops from there) (λ image h. map_only c.args.addr from image h) (λ image h. freed_only c.args.addr from image h))
 
 pub returns-else-is_of-clause-untold : goal.returns-else-is_of-clause-untold

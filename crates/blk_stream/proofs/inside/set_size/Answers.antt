@@ -11,9 +11,9 @@ use Rattle.blk_stream.proofs.inside.set_size.Goals as goal
 pub returns-clause-external : goal.returns-clause-external
 returns-clause-external g c =
     on_ok_weaker c.resize.result
-    (λ grown. resized_there (g.F.Folder.told c.args.f.now) (g.F.Folder.told c.resize.new.f) c.args.addr c.args.size (subst (λ (n : ℕ). Applies (g.F.Folder.told c.args.f.now) (g.F.Folder.told c.resize.new.f) (SetLength (External (external_number c.args.addr)) n ∷ [])) c.from.ensures grown))
+    (λ grown. resized_there (g.F.Folder.told c.args.folder.now) (g.F.Folder.told c.resize.new.f) c.args.addr c.args.size (subst (λ (n : ℕ). Applies (g.F.Folder.told c.args.folder.now) (g.F.Folder.told c.resize.new.f) (SetLength (External (external_number c.args.addr)) n ∷ [])) c.from.ensures grown))
     c.resize.ensures.steps
 
 pub returns-clause-agrees : goal.returns-clause-agrees
 returns-clause-agrees g c =
-    agrees_resized c.args.files.now (g.F.Folder.told c.args.f.now) (g.F.Folder.told c.resize.new.f) (external_number c.args.addr) c.from.result c.resize.ensures.prefix c.requires.agrees
+    agrees_resized c.args.files.now (g.F.Folder.told c.args.folder.now) (g.F.Folder.told c.resize.new.f) (external_number c.args.addr) c.from.result c.resize.ensures.prefix c.requires.agrees

@@ -17,7 +17,7 @@ use Rattle.blk_stream.proofs.inside.write_gap.Given as given
 use Rattle.blk_stream.proofs.inside.write_gap.Goals as goal
 
 pub returns-then-end-start-clause-steps : goal.returns-then-end-start-clause-steps
-returns-then-end-start-clause-steps g c = subst (λ (s : List TrailStep). Applies (g.F.Folder.told c.args.f.now) (g.F.Folder.told c.args.f.now) s) (sym (gap_none c.args.addr c.args.start c.args.end c.if-end-start.true)) (grows_none refl)
+returns-then-end-start-clause-steps g c = subst (λ (s : List TrailStep). Applies (g.F.Folder.told c.args.folder.now) (g.F.Folder.told c.args.folder.now) s) (sym (gap_none c.args.addr c.args.start c.args.end c.if-end-start.true)) (grows_none refl)
 
 pub slice_bounds-zeros-end : goal.slice_bounds-zeros-end
 slice_bounds-zeros-end g c = let h = room_small c.args.addr in omega (arith, h, c.requires.inside)
@@ -35,7 +35,7 @@ zero_steps g c =
     ∙ sym (steps_of_blocks c.args.addr c.args.start (zeros (c.args.end - c.args.start)) c.requires.kind)
 
 pub returns-clause-steps : goal.returns-clause-steps
-returns-clause-steps g c = on_ok_weaker c.write_block.result (λ grown. subst (λ (s : List TrailStep). Applies (g.F.Folder.told c.args.f.now) (g.F.Folder.told c.write_block.new.f) s) (zero_steps g c) grown) c.write_block.ensures.steps
+returns-clause-steps g c = on_ok_weaker c.write_block.result (λ grown. subst (λ (s : List TrailStep). Applies (g.F.Folder.told c.args.folder.now) (g.F.Folder.told c.write_block.new.f) s) (zero_steps g c) grown) c.write_block.ensures.steps
 
 pub returns-clause-prefix : goal.returns-clause-prefix
-returns-clause-prefix g c = subst (λ (s : List TrailStep). AppliesPrefix (g.F.Folder.told c.args.f.now) (g.F.Folder.told c.write_block.new.f) s) (zero_steps g c) c.write_block.ensures.prefix
+returns-clause-prefix g c = subst (λ (s : List TrailStep). AppliesPrefix (g.F.Folder.told c.args.folder.now) (g.F.Folder.told c.write_block.new.f) s) (zero_steps g c) c.write_block.ensures.prefix

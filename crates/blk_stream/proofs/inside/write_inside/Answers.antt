@@ -19,7 +19,7 @@ returns-in_err-write_here-clause-stops g c from there read checks apart =
     (λ image now. subst (λ (i : Image). Along (WritesInProgress c.args.entry c.args.stream c.args.addr from) i (here_steps c.args.addr c.args.old c.args.size c.args.offset c.args.bytes.now)) (some_inj (sym there ∙ now))
     (here_moments c.args.files.now c.args.entry c.args.stream c.args.addr c.args.old c.args.size c.args.offset c.args.bytes.now c.requires.kind c.requires.stands c.requires.stream c.requires.inside c.requires.few apart from (c.requires.agrees from there) checks))
 
-part : (g : given.Over) (c : goal.After-slice_known-2-1 g) → AppliesPrefix (g.F.Folder.told c.args.f.now) (g.F.Folder.told c.write_size.new.f) (inside_steps c.args.record_bytes.now c.args.entry c.args.stream c.args.addr c.args.old c.args.size c.args.offset c.args.bytes.now)
+part : (g : given.Over) (c : goal.After-slice_known-2-1 g) → AppliesPrefix (g.F.Folder.told c.args.folder.now) (g.F.Folder.told c.write_size.new.folder) (inside_steps c.args.record_bytes.now c.args.entry c.args.stream c.args.addr c.args.old c.args.size c.args.offset c.args.bytes.now)
 part g c = part_then c.in_ok-write_here.ensures.steps c.write_size.ensures.prefix
 
 pub returns-clause-steps : goal.returns-clause-steps
@@ -47,13 +47,13 @@ pub returns-in_err-write_here-clause-stages : goal.returns-in_err-write_here-cla
 returns-in_err-write_here-clause-stages g c from there read checks apart file =
     passes_part (WritesKeepingFiles c.args.entry c.args.stream c.args.addr from) (WritesKeepingFiles c.args.entry c.args.stream c.args.addr from) c.in_err-write_here.ensures.prefix (quiet_here c.args.addr c.args.old c.args.size c.args.offset c.args.bytes.now) (λ image h. h)
     (λ image now. subst (λ (i : Image). Along (WritesKeepingFiles c.args.entry c.args.stream c.args.addr from) i (here_steps c.args.addr c.args.old c.args.size c.args.offset c.args.bytes.now)) (some_inj (sym there ∙ now))
-    (here_stages c.args.files.now c.args.entry c.args.stream c.args.addr c.args.old c.args.size c.args.offset c.args.bytes.now c.requires.kind c.requires.stands c.requires.stream c.requires.inside c.requires.few apart from (c.requires.agrees from there) (g.met.F.Folder.are_bytes c.args.f.now from there) checks file))
+    (here_stages c.args.files.now c.args.entry c.args.stream c.args.addr c.args.old c.args.size c.args.offset c.args.bytes.now c.requires.kind c.requires.stands c.requires.stream c.requires.inside c.requires.few apart from (c.requires.agrees from there) (g.met.F.Folder.are_bytes c.args.folder.now from there) checks file))
 
 pub returns-clause-stages : goal.returns-clause-stages
 returns-clause-stages g c from there read checks apart file =
     passes_part (WritesKeepingFiles c.args.entry c.args.stream c.args.addr from) (WritesKeepingFiles c.args.entry c.args.stream c.args.addr from) (part g c) (quiet_inside c.args.record_bytes.now c.args.entry c.args.stream c.args.addr c.args.old c.args.size c.args.offset c.args.bytes.now) (λ image h. h)
     (λ image now. subst (λ (i : Image). Along (WritesKeepingFiles c.args.entry c.args.stream c.args.addr from) i (inside_steps c.args.record_bytes.now c.args.entry c.args.stream c.args.addr c.args.old c.args.size c.args.offset c.args.bytes.now)) (some_inj (sym there ∙ now))
-    (inside_stages c.args.files.now c.args.entry c.args.stream c.args.addr c.args.old c.args.size c.args.offset c.args.bytes.now c.requires.kind c.requires.stands c.requires.stream c.requires.inside c.requires.few apart from (c.requires.agrees from there) (g.met.F.Folder.are_bytes c.args.f.now from there) checks file c.args.record_bytes.now read))
+    (inside_stages c.args.files.now c.args.entry c.args.stream c.args.addr c.args.old c.args.size c.args.offset c.args.bytes.now c.requires.kind c.requires.stands c.requires.stream c.requires.inside c.requires.few apart from (c.requires.agrees from there) (g.met.F.Folder.are_bytes c.args.folder.now from there) checks file c.args.record_bytes.now read))
 
 pub returns-clause-sealed : goal.returns-clause-sealed
 returns-clause-sealed g c =
@@ -63,5 +63,5 @@ returns-clause-sealed g c =
     let is : image ≡ after S from = some_inj (sym now ∙ (grows_then c.in_ok-write_here.ensures.steps grown).files ∙ ap (option_map (after S)) there) in
     subst (KeepsSeal c.args.entry from) (sym is)
     (inside_sealed c.args.files.now c.args.entry c.args.stream c.args.addr c.args.old c.args.size c.args.offset c.args.bytes.now c.requires.kind c.requires.stands c.requires.stream c.requires.inside c.requires.few apart from (c.requires.agrees from there) checks c.args.record_bytes.now read
-    (g.met.F.Folder.are_bytes c.args.f.now from there) (subst AreBytes is (g.met.F.Folder.are_bytes c.write_size.new.f image now))))
+    (g.met.F.Folder.are_bytes c.args.folder.now from there) (subst AreBytes is (g.met.F.Folder.are_bytes c.write_size.new.folder image now))))
     c.write_size.ensures.steps

@@ -11,7 +11,7 @@ use Rattle.blk_stream.proofs.inside.write_size.Goals as goal
 
 pub returns-then-size-old-clause-steps : goal.returns-then-size-old-clause-steps
 returns-then-size-old-clause-steps g c =
-    subst (λ (s : List TrailStep). Applies (g.F.Folder.told c.args.f.now) (g.F.Folder.told c.args.f.now) s) (sym (size_none c.args.record_bytes.now c.args.entry c.args.stream c.args.old c.args.size c.if-size-old.true)) (grows_none refl)
+    subst (λ (s : List TrailStep). Applies (g.F.Folder.told c.args.folder.now) (g.F.Folder.told c.args.folder.now) s) (sym (size_none c.args.record_bytes.now c.args.entry c.args.stream c.args.old c.args.size c.if-size-old.true)) (grows_none refl)
 
 pub update_record-requires-clause-changes : goal.update_record-requires-clause-changes
 update_record-requires-clause-changes g c = size_changes c.args.entry c.args.stream c.size_at.result c.args.size c.requires.kind c.requires.stream c.size_at.ensures
@@ -24,7 +24,7 @@ steps record_bytes entry i old size p is other = ap (λ (q : ℕ). steps_over re
 
 pub returns-clause-steps : goal.returns-clause-steps
 returns-clause-steps g c =
-    on_ok_weaker c.update_record.result (λ grown. subst (λ (s : List TrailStep). Applies (g.F.Folder.told c.args.f.now) (g.F.Folder.told c.update_record.new.f) s) (steps c.args.record_bytes.now c.args.entry c.args.stream c.args.old c.args.size c.size_at.result c.size_at.ensures c.if-size-old.false) grown) c.update_record.ensures.steps
+    on_ok_weaker c.update_record.result (λ grown. subst (λ (s : List TrailStep). Applies (g.F.Folder.told c.args.folder.now) (g.F.Folder.told c.update_record.new.folder) s) (steps c.args.record_bytes.now c.args.entry c.args.stream c.args.old c.args.size c.size_at.result c.size_at.ensures c.if-size-old.false) grown) c.update_record.ensures.steps
 
 pub returns-clause-prefix : goal.returns-clause-prefix
-returns-clause-prefix g c = subst (λ (s : List TrailStep). AppliesPrefix (g.F.Folder.told c.args.f.now) (g.F.Folder.told c.update_record.new.f) s) (steps c.args.record_bytes.now c.args.entry c.args.stream c.args.old c.args.size c.size_at.result c.size_at.ensures c.if-size-old.false) c.update_record.ensures.prefix
+returns-clause-prefix g c = subst (λ (s : List TrailStep). AppliesPrefix (g.F.Folder.told c.args.folder.now) (g.F.Folder.told c.update_record.new.folder) s) (steps c.args.record_bytes.now c.args.entry c.args.stream c.args.old c.args.size c.size_at.result c.size_at.ensures c.if-size-old.false) c.update_record.ensures.prefix

@@ -18,12 +18,12 @@ returns-in_err-addr-clause-stages g c from there can = passes_weaker (c.in_err-a
 
 pub returns-in_err-fill-clause-stages : goal.returns-in_err-fill-clause-stages
 returns-in_err-fill-clause-stages g c from there can =
-    filling_stages c.args.files.now c.new_place.new.files nowhere c.in_ok-addr.addr (c.args.offset + length c.args.bytes.now) (g.F.Folder.told c.args.f.now) (g.F.Folder.told c.new_place.new.f) (g.F.Folder.told c.fill.new.f) (omega (arith, c.requires.some)) c.in_ok-addr.ensures.stages c.in_ok-addr.ensures.takes c.in_err-fill.ensures.stops
+    filling_stages c.args.files.now c.new_place.new.files nowhere c.in_ok-addr.addr (c.args.offset + length c.args.bytes.now) (g.F.Folder.told c.args.folder.now) (g.F.Folder.told c.new_place.new.folder) (g.F.Folder.told c.fill.new.folder) (omega (arith, c.requires.some)) c.in_ok-addr.ensures.stages c.in_ok-addr.ensures.takes c.in_err-fill.ensures.stops
     from there (nothing_old c.args.files.now (c.args.offset + length c.args.bytes.now) from can)
 
 pub returns-clause-stages : goal.returns-clause-stages
 returns-clause-stages g c from there can =
-    filling_stages c.args.files.now c.new_place.new.files nowhere c.in_ok-addr.addr (c.args.offset + length c.args.bytes.now) (g.F.Folder.told c.args.f.now) (g.F.Folder.told c.new_place.new.f) (g.F.Folder.told c.fill.new.f) (omega (arith, c.requires.some)) c.in_ok-addr.ensures.stages c.in_ok-addr.ensures.takes c.in_ok-fill.ensures.stops
+    filling_stages c.args.files.now c.new_place.new.files nowhere c.in_ok-addr.addr (c.args.offset + length c.args.bytes.now) (g.F.Folder.told c.args.folder.now) (g.F.Folder.told c.new_place.new.folder) (g.F.Folder.told c.fill.new.folder) (omega (arith, c.requires.some)) c.in_ok-addr.ensures.stages c.in_ok-addr.ensures.takes c.in_ok-fill.ensures.stops
     from there (nothing_old c.args.files.now (c.args.offset + length c.args.bytes.now) from can)
 
 pub returns-in_err-fill-clause-damaged : goal.returns-in_err-fill-clause-damaged
@@ -33,8 +33,8 @@ returns-in_err-fill-clause-damaged g c =
 
 pub returns-in_err-fill-clause-untold : goal.returns-in_err-fill-clause-untold
 returns-in_err-fill-clause-untold g c can =
-    carried c.fill.result c.from_residual-in_err-fill.result c.in_err-fill.field-0.0 (λ _. (g.F.Folder.told c.args.f.now).files ≡ None) c.in_err-fill.was c.from_residual-in_err-fill.ensures.1
-    (fill_untold c.args.files.now c.new_place.new.files nowhere c.in_ok-addr.addr (c.args.offset + length c.args.bytes.now) c.args.offset c.args.bytes.now (g.F.Folder.told c.args.f.now) (g.F.Folder.told c.new_place.new.f) (g.F.Folder.told c.fill.new.f) c.requires.agrees (no_place c.args.files.now) (omega (arith, c.requires.some)) (may_both c.new_place.new.files (c.args.offset + length c.args.bytes.now) c.in_ok-addr.addr c.requires.most c.in_ok-addr.ensures.stores) c.in_ok-addr.ensures.stops c.in_ok-addr.ensures.placed
+    carried c.fill.result c.from_residual-in_err-fill.result c.in_err-fill.field-0.0 (λ _. (g.F.Folder.told c.args.folder.now).files ≡ None) c.in_err-fill.was c.from_residual-in_err-fill.ensures.1
+    (fill_untold c.args.files.now c.new_place.new.files nowhere c.in_ok-addr.addr (c.args.offset + length c.args.bytes.now) c.args.offset c.args.bytes.now (g.F.Folder.told c.args.folder.now) (g.F.Folder.told c.new_place.new.folder) (g.F.Folder.told c.fill.new.folder) c.requires.agrees (no_place c.args.files.now) (omega (arith, c.requires.some)) (may_both c.new_place.new.files (c.args.offset + length c.args.bytes.now) c.in_ok-addr.addr c.requires.most c.in_ok-addr.ensures.stores) c.in_ok-addr.ensures.stops c.in_ok-addr.ensures.placed
     c.fill.result c.fill.ensures.untold c.new_place.ensures.silent (λ from there. nothing_old c.args.files.now (c.args.offset + length c.args.bytes.now) from (can from there)))
 
 pub returns-clause-fits : goal.returns-clause-fits
@@ -44,13 +44,13 @@ pub returns-clause-stored : goal.returns-clause-stored
 returns-clause-stored g c from there can image now =
     let fits = may_both c.new_place.new.files (c.args.offset + length c.args.bytes.now) c.in_ok-addr.addr c.requires.most c.in_ok-addr.ensures.stores in
     place_stores c.args.files.now c.new_place.new.files c.in_ok-addr.addr c.args.offset c.args.bytes.now from image (c.fill.ensures.agrees image now) fits
-    (both_fill c.args.files.now c.new_place.new.files nowhere c.in_ok-addr.addr (c.args.offset + length c.args.bytes.now) c.args.offset c.args.bytes.now (g.F.Folder.told c.args.f.now) (g.F.Folder.told c.new_place.new.f) (g.F.Folder.told c.fill.new.f) c.requires.agrees (no_place c.args.files.now) (omega (arith, c.requires.some)) fits c.in_ok-addr.ensures.stops c.in_ok-addr.ensures.placed c.in_ok-fill.ensures.stops c.in_ok-fill.ensures.filled
+    (both_fill c.args.files.now c.new_place.new.files nowhere c.in_ok-addr.addr (c.args.offset + length c.args.bytes.now) c.args.offset c.args.bytes.now (g.F.Folder.told c.args.folder.now) (g.F.Folder.told c.new_place.new.folder) (g.F.Folder.told c.fill.new.folder) c.requires.agrees (no_place c.args.files.now) (omega (arith, c.requires.some)) fits c.in_ok-addr.ensures.stops c.in_ok-addr.ensures.placed c.in_ok-fill.ensures.stops c.in_ok-fill.ensures.filled
     from there (nothing_old c.args.files.now (c.args.offset + length c.args.bytes.now) from can) image now)
 
 pub returns-clause-staged : goal.returns-clause-staged
 returns-clause-staged g c from there can =
     let fits = may_both c.new_place.new.files (c.args.offset + length c.args.bytes.now) c.in_ok-addr.addr c.requires.most c.in_ok-addr.ensures.stores in
-    filled_staged c.args.files.now c.new_place.new.files nowhere c.in_ok-addr.addr (c.args.offset + length c.args.bytes.now) (g.F.Folder.told c.args.f.now) (g.F.Folder.told c.new_place.new.f) (g.F.Folder.told c.fill.new.f) (omega (arith, c.requires.some)) c.in_ok-addr.ensures.stages c.in_ok-addr.ensures.takes c.in_ok-fill.ensures.stops
+    filled_staged c.args.files.now c.new_place.new.files nowhere c.in_ok-addr.addr (c.args.offset + length c.args.bytes.now) (g.F.Folder.told c.args.folder.now) (g.F.Folder.told c.new_place.new.folder) (g.F.Folder.told c.fill.new.folder) (omega (arith, c.requires.some)) c.in_ok-addr.ensures.stages c.in_ok-addr.ensures.takes c.in_ok-fill.ensures.stops
     (stored_some c.new_place.new.files (c.args.offset + length c.args.bytes.now) c.in_ok-addr.addr (omega (arith, c.requires.some)) c.in_ok-addr.ensures.stores)
-    (λ from there can image now. (both_fill c.args.files.now c.new_place.new.files nowhere c.in_ok-addr.addr (c.args.offset + length c.args.bytes.now) c.args.offset c.args.bytes.now (g.F.Folder.told c.args.f.now) (g.F.Folder.told c.new_place.new.f) (g.F.Folder.told c.fill.new.f) c.requires.agrees (no_place c.args.files.now) (omega (arith, c.requires.some)) fits c.in_ok-addr.ensures.stops c.in_ok-addr.ensures.placed c.in_ok-fill.ensures.stops c.in_ok-fill.ensures.filled from there can image now).long)
+    (λ from there can image now. (both_fill c.args.files.now c.new_place.new.files nowhere c.in_ok-addr.addr (c.args.offset + length c.args.bytes.now) c.args.offset c.args.bytes.now (g.F.Folder.told c.args.folder.now) (g.F.Folder.told c.new_place.new.folder) (g.F.Folder.told c.fill.new.folder) c.requires.agrees (no_place c.args.files.now) (omega (arith, c.requires.some)) fits c.in_ok-addr.ensures.stops c.in_ok-addr.ensures.placed c.in_ok-fill.ensures.stops c.in_ok-fill.ensures.filled from there can image now).long)
     from there (nothing_old c.args.files.now (c.args.offset + length c.args.bytes.now) from can)

@@ -36,7 +36,7 @@ returns-in_err-read_record-clause-stops g c from there can =
 
 pub returns-in_err-read_record-clause-damaged : goal.returns-in_err-read_record-clause-damaged
 returns-in_err-read_record-clause-damaged g c =
-    carried c.read_record.result c.from_residual.result c.in_err-read_record.field-0.0 (IsWriteDamage c.args.files.now c.args.files.now (g.F.Folder.told c.args.f.now) (g.F.Folder.told c.read_record.new.f) c.args.entry c.args.stream) c.in_err-read_record.was c.from_residual.ensures.1
+    carried c.read_record.result c.from_residual.result c.in_err-read_record.field-0.0 (IsWriteDamage c.args.files.now c.args.files.now (g.F.Folder.told c.args.f.now) (g.F.Folder.told c.read_record.new.folder) c.args.entry c.args.stream) c.in_err-read_record.was c.from_residual.ensures.1
     (if_damaged_weaker c.read_record.result _ _
     (λ damage d. inl (c.in_err-read_record.ensures.stays, (refl, inl (subst (λ (n : ℕ). IsShort (g.F.Folder.told c.args.f.now) (FileId.Block (file_selector c.args.entry)) (place c.args.entry) n damage ⊎ IsUnsealed (g.F.Folder.told c.args.f.now) c.args.entry damage) (entry_bytes c.args.entry c.requires.kind) d))))
     c.read_record.ensures.damaged)
@@ -59,7 +59,7 @@ returns-in_err-old-clause-untold g c can =
 pub write_stored-requires-clause-agrees : goal.write_stored-requires-clause-agrees
 write_stored-requires-clause-agrees g c = subst (λ (t : Told). ForSome t.files (Agrees c.args.files.now)) (sym c.in_ok-read_record.ensures.stays) c.requires.agrees
 
-words : (g : given.Over) (c : goal.After-record_bytes-4-1 g) → ForSome (g.F.Folder.told c.read_record.new.f).files (HasWords c.args.entry c.args.stream c.in_ok-old.old.size (unwrap_or c.in_ok-old.old.addr 0))
+words : (g : given.Over) (c : goal.After-record_bytes-4-1 g) → ForSome (g.F.Folder.told c.read_record.new.folder).files (HasWords c.args.entry c.args.stream c.in_ok-old.old.size (unwrap_or c.in_ok-old.old.addr 0))
 words g c image now =
     let there : (g.F.Folder.told c.args.f.now).files ≡ Some image = ap (λ (t : Told). t.files) (sym c.in_ok-read_record.ensures.stays) ∙ now in
     read_words image c.args.entry c.args.stream c.read_record.new.bytes c.in_ok-old.old c.requires.kind c.requires.stream (c.in_ok-read_record.ensures.bytes image there) c.in_ok-old.ensures.stored
@@ -101,7 +101,7 @@ pub returns-clause-stops : goal.returns-clause-stops
 returns-clause-stops g c from there can =
     let e = size_read g c from there in
     passes_stayed c.in_ok-read_record.ensures.stays
-    (subst (λ (n : ℕ). Passes (g.F.Folder.told c.read_record.new.f) (g.F.Folder.told c.write_stored.new.f) (WritesStream c.args.files.now c.args.entry c.args.stream (writes.size_after c.args.cut n c.args.offset (length c.args.bytes.now)) c.args.offset c.args.cut c.args.bytes.now from)) (sym e)
+    (subst (λ (n : ℕ). Passes (g.F.Folder.told c.read_record.new.folder) (g.F.Folder.told c.write_stored.new.folder) (WritesStream c.args.files.now c.args.entry c.args.stream (writes.size_after c.args.cut n c.args.offset (length c.args.bytes.now)) c.args.offset c.args.cut c.args.bytes.now from)) (sym e)
     (c.write_stored.ensures.stops from (ap (λ (t : Told). t.files) c.in_ok-read_record.ensures.stays ∙ there) (stored_is g c from there)
     (subst (λ (n : ℕ). CanBeWritten c.args.files.now c.args.entry c.args.stream (writes.size_after c.args.cut n c.args.offset (length c.args.bytes.now)) from) e can)))
 
@@ -139,7 +139,7 @@ pub returns-clause-stages : goal.returns-clause-stages
 returns-clause-stages g c from there can =
     let e = size_read g c from there in
     passes_stayed c.in_ok-read_record.ensures.stays
-    (subst (λ (n : ℕ). Passes (g.F.Folder.told c.read_record.new.f) (g.F.Folder.told c.write_stored.new.f) (WritesByStage c.args.files.now c.write_stored.new.files c.args.entry c.args.stream (writes.size_after c.args.cut n c.args.offset (length c.args.bytes.now)) c.args.offset c.args.bytes.now from)) (sym e)
+    (subst (λ (n : ℕ). Passes (g.F.Folder.told c.read_record.new.folder) (g.F.Folder.told c.write_stored.new.folder) (WritesByStage c.args.files.now c.write_stored.new.files c.args.entry c.args.stream (writes.size_after c.args.cut n c.args.offset (length c.args.bytes.now)) c.args.offset c.args.bytes.now from)) (sym e)
     (c.write_stored.ensures.stages from (ap (λ (t : Told). t.files) c.in_ok-read_record.ensures.stays ∙ there) (stored_is g c from there)
     (subst (λ (n : ℕ). CanBeWritten c.args.files.now c.args.entry c.args.stream (writes.size_after c.args.cut n c.args.offset (length c.args.bytes.now)) from) e can)))
 

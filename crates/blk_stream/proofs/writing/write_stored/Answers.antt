@@ -40,13 +40,13 @@ pub write_inside-requires-clause-few : goal.write_inside-requires-clause-few
 write_inside-requires-clause-few g c = subst (λ (n : ℕ). c.args.offset + length c.args.bytes.now ≤ n) (sym c.size_after-size.ensures) (size_few c.args.cut c.args.old.size c.args.offset (length c.args.bytes.now))
 
 pub returns-in_err-write_inside-in-Some-clause-stops : goal.returns-in_err-write_inside-in-Some-clause-stops
-returns-in_err-write_inside-in-Some-clause-stops g c from there stored can = inside_told c.args.files.now c.args.entry c.args.stream c.size_after-size.result c.in-Some.addr c.args.old c.args.offset c.args.cut c.args.bytes.now c.requires.kind c.requires.stands c.requires.stream (c.requires.some c.in-Some.addr c.in-Some.is) (subst (λ (v : ℕ). may_keep c.args.files.now c.args.old.size v ≡ true) (ap (λ (o : Option ℕ). unwrap_or o 0) c.in-Some.is) c.requires.place) (storage_stays c.args.files.now c.args.old.size c.size_after-size.result c.in-Some.addr (c.requires.some c.in-Some.addr c.in-Some.is) (subst (λ (v : ℕ). may_keep c.args.files.now c.args.old.size v ≡ true) (ap (λ (o : Option ℕ). unwrap_or o 0) c.in-Some.is) c.requires.place) (sym c.have_one_storage.ensures ∙ c.if-not-have_one_storage.false) (subst (λ (n : ℕ). n ≤ most_stream_bytes) (sym c.size_after-size.ensures) (size_most c.args.cut c.args.old.size c.args.offset (length c.args.bytes.now) most_stream_bytes (may_parts c.args.files.now c.args.old.size (unwrap_or c.args.old.addr 0) c.requires.place).0 c.requires.most))) c.in-Some.is c.size_after-size.ensures (g.F.Folder.told c.args.f.now) c.requires.agrees (told_is (HasWords c.args.entry c.args.stream c.args.old.size (unwrap_or c.args.old.addr 0)) from there stored.words) (g.F.Folder.told c.write_inside.new.f) (λ x at. c.in_err-write_inside-in-Some.ensures.stops x at (told_is (λ image. c.args.record_bytes.now ≡ record_at image c.args.entry) from there stored.read x at) (told_is (RecordChecks c.args.entry) from there can.checks x at)) from there can
+returns-in_err-write_inside-in-Some-clause-stops g c from there stored can = inside_told c.args.files.now c.args.entry c.args.stream c.size_after-size.result c.in-Some.addr c.args.old c.args.offset c.args.cut c.args.bytes.now c.requires.kind c.requires.stands c.requires.stream (c.requires.some c.in-Some.addr c.in-Some.is) (subst (λ (v : ℕ). may_keep c.args.files.now c.args.old.size v ≡ true) (ap (λ (o : Option ℕ). unwrap_or o 0) c.in-Some.is) c.requires.place) (storage_stays c.args.files.now c.args.old.size c.size_after-size.result c.in-Some.addr (c.requires.some c.in-Some.addr c.in-Some.is) (subst (λ (v : ℕ). may_keep c.args.files.now c.args.old.size v ≡ true) (ap (λ (o : Option ℕ). unwrap_or o 0) c.in-Some.is) c.requires.place) (sym c.have_one_storage.ensures ∙ c.if-not-have_one_storage.false) (subst (λ (n : ℕ). n ≤ most_stream_bytes) (sym c.size_after-size.ensures) (size_most c.args.cut c.args.old.size c.args.offset (length c.args.bytes.now) most_stream_bytes (may_parts c.args.files.now c.args.old.size (unwrap_or c.args.old.addr 0) c.requires.place).0 c.requires.most))) c.in-Some.is c.size_after-size.ensures (g.F.Folder.told c.args.folder.now) c.requires.agrees (told_is (HasWords c.args.entry c.args.stream c.args.old.size (unwrap_or c.args.old.addr 0)) from there stored.words) (g.F.Folder.told c.write_inside.new.folder) (λ x at. c.in_err-write_inside-in-Some.ensures.stops x at (told_is (λ image. c.args.record_bytes.now ≡ record_at image c.args.entry) from there stored.read x at) (told_is (RecordChecks c.args.entry) from there can.checks x at)) from there can
 
 pub returns-in_ok-write_inside-in-Some-clause-written : goal.returns-in_ok-write_inside-in-Some-clause-written
-returns-in_ok-write_inside-in-Some-clause-written g c from there stored can = inside_end c.args.files.now c.args.entry c.args.stream c.size_after-size.result c.in-Some.addr c.args.old c.args.offset c.args.cut c.args.bytes.now c.requires.kind c.requires.stands c.requires.stream (c.requires.some c.in-Some.addr c.in-Some.is) (subst (λ (v : ℕ). may_keep c.args.files.now c.args.old.size v ≡ true) (ap (λ (o : Option ℕ). unwrap_or o 0) c.in-Some.is) c.requires.place) (storage_stays c.args.files.now c.args.old.size c.size_after-size.result c.in-Some.addr (c.requires.some c.in-Some.addr c.in-Some.is) (subst (λ (v : ℕ). may_keep c.args.files.now c.args.old.size v ≡ true) (ap (λ (o : Option ℕ). unwrap_or o 0) c.in-Some.is) c.requires.place) (sym c.have_one_storage.ensures ∙ c.if-not-have_one_storage.false) (subst (λ (n : ℕ). n ≤ most_stream_bytes) (sym c.size_after-size.ensures) (size_most c.args.cut c.args.old.size c.args.offset (length c.args.bytes.now) most_stream_bytes (may_parts c.args.files.now c.args.old.size (unwrap_or c.args.old.addr 0) c.requires.place).0 c.requires.most))) c.in-Some.is c.size_after-size.ensures (g.F.Folder.told c.args.f.now) c.requires.agrees (told_is (HasWords c.args.entry c.args.stream c.args.old.size (unwrap_or c.args.old.addr 0)) from there stored.words) (g.F.Folder.told c.write_inside.new.f) (λ x at. c.in_ok-write_inside-in-Some.ensures.stops x at (told_is (λ image. c.args.record_bytes.now ≡ record_at image c.args.entry) from there stored.read x at) (told_is (RecordChecks c.args.entry) from there can.checks x at)) (λ x at. c.in_ok-write_inside-in-Some.ensures.written x at (told_is (λ image. c.args.record_bytes.now ≡ record_at image c.args.entry) from there stored.read x at) (told_is (RecordChecks c.args.entry) from there can.checks x at)) from there can
+returns-in_ok-write_inside-in-Some-clause-written g c from there stored can = inside_end c.args.files.now c.args.entry c.args.stream c.size_after-size.result c.in-Some.addr c.args.old c.args.offset c.args.cut c.args.bytes.now c.requires.kind c.requires.stands c.requires.stream (c.requires.some c.in-Some.addr c.in-Some.is) (subst (λ (v : ℕ). may_keep c.args.files.now c.args.old.size v ≡ true) (ap (λ (o : Option ℕ). unwrap_or o 0) c.in-Some.is) c.requires.place) (storage_stays c.args.files.now c.args.old.size c.size_after-size.result c.in-Some.addr (c.requires.some c.in-Some.addr c.in-Some.is) (subst (λ (v : ℕ). may_keep c.args.files.now c.args.old.size v ≡ true) (ap (λ (o : Option ℕ). unwrap_or o 0) c.in-Some.is) c.requires.place) (sym c.have_one_storage.ensures ∙ c.if-not-have_one_storage.false) (subst (λ (n : ℕ). n ≤ most_stream_bytes) (sym c.size_after-size.ensures) (size_most c.args.cut c.args.old.size c.args.offset (length c.args.bytes.now) most_stream_bytes (may_parts c.args.files.now c.args.old.size (unwrap_or c.args.old.addr 0) c.requires.place).0 c.requires.most))) c.in-Some.is c.size_after-size.ensures (g.F.Folder.told c.args.folder.now) c.requires.agrees (told_is (HasWords c.args.entry c.args.stream c.args.old.size (unwrap_or c.args.old.addr 0)) from there stored.words) (g.F.Folder.told c.write_inside.new.folder) (λ x at. c.in_ok-write_inside-in-Some.ensures.stops x at (told_is (λ image. c.args.record_bytes.now ≡ record_at image c.args.entry) from there stored.read x at) (told_is (RecordChecks c.args.entry) from there can.checks x at)) (λ x at. c.in_ok-write_inside-in-Some.ensures.written x at (told_is (λ image. c.args.record_bytes.now ≡ record_at image c.args.entry) from there stored.read x at) (told_is (RecordChecks c.args.entry) from there can.checks x at)) from there can
 
 pub returns-in_ok-write_inside-in-Some-clause-stops : goal.returns-in_ok-write_inside-in-Some-clause-stops
-returns-in_ok-write_inside-in-Some-clause-stops g c from there stored can = inside_told c.args.files.now c.args.entry c.args.stream c.size_after-size.result c.in-Some.addr c.args.old c.args.offset c.args.cut c.args.bytes.now c.requires.kind c.requires.stands c.requires.stream (c.requires.some c.in-Some.addr c.in-Some.is) (subst (λ (v : ℕ). may_keep c.args.files.now c.args.old.size v ≡ true) (ap (λ (o : Option ℕ). unwrap_or o 0) c.in-Some.is) c.requires.place) (storage_stays c.args.files.now c.args.old.size c.size_after-size.result c.in-Some.addr (c.requires.some c.in-Some.addr c.in-Some.is) (subst (λ (v : ℕ). may_keep c.args.files.now c.args.old.size v ≡ true) (ap (λ (o : Option ℕ). unwrap_or o 0) c.in-Some.is) c.requires.place) (sym c.have_one_storage.ensures ∙ c.if-not-have_one_storage.false) (subst (λ (n : ℕ). n ≤ most_stream_bytes) (sym c.size_after-size.ensures) (size_most c.args.cut c.args.old.size c.args.offset (length c.args.bytes.now) most_stream_bytes (may_parts c.args.files.now c.args.old.size (unwrap_or c.args.old.addr 0) c.requires.place).0 c.requires.most))) c.in-Some.is c.size_after-size.ensures (g.F.Folder.told c.args.f.now) c.requires.agrees (told_is (HasWords c.args.entry c.args.stream c.args.old.size (unwrap_or c.args.old.addr 0)) from there stored.words) (g.F.Folder.told c.write_inside.new.f) (λ x at. c.in_ok-write_inside-in-Some.ensures.stops x at (told_is (λ image. c.args.record_bytes.now ≡ record_at image c.args.entry) from there stored.read x at) (told_is (RecordChecks c.args.entry) from there can.checks x at)) from there can
+returns-in_ok-write_inside-in-Some-clause-stops g c from there stored can = inside_told c.args.files.now c.args.entry c.args.stream c.size_after-size.result c.in-Some.addr c.args.old c.args.offset c.args.cut c.args.bytes.now c.requires.kind c.requires.stands c.requires.stream (c.requires.some c.in-Some.addr c.in-Some.is) (subst (λ (v : ℕ). may_keep c.args.files.now c.args.old.size v ≡ true) (ap (λ (o : Option ℕ). unwrap_or o 0) c.in-Some.is) c.requires.place) (storage_stays c.args.files.now c.args.old.size c.size_after-size.result c.in-Some.addr (c.requires.some c.in-Some.addr c.in-Some.is) (subst (λ (v : ℕ). may_keep c.args.files.now c.args.old.size v ≡ true) (ap (λ (o : Option ℕ). unwrap_or o 0) c.in-Some.is) c.requires.place) (sym c.have_one_storage.ensures ∙ c.if-not-have_one_storage.false) (subst (λ (n : ℕ). n ≤ most_stream_bytes) (sym c.size_after-size.ensures) (size_most c.args.cut c.args.old.size c.args.offset (length c.args.bytes.now) most_stream_bytes (may_parts c.args.files.now c.args.old.size (unwrap_or c.args.old.addr 0) c.requires.place).0 c.requires.most))) c.in-Some.is c.size_after-size.ensures (g.F.Folder.told c.args.folder.now) c.requires.agrees (told_is (HasWords c.args.entry c.args.stream c.args.old.size (unwrap_or c.args.old.addr 0)) from there stored.words) (g.F.Folder.told c.write_inside.new.folder) (λ x at. c.in_ok-write_inside-in-Some.ensures.stops x at (told_is (λ image. c.args.record_bytes.now ≡ record_at image c.args.entry) from there stored.read x at) (told_is (RecordChecks c.args.entry) from there can.checks x at)) from there can
 
 pub returns-in-None-clause-written : goal.returns-in-None-clause-written
 returns-in-None-clause-written g c from there stored can image now =
@@ -62,7 +62,7 @@ returns-in-None-clause-stops g c from there stored can =
 
 pub returns-then-not-have_one_storage-clause-stages : goal.returns-then-not-have_one_storage-clause-stages
 returns-then-not-have_one_storage-clause-stages g c from there stored can =
-    subst (λ (n : ℕ). Passes (g.F.Folder.told c.args.f.now) (g.F.Folder.told c.write_moved.new.f) (WritesByStage c.args.files.now c.write_moved.new.files c.args.entry c.args.stream n c.args.offset c.args.bytes.now from)) c.size_after-size.ensures
+    subst (λ (n : ℕ). Passes (g.F.Folder.told c.args.folder.now) (g.F.Folder.told c.write_moved.new.folder) (WritesByStage c.args.files.now c.write_moved.new.files c.args.entry c.args.stream n c.args.offset c.args.bytes.now from)) c.size_after-size.ensures
     (c.write_moved.ensures.stages from there stored (subst (λ (n : ℕ). CanBeWritten c.args.files.now c.args.entry c.args.stream n from) (sym c.size_after-size.ensures) can))
 
 pub returns-then-not-have_one_storage-clause-staged : goal.returns-then-not-have_one_storage-clause-staged
@@ -74,22 +74,22 @@ returns-then-not-have_one_storage-clause-staged g c =
     c.write_moved.ensures.staged
 
 pub returns-in_err-write_inside-in-Some-clause-stages : goal.returns-in_err-write_inside-in-Some-clause-stages
-returns-in_err-write_inside-in-Some-clause-stages g c from there stored can = inside_by_stage c.args.files.now c.args.entry c.args.stream c.size_after-size.result c.in-Some.addr c.args.old c.args.offset c.args.cut c.args.bytes.now c.requires.kind c.requires.stands c.requires.stream (c.requires.some c.in-Some.addr c.in-Some.is) (subst (λ (v : ℕ). may_keep c.args.files.now c.args.old.size v ≡ true) (ap (λ (o : Option ℕ). unwrap_or o 0) c.in-Some.is) c.requires.place) (storage_stays c.args.files.now c.args.old.size c.size_after-size.result c.in-Some.addr (c.requires.some c.in-Some.addr c.in-Some.is) (subst (λ (v : ℕ). may_keep c.args.files.now c.args.old.size v ≡ true) (ap (λ (o : Option ℕ). unwrap_or o 0) c.in-Some.is) c.requires.place) (sym c.have_one_storage.ensures ∙ c.if-not-have_one_storage.false) (subst (λ (n : ℕ). n ≤ most_stream_bytes) (sym c.size_after-size.ensures) (size_most c.args.cut c.args.old.size c.args.offset (length c.args.bytes.now) most_stream_bytes (may_parts c.args.files.now c.args.old.size (unwrap_or c.args.old.addr 0) c.requires.place).0 c.requires.most))) c.in-Some.is (sym c.have_one_storage.ensures ∙ c.if-not-have_one_storage.false) c.size_after-size.ensures (g.F.Folder.told c.args.f.now) c.requires.agrees (told_is (HasWords c.args.entry c.args.stream c.args.old.size (unwrap_or c.args.old.addr 0)) from there stored.words) (g.F.Folder.told c.write_inside.new.f) (λ x at. c.in_err-write_inside-in-Some.ensures.stages x at (told_is (λ image. c.args.record_bytes.now ≡ record_at image c.args.entry) from there stored.read x at) (told_is (RecordChecks c.args.entry) from there can.checks x at)) from there can
+returns-in_err-write_inside-in-Some-clause-stages g c from there stored can = inside_by_stage c.args.files.now c.args.entry c.args.stream c.size_after-size.result c.in-Some.addr c.args.old c.args.offset c.args.cut c.args.bytes.now c.requires.kind c.requires.stands c.requires.stream (c.requires.some c.in-Some.addr c.in-Some.is) (subst (λ (v : ℕ). may_keep c.args.files.now c.args.old.size v ≡ true) (ap (λ (o : Option ℕ). unwrap_or o 0) c.in-Some.is) c.requires.place) (storage_stays c.args.files.now c.args.old.size c.size_after-size.result c.in-Some.addr (c.requires.some c.in-Some.addr c.in-Some.is) (subst (λ (v : ℕ). may_keep c.args.files.now c.args.old.size v ≡ true) (ap (λ (o : Option ℕ). unwrap_or o 0) c.in-Some.is) c.requires.place) (sym c.have_one_storage.ensures ∙ c.if-not-have_one_storage.false) (subst (λ (n : ℕ). n ≤ most_stream_bytes) (sym c.size_after-size.ensures) (size_most c.args.cut c.args.old.size c.args.offset (length c.args.bytes.now) most_stream_bytes (may_parts c.args.files.now c.args.old.size (unwrap_or c.args.old.addr 0) c.requires.place).0 c.requires.most))) c.in-Some.is (sym c.have_one_storage.ensures ∙ c.if-not-have_one_storage.false) c.size_after-size.ensures (g.F.Folder.told c.args.folder.now) c.requires.agrees (told_is (HasWords c.args.entry c.args.stream c.args.old.size (unwrap_or c.args.old.addr 0)) from there stored.words) (g.F.Folder.told c.write_inside.new.folder) (λ x at. c.in_err-write_inside-in-Some.ensures.stages x at (told_is (λ image. c.args.record_bytes.now ≡ record_at image c.args.entry) from there stored.read x at) (told_is (RecordChecks c.args.entry) from there can.checks x at)) from there can
 
 pub returns-in_ok-write_inside-in-Some-clause-stages : goal.returns-in_ok-write_inside-in-Some-clause-stages
-returns-in_ok-write_inside-in-Some-clause-stages g c from there stored can = inside_by_stage c.args.files.now c.args.entry c.args.stream c.size_after-size.result c.in-Some.addr c.args.old c.args.offset c.args.cut c.args.bytes.now c.requires.kind c.requires.stands c.requires.stream (c.requires.some c.in-Some.addr c.in-Some.is) (subst (λ (v : ℕ). may_keep c.args.files.now c.args.old.size v ≡ true) (ap (λ (o : Option ℕ). unwrap_or o 0) c.in-Some.is) c.requires.place) (storage_stays c.args.files.now c.args.old.size c.size_after-size.result c.in-Some.addr (c.requires.some c.in-Some.addr c.in-Some.is) (subst (λ (v : ℕ). may_keep c.args.files.now c.args.old.size v ≡ true) (ap (λ (o : Option ℕ). unwrap_or o 0) c.in-Some.is) c.requires.place) (sym c.have_one_storage.ensures ∙ c.if-not-have_one_storage.false) (subst (λ (n : ℕ). n ≤ most_stream_bytes) (sym c.size_after-size.ensures) (size_most c.args.cut c.args.old.size c.args.offset (length c.args.bytes.now) most_stream_bytes (may_parts c.args.files.now c.args.old.size (unwrap_or c.args.old.addr 0) c.requires.place).0 c.requires.most))) c.in-Some.is (sym c.have_one_storage.ensures ∙ c.if-not-have_one_storage.false) c.size_after-size.ensures (g.F.Folder.told c.args.f.now) c.requires.agrees (told_is (HasWords c.args.entry c.args.stream c.args.old.size (unwrap_or c.args.old.addr 0)) from there stored.words) (g.F.Folder.told c.write_inside.new.f) (λ x at. c.in_ok-write_inside-in-Some.ensures.stages x at (told_is (λ image. c.args.record_bytes.now ≡ record_at image c.args.entry) from there stored.read x at) (told_is (RecordChecks c.args.entry) from there can.checks x at)) from there can
+returns-in_ok-write_inside-in-Some-clause-stages g c from there stored can = inside_by_stage c.args.files.now c.args.entry c.args.stream c.size_after-size.result c.in-Some.addr c.args.old c.args.offset c.args.cut c.args.bytes.now c.requires.kind c.requires.stands c.requires.stream (c.requires.some c.in-Some.addr c.in-Some.is) (subst (λ (v : ℕ). may_keep c.args.files.now c.args.old.size v ≡ true) (ap (λ (o : Option ℕ). unwrap_or o 0) c.in-Some.is) c.requires.place) (storage_stays c.args.files.now c.args.old.size c.size_after-size.result c.in-Some.addr (c.requires.some c.in-Some.addr c.in-Some.is) (subst (λ (v : ℕ). may_keep c.args.files.now c.args.old.size v ≡ true) (ap (λ (o : Option ℕ). unwrap_or o 0) c.in-Some.is) c.requires.place) (sym c.have_one_storage.ensures ∙ c.if-not-have_one_storage.false) (subst (λ (n : ℕ). n ≤ most_stream_bytes) (sym c.size_after-size.ensures) (size_most c.args.cut c.args.old.size c.args.offset (length c.args.bytes.now) most_stream_bytes (may_parts c.args.files.now c.args.old.size (unwrap_or c.args.old.addr 0) c.requires.place).0 c.requires.most))) c.in-Some.is (sym c.have_one_storage.ensures ∙ c.if-not-have_one_storage.false) c.size_after-size.ensures (g.F.Folder.told c.args.folder.now) c.requires.agrees (told_is (HasWords c.args.entry c.args.stream c.args.old.size (unwrap_or c.args.old.addr 0)) from there stored.words) (g.F.Folder.told c.write_inside.new.folder) (λ x at. c.in_ok-write_inside-in-Some.ensures.stages x at (told_is (λ image. c.args.record_bytes.now ≡ record_at image c.args.entry) from there stored.read x at) (told_is (RecordChecks c.args.entry) from there can.checks x at)) from there can
 
 pub returns-in_ok-write_inside-in-Some-clause-staged : goal.returns-in_ok-write_inside-in-Some-clause-staged
-returns-in_ok-write_inside-in-Some-clause-staged g c from there stored can = inside_staged c.args.files.now c.args.entry c.args.stream c.size_after-size.result c.in-Some.addr c.args.old c.args.offset c.args.cut c.args.bytes.now c.requires.kind c.requires.stands c.requires.stream (c.requires.some c.in-Some.addr c.in-Some.is) (subst (λ (v : ℕ). may_keep c.args.files.now c.args.old.size v ≡ true) (ap (λ (o : Option ℕ). unwrap_or o 0) c.in-Some.is) c.requires.place) (storage_stays c.args.files.now c.args.old.size c.size_after-size.result c.in-Some.addr (c.requires.some c.in-Some.addr c.in-Some.is) (subst (λ (v : ℕ). may_keep c.args.files.now c.args.old.size v ≡ true) (ap (λ (o : Option ℕ). unwrap_or o 0) c.in-Some.is) c.requires.place) (sym c.have_one_storage.ensures ∙ c.if-not-have_one_storage.false) (subst (λ (n : ℕ). n ≤ most_stream_bytes) (sym c.size_after-size.ensures) (size_most c.args.cut c.args.old.size c.args.offset (length c.args.bytes.now) most_stream_bytes (may_parts c.args.files.now c.args.old.size (unwrap_or c.args.old.addr 0) c.requires.place).0 c.requires.most))) c.in-Some.is (sym c.have_one_storage.ensures ∙ c.if-not-have_one_storage.false) c.size_after-size.ensures (g.F.Folder.told c.args.f.now) c.requires.agrees (told_is (HasWords c.args.entry c.args.stream c.args.old.size (unwrap_or c.args.old.addr 0)) from there stored.words) (g.F.Folder.told c.write_inside.new.f) (λ x at. c.in_ok-write_inside-in-Some.ensures.stages x at (told_is (λ image. c.args.record_bytes.now ≡ record_at image c.args.entry) from there stored.read x at) (told_is (RecordChecks c.args.entry) from there can.checks x at)) from there can
+returns-in_ok-write_inside-in-Some-clause-staged g c from there stored can = inside_staged c.args.files.now c.args.entry c.args.stream c.size_after-size.result c.in-Some.addr c.args.old c.args.offset c.args.cut c.args.bytes.now c.requires.kind c.requires.stands c.requires.stream (c.requires.some c.in-Some.addr c.in-Some.is) (subst (λ (v : ℕ). may_keep c.args.files.now c.args.old.size v ≡ true) (ap (λ (o : Option ℕ). unwrap_or o 0) c.in-Some.is) c.requires.place) (storage_stays c.args.files.now c.args.old.size c.size_after-size.result c.in-Some.addr (c.requires.some c.in-Some.addr c.in-Some.is) (subst (λ (v : ℕ). may_keep c.args.files.now c.args.old.size v ≡ true) (ap (λ (o : Option ℕ). unwrap_or o 0) c.in-Some.is) c.requires.place) (sym c.have_one_storage.ensures ∙ c.if-not-have_one_storage.false) (subst (λ (n : ℕ). n ≤ most_stream_bytes) (sym c.size_after-size.ensures) (size_most c.args.cut c.args.old.size c.args.offset (length c.args.bytes.now) most_stream_bytes (may_parts c.args.files.now c.args.old.size (unwrap_or c.args.old.addr 0) c.requires.place).0 c.requires.most))) c.in-Some.is (sym c.have_one_storage.ensures ∙ c.if-not-have_one_storage.false) c.size_after-size.ensures (g.F.Folder.told c.args.folder.now) c.requires.agrees (told_is (HasWords c.args.entry c.args.stream c.args.old.size (unwrap_or c.args.old.addr 0)) from there stored.words) (g.F.Folder.told c.write_inside.new.folder) (λ x at. c.in_ok-write_inside-in-Some.ensures.stages x at (told_is (λ image. c.args.record_bytes.now ≡ record_at image c.args.entry) from there stored.read x at) (told_is (RecordChecks c.args.entry) from there can.checks x at)) from there can
 
 pub returns-in-None-clause-stages : goal.returns-in-None-clause-stages
 returns-in-None-clause-stages g c from there stored can =
     let P = WritesByStage c.args.files.now c.args.files.now c.args.entry c.args.stream (writes.size_after c.args.cut c.args.old.size c.args.offset (length c.args.bytes.now)) c.args.offset c.args.bytes.now from in
-    passes_none P refl (λ image now. subst P (some_inj (sym there ∙ now)) (inl (nothing_in_place c.args.entry c.args.stream (writes.size_after c.args.cut c.args.old.size c.args.offset (length c.args.bytes.now)) from c.requires.kind (g.met.F.Folder.are_bytes c.args.f.now from there) (subst (λ (n : ℕ). writes.have_one_storage n (writes.size_after c.args.cut c.args.old.size c.args.offset (length c.args.bytes.now)) ≡ true) (sym stored.words.size_is) (subst (λ (n : ℕ). writes.have_one_storage c.args.old.size n ≡ true) c.size_after-size.ensures (sym c.have_one_storage.ensures ∙ c.if-not-have_one_storage.false))) can.checks)))
+    passes_none P refl (λ image now. subst P (some_inj (sym there ∙ now)) (inl (nothing_in_place c.args.entry c.args.stream (writes.size_after c.args.cut c.args.old.size c.args.offset (length c.args.bytes.now)) from c.requires.kind (g.met.F.Folder.are_bytes c.args.folder.now from there) (subst (λ (n : ℕ). writes.have_one_storage n (writes.size_after c.args.cut c.args.old.size c.args.offset (length c.args.bytes.now)) ≡ true) (sym stored.words.size_is) (subst (λ (n : ℕ). writes.have_one_storage c.args.old.size n ≡ true) c.size_after-size.ensures (sym c.have_one_storage.ensures ∙ c.if-not-have_one_storage.false))) can.checks)))
 
 pub returns-in-None-clause-staged : goal.returns-in-None-clause-staged
 returns-in-None-clause-staged g c from there stored can image now =
-    subst (IsWrittenByStage c.args.files.now c.args.files.now c.args.entry c.args.stream (writes.size_after c.args.cut c.args.old.size c.args.offset (length c.args.bytes.now)) c.args.offset c.args.bytes.now from) (some_inj (sym there ∙ now)) (inl (nothing_in_place c.args.entry c.args.stream (writes.size_after c.args.cut c.args.old.size c.args.offset (length c.args.bytes.now)) from c.requires.kind (g.met.F.Folder.are_bytes c.args.f.now from there) (subst (λ (n : ℕ). writes.have_one_storage n (writes.size_after c.args.cut c.args.old.size c.args.offset (length c.args.bytes.now)) ≡ true) (sym stored.words.size_is) (subst (λ (n : ℕ). writes.have_one_storage c.args.old.size n ≡ true) c.size_after-size.ensures (sym c.have_one_storage.ensures ∙ c.if-not-have_one_storage.false))) can.checks))
+    subst (IsWrittenByStage c.args.files.now c.args.files.now c.args.entry c.args.stream (writes.size_after c.args.cut c.args.old.size c.args.offset (length c.args.bytes.now)) c.args.offset c.args.bytes.now from) (some_inj (sym there ∙ now)) (inl (nothing_in_place c.args.entry c.args.stream (writes.size_after c.args.cut c.args.old.size c.args.offset (length c.args.bytes.now)) from c.requires.kind (g.met.F.Folder.are_bytes c.args.folder.now from there) (subst (λ (n : ℕ). writes.have_one_storage n (writes.size_after c.args.cut c.args.old.size c.args.offset (length c.args.bytes.now)) ≡ true) (sym stored.words.size_is) (subst (λ (n : ℕ). writes.have_one_storage c.args.old.size n ≡ true) c.size_after-size.ensures (sym c.have_one_storage.ensures ∙ c.if-not-have_one_storage.false))) can.checks))
 
 -- The seal.
 

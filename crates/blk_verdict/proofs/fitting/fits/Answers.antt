@@ -20,7 +20,7 @@ returns-then-not-branch-clause-fits g c image there agrees loaded known =
 pub returns-clause-fits : goal.returns-clause-fits
 returns-clause-fits g c =
     IfOk-weaker c.has_bit.result _
-    (λ fits. ForSome (g.F.Folder.told c.args.f.now).files (λ image. Agrees c.args.files.now image → (loaded : shown.Loaded) → IsLoadedFrom image loaded c.args.kept.now → fits ≡ is_sought c.args.sought c.args.key.now loaded))
+    (λ fits. ForSome (g.F.Folder.told c.args.folder.now).files (λ image. Agrees c.args.files.now image → (loaded : shown.Loaded) → IsLoadedFrom image loaded c.args.kept.now → fits ≡ is_sought c.args.sought c.args.key.now loaded))
     (λ fits is image there agrees loaded known.
     let key = keys-found image known.node loaded c.args.kept.now known.loads known.is in
     is image (told_now image c.in_ok-has_this_key.ensures.stays there) c.args.key.now loaded known

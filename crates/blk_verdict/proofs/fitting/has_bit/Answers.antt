@@ -14,7 +14,7 @@ use Rattle.blk_verdict.proofs.fitting.has_bit.Goals as goal
 pub returns-in-ParentOf-clause-fits : goal.returns-in-ParentOf-clause-fits
 returns-in-ParentOf-clause-fits g c =
     IfOk-weaker c.has_part.result _
-    (λ has. ForSome (g.F.Folder.told c.args.f.now).files (λ image. (key : List ℕ) (loaded : shown.Loaded) → IsLoadedFrom image loaded c.args.kept.now → loaded.key ≡ key → has ≡ is_sought c.args.sought key loaded))
+    (λ has. ForSome (g.F.Folder.told c.args.folder.now).files (λ image. (key : List ℕ) (loaded : shown.Loaded) → IsLoadedFrom image loaded c.args.kept.now → loaded.key ≡ key → has ≡ is_sought c.args.sought key loaded))
     (λ has is image there key loaded known same.
     let role : is_role_sought c.args.sought c.args.kept.now.role ≡ true = c.requires.role in
     let parent = subst (λ (s : Sought). is_role_sought s c.args.kept.now.role ≡ true) c.in-ParentOf.is role in

@@ -16,7 +16,7 @@ use Rattle.blk_entry.proofs.KeyPlaces.{may_have_parts}
 use Rattle.blk_lru.proofs.Conditions.{told_now, told_stays}
 use Rattle.blk_verdict.specs.Keyed.{HasItsKey}
 use Rattle.blk_verdict.specs.Kept.{AreShown, HaveKeys, IsSameAnswer}
-use Rattle.blk_verdict.specs.PartNames.{IsNameInFront}
+use Rattle.blk_verdict.specs.PartNames.{IsNameInPrefix}
 use Rattle.blk_verdict.specs.Readable.{IsReadableIf}
 use Rattle.blk_verdict.specs.Verdicts.{IsVerdict}
 use Rattle.blk_verdict.specs.declared.loading.Verdict.{Verdict}
@@ -26,7 +26,7 @@ use Rattle.blk_verdict.proofs.judging.judge_walked.Goals as goal
 pub returns-in-Loaded-clause-keys : goal.returns-in-Loaded-clause-keys
 returns-in-Loaded-clause-keys g c =
     IfOk-weaker c.admit.result _
-    (λ reason. ForSome (g.F.Folder.told c.args.f.now).files (λ image. Agrees c.args.files.now image → AreListsOf image c.args.lists.now → IsSaidAt image c.args.node.now → HaveKeys image c.args.kept.now.kept.items → HaveKeys image c.admit.new.self.kept.items))
+    (λ reason. ForSome (g.F.Folder.told c.args.folder.now).files (λ image. Agrees c.args.files.now image → AreListsOf image c.args.lists.now → IsSaidAt image c.args.node.now → HaveKeys image c.args.kept.now.kept.items → HaveKeys image c.admit.new.self.kept.items))
     (λ reason kept image there agrees are fields keys.
     let loaded = subst (IsVerdict (shown.load (store_of image) held_rule c.args.node.now.addr)) c.in-Loaded.is (c.in_ok-loaded.ensures.verdict image there agrees are fields) in
     let one = judged image [] c.args.node.now.addr c.in-Loaded.loaded loaded in
@@ -59,10 +59,10 @@ slice_bounds-key-end-in-Loaded g c =
 pub returns-in-Loaded-clause-answer : goal.returns-in-Loaded-clause-answer
 returns-in-Loaded-clause-answer g c =
     IfOk-weaker c.admit.result _
-    (λ reason. ForSome (g.F.Folder.told c.args.f.now).files (λ image. Agrees c.args.files.now image → AreListsOf image c.args.lists.now → IsSaidAt image c.args.node.now → (so_far : List shown.Loaded) → AreShown image so_far c.args.kept.now.kept.items → IsSameAnswer (audit.verdict (store_of image) held_rule so_far c.args.node.now.addr) reason))
+    (λ reason. ForSome (g.F.Folder.told c.args.folder.now).files (λ image. Agrees c.args.files.now image → AreListsOf image c.args.lists.now → IsSaidAt image c.args.node.now → (so_far : List shown.Loaded) → AreShown image so_far c.args.kept.now.kept.items → IsSameAnswer (audit.verdict (store_of image) held_rule so_far c.args.node.now.addr) reason))
     (λ reason is image there agrees are fields so_far shows.
     let loaded = subst (IsVerdict (shown.load (store_of image) held_rule c.args.node.now.addr)) c.in-Loaded.is (c.in_ok-loaded.ensures.verdict image there agrees are fields) in
-    let named = subst (λ (v : Verdict). IsNameInFront image v c.load_walked.new.name) c.in-Loaded.is (c.in_ok-loaded.ensures.named image there agrees) in
+    let named = subst (λ (v : Verdict). IsNameInPrefix image v c.load_walked.new.name) c.in-Loaded.is (c.in_ok-loaded.ensures.named image there agrees) in
     let one = judged image so_far c.args.node.now.addr c.in-Loaded.loaded loaded in
     subst (λ (r : Result shown.Loaded reasons.Reason). IsSameAnswer r reason) (sym one.is) (is image (told_now image c.in_ok-loaded.ensures.stays there) agrees so_far one.loaded shows one.known named))
     c.admit.ensures.answer
@@ -70,11 +70,11 @@ returns-in-Loaded-clause-answer g c =
 pub returns-in-Loaded-clause-shown : goal.returns-in-Loaded-clause-shown
 returns-in-Loaded-clause-shown g c =
     IfOk-weaker c.admit.result _
-    (λ reason. ForSome (g.F.Folder.told c.args.f.now).files (λ image. Agrees c.args.files.now image → AreListsOf image c.args.lists.now → IsSaidAt image c.args.node.now → (so_far : List shown.Loaded) → AreShown image so_far c.args.kept.now.kept.items
+    (λ reason. ForSome (g.F.Folder.told c.args.folder.now).files (λ image. Agrees c.args.files.now image → AreListsOf image c.args.lists.now → IsSaidAt image c.args.node.now → (so_far : List shown.Loaded) → AreShown image so_far c.args.kept.now.kept.items
     → AreShown image (audit.with_verdict so_far (audit.verdict (store_of image) held_rule so_far c.args.node.now.addr)) c.admit.new.self.kept.items))
     (λ reason is image there agrees are fields so_far shows.
     let loaded = subst (IsVerdict (shown.load (store_of image) held_rule c.args.node.now.addr)) c.in-Loaded.is (c.in_ok-loaded.ensures.verdict image there agrees are fields) in
-    let named = subst (λ (v : Verdict). IsNameInFront image v c.load_walked.new.name) c.in-Loaded.is (c.in_ok-loaded.ensures.named image there agrees) in
+    let named = subst (λ (v : Verdict). IsNameInPrefix image v c.load_walked.new.name) c.in-Loaded.is (c.in_ok-loaded.ensures.named image there agrees) in
     let one = judged image so_far c.args.node.now.addr c.in-Loaded.loaded loaded in
     subst (λ (r : Result shown.Loaded reasons.Reason). AreShown image (audit.with_verdict so_far r) c.admit.new.self.kept.items) (sym one.is) (is image (told_now image c.in_ok-loaded.ensures.stays there) agrees so_far one.loaded shows one.known named))
     c.admit.ensures.shown

@@ -14,5 +14,5 @@ returns-then-words-le-LONGEST_SHORT_KEY-clause-key g c image there entry agrees 
 
 pub returns-clause-key : goal.returns-clause-key
 returns-clause-key g c =
-    ok_weaker c.is_stored.result _ (λ has. ForSome (g.F.Folder.told c.args.f.now).files (λ image. (entry : ℕ) → Agrees c.args.files.now image → has ≡ is_some (stored_key (store_of image) entry (fields_said c.args.words.now))))
+    ok_weaker c.is_stored.result _ (λ has. ForSome (g.F.Folder.told c.args.folder.now).files (λ image. (entry : ℕ) → Agrees c.args.files.now image → has ≡ is_some (stored_key (store_of image) entry (fields_said c.args.words.now))))
     (λ has is image there entry agrees. is image there agrees ∙ long_there image entry c.args.words.now c.if-words-le-LONGEST_SHORT_KEY.false) c.is_stored.ensures.stored

@@ -39,4 +39,4 @@ returns-clause-unlisted g c image there agrees are =
 
 pub returns-in_err-add_if-clause-untold : goal.returns-in_err-add_if-clause-untold
 returns-in_err-add_if-clause-untold g c =
-    untold_on c.add_if.result c.from_residual.result c.in_err-add_if.field-0.0 {a = g.F.Folder.told c.args.f.now} (Agrees c.args.files.now) (Agrees c.args.files.now) (λ image agrees. agrees) (c.add_if.ensures.stays ∙ c.loop-i.invariant.stays) c.add_if.ensures.untold c.in_err-add_if.was c.from_residual.ensures.1
+    untold_on c.add_if.result c.from_residual.result c.in_err-add_if.field-0.0 {a = g.F.Folder.told c.args.folder.now} (Agrees c.args.files.now) (Agrees c.args.files.now) (λ image agrees. agrees) (c.add_if.ensures.stays ∙ c.loop-i.invariant.stays) c.add_if.ensures.untold c.in_err-add_if.was c.from_residual.ensures.1

@@ -12,7 +12,7 @@ use Rattle.blk_verdict.proofs.listing.unlisted.Given as goal
 
 abbrev pub invariant-loop-i : goal.invariant-loop-i
 invariant-loop-i g l = record {
-  found : ForSome (g.F.Folder.told l.fn.f).files (λ image. Agrees l.files image → AreListsOf image l.lists → l.found.items ≡ filter (is_unlisted (completed (view_of image))) (take l.i (words_reached l.lists.reached)));
-  stays : Stays (g.F.Folder.told l.fn.f) (g.F.Folder.told l.f);
-  later : g.F.Folder.faults l.fn.f ≤ g.F.Folder.faults l.f;
+  found : ForSome (g.F.Folder.told l.fn.folder).files (λ image. Agrees l.files image → AreListsOf image l.lists → l.found.items ≡ filter (is_unlisted (completed (view_of image))) (take l.i (words_reached l.lists.reached)));
+  stays : Stays (g.F.Folder.told l.fn.folder) (g.F.Folder.told l.folder);
+  later : g.F.Folder.faults l.fn.folder ≤ g.F.Folder.faults l.folder;
 }

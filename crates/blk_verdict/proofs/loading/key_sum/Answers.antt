@@ -13,6 +13,6 @@ returns-in-Some-clause-key g c image there part = absurd (c.in-Some.ensures.read
 pub returns-in-None-clause-sum : goal.returns-in-None-clause-sum
 returns-in-None-clause-sum g c =
     ok_weaker c.read_sum.result _
-    (λ sum. ForSome (g.F.Folder.told c.args.f.now).files (λ image. IsRightWhereSaid image c.args.entry c.args.said.now → IsHashOfKey image c.args.entry c.args.said.now.words sum))
+    (λ sum. ForSome (g.F.Folder.told c.args.folder.now).files (λ image. IsRightWhereSaid image c.args.entry c.args.said.now → IsHashOfKey image c.args.entry c.args.said.now.words sum))
     (λ sum is image there sums. is image there)
     c.read_sum.ensures.sum

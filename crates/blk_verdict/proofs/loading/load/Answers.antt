@@ -30,8 +30,8 @@ returns-in_err-words-clause-short g c =
       at = 0;
       count = 96;
       inside = record { small = omega arith; stands = λ _. c.in-Some.ensures.stands; room = λ _. record_fits c.in-Some.entry c.in-Some.ensures.kind };
-      cut = short_is_cut (g.F.Folder.told c.args.f.now) c.in-Some.entry 0 96 damage (not_external c.in-Some.entry c.in-Some.ensures.kind)
-          (subst (λ (p : ℕ). IsShort (g.F.Folder.told c.args.f.now) (FileId.Block (file_selector c.in-Some.entry)) p 96 damage) (sym (add-zero (place c.in-Some.entry))) short);
+      cut = short_is_cut (g.F.Folder.told c.args.folder.now) c.in-Some.entry 0 96 damage (not_external c.in-Some.entry c.in-Some.ensures.kind)
+          (subst (λ (p : ℕ). IsShort (g.F.Folder.told c.args.folder.now) (FileId.Block (file_selector c.in-Some.entry)) p 96 damage) (sym (add-zero (place c.in-Some.entry))) short);
     })
     c.read_words.ensures.short)
 

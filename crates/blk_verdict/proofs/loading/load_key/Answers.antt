@@ -16,7 +16,7 @@ use Rattle.blk_io.proofs.Carried.{if_damaged_weaker}
 use Rattle.blk_lru.proofs.Conditions.{told_now, told_stays}
 use Rattle.blk_audit.specs.Records.{IsRightWhereSaid, fields_said}
 use Rattle.blk_verdict.specs.Loading as loading
-use Rattle.blk_verdict.specs.PartNames.{IsNameInFront}
+use Rattle.blk_verdict.specs.PartNames.{IsNameInPrefix}
 use Rattle.blk_verdict.specs.Verdicts.{IsVerdict}
 use Rattle.blk_verdict.specs.declared.reason.Reason.TheVariants as reason
 use Rattle.blk_verdict.proofs.Joined.{data_with_key, has_value}
@@ -39,7 +39,7 @@ returns-then-not-reached-clause-verdict g c image there dirty agrees stored sums
 pub returns-clause-verdict : goal.returns-clause-verdict
 returns-clause-verdict g c =
     ok_weaker c.load_streams.result _
-    (λ verdict. ForSome (g.F.Folder.told c.args.f.now).files (λ image. (dirty : ℕ) → Agrees c.args.files.now image → is_some (stored_key (store_of image) c.args.entry (fields_said c.args.said.now.words)) ≡ true → IsRightWhereSaid image c.args.entry c.args.said.now
+    (λ verdict. ForSome (g.F.Folder.told c.args.folder.now).files (λ image. (dirty : ℕ) → Agrees c.args.files.now image → is_some (stored_key (store_of image) c.args.entry (fields_said c.args.said.now.words)) ≡ true → IsRightWhereSaid image c.args.entry c.args.said.now
     → c.args.reached ≡ is_among (chain (store_of image) (bucket_of_hash c.args.said.now.words.hash)).reached c.args.entry → IsVerdict (loading.load_data (store_of image) c.args.node c.args.entry dirty (fields_said c.args.said.now.words)) verdict))
     (λ verdict is image there dirty agrees stored sums reached.
     let key = has_value (List ℕ) (stored_key (store_of image) c.args.entry (fields_said c.args.said.now.words)) stored in
@@ -51,7 +51,7 @@ returns-clause-verdict g c =
 pub returns-clause-named : goal.returns-clause-named
 returns-clause-named g c =
     ok_weaker c.load_streams.result _
-    (λ verdict. ForSome (g.F.Folder.told c.args.f.now).files (λ image. Agrees c.args.files.now image → IsNameInFront image verdict c.key_sum.new.name))
+    (λ verdict. ForSome (g.F.Folder.told c.args.folder.now).files (λ image. Agrees c.args.files.now image → IsNameInPrefix image verdict c.key_sum.new.name))
     (λ verdict is image there agrees. is image (told_now image c.in_ok-sum.ensures.stays there) agrees (c.in_ok-sum.ensures.key image there))
     c.load_streams.ensures.named
 

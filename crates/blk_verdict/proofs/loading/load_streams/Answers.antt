@@ -7,7 +7,7 @@ use Rattle.blk_disk.specs.Tables.{Agrees}
 use Rattle.blk_lru.proofs.Conditions.{told_stays}
 use Rattle.blk_verdict.specs.Loading as loading
 use Rattle.blk_audit.specs.Records.{fields_said}
-use Rattle.blk_verdict.specs.PartNames.{IsNameInFront}
+use Rattle.blk_verdict.specs.PartNames.{IsNameInPrefix}
 use Rattle.blk_verdict.specs.Roles.{IsRoleIf}
 use Rattle.blk_verdict.specs.Verdicts.{IsVerdict, loaded_with}
 use Rattle.blk_verdict.specs.declared.loading.Loaded.{Loaded}
@@ -32,7 +32,7 @@ returns-in_err-role-clause-untold g c agrees =
 
 pub returns-in-Some-clause-verdict : goal.returns-in-Some-clause-verdict
 returns-in-Some-clause-verdict g c image there dirty stored agrees len sum same =
-    let now : (g.F.Folder.told c.has_streams.new.f).files ≡ Some image = ap (λ (t : Told). t.files) c.in_ok-has_streams.ensures.stays ∙ there in
+    let now : (g.F.Folder.told c.has_streams.new.folder).files ≡ Some image = ap (λ (t : Told). t.files) c.in_ok-has_streams.ensures.stays ∙ there in
     let streams = has_value (List (List ℕ)) (stored_streams (store_of image) (fields_said c.args.words.now)) (sym (c.in_ok-has_streams.ensures.streams image there agrees) ∙ c.if-not-branch.false) in
     let is : IsRoleIf stored (role_of (fields_said c.args.words.now) stored streams.value) (Some c.in-Some.role) = subst (λ (o : Option Role). IsRoleIf stored (role_of (fields_said c.args.words.now) stored streams.value) o) c.in-Some.is (c.in_ok-role.ensures.role image now stored streams.value same streams.is) in
     subst (λ (l : Loaded). IsVerdict (loading.load_streams (store_of image) c.args.node c.args.entry dirty (fields_said c.args.words.now) stored) (verdict.Loaded l)) (sym c.loaded_as.ensures)
@@ -40,16 +40,16 @@ returns-in-Some-clause-verdict g c image there dirty stored agrees len sum same 
 
 pub returns-in-None-clause-verdict : goal.returns-in-None-clause-verdict
 returns-in-None-clause-verdict g c image there dirty stored agrees len sum same =
-    let now : (g.F.Folder.told c.has_streams.new.f).files ≡ Some image = ap (λ (t : Told). t.files) c.in_ok-has_streams.ensures.stays ∙ there in
+    let now : (g.F.Folder.told c.has_streams.new.folder).files ≡ Some image = ap (λ (t : Told). t.files) c.in_ok-has_streams.ensures.stays ∙ there in
     let streams = has_value (List (List ℕ)) (stored_streams (store_of image) (fields_said c.args.words.now)) (sym (c.in_ok-has_streams.ensures.streams image there agrees) ∙ c.if-not-branch.false) in
     no_role (store_of image) c.args.node c.args.entry dirty c.args.words.now stored streams.value streams.is
     (subst (λ (o : Option Role). IsRoleIf stored (role_of (fields_said c.args.words.now) stored streams.value) o) c.in-None.is (c.in_ok-role.ensures.role image now stored streams.value same streams.is))
 
 pub returns-in-Some-clause-named : goal.returns-in-Some-clause-named
 returns-in-Some-clause-named g c image there agrees front =
-    let now : (g.F.Folder.told c.has_streams.new.f).files ≡ Some image = ap (λ (t : Told). t.files) c.in_ok-has_streams.ensures.stays ∙ there in
+    let now : (g.F.Folder.told c.has_streams.new.folder).files ≡ Some image = ap (λ (t : Told). t.files) c.in_ok-has_streams.ensures.stays ∙ there in
     let streams = has_value (List (List ℕ)) (stored_streams (store_of image) (fields_said c.args.words.now)) (sym (c.in_ok-has_streams.ensures.streams image there agrees) ∙ c.if-not-branch.false) in
-    subst (λ (l : Loaded). IsNameInFront image (verdict.Loaded l) c.args.name.now) (sym c.loaded_as.ensures)
+    subst (λ (l : Loaded). IsNameInPrefix image (verdict.Loaded l) c.args.name.now) (sym c.loaded_as.ensures)
     (λ part key of.
     let stored = stored_by_words image (loaded_with c.args.node c.args.entry c.in-Some.role c.args.words.now) c.args.words.now key refl refl of in
     let is : IsRoleIf key (role_of (fields_said c.args.words.now) key streams.value) (Some c.in-Some.role) =

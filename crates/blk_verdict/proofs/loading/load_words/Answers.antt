@@ -30,7 +30,7 @@ returns-in-Some-clause-verdict g c image there agrees are sums named reached =
 pub returns-in-None-clause-verdict : goal.returns-in-None-clause-verdict
 returns-in-None-clause-verdict g c =
     ok_weaker c.load_data.result _
-    (λ verdict. ForSome (g.F.Folder.told c.args.f.now).files (λ image. Agrees c.args.files.now image → AreWordsOf image c.args.entry c.args.said.now.words → IsRightWhereSaid image c.args.entry c.args.said.now → (store_of image).node_fields c.args.node.now.addr ≡ Some (record { contents = c.args.entry; dirty = c.args.node.now.dirty })
+    (λ verdict. ForSome (g.F.Folder.told c.args.folder.now).files (λ image. Agrees c.args.files.now image → AreWordsOf image c.args.entry c.args.said.now.words → IsRightWhereSaid image c.args.entry c.args.said.now → (store_of image).node_fields c.args.node.now.addr ≡ Some (record { contents = c.args.entry; dirty = c.args.node.now.dirty })
     → c.args.reached ≡ is_among (reached_by (store_of image) table_length) c.args.entry → IsVerdict (shown.load (store_of image) held_rule c.args.node.now.addr) verdict))
     (λ verdict is image there agrees are sums named reached.
     let among : is_record_among c.args.files.now c.args.entry ≡ true = record_among c.args.files.now c.args.entry (ap is_address (sym c.word-word.ensures.word) ∙ c.word-word.ensures.address) c.requires.kind c.requires.stands in

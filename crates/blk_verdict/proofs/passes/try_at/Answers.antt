@@ -19,16 +19,16 @@ use Rattle.blk_verdict.proofs.passes.try_at.Goals as goal
 pub returns-in_err-child-clause-short : goal.returns-in_err-child-clause-short
 returns-in_err-child-clause-short g c =
     converted c.is_child.result c.from_residual.result c.in_err-child.field-0.0 _ c.in_err-child.was c.from_residual.ensures.1
-    (if_damaged_weaker c.is_child.result _ _ (cut_record c.args.files.now (g.F.Folder.told c.args.f.now) (g.F.Folder.told c.is_child.new.f) c.is_child.ensures.stays) c.is_child.ensures.damaged)
+    (if_damaged_weaker c.is_child.result _ _ (cut_record c.args.files.now (g.F.Folder.told c.args.folder.now) (g.F.Folder.told c.is_child.new.folder) c.is_child.ensures.stays) c.is_child.ensures.damaged)
 
 pub returns-in_err-child-clause-untold : goal.returns-in_err-child-clause-untold
 returns-in_err-child-clause-untold g c =
-    untold_converted c.is_child.result c.from_residual.result c.in_err-child.field-0.0 {a = g.F.Folder.told c.args.f.now} (CanBeTried c.args.files.now c.args.lists.now c.args.kept.now.kept.items) (Agrees c.args.files.now)
+    untold_converted c.is_child.result c.from_residual.result c.in_err-child.field-0.0 {a = g.F.Folder.told c.args.folder.now} (CanBeTried c.args.files.now c.args.lists.now c.args.kept.now.kept.items) (Agrees c.args.files.now)
     (λ image can. can.agrees) c.is_child.ensures.stays c.is_child.ensures.untold c.in_err-child.was c.from_residual.ensures.1
 
 pub returns-in_err-reason-clause-untold : goal.returns-in_err-reason-clause-untold
 returns-in_err-reason-clause-untold g c =
-    untold_on c.judge_walked.result c.from_residual-in_err-reason.result c.in_err-reason.field-0.0 {a = g.F.Folder.told c.args.f.now}
+    untold_on c.judge_walked.result c.from_residual-in_err-reason.result c.in_err-reason.field-0.0 {a = g.F.Folder.told c.args.folder.now}
     (CanBeTried c.args.files.now c.args.lists.now c.args.kept.now.kept.items) (CanBeTried c.args.files.now c.args.lists.now c.args.kept.now.kept.items)
     (λ image can. can) c.in_ok-child.ensures.stays
     (λ can. c.judge_walked.ensures.untold (λ image there. (can image there).agrees)

@@ -14,14 +14,14 @@ use Rattle.blk_verdict.proofs.roles.read_role.Goals as goal
 pub returns-then-words-eq-PARENT-clause-role : goal.returns-then-words-eq-PARENT-clause-role
 returns-then-words-eq-PARENT-clause-role g c =
     ok_weaker c.parent_role.result _
-    (λ said. ForSome (g.F.Folder.told c.args.f.now).files (λ image. (stored : List ℕ) (streams : List (List ℕ)) → (c.args.words.now.flags ≡ child → stored ≡ c.args.key.now) → stored_streams (store_of image) (fields_said c.args.words.now) ≡ Some streams
+    (λ said. ForSome (g.F.Folder.told c.args.folder.now).files (λ image. (stored : List ℕ) (streams : List (List ℕ)) → (c.args.words.now.flags ≡ child → stored ≡ c.args.key.now) → stored_streams (store_of image) (fields_said c.args.words.now) ≡ Some streams
     → IsRoleIf stored (entries.role_of (fields_said c.args.words.now) stored streams) said))
     (λ said h image there stored streams same is. subst (λ (r : Option entries.Role). IsRoleIf stored r said) (sym (role_parent (fields_said c.args.words.now) stored streams c.if-words-eq-PARENT.true)) (h image there stored streams is)) c.parent_role.ensures.role
 
 pub returns-then-words-eq-CHILD-clause-role : goal.returns-then-words-eq-CHILD-clause-role
 returns-then-words-eq-CHILD-clause-role g c =
     ok_weaker c.part_role.result _
-    (λ said. ForSome (g.F.Folder.told c.args.f.now).files (λ image. (stored : List ℕ) (streams : List (List ℕ)) → (c.args.words.now.flags ≡ child → stored ≡ c.args.key.now) → stored_streams (store_of image) (fields_said c.args.words.now) ≡ Some streams
+    (λ said. ForSome (g.F.Folder.told c.args.folder.now).files (λ image. (stored : List ℕ) (streams : List (List ℕ)) → (c.args.words.now.flags ≡ child → stored ≡ c.args.key.now) → stored_streams (store_of image) (fields_said c.args.words.now) ≡ Some streams
     → IsRoleIf stored (entries.role_of (fields_said c.args.words.now) stored streams) said))
     (λ said h image there stored streams same is.
     subst (λ (k : List ℕ). IsRoleIf k (entries.role_of (fields_said c.args.words.now) k streams) said) (sym (same c.if-words-eq-CHILD.true))

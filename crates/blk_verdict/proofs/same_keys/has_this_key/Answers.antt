@@ -21,5 +21,5 @@ returns-then-key-clause-same g c image there stored agrees is =
 
 pub returns-clause-same : goal.returns-clause-same
 returns-clause-same g c =
-    ok_weaker c.is_stored_key.result _ (λ same. ForSome (g.F.Folder.told c.args.f.now).files (λ image. (stored : List ℕ) → Agrees c.args.files.now image → IsKeyOf image c.args.loaded.now stored → same ≡ bytes_eq stored c.args.key.now))
+    ok_weaker c.is_stored_key.result _ (λ same. ForSome (g.F.Folder.told c.args.folder.now).files (λ image. (stored : List ℕ) → Agrees c.args.files.now image → IsKeyOf image c.args.loaded.now stored → same ≡ bytes_eq stored c.args.key.now))
     (λ same is image there stored agrees of. is image there stored of) c.is_stored_key.ensures.same

@@ -27,7 +27,7 @@ returns-then-is_external-clause-stored g c =
     let some : 0 < c.args.size = omega (arith, c.if-size-eq0.false) in
     let s = chosen_is (keys.stores c.args.files.now c.args.size c.args.word) c.args.word c.in-Some.addr (sym c.in-Some.is ∙ c.storage.ensures) in
     let kind : kind_of c.args.word ≡ external = ap kind_of (sym s.0) ∙ eqb-true (kind_of c.in-Some.addr) external (sym c.is_external.ensures ∙ c.if-is_external.true) in
-    ok_weaker c.has_length.result _ (λ there. ForSome (g.F.Folder.told c.args.f.now).files (λ image. Agrees c.args.files.now image → there ≡ is_some (stored_at image c.args.size c.args.word)))
+    ok_weaker c.has_length.result _ (λ there. ForSome (g.F.Folder.told c.args.folder.now).files (λ image. Agrees c.args.files.now image → there ≡ is_some (stored_at image c.args.size c.args.word)))
     (λ there is image now agrees. is image now ∙ ap (λ (w : ℕ). length_of image (External (external_number w)) == c.args.size) s.0 ∙ sym (stored_length c.args.files.now image c.args.size c.args.word some kind s.1)) c.has_length.ensures.length
 
 pub returns-else-is_external-clause-stored : goal.returns-else-is_external-clause-stored

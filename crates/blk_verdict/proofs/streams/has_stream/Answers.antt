@@ -12,5 +12,5 @@ returns-then-size-gt-MOST_BYTES-clause-stream g c image there agrees = sym (stre
 
 pub returns-clause-stream : goal.returns-clause-stream
 returns-clause-stream g c =
-    ok_weaker c.is_stored.result _ (λ has. ForSome (g.F.Folder.told c.args.f.now).files (λ image. Agrees c.args.files.now image → has ≡ is_stream image c.args.size c.args.word))
+    ok_weaker c.is_stored.result _ (λ has. ForSome (g.F.Folder.told c.args.folder.now).files (λ image. Agrees c.args.files.now image → has ≡ is_stream image c.args.size c.args.word))
     (λ has is image there agrees. is image there agrees ∙ sym (stream_fits image c.args.size c.args.word c.if-size-gt-MOST_BYTES.false)) c.is_stored.ensures.stored

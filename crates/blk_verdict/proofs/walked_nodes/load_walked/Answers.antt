@@ -13,7 +13,7 @@ use Rattle.blk_lru.proofs.Conditions.{told_now, told_stays}
 use Rattle.blk_audit.specs.Chaining.{reached_by}
 use Rattle.blk_audit.specs.ReadLists.{AreListsOf, IsSaidAt}
 use Rattle.blk_audit.proofs.Truths.{none_by, value_by}
-use Rattle.blk_verdict.specs.PartNames.{IsNameInFront}
+use Rattle.blk_verdict.specs.PartNames.{IsNameInPrefix}
 use Rattle.blk_verdict.specs.Verdicts.{IsVerdict}
 use Rattle.blk_verdict.specs.declared.reason.Reason.TheVariants as reason
 use Rattle.blk_verdict.proofs.Joined.{entry_none, load_none}
@@ -29,7 +29,7 @@ returns-in_default-clause-verdict g c image there agrees are fields =
 pub returns-in_err-said-clause-short : goal.returns-in_err-said-clause-short
 returns-in_err-said-clause-short g c =
     carried c.record_at.result c.from_residual.result c.in_err-said.field-0.0 _ c.in_err-said.was c.from_residual.ensures.1
-    (if_damaged_weaker c.record_at.result _ _ (cut_record c.args.files.now (g.F.Folder.told c.args.f.now) (g.F.Folder.told c.record_at.new.f) c.record_at.ensures.stays) c.record_at.ensures.damaged)
+    (if_damaged_weaker c.record_at.result _ _ (cut_record c.args.files.now (g.F.Folder.told c.args.folder.now) (g.F.Folder.told c.record_at.new.folder) c.record_at.ensures.stays) c.record_at.ensures.damaged)
 
 pub returns-in_err-said-clause-untold : goal.returns-in_err-said-clause-untold
 returns-in_err-said-clause-untold g c agrees =
@@ -40,7 +40,7 @@ returns-in_err-said-clause-untold g c agrees =
 pub returns-clause-verdict : goal.returns-clause-verdict
 returns-clause-verdict g c =
     ok_weaker c.load_words.result _
-    (λ verdict. ForSome (g.F.Folder.told c.args.f.now).files (λ image. Agrees c.args.files.now image → AreListsOf image c.args.lists.now → IsSaidAt image c.args.node.now → IsVerdict (shown.load (store_of image) held_rule c.args.node.now.addr) verdict))
+    (λ verdict. ForSome (g.F.Folder.told c.args.folder.now).files (λ image. Agrees c.args.files.now image → AreListsOf image c.args.lists.now → IsSaidAt image c.args.node.now → IsVerdict (shown.load (store_of image) held_rule c.args.node.now.addr) verdict))
     (λ verdict is image there agrees are fields.
     let named : c.in-Some.entry ≡ c.args.node.now.contents = value_by (is_record_among c.args.files.now c.args.node.now.contents) c.args.node.now.contents c.in-Some.entry (sym c.in-Some.is ∙ c.entry.ensures.entry) in
     let said = c.in_ok-said.ensures.said image there are in
@@ -57,6 +57,6 @@ returns-clause-untold g c agrees =
 pub returns-clause-named : goal.returns-clause-named
 returns-clause-named g c =
     ok_weaker c.load_words.result _
-    (λ verdict. ForSome (g.F.Folder.told c.args.f.now).files (λ image. Agrees c.args.files.now image → IsNameInFront image verdict c.load_words.new.name))
+    (λ verdict. ForSome (g.F.Folder.told c.args.folder.now).files (λ image. Agrees c.args.files.now image → IsNameInPrefix image verdict c.load_words.new.name))
     (λ verdict is image there agrees. is image (told_now image c.in_ok-said.ensures.stays there) agrees)
     c.load_words.ensures.named

@@ -17,14 +17,14 @@ use Rattle.blk_alloc.proofs.plan.Plan.read.Goals as goal
 pub returns-in_err-counters-clause-untold : goal.returns-in_err-counters-clause-untold
 returns-in_err-counters-clause-untold g c =
     carried c.read.result c.from_residual.result c.in_err-counters.field-0.0 _ c.in_err-counters.was c.from_residual.ensures.1
-    (if_damaged c.read.result (ForSome (g.F.Folder.told c.args.f.now).files (λ image. CanChangeMarks image c.args.file c.args.start c.args.count c.args.used)) (λ _. (g.F.Folder.told c.args.f.now).files ≡ None)
-    (λ ready. untold_if c.read.result (g.F.Folder.told c.args.f.now) (names.Block c.args.file) 0 80 c.read.ensures.short (λ image there. let long = (ready image there).header in omega (arith, long))))
+    (if_damaged c.read.result (ForSome (g.F.Folder.told c.args.folder.now).files (λ image. CanChangeMarks image c.args.file c.args.start c.args.count c.args.used)) (λ _. (g.F.Folder.told c.args.folder.now).files ≡ None)
+    (λ ready. untold_if c.read.result (g.F.Folder.told c.args.folder.now) (names.Block c.args.file) 0 80 c.read.ensures.short (λ image there. let long = (ready image there).header in omega (arith, long))))
 
 pub returns-in_err-counters-2-clause-untold : goal.returns-in_err-counters-2-clause-untold
 returns-in_err-counters-2-clause-untold g c =
     carried c.moved.result c.from_residual-in_err-counters-2.result c.in_err-counters-2.field-0.0 _ c.in_err-counters-2.was c.from_residual-in_err-counters-2.ensures.1
-    (if_damaged_weaker c.moved.result _ (λ _. ForSome (g.F.Folder.told c.args.f.now).files (λ image. CanChangeMarks image c.args.file c.args.start c.args.count c.args.used) → (g.F.Folder.told c.args.f.now).files ≡ None)
-    (λ damage never ready. untold_where (g.F.Folder.told c.args.f.now).files
+    (if_damaged_weaker c.moved.result _ (λ _. ForSome (g.F.Folder.told c.args.folder.now).files (λ image. CanChangeMarks image c.args.file c.args.start c.args.count c.args.used) → (g.F.Folder.told c.args.folder.now).files ≡ None)
+    (λ damage never ready. untold_where (g.F.Folder.told c.args.folder.now).files
     (λ image there.
     let read : c.to_le_bytes-bytes.result ≡ range_at (byte image (Block c.args.file)) (80 + 4 * (c.args.start / 32)) 4 =
     c.to_le_bytes-bytes.ensures ∙ c.requires.word image there in
@@ -48,12 +48,12 @@ returns-clause-aligned g c = omega arith
 pub returns-in_err-counters-clause-cause : goal.returns-in_err-counters-clause-cause
 returns-in_err-counters-clause-cause g c =
     carried c.read.result c.from_residual.result c.in_err-counters.field-0.0 _ c.in_err-counters.was c.from_residual.ensures.1
-    (if_damaged_weaker c.read.result (IsShort (g.F.Folder.told c.args.f.now) (names.Block c.args.file) 0 80) (IsCause (g.F.Folder.told c.args.f.now) c.args.file c.args.start c.args.count c.args.used) (λ damage short. inl (record { place = 0; count = 80; read = inl (refl, refl); short = short })) c.read.ensures.short)
+    (if_damaged_weaker c.read.result (IsShort (g.F.Folder.told c.args.folder.now) (names.Block c.args.file) 0 80) (IsCause (g.F.Folder.told c.args.folder.now) c.args.file c.args.start c.args.count c.args.used) (λ damage short. inl (record { place = 0; count = 80; read = inl (refl, refl); short = short })) c.read.ensures.short)
 
 pub returns-in_err-counters-2-clause-cause : goal.returns-in_err-counters-2-clause-cause
 returns-in_err-counters-2-clause-cause g c =
     carried c.moved.result c.from_residual-in_err-counters-2.result c.in_err-counters-2.field-0.0 _ c.in_err-counters-2.was c.from_residual-in_err-counters-2.ensures.1
-    (if_damaged_weaker c.moved.result (IsAtEnd c.in_ok-counters.counters c.args.file c.longest_run-before.result c.longest_run-later.result c.args.used) (IsCause (g.F.Folder.told c.args.f.now) c.args.file c.args.start c.args.count c.args.used)
+    (if_damaged_weaker c.moved.result (IsAtEnd c.in_ok-counters.counters c.args.file c.longest_run-before.result c.longest_run-later.result c.args.used) (IsCause (g.F.Folder.told c.args.folder.now) c.args.file c.args.start c.args.count c.args.used)
     (λ damage end. inr (record {
       counters = c.in_ok-counters.counters;
       bytes = c.to_le_bytes-bytes.result;

@@ -27,17 +27,17 @@ finish-requires-clause-header g c = two_kept c.args.file 56 1 c.args.self.now.at
 
 pub returns-in_err-write_words-clause-prefix : goal.returns-in_err-write_words-clause-prefix
 returns-in_err-write_words-clause-prefix g c =
-    subst (λ (s : List TrailStep). AppliesPrefix (g.F.Folder.told c.args.f.now) (g.F.Folder.told c.write_words.new.f) s) (both c.args.file c.args.self.now.at c.args.self.now.word c.args.self.now.counters.allocations c.args.self.now.counters.empty)
+    subst (λ (s : List TrailStep). AppliesPrefix (g.F.Folder.told c.args.folder.now) (g.F.Folder.told c.write_words.new.folder) s) (both c.args.file c.args.self.now.at c.args.self.now.word c.args.self.now.counters.allocations c.args.self.now.counters.empty)
     (part_only (word_steps (Block c.args.file) (finish_words c.args.self.now.counters.allocations c.args.self.now.counters.empty)) c.in_err-write_words.ensures.prefix)
 
 pub returns-clause-steps : goal.returns-clause-steps
 returns-clause-steps g c =
     on_ok_weaker c.finish.result
-    (λ whole. subst (λ (s : List TrailStep). Applies (g.F.Folder.told c.args.f.now) (g.F.Folder.told c.finish.new.f) s) (both c.args.file c.args.self.now.at c.args.self.now.word c.args.self.now.counters.allocations c.args.self.now.counters.empty)
+    (λ whole. subst (λ (s : List TrailStep). Applies (g.F.Folder.told c.args.folder.now) (g.F.Folder.told c.finish.new.folder) s) (both c.args.file c.args.self.now.at c.args.self.now.word c.args.self.now.counters.allocations c.args.self.now.counters.empty)
     (grows_then c.in_ok-write_words.ensures.steps whole))
     c.finish.ensures.steps
 
 pub returns-clause-prefix : goal.returns-clause-prefix
 returns-clause-prefix g c =
-    subst (λ (s : List TrailStep). AppliesPrefix (g.F.Folder.told c.args.f.now) (g.F.Folder.told c.finish.new.f) s) (both c.args.file c.args.self.now.at c.args.self.now.word c.args.self.now.counters.allocations c.args.self.now.counters.empty)
+    subst (λ (s : List TrailStep). AppliesPrefix (g.F.Folder.told c.args.folder.now) (g.F.Folder.told c.finish.new.folder) s) (both c.args.file c.args.self.now.at c.args.self.now.word c.args.self.now.counters.allocations c.args.self.now.counters.empty)
     (part_then c.in_ok-write_words.ensures.steps c.finish.ensures.prefix)

@@ -6,7 +6,7 @@ use Rattle.blk_audit.proofs.record_files.Records.read_file.Given as goal
 
 abbrev pub invariant-loop-piece : goal.invariant-loop-piece
 invariant-loop-piece g l = record {
-  records : ForSome (g.F.Folder.told l.fn.f).files (λ image. AreRecordsOf image l.fn.self → AreRecordsOf image l.self);
-  stays : Stays (g.F.Folder.told l.fn.f) (g.F.Folder.told l.f);
-  later : g.F.Folder.faults l.fn.f ≤ g.F.Folder.faults l.f;
+  records : ForSome (g.F.Folder.told l.fn.folder).files (λ image. AreRecordsOf image l.fn.self → AreRecordsOf image l.self);
+  stays : Stays (g.F.Folder.told l.fn.folder) (g.F.Folder.told l.folder);
+  later : g.F.Folder.faults l.fn.folder ≤ g.F.Folder.faults l.folder;
 }

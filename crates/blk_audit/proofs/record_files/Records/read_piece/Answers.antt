@@ -8,12 +8,12 @@ use Rattle.blk_audit.proofs.record_files.Records.read_piece.Goals as goal
 pub returns-in_err-read_exact-clause-untold : goal.returns-in_err-read_exact-clause-untold
 returns-in_err-read_exact-clause-untold g c inside =
     converted c.read_exact.result c.from_residual.result c.in_err-read_exact.field-0.0 _ c.in_err-read_exact.was c.from_residual.ensures.1
-    (untold_piece c.read_exact.result (g.F.Folder.told c.args.f.now) (g.F.Folder.told c.read_exact.new.f) (names.Block c.args.file) _ _ c.read_exact.ensures.stays c.read_exact.ensures.short
+    (untold_piece c.read_exact.result (g.F.Folder.told c.args.folder.now) (g.F.Folder.told c.read_exact.new.folder) (names.Block c.args.file) _ _ c.read_exact.ensures.stays c.read_exact.ensures.short
     (λ image there. let h = inside image there in omega (arith, h, c.from.ensures)))
 
 pub returns-clause-records : goal.returns-clause-records
 returns-clause-records g c image there are =
     let at : 8192 + c.from.result * 256 ≡ 8192 + c.args.first * 256 = ap (λ (n : ℕ). 8192 + n * 256) c.from.ensures in
-    c.in_ok-add_piece.ensures image (g.met.F.Folder.are_bytes c.args.f.now image there)
+    c.in_ok-add_piece.ensures image (g.met.F.Folder.are_bytes c.args.folder.now image there)
     (⊎_elim (λ (inside : 8192 + c.from.result * 256 + 32768 ≤ length_of image (Block c.args.file)). let h : 8192 + c.args.first * 256 + 32768 ≤ length_of image (Block c.args.file) = omega (arith, inside, c.from.ensures) in h) (λ (none : ◌≡◌ {A = ℕ} 32768 0). absurd (omega (arith, none))) (c.in_ok-read_exact.ensures.inside image there))
     (c.in_ok-read_exact.ensures.bytes image there ∙ ap (λ (p : ℕ). range_at (byte image (Block c.args.file)) p 32768) at) are

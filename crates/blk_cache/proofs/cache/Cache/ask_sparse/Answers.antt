@@ -44,16 +44,16 @@ pub returns-in_err-head-clause-damaged : goal.returns-in_err-head-clause-damaged
 returns-in_err-head-clause-damaged g c =
     let o = opened-there c.args.self.now.handles c.args.handle c.object.result c.in-Some-object.object c.object.ensures.object c.in-Some-object.is in
     let p = names-parts c.args.self.now.files c.in-Some-object.object.entry (opened-stands c.args.self.now.files c.args.self.now.handles c.args.self.now.stand c.args.handle c.in-Some-object.object o).1 in
-    handed c.read_head.result c.from_residual.result c.in_err-head.field-0.0 _ c.args.self.now.files (g.F.Folder.told c.read_head.new.f)
-    (λ damage wrong. moved c.args.self.now.files (g.F.Folder.told c.args.f.now) (g.F.Folder.told c.read_head.new.f) damage c.read_head.ensures.stays (head-checked c.args.self.now.files (g.F.Folder.told c.args.f.now) c.in-Some-object.object.entry damage p.1.0 p.1.1 wrong))
+    handed c.read_head.result c.from_residual.result c.in_err-head.field-0.0 _ c.args.self.now.files (g.F.Folder.told c.read_head.new.folder)
+    (λ damage wrong. moved c.args.self.now.files (g.F.Folder.told c.args.folder.now) (g.F.Folder.told c.read_head.new.folder) damage c.read_head.ensures.stays (head-checked c.args.self.now.files (g.F.Folder.told c.args.folder.now) c.in-Some-object.object.entry damage p.1.0 p.1.1 wrong))
     c.in_err-head.was c.from_residual.ensures.1 c.read_head.ensures.damaged
 
 pub returns-in_err-head-clause-untold : goal.returns-in_err-head-clause-untold
 returns-in_err-head-clause-untold g c any =
     let o = opened-there c.args.self.now.handles c.args.handle c.object.result c.in-Some-object.object c.object.ensures.object c.in-Some-object.is in
-    carried c.read_head.result c.from_residual.result c.in_err-head.field-0.0 (λ _. (g.F.Folder.told c.args.f.now).files ≡ None) c.in_err-head.was c.from_residual.ensures.1
+    carried c.read_head.result c.from_residual.result c.in_err-head.field-0.0 (λ _. (g.F.Folder.told c.args.folder.now).files ≡ None) c.in_err-head.was c.from_residual.ensures.1
     (c.read_head.ensures.untold (λ image there. (any image there).1.files)
-    (subst (λ (x : OpenObject). ForSome (g.F.Folder.told c.args.f.now).files (RecordChecks x.entry)) (sym o.opened) (asked-checks c.args.self.now (g.F.Folder.told c.args.f.now) c.args.handle o.b o.bound (g.met.F.Folder.are_bytes c.args.f.now) any)))
+    (subst (λ (x : OpenObject). ForSome (g.F.Folder.told c.args.folder.now).files (RecordChecks x.entry)) (sym o.opened) (asked-checks c.args.self.now (g.F.Folder.told c.args.folder.now) c.args.handle o.b o.bound (g.met.F.Folder.are_bytes c.args.folder.now) any)))
 
 pub read_signature-requires-clause-kind : goal.read_signature-requires-clause-kind
 read_signature-requires-clause-kind g c =
@@ -72,7 +72,7 @@ pub returns-in_err-signature-clause-untold : goal.returns-in_err-signature-claus
 returns-in_err-signature-clause-untold g c any =
     let o = opened-there c.args.self.now.handles c.args.handle c.object.result c.in-Some-object.object c.object.ensures.object c.in-Some-object.is in
     let same = ap (λ (t : Told). t.files) c.in_ok-head.ensures.stays in
-    carried c.read_signature.result c.from_residual-in_err-signature.result c.in_err-signature.field-0.0 (λ _. (g.F.Folder.told c.args.f.now).files ≡ None) c.in_err-signature.was c.from_residual-in_err-signature.ensures.1
+    carried c.read_signature.result c.from_residual-in_err-signature.result c.in_err-signature.field-0.0 (λ _. (g.F.Folder.told c.args.folder.now).files ≡ None) c.in_err-signature.was c.from_residual-in_err-signature.ensures.1
     (if_damaged_weaker c.read_signature.result _ _ (λ damage none. sym same ∙ none)
     (c.read_signature.ensures.untold (λ image there. (any image (sym same ∙ there)).1.files)
     (λ image there.

@@ -38,15 +38,15 @@ returns-in_err-head-clause-early g c = none-early c.args.self.now.handles c.args
 pub returns-in_err-head-clause-damaged : goal.returns-in_err-head-clause-damaged
 returns-in_err-head-clause-damaged g c =
     let o = opened-there c.args.self.now.handles c.args.handle c.object.result c.in-Some-object.object c.object.ensures.object c.in-Some-object.is in
-    carried c.read_head.result c.from_residual.result c.in_err-head.field-0.0 (IsAskDamage c.args.self.now.handles (g.F.Folder.told c.args.f.now) c.args.handle) c.in_err-head.was c.from_residual.ensures.1
-    (if_damaged_weaker c.read_head.result _ _ (λ damage wrong. record { object = o.b; here = o.bound; wrong = subst (λ (x : OpenObject). IsHeadDamage (g.F.Folder.told c.args.f.now) x.entry damage) o.opened wrong }) c.read_head.ensures.damaged)
+    carried c.read_head.result c.from_residual.result c.in_err-head.field-0.0 (IsAskDamage c.args.self.now.handles (g.F.Folder.told c.args.folder.now) c.args.handle) c.in_err-head.was c.from_residual.ensures.1
+    (if_damaged_weaker c.read_head.result _ _ (λ damage wrong. record { object = o.b; here = o.bound; wrong = subst (λ (x : OpenObject). IsHeadDamage (g.F.Folder.told c.args.folder.now) x.entry damage) o.opened wrong }) c.read_head.ensures.damaged)
 
 pub returns-in_err-head-clause-untold : goal.returns-in_err-head-clause-untold
 returns-in_err-head-clause-untold g c any =
     let o = opened-there c.args.self.now.handles c.args.handle c.object.result c.in-Some-object.object c.object.ensures.object c.in-Some-object.is in
-    carried c.read_head.result c.from_residual.result c.in_err-head.field-0.0 (λ _. (g.F.Folder.told c.args.f.now).files ≡ None) c.in_err-head.was c.from_residual.ensures.1
+    carried c.read_head.result c.from_residual.result c.in_err-head.field-0.0 (λ _. (g.F.Folder.told c.args.folder.now).files ≡ None) c.in_err-head.was c.from_residual.ensures.1
     (c.read_head.ensures.untold (λ image there. (any image there).1.files)
-    (subst (λ (x : OpenObject). ForSome (g.F.Folder.told c.args.f.now).files (RecordChecks x.entry)) (sym o.opened) (asked-checks c.args.self.now (g.F.Folder.told c.args.f.now) c.args.handle o.b o.bound (g.met.F.Folder.are_bytes c.args.f.now) any)))
+    (subst (λ (x : OpenObject). ForSome (g.F.Folder.told c.args.folder.now).files (RecordChecks x.entry)) (sym o.opened) (asked-checks c.args.self.now (g.F.Folder.told c.args.folder.now) c.args.handle o.b o.bound (g.met.F.Folder.are_bytes c.args.folder.now) any)))
 
 pub returns-then-keeps_stream-clause-asked : goal.returns-then-keeps_stream-clause-asked
 returns-then-keeps_stream-clause-asked g c image there state k =
@@ -74,6 +74,6 @@ pub returns-in_err-head-clause-cause : goal.returns-in_err-head-clause-cause
 returns-in_err-head-clause-cause g c =
     let o = opened-there c.args.self.now.handles c.args.handle c.object.result c.in-Some-object.object c.object.ensures.object c.in-Some-object.is in
     let p = names-parts c.args.self.now.files c.in-Some-object.object.entry (opened-stands c.args.self.now.files c.args.self.now.handles c.args.self.now.stand c.args.handle c.in-Some-object.object o).1 in
-    handed c.read_head.result c.from_residual.result c.in_err-head.field-0.0 _ c.args.self.now.files (g.F.Folder.told c.read_head.new.f)
-    (λ damage wrong. moved c.args.self.now.files (g.F.Folder.told c.args.f.now) (g.F.Folder.told c.read_head.new.f) damage c.read_head.ensures.stays (head-checked c.args.self.now.files (g.F.Folder.told c.args.f.now) c.in-Some-object.object.entry damage p.1.0 p.1.1 wrong))
+    handed c.read_head.result c.from_residual.result c.in_err-head.field-0.0 _ c.args.self.now.files (g.F.Folder.told c.read_head.new.folder)
+    (λ damage wrong. moved c.args.self.now.files (g.F.Folder.told c.args.folder.now) (g.F.Folder.told c.read_head.new.folder) damage c.read_head.ensures.stays (head-checked c.args.self.now.files (g.F.Folder.told c.args.folder.now) c.in-Some-object.object.entry damage p.1.0 p.1.1 wrong))
     c.in_err-head.was c.from_residual.ensures.1 c.read_head.ensures.damaged

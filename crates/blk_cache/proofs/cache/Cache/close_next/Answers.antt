@@ -21,35 +21,35 @@ made old mid told now same note = subst (λ (n : ℕ). Applies told now (Note (n
 
 pub returns-in_err-close-clause-stepped : goal.returns-in_err-close-clause-stepped
 returns-in_err-close-clause-stepped g c =
-    if-some (position is_some c.args.self.now.handles) c.in-Some.handle (λ handle. ForKept (KeepsState c.args.self.now) (g.F.Folder.told c.args.f.now) (IsStepped (g.F.Folder.told c.args.f.now) (g.F.Folder.told c.close.new.f) c.args.moment (to_close handle) (note_number (c.args.self.now.notes + 1)))) (sym c.least_name.ensures ∙ c.in-Some.is)
-    (not-noted c.args.self.now c.close.new.self c.close.new.self (g.F.Folder.told c.args.f.now) (g.F.Folder.told c.close.new.f) (g.F.Folder.told c.close.new.f) c.args.moment (to_close c.in-Some.handle) (note_number (c.args.self.now.notes + 1)) (c.in_err-close.ensures.stops c.args.moment) refl)
+    if-some (position is_some c.args.self.now.handles) c.in-Some.handle (λ handle. ForKept (KeepsState c.args.self.now) (g.F.Folder.told c.args.f.now) (IsStepped (g.F.Folder.told c.args.f.now) (g.F.Folder.told c.close.new.folder) c.args.moment (to_close handle) (note_number (c.args.self.now.notes + 1)))) (sym c.least_name.ensures ∙ c.in-Some.is)
+    (not-noted c.args.self.now c.close.new.self c.close.new.self (g.F.Folder.told c.args.f.now) (g.F.Folder.told c.close.new.folder) (g.F.Folder.told c.close.new.folder) c.args.moment (to_close c.in-Some.handle) (note_number (c.args.self.now.notes + 1)) (c.in_err-close.ensures.stops c.args.moment) refl)
 
 pub returns-in_err-note-clause-stepped : goal.returns-in_err-note-clause-stepped
 returns-in_err-note-clause-stepped g c =
-    if-some (position is_some c.args.self.now.handles) c.in-Some.handle (λ handle. ForKept (KeepsState c.args.self.now) (g.F.Folder.told c.args.f.now) (IsStepped (g.F.Folder.told c.args.f.now) (g.F.Folder.told c.note.new.f) c.args.moment (to_close handle) (note_number (c.args.self.now.notes + 1)))) (sym c.least_name.ensures ∙ c.in-Some.is)
-    (not-noted c.args.self.now c.close.new.self c.note.new.self (g.F.Folder.told c.args.f.now) (g.F.Folder.told c.close.new.f) (g.F.Folder.told c.note.new.f) c.args.moment (to_close c.in-Some.handle) (note_number (c.args.self.now.notes + 1)) (c.in_ok-close.ensures.stops c.args.moment) c.in_err-note.ensures.undone)
+    if-some (position is_some c.args.self.now.handles) c.in-Some.handle (λ handle. ForKept (KeepsState c.args.self.now) (g.F.Folder.told c.args.f.now) (IsStepped (g.F.Folder.told c.args.f.now) (g.F.Folder.told c.note.new.folder) c.args.moment (to_close handle) (note_number (c.args.self.now.notes + 1)))) (sym c.least_name.ensures ∙ c.in-Some.is)
+    (not-noted c.args.self.now c.close.new.self c.note.new.self (g.F.Folder.told c.args.f.now) (g.F.Folder.told c.close.new.folder) (g.F.Folder.told c.note.new.folder) c.args.moment (to_close c.in-Some.handle) (note_number (c.args.self.now.notes + 1)) (c.in_ok-close.ensures.stops c.args.moment) c.in_err-note.ensures.undone)
 
 pub returns-clause-kept : goal.returns-clause-kept
 returns-clause-kept g c =
-    if-some (position is_some c.args.self.now.handles) c.in-Some.handle (λ handle. ForKept (KeepsState c.args.self.now) (g.F.Folder.told c.args.f.now) (λ state. ForSome (g.F.Folder.told c.note.new.f).files (KeepsState c.note.new.self (step state c.args.moment (to_close handle)).state))) (sym c.least_name.ensures ∙ c.in-Some.is)
-    (λ image there state k. (noted-does c.args.self.now c.close.new.self c.note.new.self (g.F.Folder.told c.args.f.now) (g.F.Folder.told c.close.new.f) (g.F.Folder.told c.note.new.f) c.args.moment (to_close c.in-Some.handle) (note_number (c.args.self.now.notes + 1)) (c.in_ok-close.ensures.stops c.args.moment) c.in_ok-close.field-0 (c.in_ok-close.ensures.does c.args.moment)
-    (made c.args.self.now.notes c.close.new.self.notes (g.F.Folder.told c.close.new.f) (g.F.Folder.told c.note.new.f) c.in_ok-close.ensures.notes c.in_ok-note.ensures.done) c.in_ok-note.ensures.others image there state k).kept)
+    if-some (position is_some c.args.self.now.handles) c.in-Some.handle (λ handle. ForKept (KeepsState c.args.self.now) (g.F.Folder.told c.args.f.now) (λ state. ForSome (g.F.Folder.told c.note.new.folder).files (KeepsState c.note.new.self (step state c.args.moment (to_close handle)).state))) (sym c.least_name.ensures ∙ c.in-Some.is)
+    (λ image there state k. (noted-does c.args.self.now c.close.new.self c.note.new.self (g.F.Folder.told c.args.f.now) (g.F.Folder.told c.close.new.folder) (g.F.Folder.told c.note.new.folder) c.args.moment (to_close c.in-Some.handle) (note_number (c.args.self.now.notes + 1)) (c.in_ok-close.ensures.stops c.args.moment) c.in_ok-close.field-0 (c.in_ok-close.ensures.does c.args.moment)
+    (made c.args.self.now.notes c.close.new.self.notes (g.F.Folder.told c.close.new.folder) (g.F.Folder.told c.note.new.folder) c.in_ok-close.ensures.notes c.in_ok-note.ensures.done) c.in_ok-note.ensures.others image there state k).kept)
 
 pub returns-clause-stepped : goal.returns-clause-stepped
 returns-clause-stepped g c =
-    if-some (position is_some c.args.self.now.handles) c.in-Some.handle (λ handle. ForKept (KeepsState c.args.self.now) (g.F.Folder.told c.args.f.now) (IsStepped (g.F.Folder.told c.args.f.now) (g.F.Folder.told c.note.new.f) c.args.moment (to_close handle) (note_number (c.args.self.now.notes + 1)))) (sym c.least_name.ensures ∙ c.in-Some.is)
-    (noted-steps c.args.self.now c.close.new.self c.note.new.self (g.F.Folder.told c.args.f.now) (g.F.Folder.told c.close.new.f) (g.F.Folder.told c.note.new.f) c.args.moment (to_close c.in-Some.handle) (note_number (c.args.self.now.notes + 1)) (c.in_ok-close.ensures.stops c.args.moment) c.in_ok-close.field-0 (c.in_ok-close.ensures.does c.args.moment)
-    (made c.args.self.now.notes c.close.new.self.notes (g.F.Folder.told c.close.new.f) (g.F.Folder.told c.note.new.f) c.in_ok-close.ensures.notes c.in_ok-note.ensures.done) c.in_ok-note.ensures.others)
+    if-some (position is_some c.args.self.now.handles) c.in-Some.handle (λ handle. ForKept (KeepsState c.args.self.now) (g.F.Folder.told c.args.f.now) (IsStepped (g.F.Folder.told c.args.f.now) (g.F.Folder.told c.note.new.folder) c.args.moment (to_close handle) (note_number (c.args.self.now.notes + 1)))) (sym c.least_name.ensures ∙ c.in-Some.is)
+    (noted-steps c.args.self.now c.close.new.self c.note.new.self (g.F.Folder.told c.args.f.now) (g.F.Folder.told c.close.new.folder) (g.F.Folder.told c.note.new.folder) c.args.moment (to_close c.in-Some.handle) (note_number (c.args.self.now.notes + 1)) (c.in_ok-close.ensures.stops c.args.moment) c.in_ok-close.field-0 (c.in_ok-close.ensures.does c.args.moment)
+    (made c.args.self.now.notes c.close.new.self.notes (g.F.Folder.told c.close.new.folder) (g.F.Folder.told c.note.new.folder) c.in_ok-close.ensures.notes c.in_ok-note.ensures.done) c.in_ok-note.ensures.others)
 
 pub returns-clause-noted : goal.returns-clause-noted
 returns-clause-noted g c =
-    if-some (position is_some c.args.self.now.handles) c.in-Some.handle (λ handle. ForKept (KeepsState c.args.self.now) (g.F.Folder.told c.args.f.now) (IsNoted (g.F.Folder.told c.args.f.now) (g.F.Folder.told c.note.new.f) c.args.moment (to_close handle) (note_number (c.args.self.now.notes + 1)))) (sym c.least_name.ensures ∙ c.in-Some.is)
-    (noted-ends c.args.self.now c.close.new.self c.note.new.self (g.F.Folder.told c.args.f.now) (g.F.Folder.told c.close.new.f) (g.F.Folder.told c.note.new.f) c.args.moment (to_close c.in-Some.handle) (note_number (c.args.self.now.notes + 1)) (c.in_ok-close.ensures.stops c.args.moment) c.in_ok-close.field-0 (c.in_ok-close.ensures.does c.args.moment)
-    (made c.args.self.now.notes c.close.new.self.notes (g.F.Folder.told c.close.new.f) (g.F.Folder.told c.note.new.f) c.in_ok-close.ensures.notes c.in_ok-note.ensures.done) c.in_ok-note.ensures.others)
+    if-some (position is_some c.args.self.now.handles) c.in-Some.handle (λ handle. ForKept (KeepsState c.args.self.now) (g.F.Folder.told c.args.f.now) (IsNoted (g.F.Folder.told c.args.f.now) (g.F.Folder.told c.note.new.folder) c.args.moment (to_close handle) (note_number (c.args.self.now.notes + 1)))) (sym c.least_name.ensures ∙ c.in-Some.is)
+    (noted-ends c.args.self.now c.close.new.self c.note.new.self (g.F.Folder.told c.args.f.now) (g.F.Folder.told c.close.new.folder) (g.F.Folder.told c.note.new.folder) c.args.moment (to_close c.in-Some.handle) (note_number (c.args.self.now.notes + 1)) (c.in_ok-close.ensures.stops c.args.moment) c.in_ok-close.field-0 (c.in_ok-close.ensures.does c.args.moment)
+    (made c.args.self.now.notes c.close.new.self.notes (g.F.Folder.told c.close.new.folder) (g.F.Folder.told c.note.new.folder) c.in_ok-close.ensures.notes c.in_ok-note.ensures.done) c.in_ok-note.ensures.others)
 
 pub returns-clause-is_open : goal.returns-clause-is_open
 returns-clause-is_open g c =
-    open-on c.close.new.self c.note.new.self (g.F.Folder.told c.close.new.f) (g.F.Folder.told c.note.new.f) (same-files (g.F.Folder.told c.close.new.f) (g.F.Folder.told c.note.new.f) _ c.in_ok-note.ensures.done) c.in_ok-note.ensures.others c.in_ok-close.ensures.is_open
+    open-on c.close.new.self c.note.new.self (g.F.Folder.told c.close.new.folder) (g.F.Folder.told c.note.new.folder) (same-files (g.F.Folder.told c.close.new.folder) (g.F.Folder.told c.note.new.folder) _ c.in_ok-note.ensures.done) c.in_ok-note.ensures.others c.in_ok-close.ensures.is_open
 
 pub returns-clause-frees : goal.returns-clause-frees
 returns-clause-frees g c =

@@ -18,19 +18,19 @@ use Rattle.blk_cache.proofs.cache.Cache.doom.Goals as goal
 
 pub returns-in_default-clause-does : goal.returns-in_default-clause-does
 returns-in_default-clause-does g c moment =
-    refusals-done (KeepsState c.args.self.now) (g.F.Folder.told c.args.f.now) (g.F.Folder.told c.args.f.now) moment (to_doom c.args.handle) refusal.BadHandle refl
+    refusals-done (KeepsState c.args.self.now) (g.F.Folder.told c.args.folder.now) (g.F.Folder.told c.args.folder.now) moment (to_doom c.args.handle) refusal.BadHandle refl
     (λ image there state k. free-refused c.args.self.now state image k moment c.args.handle (free-there c.args.self.now.handles c.args.handle c.object.result c.object.ensures.object (ap is_some c.in_default.is)))
 
 pub returns-in_default-clause-stops : goal.returns-in_default-clause-stops
-returns-in_default-clause-stops g c moment = nothing-stops (KeepsState c.args.self.now) (says-kept c.args.self.now) (g.F.Folder.told c.args.f.now) (g.F.Folder.told c.args.f.now) moment (to_doom c.args.handle) refl
+returns-in_default-clause-stops g c moment = nothing-stops (KeepsState c.args.self.now) (says-kept c.args.self.now) (g.F.Folder.told c.args.folder.now) (g.F.Folder.told c.args.folder.now) moment (to_doom c.args.handle) refl
 
 pub returns-then-object-clause-does : goal.returns-then-object-clause-does
 returns-then-object-clause-does g c moment =
-    refusals-done (KeepsState c.args.self.now) (g.F.Folder.told c.args.f.now) (g.F.Folder.told c.args.f.now) moment (to_doom c.args.handle) refusal.Doomed refl
+    refusals-done (KeepsState c.args.self.now) (g.F.Folder.told c.args.folder.now) (g.F.Folder.told c.args.folder.now) moment (to_doom c.args.handle) refusal.Doomed refl
     (λ image there state k. given-refused c.args.self.now c.args.handle (omega (arith, c.ranges.handle.fits)) c.in-Some.object (bound-object c.args.self.now.handles c.args.handle c.object.result c.in-Some.object c.object.ensures.object c.in-Some.is) c.if-object.true moment state image k)
 
 pub returns-then-object-clause-stops : goal.returns-then-object-clause-stops
-returns-then-object-clause-stops g c moment = nothing-stops (KeepsState c.args.self.now) (says-kept c.args.self.now) (g.F.Folder.told c.args.f.now) (g.F.Folder.told c.args.f.now) moment (to_doom c.args.handle) refl
+returns-then-object-clause-stops g c moment = nothing-stops (KeepsState c.args.self.now) (says-kept c.args.self.now) (g.F.Folder.told c.args.folder.now) (g.F.Folder.told c.args.folder.now) moment (to_doom c.args.handle) refl
 
 -- Doomed.
 
@@ -46,18 +46,18 @@ doom_open-requires-clause-node g c =
 
 pub returns-in_err-doom_open-clause-stops : goal.returns-in_err-doom_open-clause-stops
 returns-in_err-doom_open-clause-stops g c moment =
-    given-stops c.args.self.now c.args.handle (omega (arith, c.ranges.handle.fits)) c.in-Some.object (bound-object c.args.self.now.handles c.args.handle c.object.result c.in-Some.object c.object.ensures.object c.in-Some.is) c.if-object.false (g.F.Folder.told c.args.f.now) (g.F.Folder.told c.doom_open.new.f) c.in_err-doom_open.ensures.stops moment
+    given-stops c.args.self.now c.args.handle (omega (arith, c.ranges.handle.fits)) c.in-Some.object (bound-object c.args.self.now.handles c.args.handle c.object.result c.in-Some.object c.object.ensures.object c.in-Some.is) c.if-object.false (g.F.Folder.told c.args.folder.now) (g.F.Folder.told c.doom_open.new.folder) c.in_err-doom_open.ensures.stops moment
 
 pub returns-in_err-doom_open-clause-untold : goal.returns-in_err-doom_open-clause-untold
 returns-in_err-doom_open-clause-untold g c any =
-    carried c.doom_open.result c.from_residual.result c.in_err-doom_open.field-0.0 (λ _. (g.F.Folder.told c.args.f.now).files ≡ None) c.in_err-doom_open.was c.from_residual.ensures.1
-    (untold-where c.doom_open.result (g.F.Folder.told c.args.f.now) (KeepsAny c.args.self.now) any (λ image there one.
+    carried c.doom_open.result c.from_residual.result c.in_err-doom_open.field-0.0 (λ _. (g.F.Folder.told c.args.folder.now).files ≡ None) c.in_err-doom_open.was c.from_residual.ensures.1
+    (untold-where c.doom_open.result (g.F.Folder.told c.args.folder.now) (KeepsAny c.args.self.now) any (λ image there one.
     given-lies c.args.self.now c.args.handle (omega (arith, c.ranges.handle.fits)) c.in-Some.object (bound-object c.args.self.now.handles c.args.handle c.object.result c.in-Some.object c.object.ensures.object c.in-Some.is) c.if-object.false _ image one.0 one.1 (c.doom_open.ensures.untold image there)))
 
 pub returns-clause-does : goal.returns-clause-does
 returns-clause-does g c moment =
-    given-done c.args.self.now c.args.handle (omega (arith, c.ranges.handle.fits)) c.in-Some.object (bound-object c.args.self.now.handles c.args.handle c.object.result c.in-Some.object c.object.ensures.object c.in-Some.is) c.if-object.false (g.F.Folder.told c.args.f.now) (g.F.Folder.told c.doom_open.new.f) c.doom_open.new.self c.in_ok-doom_open.ensures.dooms moment
+    given-done c.args.self.now c.args.handle (omega (arith, c.ranges.handle.fits)) c.in-Some.object (bound-object c.args.self.now.handles c.args.handle c.object.result c.in-Some.object c.object.ensures.object c.in-Some.is) c.if-object.false (g.F.Folder.told c.args.folder.now) (g.F.Folder.told c.doom_open.new.folder) c.doom_open.new.self c.in_ok-doom_open.ensures.dooms moment
 
 pub returns-clause-stops : goal.returns-clause-stops
 returns-clause-stops g c moment =
-    given-stops c.args.self.now c.args.handle (omega (arith, c.ranges.handle.fits)) c.in-Some.object (bound-object c.args.self.now.handles c.args.handle c.object.result c.in-Some.object c.object.ensures.object c.in-Some.is) c.if-object.false (g.F.Folder.told c.args.f.now) (g.F.Folder.told c.doom_open.new.f) c.in_ok-doom_open.ensures.stops moment
+    given-stops c.args.self.now c.args.handle (omega (arith, c.ranges.handle.fits)) c.in-Some.object (bound-object c.args.self.now.handles c.args.handle c.object.result c.in-Some.object c.object.ensures.object c.in-Some.is) c.if-object.false (g.F.Folder.told c.args.folder.now) (g.F.Folder.told c.doom_open.new.folder) c.in_ok-doom_open.ensures.stops moment

@@ -22,7 +22,7 @@ returns-in_err-gone-clause-untold g c from there state k number object t same =
     let p : IsPlacedAsLive state k.layout number object t.lies.was = record { here = t.here; live = t.live; at = t.lies.lies.here } in
     let held : is_named state number ≡ c.is_pinned-is_held.result = sym (c.is_pinned-is_held.ensures ∙ ap (is_open c.args.self.now.handles) (sym t.lies.entry_is) ∙ open-named c.args.self.now state from k number object t.lies.was p) in
     let t1 = subst (λ (b : Bool). LiesAsTarget b state k.layout number object c.args.target.now) held t in
-    carried c.doom_target.result c.from_residual.result c.in_err-gone.field-0.0 (λ _. (g.F.Folder.told c.args.f.now).files ≡ None) c.in_err-gone.was c.from_residual.ensures.1
+    carried c.doom_target.result c.from_residual.result c.in_err-gone.field-0.0 (λ _. (g.F.Folder.told c.args.folder.now).files ≡ None) c.in_err-gone.was c.from_residual.ensures.1
     (c.doom_target.ensures.untold from there state k.layout number object k.kept t1 same)
 
 pub returns-clause-dooms : goal.returns-clause-dooms

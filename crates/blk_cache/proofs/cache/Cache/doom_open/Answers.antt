@@ -12,7 +12,7 @@ returns-in_err-gone-clause-stops g c from there state k number object o =
 
 pub returns-in_err-gone-clause-untold : goal.returns-in_err-gone-clause-untold
 returns-in_err-gone-clause-untold g c from there state k number object o =
-    carried c.doom_named.result c.from_residual.result c.in_err-gone.field-0.0 (λ _. (g.F.Folder.told c.args.f.now).files ≡ None) c.in_err-gone.was c.from_residual.ensures.1
+    carried c.doom_named.result c.from_residual.result c.in_err-gone.field-0.0 (λ _. (g.F.Folder.told c.args.folder.now).files ≡ None) c.in_err-gone.was c.from_residual.ensures.1
     (c.doom_named.ensures.untold from there state k.layout number object k.kept o)
 
 pub returns-clause-dooms : goal.returns-clause-dooms

@@ -13,8 +13,8 @@ returns-in_err-gone-clause-front g c from there state kept last = c.in_err-gone.
 
 pub returns-in_err-gone-clause-untold : goal.returns-in_err-gone-clause-untold
 returns-in_err-gone-clause-untold g c holds =
-    carried c.evict_group.result c.from_residual.result c.in_err-gone.field-0.0 (λ _. (g.F.Folder.told c.args.f.now).files ≡ None) c.in_err-gone.was c.from_residual.ensures.1
-    (untold-where c.evict_group.result (g.F.Folder.told c.args.f.now) (KeepsThatMayGo c.args.self.now c.args.found.now) holds (λ from there h. c.evict_group.ensures.untold from there h.state h.kept.layout h.kept.kept h.at))
+    carried c.evict_group.result c.from_residual.result c.in_err-gone.field-0.0 (λ _. (g.F.Folder.told c.args.folder.now).files ≡ None) c.in_err-gone.was c.from_residual.ensures.1
+    (untold-where c.evict_group.result (g.F.Folder.told c.args.folder.now) (KeepsThatMayGo c.args.self.now c.args.found.now) holds (λ from there h. c.evict_group.ensures.untold from there h.state h.kept.layout h.kept.kept h.at))
 
 pub returns-clause-evicted : goal.returns-clause-evicted
 returns-clause-evicted g c from there state kept last now then_there =

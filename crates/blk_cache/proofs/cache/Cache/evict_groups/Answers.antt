@@ -25,7 +25,7 @@ loop-init g c = record {
   sink_later = omega arith;
   quiet = λ failed. (failed, refl);
   fails = same-fails c.args.failed.now (g.K.Sink.faults c.args.out.now) (g.K.Sink.faults c.args.out.now);
-  evicted = λ image there state k covered are. none-yet (is_met c.args.goal.now) state covered c.args.parts.now c.args.self.now (g.F.Folder.told c.args.f.now) c.args.failed.now (g.K.Sink.written c.args.out.now) image there k are.lie;
+  evicted = λ image there state k covered are. none-yet (is_met c.args.goal.now) state covered c.args.parts.now c.args.self.now (g.F.Folder.told c.args.folder.now) c.args.failed.now (g.K.Sink.written c.args.out.now) image there k are.lie;
 }
 
 pub returns-then-is_met-clause-evicted : goal.returns-then-is_met-clause-evicted
@@ -56,7 +56,7 @@ pub returns-then-is_met-clause-stops : goal.returns-then-is_met-clause-stops
 returns-then-is_met-clause-stops g c image there state k covered are =
     let h = c.loop.invariant.evicted image there state k covered are in
     let valid = k.kept.entries.valid in
-    so-far-passes _ state covered c.args.parts.now valid _ _ _ _ _ _ _ _ _ _ h (g.F.Folder.told c.loop.f) refl
+    so-far-passes _ state covered c.args.parts.now valid _ _ _ _ _ _ _ _ _ _ h (g.F.Folder.told c.loop.folder) refl
 
 pub returns-then-is_met-clause-front : goal.returns-then-is_met-clause-front
 returns-then-is_met-clause-front g c image there state k covered are =
@@ -68,7 +68,7 @@ pub returns-in_err-found-clause-stops : goal.returns-in_err-found-clause-stops
 returns-in_err-found-clause-stops g c image there state k covered are =
     let h = c.loop.invariant.evicted image there state k covered are in
     let valid = k.kept.entries.valid in
-    so-far-passes _ state covered c.args.parts.now valid _ _ _ _ _ _ _ _ _ _ h (g.F.Folder.told c.last_unpinned.new.f) c.in_err-found.ensures.stays
+    so-far-passes _ state covered c.args.parts.now valid _ _ _ _ _ _ _ _ _ _ h (g.F.Folder.told c.last_unpinned.new.folder) c.in_err-found.ensures.stays
 
 pub returns-in_err-found-clause-front : goal.returns-in_err-found-clause-front
 returns-in_err-found-clause-front g c image there state k covered are =
@@ -81,8 +81,8 @@ returns-in_err-found-clause-is_open g c image there = c.loop.invariant.is_open i
 
 pub returns-in_err-found-clause-untold : goal.returns-in_err-found-clause-untold
 returns-in_err-found-clause-untold g c any =
-    carried c.last_unpinned.result c.from_residual.result c.in_err-found.field-0.0 (λ _. (g.F.Folder.told c.args.f.now).files ≡ None) c.in_err-found.was c.from_residual.ensures.1
-    (untold-on c.last_unpinned.result (g.F.Folder.told c.args.f.now) (g.F.Folder.told c.loop.f) (KeepsPinnedFrom c.loop.self c.args.parts.now c.loop.behind) c.loop.invariant.silent
+    carried c.last_unpinned.result c.from_residual.result c.in_err-found.field-0.0 (λ _. (g.F.Folder.told c.args.folder.now).files ≡ None) c.in_err-found.was c.from_residual.ensures.1
+    (untold-on c.last_unpinned.result (g.F.Folder.told c.args.folder.now) (g.F.Folder.told c.loop.folder) (KeepsPinnedFrom c.loop.self c.args.parts.now c.loop.behind) c.loop.invariant.silent
     (λ from e.
     let a = any from e in
     let h = c.loop.invariant.evicted from e a.state a.kept a.covered a.are in
@@ -120,7 +120,7 @@ pub returns-in_default-clause-stops : goal.returns-in_default-clause-stops
 returns-in_default-clause-stops g c image there state k covered are =
     let h = c.loop.invariant.evicted image there state k covered are in
     let valid = k.kept.entries.valid in
-    so-far-passes _ state covered c.args.parts.now valid _ _ _ _ _ _ _ _ _ _ h (g.F.Folder.told c.last_unpinned.new.f) c.in_ok-found.ensures.stays
+    so-far-passes _ state covered c.args.parts.now valid _ _ _ _ _ _ _ _ _ _ h (g.F.Folder.told c.last_unpinned.new.folder) c.in_ok-found.ensures.stays
 
 pub returns-in_default-clause-front : goal.returns-in_default-clause-front
 returns-in_default-clause-front g c image there state k covered are =
@@ -142,7 +142,7 @@ returns-in_err-evict-clause-stops g c image there state k covered are =
     let some : c.in_ok-found.field-0 ≡ Some c.in-Some.found = search rules in
     let last = subst (λ (o : Option Unpinned). IsLast (without h.first state) h.at.kept.layout covered o) some (c.in_ok-found.ensures.last h.image h.there (without h.first state) h.at.kept covered h.at.lie h.at.pinned) in
     let mid = told_now h.image c.in_ok-found.ensures.stays h.there in
-    next-passes _ state covered c.args.parts.now valid _ _ _ _ _ _ _ _ _ _ h wants c.in-Some.found last (g.F.Folder.told c.last_unpinned.new.f) (g.F.Folder.told c.evict.new.f) c.in_ok-found.ensures.stays (c.in_err-evict.ensures.stops h.image mid (without h.first state) h.at.kept last.goes)
+    next-passes _ state covered c.args.parts.now valid _ _ _ _ _ _ _ _ _ _ h wants c.in-Some.found last (g.F.Folder.told c.last_unpinned.new.folder) (g.F.Folder.told c.evict.new.folder) c.in_ok-found.ensures.stays (c.in_err-evict.ensures.stops h.image mid (without h.first state) h.at.kept last.goes)
 
 pub returns-in_err-evict-clause-front : goal.returns-in_err-evict-clause-front
 returns-in_err-evict-clause-front g c image there state k covered are =
@@ -156,8 +156,8 @@ returns-in_err-evict-clause-front g c image there state k covered are =
 
 pub returns-in_err-evict-clause-untold : goal.returns-in_err-evict-clause-untold
 returns-in_err-evict-clause-untold g c any =
-    carried c.evict.result c.from_residual-in_err-evict.result c.in_err-evict.field-0.0 (λ _. (g.F.Folder.told c.args.f.now).files ≡ None) c.in_err-evict.was c.from_residual-in_err-evict.ensures.1
-    (untold-on c.evict.result (g.F.Folder.told c.args.f.now) (g.F.Folder.told c.last_unpinned.new.f) (KeepsThatMayGo c.loop.self c.in-Some.found) (λ none. ap (λ (t : Told). t.files) c.in_ok-found.ensures.stays ∙ c.loop.invariant.silent none)
+    carried c.evict.result c.from_residual-in_err-evict.result c.in_err-evict.field-0.0 (λ _. (g.F.Folder.told c.args.folder.now).files ≡ None) c.in_err-evict.was c.from_residual-in_err-evict.ensures.1
+    (untold-on c.evict.result (g.F.Folder.told c.args.folder.now) (g.F.Folder.told c.last_unpinned.new.folder) (KeepsThatMayGo c.loop.self c.in-Some.found) (λ none. ap (λ (t : Told). t.files) c.in_ok-found.ensures.stays ∙ c.loop.invariant.silent none)
     (λ from e.
     let a = any from e in
     let h = c.loop.invariant.evicted from e a.state a.kept a.covered a.are in
@@ -196,7 +196,7 @@ loop-preserved g c =
           let some : c.in_ok-found.field-0 ≡ Some c.in-Some.found = search rules in
           let last = subst (λ (o : Option Unpinned). IsLast (without h.first state) h.at.kept.layout covered o) some (c.in_ok-found.ensures.last h.image h.there (without h.first state) h.at.kept covered h.at.lie h.at.pinned) in
           let mid = told_now h.image c.in_ok-found.ensures.stays h.there in
-          next-out _ state covered c.args.parts.now valid _ _ _ _ _ _ _ _ _ _ h wants c.in-Some.found last (g.F.Folder.told c.last_unpinned.new.f) (g.F.Folder.told c.evict.new.f) c.evict.new.self c.evict.new.failed (g.K.Sink.written c.evict.new.out) c.in_ok-found.ensures.stays
+          next-out _ state covered c.args.parts.now valid _ _ _ _ _ _ _ _ _ _ h wants c.in-Some.found last (g.F.Folder.told c.last_unpinned.new.folder) (g.F.Folder.told c.evict.new.folder) c.evict.new.self c.evict.new.failed (g.K.Sink.written c.evict.new.out) c.in_ok-found.ensures.stays
           (c.in_ok-evict.ensures.stops h.image mid (without h.first state) h.at.kept last.goes) (c.in_ok-evict.ensures.evicted h.image mid (without h.first state) h.at.kept last.goes) (c.in_ok-evict.ensures.prints h.image mid (without h.first state) h.at.kept last.goes);
     }
 
@@ -231,7 +231,7 @@ pub returns-clause-stops : goal.returns-clause-stops
 returns-clause-stops g c image there state k covered are =
     let h = c.loop.invariant.evicted image there state k covered are in
     let valid = k.kept.entries.valid in
-    so-far-passes _ state covered c.args.parts.now valid _ _ _ _ _ _ _ _ _ _ h (g.F.Folder.told c.loop.f) refl
+    so-far-passes _ state covered c.args.parts.now valid _ _ _ _ _ _ _ _ _ _ h (g.F.Folder.told c.loop.folder) refl
 
 pub returns-clause-front : goal.returns-clause-front
 returns-clause-front g c image there state k covered are =

@@ -16,12 +16,12 @@ abbrev pub invariant-loop : goal.invariant-loop
 invariant-loop g l = record {
   most : ◌≡◌ {A = ℕ} l.most l.fn.self.items;
   stands : IfSome l.behind (λ node. IsTrue (is_node_among l.self.files node));
-  is_open : ForSome (g.F.Folder.told l.f).files (IsOpen l.self.files);
+  is_open : ForSome (g.F.Folder.told l.folder).files (IsOpen l.self.files);
   others : OnlyItemsChange l.fn.self l.self;
-  silent : (g.F.Folder.told l.fn.f).files ≡ None → (g.F.Folder.told l.f).files ≡ None;
-  later : g.F.Folder.faults l.fn.f ≤ g.F.Folder.faults l.f;
+  silent : (g.F.Folder.told l.fn.folder).files ≡ None → (g.F.Folder.told l.folder).files ≡ None;
+  later : g.F.Folder.faults l.fn.folder ≤ g.F.Folder.faults l.folder;
   sink_later : g.K.Sink.faults l.fn.out ≤ g.K.Sink.faults l.out;
   quiet : l.fn.failed ≡ true → (l.failed ≡ true) × (g.K.Sink.written l.out ≡ g.K.Sink.written l.fn.out);
   fails : FailsWhereItRose l.fn.failed l.failed (g.K.Sink.faults l.fn.out) (g.K.Sink.faults l.out);
-  evicted : ForSome (g.F.Folder.told l.fn.f).files (λ image. (state : State) (kept : KeepsState l.fn.self state image) (covered : List Item) → AreCovered state kept.layout covered l.fn.parts → HasEvicted (is_met l.fn.goal) state covered l.fn.parts l.fn.self l.self l.behind l.counter (g.F.Folder.told l.fn.f) (g.F.Folder.told l.f) l.fn.failed l.failed (g.K.Sink.written l.fn.out) (g.K.Sink.written l.out));
+  evicted : ForSome (g.F.Folder.told l.fn.folder).files (λ image. (state : State) (kept : KeepsState l.fn.self state image) (covered : List Item) → AreCovered state kept.layout covered l.fn.parts → HasEvicted (is_met l.fn.goal) state covered l.fn.parts l.fn.self l.self l.behind l.counter (g.F.Folder.told l.fn.folder) (g.F.Folder.told l.folder) l.fn.failed l.failed (g.K.Sink.written l.fn.out) (g.K.Sink.written l.out));
 }

@@ -25,7 +25,7 @@ use Rattle.blk_cache.proofs.cache.Cache.last_unpinned.Goals as goal
 
 pub returns-in_err-node-clause-untold : goal.returns-in_err-node-clause-untold
 returns-in_err-node-clause-untold g c holds =
-    carried c.in_front.result c.from_residual.result c.in_err-node.field-0.0 (λ _. (g.F.Folder.told c.args.f.now).files ≡ None) c.in_err-node.was c.from_residual.ensures.1
+    carried c.in_front.result c.from_residual.result c.in_err-node.field-0.0 (λ _. (g.F.Folder.told c.args.folder.now).files ≡ None) c.in_err-node.was c.from_residual.ensures.1
     (subst (λ (t : Told). ForSome t.files (IsOpen c.args.self.now.files) → ForSome t.files (IsPlaceInList c.loop.behind) → IfDamaged c.in_front.result (λ _. t.files ≡ None)) c.loop.invariant.told c.in_front.ensures.untold
     (λ image there. let h = holds image there in kept-open c.args.self.now h.state image h.kept)
     (λ image there.
@@ -43,7 +43,7 @@ returns-in_default-clause-last g c image there state kept covered lie pinned =
 pub returns-in_err-entry-clause-untold : goal.returns-in_err-entry-clause-untold
 returns-in_err-entry-clause-untold g c holds =
     let some : c.in_ok-node.field-0 ≡ Some c.in-Some.node = search rules in
-    carried c.entry_named.result c.from_residual-in_err-entry.result c.in_err-entry.field-0.0 (λ _. (g.F.Folder.told c.args.f.now).files ≡ None) c.in_err-entry.was c.from_residual-in_err-entry.ensures.1
+    carried c.entry_named.result c.from_residual-in_err-entry.result c.in_err-entry.field-0.0 (λ _. (g.F.Folder.told c.args.folder.now).files ≡ None) c.in_err-entry.was c.from_residual-in_err-entry.ensures.1
     (subst (λ (t : Told). ForSome t.files (Agrees c.args.self.now.files) → ForSome t.files (λ image. (loaded : Loaded) × LoadsAt c.in-Some.node loaded image) → IfDamaged c.entry_named.result (λ _. t.files ≡ None)) (c.in_ok-node.ensures.stays ∙ c.loop.invariant.told) c.entry_named.ensures.untold
     (λ image there. let h = holds image there in h.kept.files)
     (λ image there.
@@ -101,9 +101,9 @@ loop-preserved g c =
 
 pub returns-in_err-next-clause-untold : goal.returns-in_err-next-clause-untold
 returns-in_err-next-clause-untold g c holds =
-    carried c.in_front-2.result c.from_residual-in_err-next.result c.in_err-next.field-0.0 (λ _. (g.F.Folder.told c.args.f.now).files ≡ None) c.in_err-next.was c.from_residual-in_err-next.ensures.1
+    carried c.in_front-2.result c.from_residual-in_err-next.result c.in_err-next.field-0.0 (λ _. (g.F.Folder.told c.args.folder.now).files ≡ None) c.in_err-next.was c.from_residual-in_err-next.ensures.1
     (if_damaged_weaker c.in_front-2.result _ _
-    (λ damage wrong. untold_where (g.F.Folder.told c.args.f.now).files (λ image there.
+    (λ damage wrong. untold_where (g.F.Folder.told c.args.folder.now).files (λ image there.
     let h = holds image there in
     met-few c.args.self.now h.state image h.kept h.covered c.loop.behind c.loop.counter (omega (arith, c.loop-test.false)) (c.loop.invariant.pinned image there h.state h.kept h.covered h.lie h.pinned)))
     c.in_front-2.ensures.damaged)
@@ -113,17 +113,17 @@ end_walk-requires g c = record { kind = nodes-kinds c.args.self.now.files c.loop
 
 pub returns-in_err-end_walk-clause-untold : goal.returns-in_err-end_walk-clause-untold
 returns-in_err-end_walk-clause-untold g c holds =
-    carried c.end_walk.result c.from_residual-in_err-end_walk.result c.in_err-end_walk.field-0.0 (λ _. (g.F.Folder.told c.args.f.now).files ≡ None) c.in_err-end_walk.was c.from_residual-in_err-end_walk.ensures.1
+    carried c.end_walk.result c.from_residual-in_err-end_walk.result c.in_err-end_walk.field-0.0 (λ _. (g.F.Folder.told c.args.folder.now).files ≡ None) c.in_err-end_walk.was c.from_residual-in_err-end_walk.ensures.1
     (if_damaged_weaker c.end_walk.result _ _
-    (λ damage behind. untold_where (g.F.Folder.told c.args.f.now).files (λ image there.
+    (λ damage behind. untold_where (g.F.Folder.told c.args.folder.now).files (λ image there.
     let h = holds image there in
     met-few c.args.self.now h.state image h.kept h.covered c.loop.behind c.loop.counter (omega (arith, c.loop-test.false)) (c.loop.invariant.pinned image there h.state h.kept h.covered h.lie h.pinned)))
     c.end_walk.ensures.damaged)
 
 pub returns-in_err-end_walk-clause-damaged : goal.returns-in_err-end_walk-clause-damaged
 returns-in_err-end_walk-clause-damaged g c =
-    handed c.end_walk.result c.from_residual-in_err-end_walk.result c.in_err-end_walk.field-0.0 _ c.args.self.now.files (g.F.Folder.told c.in_front-2.new.f)
-    (λ damage behind. walk-too-long c.args.self.now.files (g.F.Folder.told c.in_front-2.new.f) NodeView.PREV c.args.behind c.loop.behind c.in_ok-next.next c.loop.counter damage (inr refl) (omega (arith, c.loop-test.false)) c.loop.invariant.stands c.in_ok-next.ensures.stands
+    handed c.end_walk.result c.from_residual-in_err-end_walk.result c.in_err-end_walk.field-0.0 _ c.args.self.now.files (g.F.Folder.told c.in_front-2.new.folder)
+    (λ damage behind. walk-too-long c.args.self.now.files (g.F.Folder.told c.in_front-2.new.folder) NodeView.PREV c.args.behind c.loop.behind c.in_ok-next.next c.loop.counter damage (inr refl) (omega (arith, c.loop-test.false)) c.loop.invariant.stands c.in_ok-next.ensures.stands
     (λ image now. c.loop.invariant.passed image (ap (λ (t : Told). t.files) (sym (c.in_ok-next.ensures.stays ∙ c.loop.invariant.told)) ∙ now))
     (λ image now. c.in_ok-next.ensures.word image (ap (λ (t : Told). t.files) (sym c.in_ok-next.ensures.stays) ∙ now)) behind)
     c.in_err-end_walk.was c.from_residual-in_err-end_walk.ensures.1 c.end_walk.ensures.damaged

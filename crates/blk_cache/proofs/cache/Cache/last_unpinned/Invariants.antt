@@ -15,8 +15,8 @@ use Rattle.blk_cache.proofs.cache.Cache.last_unpinned.Given as goal
 abbrev pub invariant-loop : goal.invariant-loop
 invariant-loop g l = record {
   stands : IfSome l.behind (λ node. IsTrue (is_node_among l.self.files node));
-  passed : ForSome (g.F.Folder.told l.fn.f).files (HasPassedNodes l.fn.self.files NodeView.PREV l.fn.behind l.behind l.counter);
-  told : g.F.Folder.told l.f ≡ g.F.Folder.told l.fn.f;
-  later : g.F.Folder.faults l.fn.f ≤ g.F.Folder.faults l.f;
-  pinned : ForSome (g.F.Folder.told l.fn.f).files (λ image. (state : State) (kept : KeepsState l.fn.self state image) (covered : List Item) → LieCovered state kept.layout covered l.fn.parts → IsPinnedFrom state kept.layout covered l.fn.behind → IsPinnedSoFar state kept.layout covered l.behind l.counter);
+  passed : ForSome (g.F.Folder.told l.fn.folder).files (HasPassedNodes l.fn.self.files NodeView.PREV l.fn.behind l.behind l.counter);
+  told : g.F.Folder.told l.folder ≡ g.F.Folder.told l.fn.folder;
+  later : g.F.Folder.faults l.fn.folder ≤ g.F.Folder.faults l.folder;
+  pinned : ForSome (g.F.Folder.told l.fn.folder).files (λ image. (state : State) (kept : KeepsState l.fn.self state image) (covered : List Item) → LieCovered state kept.layout covered l.fn.parts → IsPinnedFrom state kept.layout covered l.fn.behind → IsPinnedSoFar state kept.layout covered l.behind l.counter);
 }

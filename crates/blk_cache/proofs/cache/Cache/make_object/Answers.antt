@@ -18,13 +18,13 @@ invariant_of-self g c = record {
 
 pub returns-in_err-made-clause-stops : goal.returns-in_err-made-clause-stops
 returns-in_err-made-clause-stops g c =
-    new-stops c.args.self.now (g.F.Folder.told c.args.f.now) (g.F.Folder.told c.make_entry.new.f) c.args.handle c.args.key.now c.make_entry.ensures.stops
+    new-stops c.args.self.now (g.F.Folder.told c.args.folder.now) (g.F.Folder.told c.make_entry.new.folder) c.args.handle c.args.key.now c.make_entry.ensures.stops
 
 pub returns-in_err-made-clause-untold : goal.returns-in_err-made-clause-untold
 returns-in_err-made-clause-untold g c any =
-    carried c.make_entry.result c.from_residual.result c.in_err-made.field-0.0 (λ _. (g.F.Folder.told c.args.f.now).files ≡ None) c.in_err-made.was c.from_residual.ensures.1
+    carried c.make_entry.result c.from_residual.result c.in_err-made.field-0.0 (λ _. (g.F.Folder.told c.args.folder.now).files ≡ None) c.in_err-made.was c.from_residual.ensures.1
     (c.make_entry.ensures.untold
-    (new-room c.args.self.now (g.F.Folder.told c.args.f.now) (g.F.Folder.told c.make_entry.new.f) c.args.handle c.args.key.now any))
+    (new-room c.args.self.now (g.F.Folder.told c.args.folder.now) (g.F.Folder.told c.make_entry.new.folder) c.args.handle c.args.key.now any))
 
 pub returns-clause-made : goal.returns-clause-made
 returns-clause-made g c from there state k room image now =
@@ -38,7 +38,7 @@ returns-clause-made g c from there state k room image now =
 
 pub returns-clause-stops : goal.returns-clause-stops
 returns-clause-stops g c =
-    new-stops c.args.self.now (g.F.Folder.told c.args.f.now) (g.F.Folder.told c.make_entry.new.f) c.args.handle c.args.key.now c.make_entry.ensures.stops
+    new-stops c.args.self.now (g.F.Folder.told c.args.folder.now) (g.F.Folder.told c.make_entry.new.folder) c.args.handle c.args.key.now c.make_entry.ensures.stops
 
 pub returns-clause-is_open : goal.returns-clause-is_open
 returns-clause-is_open g c image now = subst (λ (files : BlockFiles). IsOpen files image) (sym c.bind_new.ensures.counts.files) (c.in_ok-made.ensures.is_open image now)

@@ -10,7 +10,7 @@ use Rattle.blk_model.specs.Room.{Group, fits, room, without}
 use Rattle.blk_script.specs.Reply.{evicted_text}
 use Rattle.blk_cache.specs.CacheKeeping.{KeepsState}
 use Rattle.blk_cache.specs.Evicting.{IsEvicting}
-use Rattle.blk_items.specs.RoomPrinting.{Prints}
+use Rattle.blk_items.specs.RoomPrinting.{PrintsUnlessFailed}
 use Rattle.blk_cache.proofs.RoomMade.{full-none, none-goes, none-kept, none-printed-of, none-stops, wanted-goes}
 use Rattle.blk_cache.proofs.cache.Cache.make_room_beside.Goals as goal
 
@@ -34,7 +34,7 @@ returns-then-is_full-clause-prints g c image there state k covered are =
 
 pub returns-then-is_full-clause-stops : goal.returns-then-is_full-clause-stops
 returns-then-is_full-clause-stops g c image there state k covered are =
-    none-stops (g.F.Folder.told c.args.f.now) c.args.self.now state (evicted_for (room state covered c.args.bytes c.args.items)) image there k
+    none-stops (g.F.Folder.told c.args.folder.now) c.args.self.now state (evicted_for (room state covered c.args.bytes c.args.items)) image there k
 
 pub returns-then-is_full-clause-front : goal.returns-then-is_full-clause-front
 returns-then-is_full-clause-front g c image there state k covered are =
@@ -54,7 +54,7 @@ returns-in_err-evict_for-clause-front g c image there state k covered are =
 
 pub returns-in_err-evict_for-clause-untold : goal.returns-in_err-evict_for-clause-untold
 returns-in_err-evict_for-clause-untold g c any =
-    carried c.evict_for.result c.from_residual.result c.in_err-evict_for.field-0.0 (λ _. (g.F.Folder.told c.args.f.now).files ≡ None) c.in_err-evict_for.was c.from_residual.ensures.1
+    carried c.evict_for.result c.from_residual.result c.in_err-evict_for.field-0.0 (λ _. (g.F.Folder.told c.args.folder.now).files ≡ None) c.in_err-evict_for.was c.from_residual.ensures.1
     (c.evict_for.ensures.untold any)
 
 pub returns-clause-full : goal.returns-clause-full

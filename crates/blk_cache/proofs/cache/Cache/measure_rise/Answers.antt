@@ -11,5 +11,5 @@ returns-clause-rises g c image there state k moment handle bytes long named =
 
 pub returns-in_err-found-clause-untold : goal.returns-in_err-found-clause-untold
 returns-in_err-found-clause-untold g c image there state k moment handle named =
-    carried c.measure_parts.result c.from_residual.result c.in_err-found.field-0.0 (λ _. (g.F.Folder.told c.args.f.now).files ≡ None) c.in_err-found.was c.from_residual.ensures.1
+    carried c.measure_parts.result c.from_residual.result c.in_err-found.field-0.0 (λ _. (g.F.Folder.told c.args.folder.now).files ≡ None) c.in_err-found.was c.from_residual.ensures.1
     (c.measure_parts.ensures.untold image there state k moment handle named)

@@ -4,7 +4,7 @@ use Rattle.blk_model.specs.Reply.{gave}
 use Rattle.blk_disk.specs.Tables.{is_record_among}
 use Rattle.blk_script.specs.Reply.{reply_text}
 use Rattle.blk_handles.specs.declared.open_object.OpenObject.{OpenObject}
-use Rattle.blk_items.specs.RoomPrinting.{Prints, PrintsInPart}
+use Rattle.blk_items.specs.RoomPrinting.{PrintsUnlessFailed, PrintsInPart}
 use Rattle.blk_cache.proofs.DoomSteps.{bound-object}
 use Rattle.blk_items.proofs.RoomTexts.{part-none}
 use Rattle.blk_cache.proofs.ReadRanges.{it-fits, range-bytes, range-reply}
@@ -36,9 +36,9 @@ returns-clause-printed g c =
     (λ printed image there state k m count object names passes number_is.
     let b = bound-object c.args.self.now.handles c.args.handle c.object.result c.in-Some.object c.object.ensures.object c.in-Some.is in
     let same : c.in-Some.object.entry ≡ b.binding.entry = ap (λ (o : OpenObject). o.entry) b.same in
-    subst (λ (bytes : List ℕ). Prints c.args.failed.now c.print_range.new.failed (g.K.Sink.written c.args.out.now) (g.K.Sink.written c.print_range.new.out) (reply_text (gave bytes)))
-    (range-reply c.args.self.now state image k c.args.handle c.args.stream c.args.offset b.binding b.bound passes c.args.number m count object names number_is c.in-Some.object.entry same (g.met.F.Folder.are_bytes c.args.f.now image there))
-    (printed image there (range-bytes c.args.self.now state image k c.args.handle c.args.stream c.args.offset b.binding b.bound passes c.args.number m count object names number_is c.in-Some.object.entry same (g.met.F.Folder.are_bytes c.args.f.now image there))))
+    subst (λ (bytes : List ℕ). PrintsUnlessFailed c.args.failed.now c.print_range.new.failed (g.K.Sink.written c.args.out.now) (g.K.Sink.written c.print_range.new.out) (reply_text (gave bytes)))
+    (range-reply c.args.self.now state image k c.args.handle c.args.stream c.args.offset b.binding b.bound passes c.args.number m count object names number_is c.in-Some.object.entry same (g.met.F.Folder.are_bytes c.args.folder.now image there))
+    (printed image there (range-bytes c.args.self.now state image k c.args.handle c.args.stream c.args.offset b.binding b.bound passes c.args.number m count object names number_is c.in-Some.object.entry same (g.met.F.Folder.are_bytes c.args.folder.now image there))))
     c.print_range.ensures.printed
 
 pub returns-clause-part : goal.returns-clause-part
@@ -46,8 +46,8 @@ returns-clause-part g c image there state k m count object names passes number_i
     let b = bound-object c.args.self.now.handles c.args.handle c.object.result c.in-Some.object c.object.ensures.object c.in-Some.is in
     let same : c.in-Some.object.entry ≡ b.binding.entry = ap (λ (o : OpenObject). o.entry) b.same in
     subst (λ (bytes : List ℕ). PrintsInPart c.args.failed.now (g.K.Sink.written c.args.out.now) (g.K.Sink.written c.print_range.new.out) (reply_text (gave bytes)))
-    (range-reply c.args.self.now state image k c.args.handle c.args.stream c.args.offset b.binding b.bound passes c.args.number m count object names number_is c.in-Some.object.entry same (g.met.F.Folder.are_bytes c.args.f.now image there))
-    (c.print_range.ensures.part image there (range-bytes c.args.self.now state image k c.args.handle c.args.stream c.args.offset b.binding b.bound passes c.args.number m count object names number_is c.in-Some.object.entry same (g.met.F.Folder.are_bytes c.args.f.now image there)))
+    (range-reply c.args.self.now state image k c.args.handle c.args.stream c.args.offset b.binding b.bound passes c.args.number m count object names number_is c.in-Some.object.entry same (g.met.F.Folder.are_bytes c.args.folder.now image there))
+    (c.print_range.ensures.part image there (range-bytes c.args.self.now state image k c.args.handle c.args.stream c.args.offset b.binding b.bound passes c.args.number m count object names number_is c.in-Some.object.entry same (g.met.F.Folder.are_bytes c.args.folder.now image there)))
 
 pub returns-clause-untold : goal.returns-clause-untold
 returns-clause-untold g c any =
@@ -55,4 +55,4 @@ returns-clause-untold g c any =
     let b = bound-object c.args.self.now.handles c.args.handle c.object.result c.in-Some.object c.object.ensures.object c.in-Some.is in
     let same : c.in-Some.object.entry ≡ b.binding.entry = ap (λ (o : OpenObject). o.entry) b.same in
     let one = any image there in
-    range-bytes c.args.self.now one.state image one.kept c.args.handle c.args.stream c.args.offset b.binding b.bound one.passes c.args.number one.n one.count one.object one.names one.number_is c.in-Some.object.entry same (g.met.F.Folder.are_bytes c.args.f.now image there))
+    range-bytes c.args.self.now one.state image one.kept c.args.handle c.args.stream c.args.offset b.binding b.bound one.passes c.args.number one.n one.count one.object one.names one.number_is c.in-Some.object.entry same (g.met.F.Folder.are_bytes c.args.folder.now image there))

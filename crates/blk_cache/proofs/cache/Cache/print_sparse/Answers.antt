@@ -5,7 +5,7 @@ use Rattle.blk_disk.specs.Tables.{is_record_among}
 use Rattle.blk_script.specs.Reply.{reply_text}
 use Rattle.blk_handles.specs.declared.open_object.OpenObject.{OpenObject}
 use Rattle.blk_items.specs.declared.present_printing.PresentRange.{PresentRange}
-use Rattle.blk_items.specs.RoomPrinting.{Prints, PrintsInPart}
+use Rattle.blk_items.specs.RoomPrinting.{PrintsUnlessFailed, PrintsInPart}
 use Rattle.blk_cache.proofs.DoomSteps.{bound-object}
 use Rattle.blk_items.proofs.RoomTexts.{part-none}
 use Rattle.blk_cache.proofs.PresentReads.{has-present, same-bytes}
@@ -24,7 +24,7 @@ returns-clause-printed g c =
     let range : PresentRange = record { entry = c.in-Some.object.entry; node = c.in-Some.object.node; offset = c.args.offset; count = c.args.number } in
     let entry_is : c.in-Some.object.entry ≡ b.binding.entry = ap (λ (o : OpenObject). o.entry) b.same in
     let node_is : c.in-Some.object.node ≡ b.binding.node = ap (λ (o : OpenObject). o.node) b.same in
-    subst (λ (bytes : List ℕ). Prints c.args.failed.now c.print_present.new.failed (g.K.Sink.written c.args.out.now) (g.K.Sink.written c.print_present.new.out) (reply_text (gave bytes)))
+    subst (λ (bytes : List ℕ). PrintsUnlessFailed c.args.failed.now c.print_present.new.failed (g.K.Sink.written c.args.out.now) (g.K.Sink.written c.print_present.new.out) (reply_text (gave bytes)))
     (same-bytes c.args.self.now state image k c.args.handle c.args.offset c.args.number p b.binding b.bound range entry_is node_is refl refl)
     (printed image there (has-present c.args.self.now state image k c.args.handle c.args.offset c.args.number p b.binding b.bound range entry_is node_is refl refl)))
     c.print_present.ensures.printed

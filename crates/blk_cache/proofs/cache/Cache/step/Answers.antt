@@ -12,36 +12,36 @@ use Rattle.blk_cache.specs.CommandClauses.{IsRefused}
 use Rattle.blk_cache.specs.Stepping.{IfStepDamaged}
 use Rattle.blk_cache.proofs.Notes.{not-noted, noted-does, noted-ends, noted-steps, open-on, refused-notes, same-files}
 use Rattle.blk_cache.proofs.StepEnds.{any-damaged, by-files, damaged-on, failed-before, failed-behind, kept-behind, open-behind}
-use Rattle.blk_cache.proofs.StepTexts.{any-after, front-of-whole, front-printed, none-before, whole-printed}
+use Rattle.blk_cache.proofs.StepTexts.{any-after, prefix-of-whole, prefix-printed, none-before, whole-printed}
 use Rattle.blk_cache.proofs.cache.Cache.step.Goals as goal
 
 -- It isn't done.
 
 pub returns-in_err-answer-clause-stepped : goal.returns-in_err-answer-clause-stepped
 returns-in_err-answer-clause-stepped g c =
-    not-noted c.args.self.now c.perform.new.self c.perform.new.self (g.F.Folder.told c.args.f.now) (g.F.Folder.told c.perform.new.f) (g.F.Folder.told c.perform.new.f) c.args.moment (request_of c.args.command.now) (note_number (c.args.self.now.notes + 1)) c.in_err-answer.ensures.stops refl
+    not-noted c.args.self.now c.perform.new.self c.perform.new.self (g.F.Folder.told c.args.f.now) (g.F.Folder.told c.perform.new.folder) (g.F.Folder.told c.perform.new.folder) c.args.moment (request_of c.args.command.now) (note_number (c.args.self.now.notes + 1)) c.in_err-answer.ensures.stops refl
 
 pub returns-in_err-answer-clause-front : goal.returns-in_err-answer-clause-front
 returns-in_err-answer-clause-front g c =
-    front-of-whole c.args.self.now (g.F.Folder.told c.args.f.now) c.args.moment (request_of c.args.command.now) (g.K.Sink.written c.args.out.now) (g.K.Sink.written c.perform.new.out) c.in_err-answer.ensures.front
+    prefix-of-whole c.args.self.now (g.F.Folder.told c.args.f.now) c.args.moment (request_of c.args.command.now) (g.K.Sink.written c.args.out.now) (g.K.Sink.written c.perform.new.out) c.in_err-answer.ensures.front
 
 pub returns-in_err-answer-clause-unanswered : goal.returns-in_err-answer-clause-unanswered
 returns-in_err-answer-clause-unanswered g c =
-    failed-before c.from_residual.result c.args.self.now (g.F.Folder.told c.args.f.now) (g.F.Folder.told c.perform.new.f) c.args.moment (request_of c.args.command.now) (note_number (c.args.self.now.notes + 1)) (g.K.Sink.written c.args.out.now) (g.K.Sink.written c.perform.new.out) c.in_err-answer.ensures.front
+    failed-before c.from_residual.result c.args.self.now (g.F.Folder.told c.args.f.now) (g.F.Folder.told c.perform.new.folder) c.args.moment (request_of c.args.command.now) (note_number (c.args.self.now.notes + 1)) (g.K.Sink.written c.args.out.now) (g.K.Sink.written c.perform.new.out) c.in_err-answer.ensures.front
 
 -- The note isn't made.
 
 pub returns-in_err-note-clause-stepped : goal.returns-in_err-note-clause-stepped
 returns-in_err-note-clause-stepped g c =
-    not-noted c.args.self.now c.perform.new.self c.note.new.self (g.F.Folder.told c.args.f.now) (g.F.Folder.told c.perform.new.f) (g.F.Folder.told c.note.new.f) c.args.moment (request_of c.args.command.now) (note_number (c.args.self.now.notes + 1)) c.in_ok-answer.ensures.stops c.in_err-note.ensures.undone
+    not-noted c.args.self.now c.perform.new.self c.note.new.self (g.F.Folder.told c.args.f.now) (g.F.Folder.told c.perform.new.folder) (g.F.Folder.told c.note.new.folder) c.args.moment (request_of c.args.command.now) (note_number (c.args.self.now.notes + 1)) c.in_ok-answer.ensures.stops c.in_err-note.ensures.undone
 
 pub returns-in_err-note-clause-front : goal.returns-in_err-note-clause-front
 returns-in_err-note-clause-front g c =
-    front-of-whole c.args.self.now (g.F.Folder.told c.args.f.now) c.args.moment (request_of c.args.command.now) (g.K.Sink.written c.args.out.now) (g.K.Sink.written c.perform.new.out) c.in_ok-answer.ensures.front
+    prefix-of-whole c.args.self.now (g.F.Folder.told c.args.f.now) c.args.moment (request_of c.args.command.now) (g.K.Sink.written c.args.out.now) (g.K.Sink.written c.perform.new.out) c.in_ok-answer.ensures.front
 
 pub returns-in_err-note-clause-unanswered : goal.returns-in_err-note-clause-unanswered
 returns-in_err-note-clause-unanswered g c =
-    failed-before c.from_residual-in_err-note.result c.args.self.now (g.F.Folder.told c.args.f.now) (g.F.Folder.told c.note.new.f) c.args.moment (request_of c.args.command.now) (note_number (c.args.self.now.notes + 1)) (g.K.Sink.written c.args.out.now) (g.K.Sink.written c.perform.new.out) c.in_ok-answer.ensures.front
+    failed-before c.from_residual-in_err-note.result c.args.self.now (g.F.Folder.told c.args.f.now) (g.F.Folder.told c.note.new.folder) c.args.moment (request_of c.args.command.now) (note_number (c.args.self.now.notes + 1)) (g.K.Sink.written c.args.out.now) (g.K.Sink.written c.perform.new.out) c.in_ok-answer.ensures.front
 
 -- the note that is made
 made : (old mid : ℕ) (told now : Told) → mid ≡ old → Applies told now (Note (note_number (mid + 1)) ∷ []) → Applies told now (Note (note_number (old + 1)) ∷ [])
@@ -51,78 +51,78 @@ made old mid told now same note = subst (λ (n : ℕ). Applies told now (Note (n
 
 pub reply-requires : goal.reply-requires
 reply-requires g c = record {
-  is_open = open-on c.perform.new.self c.note.new.self (g.F.Folder.told c.perform.new.f) (g.F.Folder.told c.note.new.f) (same-files (g.F.Folder.told c.perform.new.f) (g.F.Folder.told c.note.new.f) _ c.in_ok-note.ensures.done) c.in_ok-note.ensures.others c.in_ok-answer.ensures.is_open;
+  is_open = open-on c.perform.new.self c.note.new.self (g.F.Folder.told c.perform.new.folder) (g.F.Folder.told c.note.new.folder) (same-files (g.F.Folder.told c.perform.new.folder) (g.F.Folder.told c.note.new.folder) _ c.in_ok-note.ensures.done) c.in_ok-note.ensures.others c.in_ok-answer.ensures.is_open;
 }
 
 pub returns-in_err-reply-clause-stepped : goal.returns-in_err-reply-clause-stepped
 returns-in_err-reply-clause-stepped g c =
     subst (λ (t : Told). ForKept (KeepsState c.args.self.now) (g.F.Folder.told c.args.f.now) (IsStepped (g.F.Folder.told c.args.f.now) t c.args.moment (request_of c.args.command.now) (note_number (c.args.self.now.notes + 1)))) (sym c.in_err-reply.ensures.stays)
-    (noted-steps c.args.self.now c.perform.new.self c.note.new.self (g.F.Folder.told c.args.f.now) (g.F.Folder.told c.perform.new.f) (g.F.Folder.told c.note.new.f) c.args.moment (request_of c.args.command.now) (note_number (c.args.self.now.notes + 1)) c.in_ok-answer.ensures.stops c.in_ok-answer.answer c.in_ok-answer.ensures.does
-    (made c.args.self.now.notes c.perform.new.self.notes (g.F.Folder.told c.perform.new.f) (g.F.Folder.told c.note.new.f) c.in_ok-answer.ensures.notes c.in_ok-note.ensures.done) c.in_ok-note.ensures.others)
+    (noted-steps c.args.self.now c.perform.new.self c.note.new.self (g.F.Folder.told c.args.f.now) (g.F.Folder.told c.perform.new.folder) (g.F.Folder.told c.note.new.folder) c.args.moment (request_of c.args.command.now) (note_number (c.args.self.now.notes + 1)) c.in_ok-answer.ensures.stops c.in_ok-answer.answer c.in_ok-answer.ensures.does
+    (made c.args.self.now.notes c.perform.new.self.notes (g.F.Folder.told c.perform.new.folder) (g.F.Folder.told c.note.new.folder) c.in_ok-answer.ensures.notes c.in_ok-note.ensures.done) c.in_ok-note.ensures.others)
 
 pub returns-in_err-reply-clause-front : goal.returns-in_err-reply-clause-front
 returns-in_err-reply-clause-front g c =
-    front-printed c.args.self.now c.note.new.self (g.F.Folder.told c.args.f.now) (g.F.Folder.told c.perform.new.f) (g.F.Folder.told c.note.new.f) c.args.moment (request_of c.args.command.now) c.in_ok-answer.ensures.stops
-    (same-files (g.F.Folder.told c.perform.new.f) (g.F.Folder.told c.note.new.f) _ c.in_ok-note.ensures.done) c.in_ok-answer.answer (noted-does c.args.self.now c.perform.new.self c.note.new.self (g.F.Folder.told c.args.f.now) (g.F.Folder.told c.perform.new.f) (g.F.Folder.told c.note.new.f) c.args.moment (request_of c.args.command.now) (note_number (c.args.self.now.notes + 1)) c.in_ok-answer.ensures.stops c.in_ok-answer.answer c.in_ok-answer.ensures.does
-    (made c.args.self.now.notes c.perform.new.self.notes (g.F.Folder.told c.perform.new.f) (g.F.Folder.told c.note.new.f) c.in_ok-answer.ensures.notes c.in_ok-note.ensures.done) c.in_ok-note.ensures.others)
+    prefix-printed c.args.self.now c.note.new.self (g.F.Folder.told c.args.f.now) (g.F.Folder.told c.perform.new.folder) (g.F.Folder.told c.note.new.folder) c.args.moment (request_of c.args.command.now) c.in_ok-answer.ensures.stops
+    (same-files (g.F.Folder.told c.perform.new.folder) (g.F.Folder.told c.note.new.folder) _ c.in_ok-note.ensures.done) c.in_ok-answer.answer (noted-does c.args.self.now c.perform.new.self c.note.new.self (g.F.Folder.told c.args.f.now) (g.F.Folder.told c.perform.new.folder) (g.F.Folder.told c.note.new.folder) c.args.moment (request_of c.args.command.now) (note_number (c.args.self.now.notes + 1)) c.in_ok-answer.ensures.stops c.in_ok-answer.answer c.in_ok-answer.ensures.does
+    (made c.args.self.now.notes c.perform.new.self.notes (g.F.Folder.told c.perform.new.folder) (g.F.Folder.told c.note.new.folder) c.in_ok-answer.ensures.notes c.in_ok-note.ensures.done) c.in_ok-note.ensures.others)
     c.perform.new.failed c.reply.new.failed (g.K.Sink.written c.args.out.now) (g.K.Sink.written c.perform.new.out) (g.K.Sink.written c.reply.new.out) c.in_ok-answer.ensures.says c.in_err-reply.ensures.part
 
 pub returns-in_err-reply-clause-unanswered : goal.returns-in_err-reply-clause-unanswered
 returns-in_err-reply-clause-unanswered g c =
-    failed-behind c.from_residual-in_err-reply.result c.args.self.now (g.F.Folder.told c.args.f.now) (g.F.Folder.told c.reply.new.f) c.args.moment (request_of c.args.command.now) (note_number (c.args.self.now.notes + 1)) (g.K.Sink.written c.args.out.now) (g.K.Sink.written c.reply.new.out)
+    failed-behind c.from_residual-in_err-reply.result c.args.self.now (g.F.Folder.told c.args.f.now) (g.F.Folder.told c.reply.new.folder) c.args.moment (request_of c.args.command.now) (note_number (c.args.self.now.notes + 1)) (g.K.Sink.written c.args.out.now) (g.K.Sink.written c.reply.new.out)
     (subst (λ (t : Told). ForKept (KeepsState c.args.self.now) (g.F.Folder.told c.args.f.now) (IsNoted (g.F.Folder.told c.args.f.now) t c.args.moment (request_of c.args.command.now) (note_number (c.args.self.now.notes + 1)))) (sym c.in_err-reply.ensures.stays)
-    (noted-ends c.args.self.now c.perform.new.self c.note.new.self (g.F.Folder.told c.args.f.now) (g.F.Folder.told c.perform.new.f) (g.F.Folder.told c.note.new.f) c.args.moment (request_of c.args.command.now) (note_number (c.args.self.now.notes + 1)) c.in_ok-answer.ensures.stops c.in_ok-answer.answer c.in_ok-answer.ensures.does
-    (made c.args.self.now.notes c.perform.new.self.notes (g.F.Folder.told c.perform.new.f) (g.F.Folder.told c.note.new.f) c.in_ok-answer.ensures.notes c.in_ok-note.ensures.done) c.in_ok-note.ensures.others))
+    (noted-ends c.args.self.now c.perform.new.self c.note.new.self (g.F.Folder.told c.args.f.now) (g.F.Folder.told c.perform.new.folder) (g.F.Folder.told c.note.new.folder) c.args.moment (request_of c.args.command.now) (note_number (c.args.self.now.notes + 1)) c.in_ok-answer.ensures.stops c.in_ok-answer.answer c.in_ok-answer.ensures.does
+    (made c.args.self.now.notes c.perform.new.self.notes (g.F.Folder.told c.perform.new.folder) (g.F.Folder.told c.note.new.folder) c.in_ok-answer.ensures.notes c.in_ok-note.ensures.done) c.in_ok-note.ensures.others))
 
 pub returns-in_err-reply-clause-untold : goal.returns-in_err-reply-clause-untold
 returns-in_err-reply-clause-untold g c any =
     by-files (IfStepDamaged c.from_residual-in_err-reply.result (λ _. (g.F.Folder.told c.args.f.now).files ≡ None)) (g.F.Folder.told c.args.f.now).files
     (λ none. any-damaged c.from_residual-in_err-reply.result ((g.F.Folder.told c.args.f.now).files ≡ None) none)
     (λ image there. damaged-on c.reply.result c.from_residual-in_err-reply.result c.in_err-reply.field-0.0 (λ _. (g.F.Folder.told c.args.f.now).files ≡ None) c.in_err-reply.was c.from_residual-in_err-reply.ensures.1
-    (if_damaged_weaker c.reply.result (λ _. (g.F.Folder.told c.note.new.f).files ≡ None) (λ _. (g.F.Folder.told c.args.f.now).files ≡ None)
-    (λ damage none. none-before c.args.self.now c.note.new.self (g.F.Folder.told c.args.f.now) (g.F.Folder.told c.perform.new.f) (g.F.Folder.told c.note.new.f) c.args.moment (request_of c.args.command.now) c.in_ok-answer.ensures.stops
-    (same-files (g.F.Folder.told c.perform.new.f) (g.F.Folder.told c.note.new.f) _ c.in_ok-note.ensures.done) any none)
-    (c.reply.ensures.untold (any-after c.args.self.now c.note.new.self (g.F.Folder.told c.args.f.now) (g.F.Folder.told c.perform.new.f) (g.F.Folder.told c.note.new.f) c.args.moment (request_of c.args.command.now) c.in_ok-answer.ensures.stops
-    (same-files (g.F.Folder.told c.perform.new.f) (g.F.Folder.told c.note.new.f) _ c.in_ok-note.ensures.done) c.in_ok-answer.answer (noted-does c.args.self.now c.perform.new.self c.note.new.self (g.F.Folder.told c.args.f.now) (g.F.Folder.told c.perform.new.f) (g.F.Folder.told c.note.new.f) c.args.moment (request_of c.args.command.now) (note_number (c.args.self.now.notes + 1)) c.in_ok-answer.ensures.stops c.in_ok-answer.answer c.in_ok-answer.ensures.does
-    (made c.args.self.now.notes c.perform.new.self.notes (g.F.Folder.told c.perform.new.f) (g.F.Folder.told c.note.new.f) c.in_ok-answer.ensures.notes c.in_ok-note.ensures.done) c.in_ok-note.ensures.others) any image there))))
+    (if_damaged_weaker c.reply.result (λ _. (g.F.Folder.told c.note.new.folder).files ≡ None) (λ _. (g.F.Folder.told c.args.f.now).files ≡ None)
+    (λ damage none. none-before c.args.self.now c.note.new.self (g.F.Folder.told c.args.f.now) (g.F.Folder.told c.perform.new.folder) (g.F.Folder.told c.note.new.folder) c.args.moment (request_of c.args.command.now) c.in_ok-answer.ensures.stops
+    (same-files (g.F.Folder.told c.perform.new.folder) (g.F.Folder.told c.note.new.folder) _ c.in_ok-note.ensures.done) any none)
+    (c.reply.ensures.untold (any-after c.args.self.now c.note.new.self (g.F.Folder.told c.args.f.now) (g.F.Folder.told c.perform.new.folder) (g.F.Folder.told c.note.new.folder) c.args.moment (request_of c.args.command.now) c.in_ok-answer.ensures.stops
+    (same-files (g.F.Folder.told c.perform.new.folder) (g.F.Folder.told c.note.new.folder) _ c.in_ok-note.ensures.done) c.in_ok-answer.answer (noted-does c.args.self.now c.perform.new.self c.note.new.self (g.F.Folder.told c.args.f.now) (g.F.Folder.told c.perform.new.folder) (g.F.Folder.told c.note.new.folder) c.args.moment (request_of c.args.command.now) (note_number (c.args.self.now.notes + 1)) c.in_ok-answer.ensures.stops c.in_ok-answer.answer c.in_ok-answer.ensures.does
+    (made c.args.self.now.notes c.perform.new.self.notes (g.F.Folder.told c.perform.new.folder) (g.F.Folder.told c.note.new.folder) c.in_ok-answer.ensures.notes c.in_ok-note.ensures.done) c.in_ok-note.ensures.others) any image there))))
 
 -- It is done, and the sink failed.
 
 pub returns-then-failed-clause-kept : goal.returns-then-failed-clause-kept
 returns-then-failed-clause-kept g c image there state k =
-    kept-behind c.note.new.self c.reply.new.self (g.F.Folder.told c.note.new.f) (g.F.Folder.told c.reply.new.f) c.in_ok-reply.ensures.others c.in_ok-reply.ensures.stays (step state c.args.moment (request_of c.args.command.now)).state
-    (noted-does c.args.self.now c.perform.new.self c.note.new.self (g.F.Folder.told c.args.f.now) (g.F.Folder.told c.perform.new.f) (g.F.Folder.told c.note.new.f) c.args.moment (request_of c.args.command.now) (note_number (c.args.self.now.notes + 1)) c.in_ok-answer.ensures.stops c.in_ok-answer.answer c.in_ok-answer.ensures.does
-    (made c.args.self.now.notes c.perform.new.self.notes (g.F.Folder.told c.perform.new.f) (g.F.Folder.told c.note.new.f) c.in_ok-answer.ensures.notes c.in_ok-note.ensures.done) c.in_ok-note.ensures.others image there state k).kept
+    kept-behind c.note.new.self c.reply.new.self (g.F.Folder.told c.note.new.folder) (g.F.Folder.told c.reply.new.folder) c.in_ok-reply.ensures.others c.in_ok-reply.ensures.stays (step state c.args.moment (request_of c.args.command.now)).state
+    (noted-does c.args.self.now c.perform.new.self c.note.new.self (g.F.Folder.told c.args.f.now) (g.F.Folder.told c.perform.new.folder) (g.F.Folder.told c.note.new.folder) c.args.moment (request_of c.args.command.now) (note_number (c.args.self.now.notes + 1)) c.in_ok-answer.ensures.stops c.in_ok-answer.answer c.in_ok-answer.ensures.does
+    (made c.args.self.now.notes c.perform.new.self.notes (g.F.Folder.told c.perform.new.folder) (g.F.Folder.told c.note.new.folder) c.in_ok-answer.ensures.notes c.in_ok-note.ensures.done) c.in_ok-note.ensures.others image there state k).kept
 
 pub returns-then-failed-clause-stepped : goal.returns-then-failed-clause-stepped
 returns-then-failed-clause-stepped g c =
     subst (λ (t : Told). ForKept (KeepsState c.args.self.now) (g.F.Folder.told c.args.f.now) (IsStepped (g.F.Folder.told c.args.f.now) t c.args.moment (request_of c.args.command.now) (note_number (c.args.self.now.notes + 1)))) (sym c.in_ok-reply.ensures.stays)
-    (noted-steps c.args.self.now c.perform.new.self c.note.new.self (g.F.Folder.told c.args.f.now) (g.F.Folder.told c.perform.new.f) (g.F.Folder.told c.note.new.f) c.args.moment (request_of c.args.command.now) (note_number (c.args.self.now.notes + 1)) c.in_ok-answer.ensures.stops c.in_ok-answer.answer c.in_ok-answer.ensures.does
-    (made c.args.self.now.notes c.perform.new.self.notes (g.F.Folder.told c.perform.new.f) (g.F.Folder.told c.note.new.f) c.in_ok-answer.ensures.notes c.in_ok-note.ensures.done) c.in_ok-note.ensures.others)
+    (noted-steps c.args.self.now c.perform.new.self c.note.new.self (g.F.Folder.told c.args.f.now) (g.F.Folder.told c.perform.new.folder) (g.F.Folder.told c.note.new.folder) c.args.moment (request_of c.args.command.now) (note_number (c.args.self.now.notes + 1)) c.in_ok-answer.ensures.stops c.in_ok-answer.answer c.in_ok-answer.ensures.does
+    (made c.args.self.now.notes c.perform.new.self.notes (g.F.Folder.told c.perform.new.folder) (g.F.Folder.told c.note.new.folder) c.in_ok-answer.ensures.notes c.in_ok-note.ensures.done) c.in_ok-note.ensures.others)
 
 pub returns-then-failed-clause-front : goal.returns-then-failed-clause-front
 returns-then-failed-clause-front g c =
-    front-printed c.args.self.now c.note.new.self (g.F.Folder.told c.args.f.now) (g.F.Folder.told c.perform.new.f) (g.F.Folder.told c.note.new.f) c.args.moment (request_of c.args.command.now) c.in_ok-answer.ensures.stops
-    (same-files (g.F.Folder.told c.perform.new.f) (g.F.Folder.told c.note.new.f) _ c.in_ok-note.ensures.done) c.in_ok-answer.answer (noted-does c.args.self.now c.perform.new.self c.note.new.self (g.F.Folder.told c.args.f.now) (g.F.Folder.told c.perform.new.f) (g.F.Folder.told c.note.new.f) c.args.moment (request_of c.args.command.now) (note_number (c.args.self.now.notes + 1)) c.in_ok-answer.ensures.stops c.in_ok-answer.answer c.in_ok-answer.ensures.does
-    (made c.args.self.now.notes c.perform.new.self.notes (g.F.Folder.told c.perform.new.f) (g.F.Folder.told c.note.new.f) c.in_ok-answer.ensures.notes c.in_ok-note.ensures.done) c.in_ok-note.ensures.others)
+    prefix-printed c.args.self.now c.note.new.self (g.F.Folder.told c.args.f.now) (g.F.Folder.told c.perform.new.folder) (g.F.Folder.told c.note.new.folder) c.args.moment (request_of c.args.command.now) c.in_ok-answer.ensures.stops
+    (same-files (g.F.Folder.told c.perform.new.folder) (g.F.Folder.told c.note.new.folder) _ c.in_ok-note.ensures.done) c.in_ok-answer.answer (noted-does c.args.self.now c.perform.new.self c.note.new.self (g.F.Folder.told c.args.f.now) (g.F.Folder.told c.perform.new.folder) (g.F.Folder.told c.note.new.folder) c.args.moment (request_of c.args.command.now) (note_number (c.args.self.now.notes + 1)) c.in_ok-answer.ensures.stops c.in_ok-answer.answer c.in_ok-answer.ensures.does
+    (made c.args.self.now.notes c.perform.new.self.notes (g.F.Folder.told c.perform.new.folder) (g.F.Folder.told c.note.new.folder) c.in_ok-answer.ensures.notes c.in_ok-note.ensures.done) c.in_ok-note.ensures.others)
     c.perform.new.failed c.reply.new.failed (g.K.Sink.written c.args.out.now) (g.K.Sink.written c.perform.new.out) (g.K.Sink.written c.reply.new.out) c.in_ok-answer.ensures.says c.in_ok-reply.ensures.part
 
 pub returns-then-failed-clause-noted : goal.returns-then-failed-clause-noted
 returns-then-failed-clause-noted g c =
     subst (λ (t : Told). ForKept (KeepsState c.args.self.now) (g.F.Folder.told c.args.f.now) (IsNoted (g.F.Folder.told c.args.f.now) t c.args.moment (request_of c.args.command.now) (note_number (c.args.self.now.notes + 1)))) (sym c.in_ok-reply.ensures.stays)
-    (noted-ends c.args.self.now c.perform.new.self c.note.new.self (g.F.Folder.told c.args.f.now) (g.F.Folder.told c.perform.new.f) (g.F.Folder.told c.note.new.f) c.args.moment (request_of c.args.command.now) (note_number (c.args.self.now.notes + 1)) c.in_ok-answer.ensures.stops c.in_ok-answer.answer c.in_ok-answer.ensures.does
-    (made c.args.self.now.notes c.perform.new.self.notes (g.F.Folder.told c.perform.new.f) (g.F.Folder.told c.note.new.f) c.in_ok-answer.ensures.notes c.in_ok-note.ensures.done) c.in_ok-note.ensures.others)
+    (noted-ends c.args.self.now c.perform.new.self c.note.new.self (g.F.Folder.told c.args.f.now) (g.F.Folder.told c.perform.new.folder) (g.F.Folder.told c.note.new.folder) c.args.moment (request_of c.args.command.now) (note_number (c.args.self.now.notes + 1)) c.in_ok-answer.ensures.stops c.in_ok-answer.answer c.in_ok-answer.ensures.does
+    (made c.args.self.now.notes c.perform.new.self.notes (g.F.Folder.told c.perform.new.folder) (g.F.Folder.told c.note.new.folder) c.in_ok-answer.ensures.notes c.in_ok-note.ensures.done) c.in_ok-note.ensures.others)
 
 pub returns-then-failed-clause-refused : goal.returns-then-failed-clause-refused
 returns-then-failed-clause-refused g c =
     subst (λ (t : Told). ForKept (KeepsState c.args.self.now) (g.F.Folder.told c.args.f.now) (λ state. IsRefused (answer_of (step state c.args.moment (request_of c.args.command.now)).reply) → Applies (g.F.Folder.told c.args.f.now) t (Note (note_number (c.args.self.now.notes + 1)) ∷ []))) (sym c.in_ok-reply.ensures.stays)
-    (refused-notes c.args.self.now c.perform.new.self c.note.new.self (g.F.Folder.told c.args.f.now) (g.F.Folder.told c.perform.new.f) (g.F.Folder.told c.note.new.f) c.args.moment (request_of c.args.command.now) (note_number (c.args.self.now.notes + 1)) c.in_ok-answer.ensures.stops c.in_ok-answer.answer c.in_ok-answer.ensures.does
-    (made c.args.self.now.notes c.perform.new.self.notes (g.F.Folder.told c.perform.new.f) (g.F.Folder.told c.note.new.f) c.in_ok-answer.ensures.notes c.in_ok-note.ensures.done) c.in_ok-note.ensures.others c.in_ok-answer.ensures.quiet)
+    (refused-notes c.args.self.now c.perform.new.self c.note.new.self (g.F.Folder.told c.args.f.now) (g.F.Folder.told c.perform.new.folder) (g.F.Folder.told c.note.new.folder) c.args.moment (request_of c.args.command.now) (note_number (c.args.self.now.notes + 1)) c.in_ok-answer.ensures.stops c.in_ok-answer.answer c.in_ok-answer.ensures.does
+    (made c.args.self.now.notes c.perform.new.self.notes (g.F.Folder.told c.perform.new.folder) (g.F.Folder.told c.note.new.folder) c.in_ok-answer.ensures.notes c.in_ok-note.ensures.done) c.in_ok-note.ensures.others c.in_ok-answer.ensures.quiet)
 
 pub returns-then-failed-clause-is_open : goal.returns-then-failed-clause-is_open
 returns-then-failed-clause-is_open g c =
-    open-behind c.note.new.self c.reply.new.self (g.F.Folder.told c.note.new.f) (g.F.Folder.told c.reply.new.f) c.in_ok-reply.ensures.others c.in_ok-reply.ensures.stays
-    (open-on c.perform.new.self c.note.new.self (g.F.Folder.told c.perform.new.f) (g.F.Folder.told c.note.new.f) (same-files (g.F.Folder.told c.perform.new.f) (g.F.Folder.told c.note.new.f) _ c.in_ok-note.ensures.done) c.in_ok-note.ensures.others c.in_ok-answer.ensures.is_open)
+    open-behind c.note.new.self c.reply.new.self (g.F.Folder.told c.note.new.folder) (g.F.Folder.told c.reply.new.folder) c.in_ok-reply.ensures.others c.in_ok-reply.ensures.stays
+    (open-on c.perform.new.self c.note.new.self (g.F.Folder.told c.perform.new.folder) (g.F.Folder.told c.note.new.folder) (same-files (g.F.Folder.told c.perform.new.folder) (g.F.Folder.told c.note.new.folder) _ c.in_ok-note.ensures.done) c.in_ok-note.ensures.others c.in_ok-answer.ensures.is_open)
 
 -- It is done, and answered.
 
@@ -132,47 +132,47 @@ returns-else-failed-clause-answered g c image there state k =
 
 pub returns-else-failed-clause-kept : goal.returns-else-failed-clause-kept
 returns-else-failed-clause-kept g c image there state k =
-    kept-behind c.note.new.self c.reply.new.self (g.F.Folder.told c.note.new.f) (g.F.Folder.told c.reply.new.f) c.in_ok-reply.ensures.others c.in_ok-reply.ensures.stays (step state c.args.moment (request_of c.args.command.now)).state
-    (noted-does c.args.self.now c.perform.new.self c.note.new.self (g.F.Folder.told c.args.f.now) (g.F.Folder.told c.perform.new.f) (g.F.Folder.told c.note.new.f) c.args.moment (request_of c.args.command.now) (note_number (c.args.self.now.notes + 1)) c.in_ok-answer.ensures.stops c.in_ok-answer.answer c.in_ok-answer.ensures.does
-    (made c.args.self.now.notes c.perform.new.self.notes (g.F.Folder.told c.perform.new.f) (g.F.Folder.told c.note.new.f) c.in_ok-answer.ensures.notes c.in_ok-note.ensures.done) c.in_ok-note.ensures.others image there state k).kept
+    kept-behind c.note.new.self c.reply.new.self (g.F.Folder.told c.note.new.folder) (g.F.Folder.told c.reply.new.folder) c.in_ok-reply.ensures.others c.in_ok-reply.ensures.stays (step state c.args.moment (request_of c.args.command.now)).state
+    (noted-does c.args.self.now c.perform.new.self c.note.new.self (g.F.Folder.told c.args.f.now) (g.F.Folder.told c.perform.new.folder) (g.F.Folder.told c.note.new.folder) c.args.moment (request_of c.args.command.now) (note_number (c.args.self.now.notes + 1)) c.in_ok-answer.ensures.stops c.in_ok-answer.answer c.in_ok-answer.ensures.does
+    (made c.args.self.now.notes c.perform.new.self.notes (g.F.Folder.told c.perform.new.folder) (g.F.Folder.told c.note.new.folder) c.in_ok-answer.ensures.notes c.in_ok-note.ensures.done) c.in_ok-note.ensures.others image there state k).kept
 
 pub returns-else-failed-clause-stepped : goal.returns-else-failed-clause-stepped
 returns-else-failed-clause-stepped g c =
     subst (λ (t : Told). ForKept (KeepsState c.args.self.now) (g.F.Folder.told c.args.f.now) (IsStepped (g.F.Folder.told c.args.f.now) t c.args.moment (request_of c.args.command.now) (note_number (c.args.self.now.notes + 1)))) (sym c.in_ok-reply.ensures.stays)
-    (noted-steps c.args.self.now c.perform.new.self c.note.new.self (g.F.Folder.told c.args.f.now) (g.F.Folder.told c.perform.new.f) (g.F.Folder.told c.note.new.f) c.args.moment (request_of c.args.command.now) (note_number (c.args.self.now.notes + 1)) c.in_ok-answer.ensures.stops c.in_ok-answer.answer c.in_ok-answer.ensures.does
-    (made c.args.self.now.notes c.perform.new.self.notes (g.F.Folder.told c.perform.new.f) (g.F.Folder.told c.note.new.f) c.in_ok-answer.ensures.notes c.in_ok-note.ensures.done) c.in_ok-note.ensures.others)
+    (noted-steps c.args.self.now c.perform.new.self c.note.new.self (g.F.Folder.told c.args.f.now) (g.F.Folder.told c.perform.new.folder) (g.F.Folder.told c.note.new.folder) c.args.moment (request_of c.args.command.now) (note_number (c.args.self.now.notes + 1)) c.in_ok-answer.ensures.stops c.in_ok-answer.answer c.in_ok-answer.ensures.does
+    (made c.args.self.now.notes c.perform.new.self.notes (g.F.Folder.told c.perform.new.folder) (g.F.Folder.told c.note.new.folder) c.in_ok-answer.ensures.notes c.in_ok-note.ensures.done) c.in_ok-note.ensures.others)
 
 pub returns-else-failed-clause-front : goal.returns-else-failed-clause-front
 returns-else-failed-clause-front g c =
-    front-printed c.args.self.now c.note.new.self (g.F.Folder.told c.args.f.now) (g.F.Folder.told c.perform.new.f) (g.F.Folder.told c.note.new.f) c.args.moment (request_of c.args.command.now) c.in_ok-answer.ensures.stops
-    (same-files (g.F.Folder.told c.perform.new.f) (g.F.Folder.told c.note.new.f) _ c.in_ok-note.ensures.done) c.in_ok-answer.answer (noted-does c.args.self.now c.perform.new.self c.note.new.self (g.F.Folder.told c.args.f.now) (g.F.Folder.told c.perform.new.f) (g.F.Folder.told c.note.new.f) c.args.moment (request_of c.args.command.now) (note_number (c.args.self.now.notes + 1)) c.in_ok-answer.ensures.stops c.in_ok-answer.answer c.in_ok-answer.ensures.does
-    (made c.args.self.now.notes c.perform.new.self.notes (g.F.Folder.told c.perform.new.f) (g.F.Folder.told c.note.new.f) c.in_ok-answer.ensures.notes c.in_ok-note.ensures.done) c.in_ok-note.ensures.others)
+    prefix-printed c.args.self.now c.note.new.self (g.F.Folder.told c.args.f.now) (g.F.Folder.told c.perform.new.folder) (g.F.Folder.told c.note.new.folder) c.args.moment (request_of c.args.command.now) c.in_ok-answer.ensures.stops
+    (same-files (g.F.Folder.told c.perform.new.folder) (g.F.Folder.told c.note.new.folder) _ c.in_ok-note.ensures.done) c.in_ok-answer.answer (noted-does c.args.self.now c.perform.new.self c.note.new.self (g.F.Folder.told c.args.f.now) (g.F.Folder.told c.perform.new.folder) (g.F.Folder.told c.note.new.folder) c.args.moment (request_of c.args.command.now) (note_number (c.args.self.now.notes + 1)) c.in_ok-answer.ensures.stops c.in_ok-answer.answer c.in_ok-answer.ensures.does
+    (made c.args.self.now.notes c.perform.new.self.notes (g.F.Folder.told c.perform.new.folder) (g.F.Folder.told c.note.new.folder) c.in_ok-answer.ensures.notes c.in_ok-note.ensures.done) c.in_ok-note.ensures.others)
     c.perform.new.failed c.reply.new.failed (g.K.Sink.written c.args.out.now) (g.K.Sink.written c.perform.new.out) (g.K.Sink.written c.reply.new.out) c.in_ok-answer.ensures.says c.in_ok-reply.ensures.part
 
 pub returns-else-failed-clause-noted : goal.returns-else-failed-clause-noted
 returns-else-failed-clause-noted g c =
     subst (λ (t : Told). ForKept (KeepsState c.args.self.now) (g.F.Folder.told c.args.f.now) (IsNoted (g.F.Folder.told c.args.f.now) t c.args.moment (request_of c.args.command.now) (note_number (c.args.self.now.notes + 1)))) (sym c.in_ok-reply.ensures.stays)
-    (noted-ends c.args.self.now c.perform.new.self c.note.new.self (g.F.Folder.told c.args.f.now) (g.F.Folder.told c.perform.new.f) (g.F.Folder.told c.note.new.f) c.args.moment (request_of c.args.command.now) (note_number (c.args.self.now.notes + 1)) c.in_ok-answer.ensures.stops c.in_ok-answer.answer c.in_ok-answer.ensures.does
-    (made c.args.self.now.notes c.perform.new.self.notes (g.F.Folder.told c.perform.new.f) (g.F.Folder.told c.note.new.f) c.in_ok-answer.ensures.notes c.in_ok-note.ensures.done) c.in_ok-note.ensures.others)
+    (noted-ends c.args.self.now c.perform.new.self c.note.new.self (g.F.Folder.told c.args.f.now) (g.F.Folder.told c.perform.new.folder) (g.F.Folder.told c.note.new.folder) c.args.moment (request_of c.args.command.now) (note_number (c.args.self.now.notes + 1)) c.in_ok-answer.ensures.stops c.in_ok-answer.answer c.in_ok-answer.ensures.does
+    (made c.args.self.now.notes c.perform.new.self.notes (g.F.Folder.told c.perform.new.folder) (g.F.Folder.told c.note.new.folder) c.in_ok-answer.ensures.notes c.in_ok-note.ensures.done) c.in_ok-note.ensures.others)
 
 pub returns-else-failed-clause-printed : goal.returns-else-failed-clause-printed
 returns-else-failed-clause-printed g c =
-    whole-printed c.args.self.now c.note.new.self (g.F.Folder.told c.args.f.now) (g.F.Folder.told c.perform.new.f) (g.F.Folder.told c.note.new.f) c.args.moment (request_of c.args.command.now) c.in_ok-answer.ensures.stops
-    (same-files (g.F.Folder.told c.perform.new.f) (g.F.Folder.told c.note.new.f) _ c.in_ok-note.ensures.done) c.in_ok-answer.answer (noted-does c.args.self.now c.perform.new.self c.note.new.self (g.F.Folder.told c.args.f.now) (g.F.Folder.told c.perform.new.f) (g.F.Folder.told c.note.new.f) c.args.moment (request_of c.args.command.now) (note_number (c.args.self.now.notes + 1)) c.in_ok-answer.ensures.stops c.in_ok-answer.answer c.in_ok-answer.ensures.does
-    (made c.args.self.now.notes c.perform.new.self.notes (g.F.Folder.told c.perform.new.f) (g.F.Folder.told c.note.new.f) c.in_ok-answer.ensures.notes c.in_ok-note.ensures.done) c.in_ok-note.ensures.others)
+    whole-printed c.args.self.now c.note.new.self (g.F.Folder.told c.args.f.now) (g.F.Folder.told c.perform.new.folder) (g.F.Folder.told c.note.new.folder) c.args.moment (request_of c.args.command.now) c.in_ok-answer.ensures.stops
+    (same-files (g.F.Folder.told c.perform.new.folder) (g.F.Folder.told c.note.new.folder) _ c.in_ok-note.ensures.done) c.in_ok-answer.answer (noted-does c.args.self.now c.perform.new.self c.note.new.self (g.F.Folder.told c.args.f.now) (g.F.Folder.told c.perform.new.folder) (g.F.Folder.told c.note.new.folder) c.args.moment (request_of c.args.command.now) (note_number (c.args.self.now.notes + 1)) c.in_ok-answer.ensures.stops c.in_ok-answer.answer c.in_ok-answer.ensures.does
+    (made c.args.self.now.notes c.perform.new.self.notes (g.F.Folder.told c.perform.new.folder) (g.F.Folder.told c.note.new.folder) c.in_ok-answer.ensures.notes c.in_ok-note.ensures.done) c.in_ok-note.ensures.others)
     c.perform.new.failed c.reply.new.failed (g.K.Sink.written c.args.out.now) (g.K.Sink.written c.perform.new.out) (g.K.Sink.written c.reply.new.out) c.in_ok-answer.ensures.says c.in_ok-reply.ensures.printed c.if-failed.false
 
 pub returns-else-failed-clause-refused : goal.returns-else-failed-clause-refused
 returns-else-failed-clause-refused g c =
     subst (λ (t : Told). ForKept (KeepsState c.args.self.now) (g.F.Folder.told c.args.f.now) (λ state. IsRefused (answer_of (step state c.args.moment (request_of c.args.command.now)).reply) → Applies (g.F.Folder.told c.args.f.now) t (Note (note_number (c.args.self.now.notes + 1)) ∷ []))) (sym c.in_ok-reply.ensures.stays)
-    (refused-notes c.args.self.now c.perform.new.self c.note.new.self (g.F.Folder.told c.args.f.now) (g.F.Folder.told c.perform.new.f) (g.F.Folder.told c.note.new.f) c.args.moment (request_of c.args.command.now) (note_number (c.args.self.now.notes + 1)) c.in_ok-answer.ensures.stops c.in_ok-answer.answer c.in_ok-answer.ensures.does
-    (made c.args.self.now.notes c.perform.new.self.notes (g.F.Folder.told c.perform.new.f) (g.F.Folder.told c.note.new.f) c.in_ok-answer.ensures.notes c.in_ok-note.ensures.done) c.in_ok-note.ensures.others c.in_ok-answer.ensures.quiet)
+    (refused-notes c.args.self.now c.perform.new.self c.note.new.self (g.F.Folder.told c.args.f.now) (g.F.Folder.told c.perform.new.folder) (g.F.Folder.told c.note.new.folder) c.args.moment (request_of c.args.command.now) (note_number (c.args.self.now.notes + 1)) c.in_ok-answer.ensures.stops c.in_ok-answer.answer c.in_ok-answer.ensures.does
+    (made c.args.self.now.notes c.perform.new.self.notes (g.F.Folder.told c.perform.new.folder) (g.F.Folder.told c.note.new.folder) c.in_ok-answer.ensures.notes c.in_ok-note.ensures.done) c.in_ok-note.ensures.others c.in_ok-answer.ensures.quiet)
 
 pub returns-else-failed-clause-is_open : goal.returns-else-failed-clause-is_open
 returns-else-failed-clause-is_open g c =
-    open-behind c.note.new.self c.reply.new.self (g.F.Folder.told c.note.new.f) (g.F.Folder.told c.reply.new.f) c.in_ok-reply.ensures.others c.in_ok-reply.ensures.stays
-    (open-on c.perform.new.self c.note.new.self (g.F.Folder.told c.perform.new.f) (g.F.Folder.told c.note.new.f) (same-files (g.F.Folder.told c.perform.new.f) (g.F.Folder.told c.note.new.f) _ c.in_ok-note.ensures.done) c.in_ok-note.ensures.others c.in_ok-answer.ensures.is_open)
+    open-behind c.note.new.self c.reply.new.self (g.F.Folder.told c.note.new.folder) (g.F.Folder.told c.reply.new.folder) c.in_ok-reply.ensures.others c.in_ok-reply.ensures.stays
+    (open-on c.perform.new.self c.note.new.self (g.F.Folder.told c.perform.new.folder) (g.F.Folder.told c.note.new.folder) (same-files (g.F.Folder.told c.perform.new.folder) (g.F.Folder.told c.note.new.folder) _ c.in_ok-note.ensures.done) c.in_ok-note.ensures.others c.in_ok-answer.ensures.is_open)
 
 pub returns-in_err-reply-clause-damaged : goal.returns-in_err-reply-clause-damaged
 returns-in_err-reply-clause-damaged g c =
-    damaged-on c.reply.result c.from_residual-in_err-reply.result c.in_err-reply.field-0.0 (IsFailedCheck c.reply.new.self.files (g.F.Folder.told c.reply.new.f)) c.in_err-reply.was c.from_residual-in_err-reply.ensures.1 c.reply.ensures.damaged
+    damaged-on c.reply.result c.from_residual-in_err-reply.result c.in_err-reply.field-0.0 (IsFailedCheck c.reply.new.self.files (g.F.Folder.told c.reply.new.folder)) c.in_err-reply.was c.from_residual-in_err-reply.ensures.1 c.reply.ensures.damaged

@@ -36,5 +36,5 @@ pub returns-in_err-next-clause-cause : goal.returns-in_err-next-clause-cause
 returns-in_err-next-clause-cause g c =
     let p = err_from_is_err_and c.from_residual.result c.from_residual.ensures.1 in
     rw (p.1, p.2)
-    (caused_if (Option ℕ) Unit c.in_err-next.field-0.0 (g.F.Folder.told c.args.f.now) (g.F.Folder.told c.loop-next.f) c.loop-next.self c.args.kind c.in-Some.n c.requires.block_kind
+    (caused_if (Option ℕ) Unit c.in_err-next.field-0.0 (g.F.Folder.told c.args.folder.now) (g.F.Folder.told c.loop-next.folder) c.loop-next.self c.args.kind c.in-Some.n c.requires.block_kind
     (subst (MayBeNext (kind_number c.args.kind)) c.in-Some.is c.loop-next.invariant.number) c.loop-next.invariant.stays c.in_err-next.ensures.cause)

@@ -12,10 +12,10 @@ invariant-loop-next g l = record {
   number : MayBeNext (kind_number l.kind) l.next;
   fresh : IsFresh (all_files l.self) l.next;
   numbers : AreNumbered (all_files l.self) (kind_number l.kind);
-  follows : ForSome (g.F.Folder.told l.f).files (λ image. Follows l.self image (kind_number l.kind) l.next);
+  follows : ForSome (g.F.Folder.told l.folder).files (λ image. Follows l.self image (kind_number l.kind) l.next);
   others : KeepsOthers l.initial.self l.self (kind_number l.kind);
-  stays : Stays (g.F.Folder.told l.initial.f) (g.F.Folder.told l.f);
-  later : g.F.Folder.faults l.initial.f ≤ g.F.Folder.faults l.f;
+  stays : Stays (g.F.Folder.told l.initial.folder) (g.F.Folder.told l.folder);
+  later : g.F.Folder.faults l.initial.folder ≤ g.F.Folder.faults l.folder;
 }
 
 abbrev pub decreases-loop-next : goal.decreases-loop-next

@@ -10,7 +10,7 @@ use Rattle.blk_disk.proofs.tables.BlockFiles.link.Goals as goal
 pub returns-in_err-head-clause-damaged : goal.returns-in_err-head-clause-damaged
 returns-in_err-head-clause-damaged g c =
     let p = err_from_is_err_and c.from_residual.result c.from_residual.ensures.1 in
-    rw (p.1, p.2) (damaged_if (Option ℕ) c.in_err-head.field-0.0 (g.F.Folder.told c.args.f.now).files c.args.self.now (kind_number c.args.kind) c.args.n c.requires.next c.in_err-head.ensures.read)
+    rw (p.1, p.2) (damaged_if (Option ℕ) c.in_err-head.field-0.0 (g.F.Folder.told c.args.folder.now).files c.args.self.now (kind_number c.args.kind) c.args.n c.requires.next c.in_err-head.ensures.read)
 
 pub returns-clause-linked : goal.returns-clause-linked
 returns-clause-linked g c image there =

@@ -16,9 +16,9 @@ read_block-requires-clause-inside g c = let inside = record_inside c.args.addr c
 pub returns-in_default-clause-bytes : goal.returns-in_default-clause-bytes
 returns-in_default-clause-bytes g c image there = record_read image c.args.addr (length c.args.bytes.now) c.read_block.new.out c.requires.size (c.in_ok-read_block.ensures.bytes image there)
 
-unsealed_here : (g : given.Over) (c : goal.After-from g) → IsUnsealed (g.F.Folder.told c.args.f.now) c.args.addr (record { file = c.file_of-file.result; at = c.place_of.result + c.from.result; found = c.in-Some.found })
+unsealed_here : (g : given.Over) (c : goal.After-from g) → IsUnsealed (g.F.Folder.told c.args.folder.now) c.args.addr (record { file = c.file_of-file.result; at = c.place_of.result + c.from.result; found = c.in-Some.found })
 unsealed_here g c =
-    unsealed_is (g.F.Folder.told c.args.f.now) c.args.addr c.from.result c.in-Some.found c.read_block.new.out _
+    unsealed_is (g.F.Folder.told c.args.folder.now) c.args.addr c.from.result c.in-Some.found c.read_block.new.out _
     (c.from.ensures ∙ c.seal_of.ensures.place ∙ ap seal_by_kind c.kind-2.ensures)
     (ap (λ (s : ℕ). wrong_seal s c.read_block.new.out) (c.from.ensures ∙ c.seal_of.ensures.place ∙ ap seal_by_kind (c.kind-2.ensures ∙ sym c.kind.ensures)) ∙ sym c.wrong_seal.ensures ∙ c.in-Some.is)
     (name_is c.args.addr c.file_of-file.result (stands_blocky c.args.self.now c.args.addr c.requires.stands) c.file_of-file.ensures)

@@ -8,7 +8,7 @@ use Rattle.blk_addr.specs.Kind.{kind_number}
 use Rattle.spec_format.specs.Sealed.{IsMidUpdate}
 use Rattle.blk_disk.specs.Tables.{Agrees}
 use Rattle.spec_format.proofs.SealedRecords.{moment_before}
-use Rattle.blk_disk.proofs.MissingSeals.{agrees_sealed, front_sealed, steps_sealed, stops_sealed, updated_sealed}
+use Rattle.blk_disk.proofs.MissingSeals.{agrees_sealed, prefix_sealed, steps_sealed, stops_sealed, updated_sealed}
 use Rattle.blk_disk.proofs.tables.BlockFiles.seal.Goals as goal
 
 -- A record that wasn't read, or doesn't check.
@@ -34,7 +34,7 @@ write_seal-requires-clause-agrees g c = subst (λ (t : Told). ForSome t.files (A
 
 pub returns-in_err-write_seal-clause-prefix : goal.returns-in_err-write_seal-clause-prefix
 returns-in_err-write_seal-clause-prefix g c = record {
-  made = front_sealed c.args.self.now c.args.addr c.requires.stands c.requires.begins (g.F.Folder.told c.args.f.now) (g.F.Folder.told c.read_record.new.f) (g.F.Folder.told c.write_seal.new.f) c.in_ok-read_record.ensures.stays c.requires.agrees
+  made = prefix_sealed c.args.self.now c.args.addr c.requires.stands c.requires.begins (g.F.Folder.told c.args.folder.now) (g.F.Folder.told c.read_record.new.folder) (g.F.Folder.told c.write_seal.new.folder) c.in_ok-read_record.ensures.stays c.requires.agrees
       (kind_number c.kind-2.result) c.missing_seal.result c.read_record.new.bytes c.kind-2.ensures c.missing_seal.ensures c.in_ok-read_record.ensures.bytes
       c.in_err-write_seal.ensures.prefix;
   silent = λ none. silent_part c.in_err-write_seal.ensures.prefix (ap (λ (t : Told). t.files) c.in_ok-read_record.ensures.stays ∙ none);
@@ -42,7 +42,7 @@ returns-in_err-write_seal-clause-prefix g c = record {
 
 pub returns-clause-prefix : goal.returns-clause-prefix
 returns-clause-prefix g c = record {
-  made = front_sealed c.args.self.now c.args.addr c.requires.stands c.requires.begins (g.F.Folder.told c.args.f.now) (g.F.Folder.told c.read_record.new.f) (g.F.Folder.told c.write_seal.new.f) c.in_ok-read_record.ensures.stays c.requires.agrees
+  made = prefix_sealed c.args.self.now c.args.addr c.requires.stands c.requires.begins (g.F.Folder.told c.args.folder.now) (g.F.Folder.told c.read_record.new.folder) (g.F.Folder.told c.write_seal.new.folder) c.in_ok-read_record.ensures.stays c.requires.agrees
       (kind_number c.kind-2.result) c.missing_seal.result c.read_record.new.bytes c.kind-2.ensures c.missing_seal.ensures c.in_ok-read_record.ensures.bytes
       c.in_ok-write_seal.ensures.prefix;
   silent = λ none. silent_part c.in_ok-write_seal.ensures.prefix (ap (λ (t : Told). t.files) c.in_ok-read_record.ensures.stays ∙ none);
@@ -50,34 +50,34 @@ returns-clause-prefix g c = record {
 
 pub returns-in_err-write_seal-clause-stops : goal.returns-in_err-write_seal-clause-stops
 returns-in_err-write_seal-clause-stops g c =
-    stops_sealed c.args.self.now c.args.addr c.requires.stands c.requires.begins (g.F.Folder.told c.args.f.now) (g.F.Folder.told c.read_record.new.f) (g.F.Folder.told c.write_seal.new.f) c.in_ok-read_record.ensures.stays c.requires.agrees
+    stops_sealed c.args.self.now c.args.addr c.requires.stands c.requires.begins (g.F.Folder.told c.args.folder.now) (g.F.Folder.told c.read_record.new.folder) (g.F.Folder.told c.write_seal.new.folder) c.in_ok-read_record.ensures.stays c.requires.agrees
     (kind_number c.kind-2.result) c.missing_seal.result c.read_record.new.bytes c.kind-2.ensures c.missing_seal.ensures c.in_ok-read_record.ensures.bytes
     c.in_err-write_seal.ensures.prefix
 
 pub returns-clause-stops : goal.returns-clause-stops
 returns-clause-stops g c =
-    stops_sealed c.args.self.now c.args.addr c.requires.stands c.requires.begins (g.F.Folder.told c.args.f.now) (g.F.Folder.told c.read_record.new.f) (g.F.Folder.told c.write_seal.new.f) c.in_ok-read_record.ensures.stays c.requires.agrees
+    stops_sealed c.args.self.now c.args.addr c.requires.stands c.requires.begins (g.F.Folder.told c.args.folder.now) (g.F.Folder.told c.read_record.new.folder) (g.F.Folder.told c.write_seal.new.folder) c.in_ok-read_record.ensures.stays c.requires.agrees
     (kind_number c.kind-2.result) c.missing_seal.result c.read_record.new.bytes c.kind-2.ensures c.missing_seal.ensures c.in_ok-read_record.ensures.bytes
     c.in_ok-write_seal.ensures.prefix
 
 pub returns-in_err-write_seal-clause-agrees : goal.returns-in_err-write_seal-clause-agrees
 returns-in_err-write_seal-clause-agrees g c =
-    agrees_sealed c.args.self.now c.args.addr c.missing_seal.result (g.F.Folder.told c.read_record.new.f) (g.F.Folder.told c.write_seal.new.f)
+    agrees_sealed c.args.self.now c.args.addr c.missing_seal.result (g.F.Folder.told c.read_record.new.folder) (g.F.Folder.told c.write_seal.new.folder)
     (subst (λ (t : Told). ForSome t.files (Agrees c.args.self.now)) (sym c.in_ok-read_record.ensures.stays) c.requires.agrees) c.in_err-write_seal.ensures.prefix
 
 pub returns-clause-agrees : goal.returns-clause-agrees
 returns-clause-agrees g c =
-    agrees_sealed c.args.self.now c.args.addr c.missing_seal.result (g.F.Folder.told c.read_record.new.f) (g.F.Folder.told c.write_seal.new.f)
+    agrees_sealed c.args.self.now c.args.addr c.missing_seal.result (g.F.Folder.told c.read_record.new.folder) (g.F.Folder.told c.write_seal.new.folder)
     (subst (λ (t : Told). ForSome t.files (Agrees c.args.self.now)) (sym c.in_ok-read_record.ensures.stays) c.requires.agrees) c.in_ok-write_seal.ensures.prefix
 
 pub returns-clause-steps : goal.returns-clause-steps
 returns-clause-steps g c =
-    steps_sealed c.args.self.now c.args.addr c.requires.stands c.requires.begins (g.F.Folder.told c.args.f.now) (g.F.Folder.told c.read_record.new.f) (g.F.Folder.told c.write_seal.new.f) c.in_ok-read_record.ensures.stays c.requires.agrees
+    steps_sealed c.args.self.now c.args.addr c.requires.stands c.requires.begins (g.F.Folder.told c.args.folder.now) (g.F.Folder.told c.read_record.new.folder) (g.F.Folder.told c.write_seal.new.folder) c.in_ok-read_record.ensures.stays c.requires.agrees
     (kind_number c.kind-2.result) c.missing_seal.result c.read_record.new.bytes c.kind-2.ensures c.missing_seal.ensures c.in_ok-read_record.ensures.bytes
     c.in_ok-write_seal.ensures.steps
 
 pub returns-clause-updated : goal.returns-clause-updated
 returns-clause-updated g c =
-    updated_sealed c.args.self.now c.args.addr c.requires.stands c.requires.begins (g.F.Folder.told c.args.f.now) (g.F.Folder.told c.read_record.new.f) (g.F.Folder.told c.write_seal.new.f) c.in_ok-read_record.ensures.stays c.requires.agrees
+    updated_sealed c.args.self.now c.args.addr c.requires.stands c.requires.begins (g.F.Folder.told c.args.folder.now) (g.F.Folder.told c.read_record.new.folder) (g.F.Folder.told c.write_seal.new.folder) c.in_ok-read_record.ensures.stays c.requires.agrees
     (kind_number c.kind-2.result) c.missing_seal.result c.read_record.new.bytes c.kind-2.ensures c.missing_seal.ensures c.in_ok-read_record.ensures.bytes
-    (g.met.F.Folder.are_bytes c.args.f.now) c.in_ok-write_seal.ensures.steps
+    (g.met.F.Folder.are_bytes c.args.folder.now) c.in_ok-write_seal.ensures.steps

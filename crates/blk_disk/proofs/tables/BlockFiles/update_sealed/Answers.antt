@@ -7,7 +7,7 @@ use Rattle.blk_io.proofs.Carried.{silent_part}
 use Rattle.spec_format.specs.Sealed.{IsMidUpdate}
 use Rattle.blk_disk.specs.Tables.{Agrees}
 use Rattle.spec_format.proofs.SealedRecords.{moment_before}
-use Rattle.blk_disk.proofs.SealedWrites.{checks_after, front_read, steps_read, stops_read, updated_read}
+use Rattle.blk_disk.proofs.SealedWrites.{checks_after, prefix_read, steps_read, stops_read, updated_read}
 use Rattle.blk_disk.proofs.tables.BlockFiles.update_sealed.Goals as goal
 
 -- A record that wasn't read, or doesn't check.
@@ -33,37 +33,37 @@ update_record-requires-clause-agrees g c = subst (λ (t : Told). ForSome t.files
 
 pub returns-in_err-update_record-clause-prefix : goal.returns-in_err-update_record-clause-prefix
 returns-in_err-update_record-clause-prefix g c = record {
-  made = front_read c.args.addr c.args.changes.now c.read_record.new.bytes (g.F.Folder.told c.args.f.now) (g.F.Folder.told c.read_record.new.f) (g.F.Folder.told c.update_record.new.f) c.in_ok-read_record.ensures.stays c.in_ok-read_record.ensures.bytes c.in_err-update_record.ensures.prefix;
+  made = prefix_read c.args.addr c.args.changes.now c.read_record.new.bytes (g.F.Folder.told c.args.f.now) (g.F.Folder.told c.read_record.new.folder) (g.F.Folder.told c.update_record.new.folder) c.in_ok-read_record.ensures.stays c.in_ok-read_record.ensures.bytes c.in_err-update_record.ensures.prefix;
   silent = λ none. silent_part c.in_err-update_record.ensures.prefix (ap (λ (t : Told). t.files) c.in_ok-read_record.ensures.stays ∙ none);
 }
 
 pub returns-in_err-update_record-clause-stops : goal.returns-in_err-update_record-clause-stops
 returns-in_err-update_record-clause-stops g c =
-    stops_read c.args.addr c.args.changes.now c.read_record.new.bytes (g.F.Folder.told c.args.f.now) (g.F.Folder.told c.read_record.new.f) (g.F.Folder.told c.update_record.new.f) c.in_ok-read_record.ensures.stays c.in_ok-read_record.ensures.bytes c.in_err-update_record.ensures.stops
+    stops_read c.args.addr c.args.changes.now c.read_record.new.bytes (g.F.Folder.told c.args.f.now) (g.F.Folder.told c.read_record.new.folder) (g.F.Folder.told c.update_record.new.folder) c.in_ok-read_record.ensures.stays c.in_ok-read_record.ensures.bytes c.in_err-update_record.ensures.stops
 
 pub returns-in_err-update_record-clause-checks : goal.returns-in_err-update_record-clause-checks
 returns-in_err-update_record-clause-checks g c =
-    checks_after c.args.addr c.args.changes.now (g.F.Folder.told c.args.f.now) (g.F.Folder.told c.update_record.new.f) (returns-in_err-update_record-clause-prefix g c).silent (returns-in_err-update_record-clause-stops g c)
+    checks_after c.args.addr c.args.changes.now (g.F.Folder.told c.args.f.now) (g.F.Folder.told c.update_record.new.folder) (returns-in_err-update_record-clause-prefix g c).silent (returns-in_err-update_record-clause-stops g c)
 
 -- All words are written.
 
 pub returns-clause-steps : goal.returns-clause-steps
 returns-clause-steps g c =
-    steps_read c.args.addr c.args.changes.now c.read_record.new.bytes (g.F.Folder.told c.args.f.now) (g.F.Folder.told c.read_record.new.f) (g.F.Folder.told c.update_record.new.f) c.in_ok-read_record.ensures.stays c.in_ok-read_record.ensures.bytes c.in_ok-update_record.ensures.steps
+    steps_read c.args.addr c.args.changes.now c.read_record.new.bytes (g.F.Folder.told c.args.f.now) (g.F.Folder.told c.read_record.new.folder) (g.F.Folder.told c.update_record.new.folder) c.in_ok-read_record.ensures.stays c.in_ok-read_record.ensures.bytes c.in_ok-update_record.ensures.steps
 
 pub returns-clause-updated : goal.returns-clause-updated
 returns-clause-updated g c =
-    updated_read c.args.addr c.args.changes.now c.read_record.new.bytes (g.F.Folder.told c.args.f.now) (g.F.Folder.told c.read_record.new.f) (g.F.Folder.told c.update_record.new.f) c.in_ok-read_record.ensures.stays c.in_ok-read_record.ensures.bytes c.in_ok-update_record.ensures.updated
+    updated_read c.args.addr c.args.changes.now c.read_record.new.bytes (g.F.Folder.told c.args.f.now) (g.F.Folder.told c.read_record.new.folder) (g.F.Folder.told c.update_record.new.folder) c.in_ok-read_record.ensures.stays c.in_ok-read_record.ensures.bytes c.in_ok-update_record.ensures.updated
 
 pub returns-clause-prefix : goal.returns-clause-prefix
 returns-clause-prefix g c = record {
-  made = front_read c.args.addr c.args.changes.now c.read_record.new.bytes (g.F.Folder.told c.args.f.now) (g.F.Folder.told c.read_record.new.f) (g.F.Folder.told c.update_record.new.f) c.in_ok-read_record.ensures.stays c.in_ok-read_record.ensures.bytes c.in_ok-update_record.ensures.prefix;
+  made = prefix_read c.args.addr c.args.changes.now c.read_record.new.bytes (g.F.Folder.told c.args.f.now) (g.F.Folder.told c.read_record.new.folder) (g.F.Folder.told c.update_record.new.folder) c.in_ok-read_record.ensures.stays c.in_ok-read_record.ensures.bytes c.in_ok-update_record.ensures.prefix;
   silent = λ none. silent_part c.in_ok-update_record.ensures.prefix (ap (λ (t : Told). t.files) c.in_ok-read_record.ensures.stays ∙ none);
 }
 
 pub returns-clause-stops : goal.returns-clause-stops
 returns-clause-stops g c =
-    stops_read c.args.addr c.args.changes.now c.read_record.new.bytes (g.F.Folder.told c.args.f.now) (g.F.Folder.told c.read_record.new.f) (g.F.Folder.told c.update_record.new.f) c.in_ok-read_record.ensures.stays c.in_ok-read_record.ensures.bytes c.in_ok-update_record.ensures.stops
+    stops_read c.args.addr c.args.changes.now c.read_record.new.bytes (g.F.Folder.told c.args.f.now) (g.F.Folder.told c.read_record.new.folder) (g.F.Folder.told c.update_record.new.folder) c.in_ok-read_record.ensures.stays c.in_ok-read_record.ensures.bytes c.in_ok-update_record.ensures.stops
 
 pub returns-clause-checks : goal.returns-clause-checks
-returns-clause-checks g c = checks_after c.args.addr c.args.changes.now (g.F.Folder.told c.args.f.now) (g.F.Folder.told c.update_record.new.f) (returns-clause-prefix g c).silent (returns-clause-stops g c)
+returns-clause-checks g c = checks_after c.args.addr c.args.changes.now (g.F.Folder.told c.args.f.now) (g.F.Folder.told c.update_record.new.folder) (returns-clause-prefix g c).silent (returns-clause-stops g c)

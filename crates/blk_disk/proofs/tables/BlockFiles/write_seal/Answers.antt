@@ -39,10 +39,10 @@ write_word-requires-clause-inside g c image there =
 
 pub returns-clause-steps : goal.returns-clause-steps
 returns-clause-steps g c =
-    subst (λ (m : Option ℕ). OnOk c.write_word.result (Applies (g.F.Folder.told c.args.f.now) (g.F.Folder.told c.write_word.new.f) (missing_steps c.args.addr m))) (sym c.in-Some.is)
-    (subst (λ (steps : List TrailStep). OnOk c.write_word.result (Applies (g.F.Folder.told c.args.f.now) (g.F.Folder.told c.write_word.new.f) steps)) (steps_here g c) c.write_word.ensures.steps)
+    subst (λ (m : Option ℕ). OnOk c.write_word.result (Applies (g.F.Folder.told c.args.folder.now) (g.F.Folder.told c.write_word.new.folder) (missing_steps c.args.addr m))) (sym c.in-Some.is)
+    (subst (λ (steps : List TrailStep). OnOk c.write_word.result (Applies (g.F.Folder.told c.args.folder.now) (g.F.Folder.told c.write_word.new.folder) steps)) (steps_here g c) c.write_word.ensures.steps)
 
 pub returns-clause-prefix : goal.returns-clause-prefix
 returns-clause-prefix g c =
-    subst (λ (m : Option ℕ). AppliesPrefix (g.F.Folder.told c.args.f.now) (g.F.Folder.told c.write_word.new.f) (missing_steps c.args.addr m)) (sym c.in-Some.is)
-    (subst (AppliesPrefix (g.F.Folder.told c.args.f.now) (g.F.Folder.told c.write_word.new.f)) (steps_here g c) c.write_word.ensures.prefix)
+    subst (λ (m : Option ℕ). AppliesPrefix (g.F.Folder.told c.args.folder.now) (g.F.Folder.told c.write_word.new.folder) (missing_steps c.args.addr m)) (sym c.in-Some.is)
+    (subst (AppliesPrefix (g.F.Folder.told c.args.folder.now) (g.F.Folder.told c.write_word.new.folder)) (steps_here g c) c.write_word.ensures.prefix)

@@ -22,10 +22,10 @@ plan_here : (g : given.Over) (c : goal.After-write_words g) → word_steps (file
 plan_here g c = plan_is c.args.addr c.args.seal c.args.changes.now c.deref.result.now c.file_of.result (name_here g c) (words_here g c)
 
 pub returns-clause-steps : goal.returns-clause-steps
-returns-clause-steps g c = subst (λ (steps : List TrailStep). OnOk c.write_words.result (Applies (g.F.Folder.told c.args.f.now) (g.F.Folder.told c.write_words.new.f) steps)) (plan_here g c) c.write_words.ensures.steps
+returns-clause-steps g c = subst (λ (steps : List TrailStep). OnOk c.write_words.result (Applies (g.F.Folder.told c.args.folder.now) (g.F.Folder.told c.write_words.new.folder) steps)) (plan_here g c) c.write_words.ensures.steps
 
 pub returns-clause-prefix : goal.returns-clause-prefix
-returns-clause-prefix g c = subst (λ (steps : List TrailStep). AppliesPrefix (g.F.Folder.told c.args.f.now) (g.F.Folder.told c.write_words.new.f) steps) (plan_here g c) c.write_words.ensures.prefix
+returns-clause-prefix g c = subst (λ (steps : List TrailStep). AppliesPrefix (g.F.Folder.told c.args.folder.now) (g.F.Folder.told c.write_words.new.folder) steps) (plan_here g c) c.write_words.ensures.prefix
 
 pub write_words-requires-clause-aligned : goal.write_words-requires-clause-aligned
 write_words-requires-clause-aligned g c =

@@ -11,9 +11,9 @@ use Rattle.blk_verdict.proofs.kept.KeptSoFar.has.Given as goal
 abbrev pub invariant-loop-place : goal.invariant-loop-place
 invariant-loop-place g l = record {
   stands : StandsAt (map (λ (k : Loaded). k.hash) l.self.kept.items) l.hash l.place;
-  looked : ForSome (g.F.Folder.told l.fn.f).files (λ image. Agrees l.files image → HoldsBehind l.self.kept.items l.hash l.place (λ one. (loaded : shown.Loaded) → IsLoadedFrom image loaded one → is_sought l.sought l.key loaded ≡ false));
-  stays : Stays (g.F.Folder.told l.fn.f) (g.F.Folder.told l.f);
-  later : g.F.Folder.faults l.fn.f ≤ g.F.Folder.faults l.f;
+  looked : ForSome (g.F.Folder.told l.fn.folder).files (λ image. Agrees l.files image → HoldsBehind l.self.kept.items l.hash l.place (λ one. (loaded : shown.Loaded) → IsLoadedFrom image loaded one → is_sought l.sought l.key loaded ≡ false));
+  stays : Stays (g.F.Folder.told l.fn.folder) (g.F.Folder.told l.folder);
+  later : g.F.Folder.faults l.fn.folder ≤ g.F.Folder.faults l.folder;
 }
 
 abbrev pub decreases-loop-place : goal.decreases-loop-place

@@ -15,7 +15,7 @@ use Rattle.blk_verdict.proofs.kept.KeptSoFar.has_key_of.Goals as goal
 pub returns-in-Plain-clause-has : goal.returns-in-Plain-clause-has
 returns-in-Plain-clause-has g c =
     IfOk-weaker c.has_stored_key.result _
-    (λ has. ForSome (g.F.Folder.told c.args.f.now).files (λ image. Agrees c.args.files.now image → (kept : List shown.Loaded) (given : shown.Loaded) → AreShown image kept c.args.self.now.kept.items → IsLoadedFrom image given c.args.loaded.now → IsNameOf image c.args.loaded.now c.args.key.now
+    (λ has. ForSome (g.F.Folder.told c.args.folder.now).files (λ image. Agrees c.args.files.now image → (kept : List shown.Loaded) (given : shown.Loaded) → AreShown image kept c.args.self.now.kept.items → IsLoadedFrom image given c.args.loaded.now → IsNameOf image c.args.loaded.now c.args.key.now
     → has ≡ list_any (is_sought c.args.sought given.key) kept))
     (λ has is image there agrees kept given are known named. is image there agrees kept given are known)
     c.has_stored_key.ensures.has
@@ -23,7 +23,7 @@ returns-in-Plain-clause-has g c =
 pub returns-in-Parent-clause-has : goal.returns-in-Parent-clause-has
 returns-in-Parent-clause-has g c =
     IfOk-weaker c.has_stored_key-in-Parent.result _
-    (λ has. ForSome (g.F.Folder.told c.args.f.now).files (λ image. Agrees c.args.files.now image → (kept : List shown.Loaded) (given : shown.Loaded) → AreShown image kept c.args.self.now.kept.items → IsLoadedFrom image given c.args.loaded.now → IsNameOf image c.args.loaded.now c.args.key.now
+    (λ has. ForSome (g.F.Folder.told c.args.folder.now).files (λ image. Agrees c.args.files.now image → (kept : List shown.Loaded) (given : shown.Loaded) → AreShown image kept c.args.self.now.kept.items → IsLoadedFrom image given c.args.loaded.now → IsNameOf image c.args.loaded.now c.args.key.now
     → has ≡ list_any (is_sought c.args.sought given.key) kept))
     (λ has is image there agrees kept given are known named. is image there agrees kept given are known)
     c.has_stored_key-in-Parent.ensures.has
@@ -31,7 +31,7 @@ returns-in-Parent-clause-has g c =
 pub returns-in-Part-clause-has : goal.returns-in-Part-clause-has
 returns-in-Part-clause-has g c =
     IfOk-weaker c.has.result _
-    (λ has. ForSome (g.F.Folder.told c.args.f.now).files (λ image. Agrees c.args.files.now image → (kept : List shown.Loaded) (given : shown.Loaded) → AreShown image kept c.args.self.now.kept.items → IsLoadedFrom image given c.args.loaded.now → IsNameOf image c.args.loaded.now c.args.key.now
+    (λ has. ForSome (g.F.Folder.told c.args.folder.now).files (λ image. Agrees c.args.files.now image → (kept : List shown.Loaded) (given : shown.Loaded) → AreShown image kept c.args.self.now.kept.items → IsLoadedFrom image given c.args.loaded.now → IsNameOf image c.args.loaded.now c.args.key.now
     → has ≡ list_any (is_sought c.args.sought given.key) kept))
     (λ has is image there agrees kept given are known named.
     let same : c.args.key.now ≡ given.key = named (ap is_part_said c.in-Part.is) given.key (keys-found image known.node given c.args.loaded.now known.loads known.is) in

@@ -23,7 +23,7 @@ returns-in_err-read_key_of-clause-untold g c agrees keys =
 pub returns-clause-has : goal.returns-clause-has
 returns-clause-has g c =
     IfOk-weaker c.has.result _
-    (λ has. ForSome (g.F.Folder.told c.args.f.now).files (λ image. Agrees c.args.files.now image → (kept : List shown.Loaded) (given : shown.Loaded) → AreShown image kept c.args.self.now.kept.items → IsLoadedFrom image given c.args.loaded.now
+    (λ has. ForSome (g.F.Folder.told c.args.folder.now).files (λ image. Agrees c.args.files.now image → (kept : List shown.Loaded) (given : shown.Loaded) → AreShown image kept c.args.self.now.kept.items → IsLoadedFrom image given c.args.loaded.now
     → has ≡ list_any (is_sought c.args.sought given.key) kept))
     (λ has is image there agrees kept given are known.
     let key = keys-found image known.node given c.args.loaded.now known.loads known.is in

@@ -20,7 +20,7 @@ returns-in-Parent-clause-orphan g c image there agrees kept given are known name
 pub returns-in-Part-clause-orphan : goal.returns-in-Part-clause-orphan
 returns-in-Part-clause-orphan g c =
     IfOk-weaker c.lacks_parent.result _
-    (λ orphan. ForSome (g.F.Folder.told c.args.f.now).files (λ image. Agrees c.args.files.now image → (kept : List shown.Loaded) (given : shown.Loaded) → AreShown image kept c.args.self.now.kept.items → IsLoadedFrom image given c.args.loaded.now → IsNameOf image c.args.loaded.now c.args.key.now
+    (λ orphan. ForSome (g.F.Folder.told c.args.folder.now).files (λ image. Agrees c.args.files.now image → (kept : List shown.Loaded) (given : shown.Loaded) → AreShown image kept c.args.self.now.kept.items → IsLoadedFrom image given c.args.loaded.now → IsNameOf image c.args.loaded.now c.args.key.now
     → orphan ≡ audit.is_orphan kept given))
     (λ orphan is image there agrees kept given are known named.
     let part = ap is_part_said c.in-Part.is in

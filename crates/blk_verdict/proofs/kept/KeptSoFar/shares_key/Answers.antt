@@ -29,7 +29,7 @@ has_key_of-requires-clause-part g c = alike_number (is_part_said c.args.loaded.n
 pub returns-clause-shares : goal.returns-clause-shares
 returns-clause-shares g c =
     IfOk-weaker c.has_key_of.result _
-    (λ shares. ForSome (g.F.Folder.told c.args.f.now).files (λ image. Agrees c.args.files.now image → (kept : List shown.Loaded) (given : shown.Loaded) → AreShown image kept c.args.self.now.kept.items → IsLoadedFrom image given c.args.loaded.now → IsNameOf image c.args.loaded.now c.args.key.now → shares ≡ audit.shares_key kept given))
+    (λ shares. ForSome (g.F.Folder.told c.args.folder.now).files (λ image. Agrees c.args.files.now image → (kept : List shown.Loaded) (given : shown.Loaded) → AreShown image kept c.args.self.now.kept.items → IsLoadedFrom image given c.args.loaded.now → IsNameOf image c.args.loaded.now c.args.key.now → shares ≡ audit.shares_key kept given))
     (λ has is image there agrees kept given are known named.
     let sought = alike_is given.key given.role c.args.loaded.now.role c.alike-sought.result known.is.role c.alike-sought.ensures in
     is image there agrees kept given are known named ∙ ap (λ (s : Sought). list_any (is_sought s given.key) kept) sought ∙ sym (shares_by kept given))

@@ -1,7 +1,7 @@
 use Rattle.std.proofs.Common.{ℕ, ◌/◌, ◌%◌, ◌∷◌, List, sym, ◌∙◌, ap, subst}
 use Rattle.std.specs.List.{All}
 use Rattle.blk_io.specs.FileNames.{file_of}
-use Rattle.blk_window.specs.Held.{Page, Agrees, dropped}
+use Rattle.blk_window.specs.Held.{Page, HoldsFileBytes, dropped}
 use Rattle.blk_window.specs.Pages.{held_of, places_of}
 use Rattle.blk_window.specs.Slots.{seen, Copies}
 use Rattle.blk_window.proofs.Agreeing.{held_found, found_page, all_found, all_used, used_found, used_new, new_front, gives_bytes}
@@ -15,7 +15,7 @@ invariant_of-self g c =
     let p = held_found (file_of c.args.file) (c.args.at / 4096) held (sym c.in-Some.ensures.exact) in
     record {
       agrees = λ image there.
-          subst (All (Agrees image)) (sym (c.in-Some.ensures.used p.0 p.1)) (all_used (Agrees image) (places_of w.pages) p.0 held (all_found (Agrees image) (file_of c.args.file) (c.args.at / 4096) held p.0 (w.agrees image there) p.1) (w.agrees image there));
+          subst (All (HoldsFileBytes image)) (sym (c.in-Some.ensures.used p.0 p.1)) (all_used (HoldsFileBytes image) (places_of w.pages) p.0 held (all_found (HoldsFileBytes image) (file_of c.args.file) (c.args.at / 4096) held p.0 (w.agrees image there) p.1) (w.agrees image there));
     }
 
 pub returns-in-Some-clause-bytes : goal.returns-in-Some-clause-bytes
@@ -23,7 +23,7 @@ returns-in-Some-clause-bytes g c = λ image there.
     let w = c.args.self.now in
     let held = held_of w.pages in
     let p = held_found (file_of c.args.file) (c.args.at / 4096) held (sym c.in-Some.ensures.exact) in
-    gives_bytes image (file_of c.args.file) c.args.at p.0 c.args.out.now c.read.new.out c.in-Some.n (all_found (Agrees image) (file_of c.args.file) (c.args.at / 4096) held p.0 (w.agrees image there) p.1) (found_page (file_of c.args.file) (c.args.at / 4096) held p.0 p.1) c.requires (c.in-Some.ensures.copies p.0 p.1)
+    gives_bytes image (file_of c.args.file) c.args.at p.0 c.args.out.now c.read.new.out c.in-Some.n (all_found (HoldsFileBytes image) (file_of c.args.file) (c.args.at / 4096) held p.0 (w.agrees image there) p.1) (found_page (file_of c.args.file) (c.args.at / 4096) held p.0 p.1) c.requires (c.in-Some.ensures.copies p.0 p.1)
 
 pub returns-in-Some-clause-used : goal.returns-in-Some-clause-used
 returns-in-Some-clause-used g c =

@@ -138,34 +138,34 @@ small-words [] bytes small = small
 small-words (w ∷ ws) bytes small = small-words ws (with_word w.0 w.1 bytes) (small-word w.0 w.1 bytes small)
 
 -- a record whose bytes before the seal are small checks where its bytes do
-same-front : (s : ℕ) (bytes : List ℕ) → SameFrom 0 s (content (take s bytes)) (content bytes)
-same-front s bytes k low high = get_or-take s bytes k 0 (omega arith)
+same-prefix : (s : ℕ) (bytes : List ℕ) → SameFrom 0 s (content (take s bytes)) (content bytes)
+same-prefix s bytes k low high = get_or-take s bytes k 0 (omega arith)
 
-pub front-words : (s : ℕ) (bytes : List ℕ) → s % 4 ≡ 0 → SameWords s (content (take s bytes)) 0 (content bytes) 0
-front-words s bytes even d aligned inside =
+pub prefix-words : (s : ℕ) (bytes : List ℕ) → s % 4 ≡ 0 → SameWords s (content (take s bytes)) 0 (content bytes) 0
+prefix-words s bytes even d aligned inside =
     let e : 0 + d ≡ d = omega arith in
-    ap (word_at (content (take s bytes))) e ∙ same-word (content (take s bytes)) (content bytes) d (part_of 0 s d 4 (content (take s bytes)) (content bytes) (same-front s bytes) (omega arith) (omega arith)) ∙ ap (word_at (content bytes)) (sym e)
+    ap (word_at (content (take s bytes))) e ∙ same-word (content (take s bytes)) (content bytes) d (part_of 0 s d 4 (content (take s bytes)) (content bytes) (same-prefix s bytes) (omega arith) (omega arith)) ∙ ap (word_at (content bytes)) (sym e)
 
-pub front-range : (s : ℕ) (bytes : List ℕ) → s ≤ length bytes → range_at (content (take s bytes)) 0 s ≡ take s bytes
-front-range s bytes enough = range-is s 0 (take s bytes) (omega (arith, length-take s bytes)) ∙ twice s bytes where
+pub prefix-range : (s : ℕ) (bytes : List ℕ) → s ≤ length bytes → range_at (content (take s bytes)) 0 s ≡ take s bytes
+prefix-range s bytes enough = range-is s 0 (take s bytes) (omega (arith, length-take s bytes)) ∙ twice s bytes where
   twice : (s : ℕ) (bytes : List ℕ) → take s (take s bytes) ≡ take s bytes
   twice zero [] = refl
   twice zero (b ∷ bytes) = refl
   twice (suc s) [] = refl
   twice (suc s) (b ∷ bytes) = ap (λ (l : List ℕ). b ∷ l) (twice s bytes)
 
-pub node_checks-front : (bytes : List ℕ) → AreSmall (take 32 bytes) → 32 ≤ length bytes → node_checks (node_in (content bytes) 0) ≡ checks 32 bytes
+pub node_checks-prefix : (bytes : List ℕ) → AreSmall (take 32 bytes) → 32 ≤ length bytes → node_checks (node_in (content bytes) 0) ≡ checks 32 bytes
 unfolding node_checks node_is_sealed node_in node_body
-node_checks-front bytes small enough =
-    let same : open_node (node_in (content (take 32 bytes)) 0) ≡ open_node (node_in (content bytes) 0) = same-node (content (take 32 bytes)) 0 (content bytes) 0 (front-words 32 bytes refl) in
-    let body : node_body (node_in (content bytes) 0) ≡ take 32 bytes = sym (ap node_body same) ∙ node_body-in 0 (content (take 32 bytes)) small ∙ front-range 32 bytes enough in
+node_checks-prefix bytes small enough =
+    let same : open_node (node_in (content (take 32 bytes)) 0) ≡ open_node (node_in (content bytes) 0) = same-node (content (take 32 bytes)) 0 (content bytes) 0 (prefix-words 32 bytes refl) in
+    let body : node_body (node_in (content bytes) 0) ≡ take 32 bytes = sym (ap node_body same) ∙ node_body-in 0 (content (take 32 bytes)) small ∙ prefix-range 32 bytes enough in
     ap (λ (l : List ℕ). (word_at (content bytes) 32 == 0) || (word_at (content bytes) 32 == hash l)) body
 
-pub entry_checks-front : (bytes : List ℕ) → AreSmall (take 92 bytes) → 92 ≤ length bytes → entry_checks (entry_in (content bytes) 0) ≡ checks 92 bytes
+pub entry_checks-prefix : (bytes : List ℕ) → AreSmall (take 92 bytes) → 92 ≤ length bytes → entry_checks (entry_in (content bytes) 0) ≡ checks 92 bytes
 unfolding entry_checks entry_is_sealed entry_in entry_body
-entry_checks-front bytes small enough =
-    let same : open_entry (entry_in (content (take 92 bytes)) 0) ≡ open_entry (entry_in (content bytes) 0) = same-entry (content (take 92 bytes)) 0 (content bytes) 0 (front-words 92 bytes refl) in
-    let body : entry_body (entry_in (content bytes) 0) ≡ take 92 bytes = sym (ap entry_body same) ∙ entry_body-in 0 (content (take 92 bytes)) small ∙ front-range 92 bytes enough in
+entry_checks-prefix bytes small enough =
+    let same : open_entry (entry_in (content (take 92 bytes)) 0) ≡ open_entry (entry_in (content bytes) 0) = same-entry (content (take 92 bytes)) 0 (content bytes) 0 (prefix-words 92 bytes refl) in
+    let body : entry_body (entry_in (content bytes) 0) ≡ take 92 bytes = sym (ap entry_body same) ∙ entry_body-in 0 (content (take 92 bytes)) small ∙ prefix-range 92 bytes enough in
     ap (λ (l : List ℕ). (word_at (content bytes) 92 == 0) || (word_at (content bytes) 92 == hash l)) body
 
 -- whether a record checks lies in its seal and in the rest of it

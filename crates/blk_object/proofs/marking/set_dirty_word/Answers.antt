@@ -12,7 +12,7 @@ use Rattle.blk_lru.proofs.Performing.{part_kept}
 use Rattle.blk_entry.specs.Marks.{SetsDirty, dirty_change, mark_steps}
 use Rattle.blk_object.specs.FailedChecks.{IsFailedCheck}
 use Rattle.blk_object.proofs.DamageChecks.{checked-where-stays, record-checked}
-use Rattle.blk_object.proofs.marking.set_mark.Goals as goal
+use Rattle.blk_object.proofs.marking.set_dirty_word.Goals as goal
 
 module _ {A : Type 0} (files : BlockFiles) (old new : Told) (node mark : ℕ) (stands : is_node_among files node ≡ true) (open_before : ForSome old.files (IsOpen files)) (result : Result A Fault) (sets : SetsDirty files old new node mark result) where
   still-open : ForSome new.files (IsOpen files)
@@ -35,15 +35,15 @@ set_clean-requires-clause-agrees g c image there = (c.requires.is_open image the
 
 pub returns-then-mark-eq0-clause-sets : goal.returns-then-mark-eq0-clause-sets
 returns-then-mark-eq0-clause-sets g c =
-    subst (λ (m : ℕ). SetsDirty c.args.files.now (g.F.Folder.told c.args.f.now) (g.F.Folder.told c.set_clean.new.f) c.args.node m c.set_clean.result) (sym c.if-mark-eq0.true) c.set_clean.ensures.sets
+    subst (λ (m : ℕ). SetsDirty c.args.files.now (g.F.Folder.told c.args.folder.now) (g.F.Folder.told c.set_clean.new.f) c.args.node m c.set_clean.result) (sym c.if-mark-eq0.true) c.set_clean.ensures.sets
 
 pub returns-then-mark-eq0-clause-is_open : goal.returns-then-mark-eq0-clause-is_open
 returns-then-mark-eq0-clause-is_open g c =
-    still-open c.args.files.now (g.F.Folder.told c.args.f.now) (g.F.Folder.told c.set_clean.new.f) c.args.node 0 c.requires.stands c.requires.is_open c.set_clean.result c.set_clean.ensures.sets
+    still-open c.args.files.now (g.F.Folder.told c.args.folder.now) (g.F.Folder.told c.set_clean.new.f) c.args.node 0 c.requires.stands c.requires.is_open c.set_clean.result c.set_clean.ensures.sets
 
 pub returns-then-mark-eq0-clause-damaged : goal.returns-then-mark-eq0-clause-damaged
 returns-then-mark-eq0-clause-damaged g c =
-    its-cause c.args.files.now (g.F.Folder.told c.args.f.now) (g.F.Folder.told c.set_clean.new.f) c.args.node 0 c.requires.stands c.requires.is_open c.set_clean.result c.set_clean.ensures.sets
+    its-cause c.args.files.now (g.F.Folder.told c.args.folder.now) (g.F.Folder.told c.set_clean.new.f) c.args.node 0 c.requires.stands c.requires.is_open c.set_clean.result c.set_clean.ensures.sets
 
 pub set_dirty-requires-clause-kind : goal.set_dirty-requires-clause-kind
 set_dirty-requires-clause-kind g c = node_kind c.args.files.now c.args.node c.requires.stands
@@ -56,8 +56,8 @@ set_dirty-requires-clause-agrees g c image there = (c.requires.is_open image the
 
 pub returns-else-mark-eq0-clause-is_open : goal.returns-else-mark-eq0-clause-is_open
 returns-else-mark-eq0-clause-is_open g c =
-    still-open c.args.files.now (g.F.Folder.told c.args.f.now) (g.F.Folder.told c.set_dirty.new.f) c.args.node c.args.mark c.requires.stands c.requires.is_open c.set_dirty.result c.set_dirty.ensures.sets
+    still-open c.args.files.now (g.F.Folder.told c.args.folder.now) (g.F.Folder.told c.set_dirty.new.f) c.args.node c.args.mark c.requires.stands c.requires.is_open c.set_dirty.result c.set_dirty.ensures.sets
 
 pub returns-else-mark-eq0-clause-damaged : goal.returns-else-mark-eq0-clause-damaged
 returns-else-mark-eq0-clause-damaged g c =
-    its-cause c.args.files.now (g.F.Folder.told c.args.f.now) (g.F.Folder.told c.set_dirty.new.f) c.args.node c.args.mark c.requires.stands c.requires.is_open c.set_dirty.result c.set_dirty.ensures.sets
+    its-cause c.args.files.now (g.F.Folder.told c.args.folder.now) (g.F.Folder.told c.set_dirty.new.f) c.args.node c.args.mark c.requires.stands c.requires.is_open c.set_dirty.result c.set_dirty.ensures.sets

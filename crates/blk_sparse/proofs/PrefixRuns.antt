@@ -6,7 +6,7 @@ use Rattle.blk_model.specs.Bytes.{numbers_from}
 use Rattle.blk_model.specs.Sparse.{byte_at, first_run, present_run, sparse_bytes, up_to_missing}
 use Rattle.blk_model.specs.State.{Object}
 use Rattle.blk_sparse.specs.Reading.{byte_of_part, part_bytes}
-use Rattle.blk_sparse.proofs.PresentRuns.{IsFront, run-front, while-false, while-true}
+use Rattle.blk_sparse.proofs.PresentRuns.{IsRunPrefix, run-front, while-false, while-true}
 
 -- as many as pass the test at the front
 missing-long : (f : ℕ → Option ℕ) (xs : List ℕ) → length (up_to_missing (map f xs)) ≡ length (take_while (λ p. is_some (f p)) xs)
@@ -25,7 +25,7 @@ missing-long f (x ∷ xs) = by (missing-long f xs) (f x) refl where
 abbrev pub front_of : (asked : ℕ) → ℕ × ℕ → ℕ
 front_of asked run = if run.0 == asked then run.1 else 0
 
-front-tested : (place count : ℕ) (run : ℕ × ℕ) (front : List ℕ) → IsFront place count run front → front_of place run ≡ length front
+front-tested : (place count : ℕ) (run : ℕ × ℕ) (front : List ℕ) → IsRunPrefix place count run front → front_of place run ≡ length front
 front-tested place count run front is = by (run.0 == place) refl where
   by : (b : Bool) → (run.0 == place) ≡ b → (if b then run.1 else 0) ≡ length front
   by true e = is.at_once (eqb-true run.0 place e)

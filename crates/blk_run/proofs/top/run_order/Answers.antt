@@ -6,7 +6,7 @@ use Rattle.spec_run.specs.Script.{doom_script, get_script}
 use Rattle.blk_inspect.specs.Texts.{inspect_text, verify_text}
 use Rattle.blk_run.proofs.Performing.{performs_wider}
 use Rattle.blk_run.proofs.Showing.{text_wider}
-use Rattle.blk_run.proofs.top.perform.Goals as goal
+use Rattle.blk_run.proofs.top.run_order.Goals as goal
 
 pub returns-in-Count-clause-counts : goal.returns-in-Count-clause-counts
 returns-in-Count-clause-counts g c is = record {

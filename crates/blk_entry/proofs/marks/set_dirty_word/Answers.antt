@@ -6,9 +6,9 @@ use Rattle.blk_entry.specs.Marks.{SetsDirtyInProgress, dirty_change}
 use Rattle.std.proofs.lemmas.Result.{on_ok_weaker}
 use Rattle.spec_image.proofs.Runs.{passes_weaker}
 use Rattle.blk_entry.proofs.Marking.{mark_changes, marking_at, marked_at}
-use Rattle.blk_entry.proofs.marks.write_mark.Given as given
-use Rattle.blk_entry.proofs.marks.write_mark.Goals as goal
-use Rattle.blk_entry.proofs.marks.write_mark.Goals.{After-update_sealed}
+use Rattle.blk_entry.proofs.marks.set_dirty_word.Given as given
+use Rattle.blk_entry.proofs.marks.set_dirty_word.Goals as goal
+use Rattle.blk_entry.proofs.marks.set_dirty_word.Goals.{After-update_sealed}
 
 pub update_sealed-requires-clause-changes : goal.update_sealed-requires-clause-changes
 update_sealed-requires-clause-changes g c = mark_changes c.args.node c.args.mark c.requires.kind
@@ -17,10 +17,10 @@ small : (g : given.Over) (c : After-update_sealed g) → c.args.mark < 2 ^ 32
 small g c = omega (arith, c.ranges.mark.fits)
 
 -- the moments of the update
-moment_of : (g : given.Over) (c : After-update_sealed g) (from : Image) → (g.F.Folder.told c.args.f.now).files ≡ Some from → RecordChecks c.args.node from → (image : Image) → IsMidUpdate from c.args.node (dirty_change c.args.mark) image → SetsDirtyInProgress from c.args.node c.args.mark image
+moment_of : (g : given.Over) (c : After-update_sealed g) (from : Image) → (g.F.Folder.told c.args.folder.now).files ≡ Some from → RecordChecks c.args.node from → (image : Image) → IsMidUpdate from c.args.node (dirty_change c.args.mark) image → SetsDirtyInProgress from c.args.node c.args.mark image
 moment_of g c from there good image =
     marking_at from image c.args.node c.args.mark c.requires.kind (small g c) c.args.files.now (c.requires.agrees from there) c.requires.stands (subst (λ (v : ℕ). is_address v ≡ true) c.word-word.ensures.word c.word-word.ensures.address)
-    (g.met.F.Folder.are_bytes c.args.f.now from there) good
+    (g.met.F.Folder.are_bytes c.args.folder.now from there) good
 
 pub returns-clause-sets : goal.returns-clause-sets
 returns-clause-sets g c = record {

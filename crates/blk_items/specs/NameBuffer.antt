@@ -4,5 +4,5 @@ use Rattle.blk_model.specs.Sizes.{longest_key}
 use Rattle.blk_entry.specs.Keys.{most_key}
 
 -- the bytes for the key of a parent and for the name of a part
-abbrev pub name_room : ℕ
-name_room = longest_key + most_key
+abbrev pub name_buffer_len : ℕ
+name_buffer_len = longest_key + most_key

@@ -18,7 +18,7 @@ use Rattle.spec_folder.specs.View.{store_of}
 use Rattle.blk_io.proofs.Carried.{told_at_end}
 use Rattle.blk_index.specs.Table.{AreBuckets}
 use Rattle.law_recovery.specs.ChainRepair.{next_steps, next_words_steps}
-use Rattle.blk_repair.specs.Chains.{AreFronts, IsFront, KeepsOtherBuckets}
+use Rattle.blk_repair.specs.Chains.{AreBucketWords, IsBucketWord, KeepsOtherBuckets}
 
 -- ---- a chain that is repaired leaves the words of the other buckets
 
@@ -61,22 +61,22 @@ others-kept a m b bucket words front links silent from there =
 
 -- ---- the words that were read
 
-pub fronts-read : (words : List ℕ) (first bucket last : ℕ) (image : Image) → AreBuckets image first words → length words ≡ 16384 → first % 16384 ≡ 0 → first ≤ bucket → last ≡ first + 16384 → AreFronts words bucket last image
+pub fronts-read : (words : List ℕ) (first bucket last : ℕ) (image : Image) → AreBuckets image first words → length words ≡ 16384 → first % 16384 ≡ 0 → first ≤ bucket → last ≡ first + 16384 → AreBucketWords words bucket last image
 fronts-read words first bucket last image are long aligned low_first is = λ other low high.
     let at : first + other % 16384 ≡ other = omega (arith, low, high, aligned, low_first, is) in
     let small : other % 16384 < length words = omega (arith, long) in
     are (other % 16384) small ∙ ap (bucket_of (byte image Index)) at
 
 -- once a bucket is repaired, those after it are read still
-pub fronts-on : (a b : Told) (words : List ℕ) (bucket last : ℕ) → ForSome a.files (AreFronts words bucket last) → ForSome a.files (λ from. ForSome b.files (KeepsOtherBuckets bucket from)) → (a.files ≡ None → b.files ≡ None) → ForSome b.files (AreFronts words (bucket + 1) last)
+pub fronts-on : (a b : Told) (words : List ℕ) (bucket last : ℕ) → ForSome a.files (AreBucketWords words bucket last) → ForSome a.files (λ from. ForSome b.files (KeepsOtherBuckets bucket from)) → (a.files ≡ None → b.files ≡ None) → ForSome b.files (AreBucketWords words (bucket + 1) last)
 fronts-on a b words bucket last fronts others silent =
-    told_at_end a.files b.files (AreFronts words (bucket + 1) last) silent
+    told_at_end a.files b.files (AreBucketWords words (bucket + 1) last) silent
     (λ from there image here other low high. fronts from there other (omega (arith, low)) high ∙ sym (others from there image here other (λ e. absurd (omega (arith, low, e)))))
 
 -- what a read adds to the words that were read before
-pub fronts-after : {a b : Told} (old words : List ℕ) (bucket before last : ℕ) → b ≡ a → ForSome a.files (AreFronts old bucket before) → ForSome a.files (λ from. AreFronts old bucket before from → AreFronts words bucket last from) → ForSome b.files (AreFronts words bucket last)
-fronts-after {a} {b} old words bucket before last same were are = subst (λ (t : Told). ForSome t.files (AreFronts words bucket last)) (sym same) (λ from there. are from there (were from there))
+pub fronts-after : {a b : Told} (old words : List ℕ) (bucket before last : ℕ) → b ≡ a → ForSome a.files (AreBucketWords old bucket before) → ForSome a.files (λ from. AreBucketWords old bucket before from → AreBucketWords words bucket last from) → ForSome b.files (AreBucketWords words bucket last)
+fronts-after {a} {b} old words bucket before last same were are = subst (λ (t : Told). ForSome t.files (AreBucketWords words bucket last)) (sym same) (λ from there. are from there (were from there))
 
 -- a bucket whose word was read has it at its place in the piece
-pub front-there : {files : Option Image} (words : List ℕ) (bucket last front : ℕ) (whole : Bool) → (whole ≡ false → bucket < last) → front ≡ slice_index words (bucket % 16384) → ForSome files (AreFronts words bucket last) → ForSome files (λ image. whole ≡ false → IsFront front bucket image)
+pub front-there : {files : Option Image} (words : List ℕ) (bucket last front : ℕ) (whole : Bool) → (whole ≡ false → bucket < last) → front ≡ slice_index words (bucket % 16384) → ForSome files (AreBucketWords words bucket last) → ForSome files (λ image. whole ≡ false → IsBucketWord front bucket image)
 front-there words bucket last front whole reached is fronts image there apart = is ∙ fronts image there bucket (omega arith) (reached apart)

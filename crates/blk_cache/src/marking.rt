@@ -14,34 +14,34 @@ ghost use Rattle.blk_cache.specs.Unsettling.{ForEachNamed};
 
 use crate::cache::Cache;
 use blk_io::{Fault, Folder};
-use blk_object::set_mark;
+use blk_object::set_dirty_word;
 
 impl Cache {
     /// Makes the object that a handle names, live or doomed, dirty, where it is clean: the dirty word of its node
     /// becomes the number of the session, and its names are marked so.
     ///
     /// This takes three folder calls, and none where it is dirty.
-    pub(crate) fn unsettle<F: Folder>(&mut self, f: &mut F, handle: u16) -> Result<(), Fault>
+    pub(crate) fn set_dirty<F: Folder>(&mut self, folder: &mut F, handle: u16) -> Result<(), Fault>
         requires bound { IsSome (binding_of self.old.handles handle) }
-        requires is_open { ForSome (F.told f.old).files (IsOpen self.old.files) }
+        requires is_open { ForSome (F.told folder.old).files (IsOpen self.old.files) }
 
         // In the end each state that was kept is kept with its object dirty.
-        ensures unsettled { OnOk result (ForSome (F.told f.old).files (λ from. ForEachNamed self.old handle from (λ state number object. ForSome (F.told f.new).files (KeepsState self.new (marked state number object false))))) }
+        ensures unsettled { OnOk result (ForSome (F.told folder.old).files (λ from. ForEachNamed self.old handle from (λ state number object. ForSome (F.told folder.new).files (KeepsState self.new (marked state number object false))))) }
 
         // At each word the old durable contents are recovered, or the new ones.
-        ensures stops { ForSome (F.told f.old).files (λ from. ForEachNamed self.old handle from (λ state number object. Passes (F.told f.old) (F.told f.new) (FindsEither state (marked state number object false)))) }
+        ensures stops { ForSome (F.told folder.old).files (λ from. ForEachNamed self.old handle from (λ state number object. Passes (F.told folder.old) (F.told folder.new) (FindsEither state (marked state number object false)))) }
 
         ensures stays_bound { IsSome (binding_of self.new.handles handle) }
         ensures others { OnlyNamesChange self.old self.new }
         ensures charged { self.new.open_bytes ≡ self.old.open_bytes }
-        ensures is_open { ForSome (F.told f.new).files (IsOpen self.new.files) }
+        ensures is_open { ForSome (F.told folder.new).files (IsOpen self.new.files) }
 
         // Corruption is a check that fails on what is read here; nothing is written after it. An observable folder gives none where the cache keeps a state.
-        ensures damaged { IfDamaged result (IsFailedCheck self.new.files (F.told f.new)) }
-        ensures untold { ForSome (F.told f.old).files (KeepsAny self.old) → IfDamaged result (λ _. (F.told f.old).files ≡ None) }
-        ensures silent { (F.told f.old).files ≡ None → (F.told f.new).files ≡ None }
-        ensures later { F.faults f.old ≤ F.faults f.new }
-        ensures device { IfDevice result (Rises (F.faults f.old) (F.faults f.new)) }
+        ensures damaged { IfDamaged result (IsFailedCheck self.new.files (F.told folder.new)) }
+        ensures untold { ForSome (F.told folder.old).files (KeepsAny self.old) → IfDamaged result (λ _. (F.told folder.old).files ≡ None) }
+        ensures silent { (F.told folder.old).files ≡ None → (F.told folder.new).files ≡ None }
+        ensures later { F.faults folder.old ≤ F.faults folder.new }
+        ensures device { IfDevice result (Rises (F.faults folder.old) (F.faults folder.new)) }
     {
         let Some(object) = self.handles.object(handle) else {
             unreachable!();
@@ -49,7 +49,7 @@ impl Cache {
         if object.dirty {
             return Ok(());
         }
-        set_mark(f, &self.files, object.node, self.mark)?;
+        set_dirty_word(folder, &self.files, object.node, self.mark)?;
         self.handles.mark(handle, object.doomed, true);
         Ok(())
     }
