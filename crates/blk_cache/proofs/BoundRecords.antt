@@ -34,8 +34,8 @@ use Rattle.blk_object.specs.Owning.{LoadsWith}
 use Rattle.blk_object.proofs.OwnedPlaces.{kept-load}
 use Rattle.blk_object.specs.Writing.{node_of_object}
 use Rattle.blk_cache.specs.CacheKeeping.{IsBoundTo}
-use Rattle.blk_items.specs.Looking.{charge_at}
-use Rattle.blk_items.proofs.Looks.{said-charge}
+use Rattle.blk_evict.specs.Looking.{charge_at}
+use Rattle.blk_evict.proofs.Looks.{said-charge}
 
 -- ---- roles
 

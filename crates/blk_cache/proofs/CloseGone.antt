@@ -39,7 +39,7 @@ use Rattle.blk_cache.specs.declared.cache.Cache.{Cache}
 use Rattle.blk_cache.specs.CacheKeeping.{IsBoundTo, KeepsState}
 use Rattle.blk_cache.specs.Closing.{CountsClosed}
 use Rattle.blk_cache.specs.CommandClauses.{KeepsAny, OnlyNamesChange}
-use Rattle.blk_items.specs.Looking.{charge_at}
+use Rattle.blk_evict.specs.Looking.{charge_at}
 use Rattle.blk_cache.proofs.BoundRecords.{bound-says}
 use Rattle.blk_cache.proofs.Closes.{CountsGone, at-doomed, gone, gone-keeps, is, layout-gone, less, less-open, named, number}
 use Rattle.blk_cache.proofs.CloseSteps.{WasLast, answered-as, cleaned-done, cleaned-stops, freed-last, mid-node}

@@ -47,7 +47,7 @@ use Rattle.blk_cache.specs.declared.cache.Cache.{Cache}
 use Rattle.blk_cache.specs.BoundNames.{AreBoundAmong}
 use Rattle.blk_cache.specs.CacheKeeping.{IsBoundTo, KeepsState}
 use Rattle.blk_cache.specs.CommandClauses.{KeepsAny, OnlyNamesChange}
-use Rattle.blk_items.specs.Looking.{charge_at}
+use Rattle.blk_evict.specs.Looking.{charge_at}
 use Rattle.blk_cache.proofs.BoundObjects.{free-of}
 use Rattle.blk_cache.proofs.BoundRecords.{bound-loads, bound-node, bound-says}
 use Rattle.blk_cache.proofs.Closes.{at-place, is, layout-now, less, less-keeps, less-open, named, node-place, number, settled-keeps, within-some}

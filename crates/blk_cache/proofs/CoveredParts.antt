@@ -6,7 +6,7 @@ use Rattle.blk_model.specs.Items.{Item, main, part, same_item}
 use Rattle.blk_model.specs.Room.{is_pinned}
 use Rattle.blk_model.specs.State.{State}
 use Rattle.law_state.specs.Commands.{ForKept}
-use Rattle.blk_items.specs.RoomLaws.{AreOfNamed}
+use Rattle.blk_evict.specs.RoomLaws.{AreOfNamed}
 use Rattle.blk_cache.specs.declared.cache.Cache.{Cache}
 use Rattle.blk_cache.specs.declared.covered.Covered.{Covered}
 use Rattle.blk_cache.specs.CacheKeeping.{KeepsState}

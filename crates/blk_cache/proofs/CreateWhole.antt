@@ -31,11 +31,11 @@ use Rattle.blk_cache.specs.Covering.{no_parts}
 use Rattle.blk_cache.specs.Creating.{IsNotRefused, IsReadyForSome, IsReadyToCreate, WantsRoomAlone, create_refusal}
 use Rattle.blk_cache.specs.Evicting.{IsEvicting}
 use Rattle.blk_cache.specs.MakingRoom.{ForRoom}
-use Rattle.blk_items.specs.RoomPrinting.{PrintsUnlessFailed}
+use Rattle.blk_evict.specs.RoomPrinting.{PrintsUnlessFailed}
 use Rattle.blk_cache.specs.Stepping.{SaysEvicted, SaysPrefix}
 use Rattle.blk_cache.proofs.CoveredParts.{for-none}
 use Rattle.blk_cache.proofs.CreateRoom.{finds-room, wants-one}
-use Rattle.blk_items.proofs.RoomTexts.{none-behind, none-printed}
+use Rattle.blk_evict.proofs.RoomTexts.{none-behind, none-printed}
 
 -- ---- answers
 

@@ -25,10 +25,10 @@ use Rattle.law_state.proofs.WordStops.{dooms-stop}
 use Rattle.blk_object.specs.RemovingObjects.{FindsEither}
 use Rattle.blk_object.specs.Writing.{node_of_object}
 use Rattle.blk_cache.specs.declared.cache.Cache.{Cache}
-use Rattle.blk_items.specs.declared.dooming_objects.Target.{Target}
+use Rattle.blk_cache.specs.declared.dooming_objects.Target.{Target}
 use Rattle.blk_cache.specs.CacheKeeping.{IsBoundTo, KeepsState}
 use Rattle.blk_cache.specs.Dooming.{ForEachKept, ForEachOpen, doom_refusal}
-use Rattle.blk_items.specs.DoomingObjects.{IsDoomTarget, IsTargetAt, LiesOpen}
+use Rattle.blk_cache.specs.DoomingObjects.{IsDoomTarget, IsTargetAt, LiesOpen}
 use Rattle.blk_cache.proofs.BoundObjects.{free-of, named-at, number-of}
 use Rattle.blk_cache.proofs.Closes.{within-some}
 

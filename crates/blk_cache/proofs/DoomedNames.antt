@@ -18,7 +18,7 @@ use Rattle.blk_handles.proofs.BindingLemmas.{binding_of-change}
 use Rattle.law_state.specs.Keeping.{KeepsUncounted}
 use Rattle.blk_object.specs.Writing.{node_of_object}
 use Rattle.blk_cache.specs.CacheKeeping.{IsBoundAs, IsBoundTo, named_from, named_objects}
-use Rattle.blk_items.specs.DoomingObjects.{NamedObjectsLieOn}
+use Rattle.blk_cache.specs.DoomingObjects.{NamedObjectsLieOn}
 use Rattle.blk_cache.proofs.BoundObjects.{named-at, same-bound}
 use Rattle.blk_cache.proofs.NamedObjects.{named-same, named-set}
 

@@ -22,7 +22,7 @@ use Rattle.blk_cache.specs.declared.cache.Cache.{Cache}
 use Rattle.blk_cache.specs.BoundNames.{AreBoundAmong}
 use Rattle.blk_cache.specs.CacheKeeping.{IsBoundAs, IsBoundTo, KeepsState}
 use Rattle.blk_cache.specs.Dooming.{CountsDoomed}
-use Rattle.blk_items.specs.DoomingObjects.{IsDoomed}
+use Rattle.blk_cache.specs.DoomingObjects.{IsDoomed}
 use Rattle.blk_cache.proofs.BoundObjects.{open-is-named}
 use Rattle.blk_cache.proofs.DoomedNames.{bound-after, named-after, open-same}
 

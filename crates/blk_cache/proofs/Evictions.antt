@@ -32,17 +32,17 @@ use Rattle.law_state.proofs.Keeping.{kept-found}
 use Rattle.blk_object.specs.RemovingObjects.{FindsEither}
 use Rattle.blk_object.proofs.MakingRoom.{uses-few}
 use Rattle.blk_cache.specs.declared.cache.Cache.{Cache}
-use Rattle.blk_items.specs.declared.list_places.Unpinned.{Unpinned}
+use Rattle.blk_evict.specs.declared.list_places.Unpinned.{Unpinned}
 use Rattle.blk_cache.specs.declared.covered.Covered.{Covered}
 use Rattle.blk_cache.specs.CacheKeeping.{KeepsState}
 use Rattle.blk_cache.specs.Covering.{LieCovered, covers}
 use Rattle.blk_cache.specs.Evicting.{IsEvicting, KeepsInPlaces, count_of_groups}
-use Rattle.blk_items.specs.RoomLaws.{AreAllPinned, AreOfNamed, IsOfNamed, MayGo, group_for}
-use Rattle.blk_items.specs.RoomPrinting.{PrintsUnlessFailed}
-use Rattle.blk_items.specs.ListPlaces.{IsLastAt, IsPinnedFrom}
-use Rattle.blk_items.proofs.RoomCounts.{counted-less}
-use Rattle.blk_items.proofs.RoomGroups.{covered-one, last-next, nothing-more, of-named-stay, others-next, pinned-before, without-none}
-use Rattle.blk_items.proofs.RoomTexts.{appends-after, appends-longer, none-printed, printed-on}
+use Rattle.blk_evict.specs.RoomLaws.{AreAllPinned, AreOfNamed, IsOfNamed, MayGo, group_for}
+use Rattle.blk_evict.specs.RoomPrinting.{PrintsUnlessFailed}
+use Rattle.blk_evict.specs.ListPlaces.{IsLastAt, IsPinnedFrom}
+use Rattle.blk_evict.proofs.RoomCounts.{counted-less}
+use Rattle.blk_evict.proofs.RoomGroups.{covered-one, last-next, nothing-more, of-named-stay, others-next, pinned-before, without-none}
+use Rattle.blk_evict.proofs.RoomTexts.{appends-after, appends-longer, none-printed, printed-on}
 
 -- ---- what stays after the group that is evicted
 

@@ -1,3 +1,8 @@
+pub mod DoomedCounts
+pub mod DoomedPlaced
+pub mod DoomedTargets
+pub mod FoundTargets
+pub mod OpenTargets
 pub mod Unnamed
 pub mod OpenedFolders
 pub mod Ends

@@ -17,7 +17,7 @@ use Rattle.spec_folder.specs.Layout.{Layout, is_in}
 use Rattle.law_state.specs.Keeping.{Keeps}
 use Rattle.blk_cache.specs.declared.cache.Cache.{Cache}
 use Rattle.blk_cache.specs.CacheKeeping.{KeepsState}
-use Rattle.blk_items.specs.ItemRows.{HasKeptState}
+use Rattle.blk_print.specs.ItemRows.{HasKeptState}
 use Rattle.blk_cache.proofs.Ends.{kept-open}
 
 no-node : {A : Type 0} {x : A} → ◌≡◌ {A = Option A} None (Some x) → ⊥

@@ -37,10 +37,10 @@ use Rattle.law_state.proofs.Touching.{opens-stop}
 use Rattle.blk_object.specs.KeptLists.{IsAmidList}
 use Rattle.blk_object.proofs.KeptLists.{listed-amid, touches-done, touches-partly}
 use Rattle.blk_cache.specs.declared.cache.Cache.{Cache}
-use Rattle.blk_items.specs.declared.looking.Live.{Live}
+use Rattle.blk_evict.specs.declared.looking.Live.{Live}
 use Rattle.blk_cache.specs.CacheKeeping.{KeepsState}
 use Rattle.blk_cache.specs.CommandClauses.{KeepsAny, OnlyNamesChange, charged_with, open_refusal}
-use Rattle.blk_items.specs.Looking.{IsLiveAt}
+use Rattle.blk_evict.specs.Looking.{IsLiveAt}
 use Rattle.blk_cache.proofs.Opens.{opened-keeps, used-node}
 use Rattle.blk_cache.proofs.Refusing.{name-below, name-free, not-refused}
 

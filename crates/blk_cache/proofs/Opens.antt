@@ -19,10 +19,10 @@ use Rattle.law_state.specs.CommandStates.{in_order, with_names}
 use Rattle.law_state.specs.Keeping.{Keeps, KeepsUncounted}
 use Rattle.blk_object.specs.Writing.{node_of_object}
 use Rattle.blk_cache.specs.declared.cache.Cache.{Cache}
-use Rattle.blk_items.specs.declared.looking.Live.{Live}
+use Rattle.blk_evict.specs.declared.looking.Live.{Live}
 use Rattle.blk_cache.specs.CacheKeeping.{IsBoundAs, IsBoundTo, KeepsState, named_objects}
 use Rattle.blk_cache.specs.CommandClauses.{OnlyNamesChange, charged_with}
-use Rattle.blk_items.specs.Looking.{IsLiveAt}
+use Rattle.blk_evict.specs.Looking.{IsLiveAt}
 use Rattle.blk_cache.proofs.BoundObjects.{bound-more, free-of, number-of, open-is-named, same-bound}
 use Rattle.blk_cache.proofs.NamedObjects.{count-more, named-before, named-new, named-total}
 

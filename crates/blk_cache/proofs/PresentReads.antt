@@ -6,8 +6,8 @@ use Rattle.blk_model.specs.Items.{is_sparse}
 use Rattle.blk_model.specs.Sparse.{sparse_bytes}
 use Rattle.blk_model.specs.State.{Object, State}
 use Rattle.blk_handles.specs.Bindings.{Binding, binding_of}
-use Rattle.blk_items.specs.PresentPrinting.{HasPresent}
-use Rattle.blk_items.specs.declared.present_printing.PresentRange.{PresentRange}
+use Rattle.blk_print.specs.PresentPrinting.{HasPresent}
+use Rattle.blk_print.specs.declared.present_printing.PresentRange.{PresentRange}
 use Rattle.blk_cache.specs.declared.cache.Cache.{Cache}
 use Rattle.blk_cache.specs.CacheKeeping.{KeepsState}
 use Rattle.blk_cache.specs.ReadPrinting.{NamesPresent}

@@ -16,11 +16,11 @@ use Rattle.blk_handles.specs.Bindings.{Binding}
 use Rattle.law_state.specs.OneCallLaws.{Names}
 use Rattle.blk_cache.specs.declared.asking.NamedStream.{NamedStream}
 use Rattle.blk_cache.specs.declared.cache.Cache.{Cache}
-use Rattle.blk_items.specs.declared.range_printing.StreamRange.{StreamRange}
+use Rattle.blk_print.specs.declared.range_printing.StreamRange.{StreamRange}
 use Rattle.blk_cache.specs.Asking.{IsNamedStream}
 use Rattle.blk_cache.specs.CacheKeeping.{IsBoundTo, KeepsState}
 use Rattle.blk_cache.specs.Reading.{bytes_there}
-use Rattle.blk_items.specs.RangePrinting.{HasBytes}
+use Rattle.blk_print.specs.RangePrinting.{HasBytes}
 use Rattle.blk_cache.proofs.BoundRecords.{bound-checks, bound-stream, bound-streams}
 use Rattle.blk_cache.proofs.Sizes.{named-object}
 

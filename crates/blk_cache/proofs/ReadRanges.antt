@@ -20,7 +20,7 @@ use Rattle.blk_cache.specs.declared.cache.Cache.{Cache}
 use Rattle.blk_cache.specs.Asking.{IsNamedStream, stream_refusal}
 use Rattle.blk_cache.specs.CacheKeeping.{IsBoundTo, KeepsState}
 use Rattle.blk_cache.specs.Reading.{bytes_there}
-use Rattle.blk_items.specs.RangePrinting.{HasBytes}
+use Rattle.blk_print.specs.RangePrinting.{HasBytes}
 use Rattle.blk_cache.specs.ReadPrinting.{can_be_read}
 use Rattle.blk_cache.proofs.BoundRecords.{bound-streams}
 use Rattle.blk_cache.proofs.Closes.{is, named, number}

@@ -32,9 +32,9 @@ use Rattle.blk_cache.specs.CacheKeeping.{IsBoundAs, KeepsState}
 use Rattle.blk_cache.specs.Listing.{OnlyRoomChanges}
 use Rattle.blk_cache.specs.Reading.{bytes_there}
 use Rattle.blk_cache.specs.ReadPrinting.{ForRead, KeepsToRead}
-use Rattle.blk_items.specs.RoomPrinting.{PrintsUnlessFailed, PrintsInPart}
+use Rattle.blk_evict.specs.RoomPrinting.{PrintsUnlessFailed, PrintsInPart}
 use Rattle.blk_cache.specs.Replying.{ForBytes, ForReply, ForRows, IsStateAfter, bytes_text, rows_text, text_of_reply}
-use Rattle.blk_items.proofs.RoomTexts.{appends-longer, printed-on}
+use Rattle.blk_evict.proofs.RoomTexts.{appends-longer, printed-on}
 use Rattle.blk_cache.proofs.Sizes.{named-object}
 
 -- ---- the text is the map's

@@ -12,11 +12,11 @@ use Rattle.blk_model.specs.Bounds.{bounds_of}
 use Rattle.blk_handles.specs.Bindings.{Binding, Bindings, binding_of, open_count}
 use Rattle.blk_cache.specs.CacheKeeping.{IsBoundAs, named_from, named_objects}
 use Rattle.blk_cache.specs.RoomKept.{EvictedStatesAreKept, NamedObjectsLieApart, WholeGroupsLieApart}
-use Rattle.blk_items.specs.RoomLaws.{NamedObjectsStay, group_for}
+use Rattle.blk_evict.specs.RoomLaws.{NamedObjectsStay, group_for}
 use Rattle.blk_cache.proofs.RoomBound.{has-slot}
-use Rattle.blk_items.proofs.RoomApart.{alone-apart, key-apart, named-stays}
-use Rattle.blk_items.proofs.RoomCounts.{counted-less}
-use Rattle.blk_items.proofs.RoomGroups.{loose-for}
+use Rattle.blk_evict.proofs.RoomApart.{alone-apart, key-apart, named-stays}
+use Rattle.blk_evict.proofs.RoomCounts.{counted-less}
+use Rattle.blk_evict.proofs.RoomGroups.{loose-for}
 
 module _ (state : State) (valid : IsValidState state) (group : Group) (loose : IsLoose (is_pinned state []) group) where
   abbrev left : State

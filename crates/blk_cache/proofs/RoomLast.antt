@@ -19,13 +19,13 @@ use Rattle.law_state.proofs.Free.{standing-at}
 use Rattle.blk_lru.specs.Lists.{last_node_of}
 use Rattle.blk_object.specs.ListedParts.{LoadsAt}
 use Rattle.blk_cache.specs.declared.cache.Cache.{Cache}
-use Rattle.blk_items.specs.declared.list_places.Unpinned.{Unpinned}
+use Rattle.blk_evict.specs.declared.list_places.Unpinned.{Unpinned}
 use Rattle.blk_cache.specs.declared.covered.Covered.{Covered}
 use Rattle.blk_cache.specs.CacheKeeping.{KeepsState}
 use Rattle.blk_cache.specs.Covering.{LieCovered, covers}
-use Rattle.blk_items.specs.RoomLaws.{AreAllPinned, IsLastUnpinned}
-use Rattle.blk_items.specs.ListPlaces.{AreInPrefix, IsLastAt, IsPinnedFrom}
-use Rattle.blk_items.proofs.RoomGroups.{in-middle, last-goes}
+use Rattle.blk_evict.specs.RoomLaws.{AreAllPinned, IsLastUnpinned}
+use Rattle.blk_evict.specs.ListPlaces.{AreInPrefix, IsLastAt, IsPinnedFrom}
+use Rattle.blk_evict.proofs.RoomGroups.{in-middle, last-goes}
 use Rattle.blk_cache.proofs.CoveredParts.{pinned-both}
 use Rattle.blk_cache.proofs.RoomBound.{record-pinned}
 

@@ -16,10 +16,10 @@ use Rattle.blk_cache.specs.declared.goal.Goal.TheVariants as goal
 use Rattle.blk_cache.specs.declared.cache.Cache.{Cache}
 use Rattle.blk_cache.specs.CacheKeeping.{KeepsState}
 use Rattle.blk_cache.specs.Evicting.{IsEvicting, is_met}
-use Rattle.blk_items.specs.RoomPrinting.{PrintsUnlessFailed}
+use Rattle.blk_evict.specs.RoomPrinting.{PrintsUnlessFailed}
 use Rattle.blk_cache.proofs.Evictions.{none-finds}
-use Rattle.blk_items.proofs.RoomGroups.{without-none}
-use Rattle.blk_items.proofs.RoomTexts.{none-printed}
+use Rattle.blk_evict.proofs.RoomGroups.{without-none}
+use Rattle.blk_evict.proofs.RoomTexts.{none-printed}
 use Rattle.blk_cache.proofs.RoomPins.{room-made}
 
 limits-left : (groups : List Group) (state : State) → (without groups state).limits ≡ state.limits

@@ -18,7 +18,7 @@ use Rattle.blk_sparse.specs.Measuring.{IsMeasured, charge_there, node_there, nod
 use Rattle.blk_sparse.specs.SparseObjects.{with_signature}
 use Rattle.blk_sparse.specs.SparseWrites.{signature_to}
 use Rattle.blk_sparse.proofs.WritingCovered.{covers-one, covers-two}
-use Rattle.blk_items.specs.RoomLaws.{AreOfNamed}
+use Rattle.blk_evict.specs.RoomLaws.{AreOfNamed}
 use Rattle.blk_cache.specs.declared.covered.Covered.{Covered}
 use Rattle.blk_cache.specs.Covering.{AreCovered, covers, is_node, one_if_some, part_count}
 use Rattle.blk_cache.specs.SparseWriting.{IsTargetOf, MeasuredPartsAreCovered, covered_of}

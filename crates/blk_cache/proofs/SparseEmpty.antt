@@ -41,10 +41,10 @@ use Rattle.blk_cache.specs.declared.cache.Cache.{Cache}
 use Rattle.blk_cache.specs.CacheKeeping.{KeepsState}
 use Rattle.blk_cache.specs.CommandClauses.{KeepsAny}
 use Rattle.blk_cache.specs.SparseTargets.{IsTargetNamed, NamesTarget}
-use Rattle.blk_items.specs.RoomPrinting.{PrintsUnlessFailed}
+use Rattle.blk_evict.specs.RoomPrinting.{PrintsUnlessFailed}
 use Rattle.blk_script.specs.Reply.{evicted_text}
 use Rattle.blk_cache.specs.Stepping.{SaysEvicted}
-use Rattle.blk_items.proofs.RoomTexts.{none-printed}
+use Rattle.blk_evict.proofs.RoomTexts.{none-printed}
 use Rattle.blk_cache.proofs.EvictionEnds.{passed-says}
 use Rattle.blk_cache.proofs.OpenSteps.{listed-node}
 use Rattle.blk_cache.proofs.ReadSteps.{keeps-in-order}

@@ -24,7 +24,7 @@ use Rattle.blk_cache.specs.declared.covered.Covered.{Covered}
 use Rattle.blk_cache.specs.CacheKeeping.{KeepsState}
 use Rattle.blk_cache.specs.Covering.{ForCovered, no_parts}
 use Rattle.blk_cache.specs.Evicting.{IsEvicting, count_of_groups, is_met}
-use Rattle.blk_items.specs.RoomPrinting.{PrintsUnlessFailed}
+use Rattle.blk_evict.specs.RoomPrinting.{PrintsUnlessFailed}
 use Rattle.blk_cache.specs.Stepping.{SaysEvicted, SaysPrefix}
 use Rattle.blk_cache.proofs.CoveredParts.{for-none}
 

@@ -35,13 +35,13 @@ use Rattle.blk_cache.specs.Asking.{stream_refusal}
 use Rattle.blk_cache.specs.CacheKeeping.{KeepsState}
 use Rattle.blk_cache.specs.CommandClauses.{IsRefused, KeepsAny}
 use Rattle.blk_cache.specs.Evicting.{IsEvicting}
-use Rattle.blk_items.specs.RoomPrinting.{PrintsUnlessFailed}
+use Rattle.blk_evict.specs.RoomPrinting.{PrintsUnlessFailed}
 use Rattle.blk_cache.specs.Stepping.{SaysEvicted, SaysPrefix}
 use Rattle.blk_cache.specs.Writing.{IsReadyToWrite, IsReadyToWriteSome, MayBeWritten}
 use Rattle.blk_cache.proofs.CreateWhole.{there-after, untold-by}
 use Rattle.blk_cache.proofs.EvictionEnds.{passed-groups}
-use Rattle.blk_items.proofs.RoomGroups.{without-none}
-use Rattle.blk_items.proofs.RoomTexts.{none-behind, none-printed}
+use Rattle.blk_evict.proofs.RoomGroups.{without-none}
+use Rattle.blk_evict.proofs.RoomTexts.{none-behind, none-printed}
 use Rattle.blk_cache.proofs.Sizes.{named-object}
 use Rattle.blk_cache.proofs.WriteRoom.{bound, first, long-after, same-stream, wants-rise}
 use Rattle.blk_cache.proofs.WriteUses.{never-told}

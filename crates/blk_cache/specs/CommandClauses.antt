@@ -16,7 +16,7 @@ use Rattle.blk_lru.specs.Damages.{IsTouchDamage}
 use Rattle.blk_handles.specs.Bindings.{Bindings, binding_of}
 use Rattle.blk_cache.specs.declared.cache.Cache.{Cache}
 use Rattle.blk_cache.specs.CacheKeeping.{KeepsState}
-use Rattle.blk_items.specs.Looking.{IsLookUpDamage}
+use Rattle.blk_evict.specs.Looking.{IsLookUpDamage}
 
 -- an answer is a refusal
 abbrev pub IsRefused : Answer → Type 0

@@ -10,7 +10,7 @@ use Rattle.blk_model.specs.Items.{Item, same_item}
 use Rattle.blk_model.specs.Room.{count_of, pinned, total_of}
 use Rattle.blk_model.specs.State.{State}
 use Rattle.spec_folder.specs.Layout.{Layout, is_listed}
-use Rattle.blk_items.specs.RoomLaws.{AreOfNamed}
+use Rattle.blk_evict.specs.RoomLaws.{AreOfNamed}
 use Rattle.blk_cache.specs.declared.cache.Cache.{Cache}
 use Rattle.blk_cache.specs.declared.covered.Covered.{Covered}
 use Rattle.blk_cache.specs.CacheKeeping.{KeepsState}

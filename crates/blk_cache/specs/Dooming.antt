@@ -11,8 +11,8 @@ use Rattle.blk_model.specs.declared.Refusal.{Refusal}
 use Rattle.blk_model.specs.declared.Refusal.TheVariants as refusal
 use Rattle.blk_handles.specs.Bindings.{Bindings, binding_of, with_change, with_doom}
 use Rattle.blk_sparse.specs.declared.dropping.Gone.{Gone}
-use Rattle.blk_items.specs.declared.dooming_objects.Target.{Target}
-use Rattle.blk_items.specs.DoomingObjects.{LiesAsTarget, LiesOpen}
+use Rattle.blk_cache.specs.declared.dooming_objects.Target.{Target}
+use Rattle.blk_cache.specs.DoomingObjects.{LiesAsTarget, LiesOpen}
 use Rattle.blk_cache.specs.declared.cache.Cache.{Cache}
 use Rattle.blk_cache.specs.CacheKeeping.{KeepsState}
 

@@ -9,10 +9,10 @@ use Rattle.law_state.specs.Changes.{Finds}
 use Rattle.blk_cache.specs.declared.cache.Cache.{Cache}
 use Rattle.blk_cache.specs.declared.goal.Goal.{Goal}
 use Rattle.blk_cache.specs.declared.goal.Goal.TheVariants.{Bytes, Room}
-use Rattle.blk_items.specs.declared.list_places.Unpinned.{Unpinned}
+use Rattle.blk_evict.specs.declared.list_places.Unpinned.{Unpinned}
 use Rattle.blk_cache.specs.CacheKeeping.{KeepsState}
-use Rattle.blk_items.specs.RoomLaws.{group_for}
-use Rattle.blk_items.specs.ListPlaces.{MayGoAt}
+use Rattle.blk_evict.specs.RoomLaws.{group_for}
+use Rattle.blk_evict.specs.ListPlaces.{MayGoAt}
 
 -- whether a goal is met: so many more bytes and items fit below the low-water mark, or no more bytes are left
 abbrev pub is_met : Goal → State → Bool

@@ -1,3 +1,4 @@
+pub mod DoomingObjects
 pub mod BoundNames
 pub mod CacheKeeping
 pub mod Opening

@@ -13,7 +13,7 @@ use Rattle.law_state.specs.RemovalLaws.{layout_removed}
 use Rattle.blk_disk.specs.Tables.{Agrees}
 use Rattle.blk_cache.specs.declared.cache.Cache.{Cache}
 use Rattle.blk_cache.specs.CacheKeeping.{KeepsState}
-use Rattle.blk_items.specs.RoomLaws.{MayGo, NamedObjectsStay, group_for, item_charge}
+use Rattle.blk_evict.specs.RoomLaws.{MayGo, NamedObjectsStay, group_for, item_charge}
 
 -- a cache has so many items and bytes less; its names, its limits and its mark are as before
 pub record HasFewer (old new : Cache) (item_count charged : ℕ) : Type 0 where

@@ -1,7 +1,7 @@
 // What a cache keeps.
 ghost use Rattle.std.specs.Prelude.{◌≡◌, length};
 ghost use Rattle.blk_cache.specs.BoundNames.{AreBoundAmong};
-ghost use Rattle.blk_items.specs.NameBuffer.{name_buffer_len};
+ghost use Rattle.blk_evict.specs.NameBuffer.{name_buffer_len};
 
 use blk_disk::BlockFiles;
 use blk_handles::Handles;

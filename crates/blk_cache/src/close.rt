@@ -18,9 +18,9 @@ ghost use Rattle.blk_cache.specs.Closing.{CountsClosed};
 ghost use Rattle.blk_cache.specs.CommandClauses.{IsRefused, KeepsAny, OnlyNamesChange};
 
 use crate::cache::Cache;
+use blk_evict::read_charge;
 use blk_handles::{OpenObject, Released};
 use blk_io::{Fault, Folder};
-use blk_items::read_charge;
 use blk_model::{Answer, Refusal};
 use blk_object::end_object;
 

@@ -21,15 +21,15 @@ ghost use Rattle.blk_object.specs.Making.{CanHaveNew};
 ghost use Rattle.blk_cache.specs.CacheKeeping.{KeepsState};
 ghost use Rattle.blk_cache.specs.CommandClauses.{IsRefused, KeepsAny, open_refusal};
 ghost use Rattle.blk_cache.specs.Creating.{CountsOneMore, HasRoomFor, IsNotRefused, IsReadyForSome, IsReadyToCreate, KeepsWithRoom, WantsRoomAlone, create_refusal};
-ghost use Rattle.blk_items.specs.Looking.{IsLookUpDamage};
-ghost use Rattle.blk_items.specs.RoomPrinting.{FailsWhereItRose};
+ghost use Rattle.blk_evict.specs.Looking.{IsLookUpDamage};
+ghost use Rattle.blk_evict.specs.RoomPrinting.{FailsWhereItRose};
 ghost use Rattle.blk_cache.specs.Stepping.{SaysEvicted, SaysPrefix};
 
 use crate::cache::Cache;
 use crate::covered::Covered;
 use blk_addr::Addr;
+use blk_evict::{Live, find_live};
 use blk_io::{Fault, Folder, Sink};
-use blk_items::{Live, find_live};
 use blk_model::{Answer, Refusal};
 use blk_object::make_entry;
 

@@ -16,9 +16,9 @@ ghost use Rattle.blk_cache.specs.CommandClauses.{IsRefused, KeepsAny};
 ghost use Rattle.blk_cache.specs.Dooming.{CountsDoomed, ForEachOpen, doom_refusal};
 
 use crate::cache::Cache;
+use crate::dooming_objects::doom_named;
 use blk_addr::Addr;
 use blk_io::{Fault, Folder};
-use blk_items::doom_named;
 use blk_model::{Answer, Refusal};
 use blk_sparse::Gone;
 

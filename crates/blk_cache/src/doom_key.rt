@@ -20,8 +20,9 @@ ghost use Rattle.blk_cache.specs.CommandClauses.{IsRefused, KeepsAny};
 ghost use Rattle.blk_cache.specs.Dooming.{ForEachKept};
 
 use crate::cache::Cache;
+use crate::dooming_objects::{Target, doom_target, find_target};
+use blk_evict::is_no_key;
 use blk_io::{Fault, Folder};
-use blk_items::{Target, doom_target, find_target, is_no_key};
 use blk_model::{Answer, Refusal};
 
 impl Cache {

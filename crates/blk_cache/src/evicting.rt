@@ -13,13 +13,13 @@ ghost use Rattle.blk_object.specs.RemovingObjects.{FindsEither};
 ghost use Rattle.blk_cache.specs.CacheKeeping.{KeepsState};
 ghost use Rattle.blk_cache.specs.Covering.{ForCovered, KeepsCovered};
 ghost use Rattle.blk_cache.specs.Evicting.{ForEachThatMayGo, IsEvicting, KeepsInPlaces, KeepsThatMayGo, OnlyItemsChange, count_of_groups, is_met};
-ghost use Rattle.blk_items.specs.RoomPrinting.{FailsWhereItRose, PrintsUnlessFailed};
+ghost use Rattle.blk_evict.specs.RoomPrinting.{FailsWhereItRose, PrintsUnlessFailed};
 
 use crate::cache::Cache;
 use crate::covered::Covered;
 use crate::goal::Goal;
+use blk_evict::{Unpinned, evict_group};
 use blk_io::{Fault, Folder, Sink};
-use blk_items::{Unpinned, evict_group};
 
 impl Cache {
     /// Evicts groups, each that of the last item that isn't pinned, until enough is evicted or each item is pinned, and

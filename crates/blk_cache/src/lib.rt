@@ -9,6 +9,7 @@ mod create;
 mod create_laws;
 mod doom;
 mod doom_key;
+mod dooming_objects;
 mod ending;
 mod evicting;
 mod fault;

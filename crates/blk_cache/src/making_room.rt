@@ -17,7 +17,7 @@ ghost use Rattle.blk_cache.specs.CommandClauses.{KeepsAny};
 ghost use Rattle.blk_cache.specs.Covering.{ForCovered, KeepsCovered};
 ghost use Rattle.blk_cache.specs.Evicting.{IsEvicting, OnlyItemsChange};
 ghost use Rattle.blk_cache.specs.MakingRoom.{ForRoom, says_full};
-ghost use Rattle.blk_items.specs.RoomPrinting.{FailsWhereItRose, PrintsUnlessFailed};
+ghost use Rattle.blk_evict.specs.RoomPrinting.{FailsWhereItRose, PrintsUnlessFailed};
 
 use crate::cache::Cache;
 use crate::covered::Covered;

@@ -1,7 +1,7 @@
 // The memory that a session has for names.
 ghost use Rattle.std.specs.Prelude.{◌≡◌, IfOk, length};
 ghost use Rattle.blk_handles.specs.Bindings.{all_free};
-ghost use Rattle.blk_items.specs.NameBuffer.{name_buffer_len};
+ghost use Rattle.blk_evict.specs.NameBuffer.{name_buffer_len};
 
 use blk_addr::NoMemory;
 use blk_entry::LONGEST_NAME;

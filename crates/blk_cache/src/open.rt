@@ -16,9 +16,9 @@ ghost use Rattle.blk_cache.specs.CommandClauses.{IsOpenDamage, IsRefused, KeepsA
 
 use crate::cache::Cache;
 use blk_addr::Addr;
+use blk_evict::{Live, find_live};
 use blk_handles::NAMES;
 use blk_io::{Fault, Folder};
-use blk_items::{Live, find_live};
 use blk_lru::touch;
 use blk_model::{Answer, Refusal};
 use blk_ranges::LONGEST_KEY;

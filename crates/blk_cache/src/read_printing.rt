@@ -5,12 +5,12 @@ ghost use Rattle.spec_image.specs.Told.{Rises, Stays};
 ghost use Rattle.blk_io.specs.Faults.{IfDamaged, IfDevice};
 ghost use Rattle.blk_object.specs.FailedChecks.{IsFailedCheck};
 ghost use Rattle.blk_cache.specs.ReadPrinting.{ForRead, KeepsToRead, can_be_read};
-ghost use Rattle.blk_items.specs.RoomPrinting.{FailsWhereItRose, PrintsUnlessFailed, PrintsInPart};
+ghost use Rattle.blk_evict.specs.RoomPrinting.{FailsWhereItRose, PrintsUnlessFailed, PrintsInPart};
 
 use crate::asking::STREAMS;
 use crate::cache::Cache;
 use blk_io::{Fault, Folder, Sink};
-use blk_items::{StreamRange, print_range};
+use blk_print::{StreamRange, print_range};
 
 impl Cache {
     /// Prints the line of a Read that was used: the number of bytes that there are from `offset` on, which its answer told,

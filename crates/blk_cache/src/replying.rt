@@ -10,7 +10,7 @@ ghost use Rattle.blk_object.specs.FailedChecks.{IsFailedCheck};
 ghost use Rattle.blk_script.specs.Reply.{reply_text};
 ghost use Rattle.blk_cache.specs.CommandClauses.{KeepsAny};
 ghost use Rattle.blk_cache.specs.Listing.{OnlyRoomChanges};
-ghost use Rattle.blk_items.specs.RoomPrinting.{FailsWhereItRose, PrintsUnlessFailed, PrintsInPart};
+ghost use Rattle.blk_evict.specs.RoomPrinting.{FailsWhereItRose, PrintsUnlessFailed, PrintsInPart};
 ghost use Rattle.blk_cache.specs.Replying.{ForBytes, ForReply, ForRows, KeepsAfter};
 
 use crate::cache::Cache;

@@ -11,14 +11,14 @@ ghost use Rattle.blk_object.specs.FailedChecks.{IsFailedCheck};
 ghost use Rattle.blk_object.specs.ListWalks.{WalkEnds};
 ghost use Rattle.blk_cache.specs.CacheKeeping.{KeepsState};
 ghost use Rattle.blk_cache.specs.Covering.{LieCovered, covers};
-ghost use Rattle.blk_items.specs.ListPlaces.{IsLast, IsPinnedFrom};
+ghost use Rattle.blk_evict.specs.ListPlaces.{IsLast, IsPinnedFrom};
 ghost use Rattle.blk_cache.specs.RoomSearch.{KeepsPinnedFrom};
 
 use crate::cache::Cache;
 use crate::covered::Covered;
 use blk_addr::Addr;
+use blk_evict::{Unpinned, in_front};
 use blk_io::{Fault, Folder};
-use blk_items::{Unpinned, in_front};
 use blk_lru::MOST_NODES;
 use blk_object::{end_walk, entry_named};
 use blk_record::NodeView;

@@ -7,12 +7,12 @@ ghost use Rattle.blk_disk.specs.Open.{IsOpen};
 ghost use Rattle.blk_object.specs.FailedChecks.{IsFailedCheck};
 ghost use Rattle.blk_cache.specs.Listing.{OnlyRoomChanges};
 ghost use Rattle.blk_cache.specs.ReadPrinting.{ForPresent, KeepsPresent};
-ghost use Rattle.blk_items.specs.RoomPrinting.{FailsWhereItRose, PrintsUnlessFailed, PrintsInPart};
+ghost use Rattle.blk_evict.specs.RoomPrinting.{FailsWhereItRose, PrintsUnlessFailed, PrintsInPart};
 
 use crate::cache::Cache;
 use crate::sparse_asking::LARGEST_OFFSET;
 use blk_io::{Fault, Folder, Sink};
-use blk_items::{PresentRange, print_present};
+use blk_print::{PresentRange, print_present};
 use blk_ranges::PART_SIZE;
 
 impl Cache {

@@ -17,7 +17,7 @@ ghost use Rattle.blk_cache.specs.CommandClauses.{IsRefused, KeepsAny};
 ghost use Rattle.blk_cache.specs.Listing.{OnlyRoomChanges};
 ghost use Rattle.blk_cache.specs.SparseAsking.{early_sparse_refusal};
 ghost use Rattle.blk_cache.specs.SparseTargets.{AsksToStore, HasRoomToStore, NamesTarget};
-ghost use Rattle.blk_items.specs.RoomPrinting.{FailsWhereItRose};
+ghost use Rattle.blk_evict.specs.RoomPrinting.{FailsWhereItRose};
 ghost use Rattle.blk_cache.specs.Stepping.{SaysEvicted, SaysPrefix};
 
 use crate::cache::Cache;

@@ -13,7 +13,7 @@ ghost use Rattle.law_state.specs.Commands.{Does, ForKept, IsNoted, IsStepped, Ma
 ghost use Rattle.blk_object.specs.FailedChecks.{IsFailedCheck};
 ghost use Rattle.blk_cache.specs.CacheKeeping.{KeepsState};
 ghost use Rattle.blk_cache.specs.CommandClauses.{IsRefused, KeepsAny, OnlyNotesChange};
-ghost use Rattle.blk_items.specs.RoomPrinting.{FailsWhereItRose};
+ghost use Rattle.blk_evict.specs.RoomPrinting.{FailsWhereItRose};
 ghost use Rattle.blk_cache.specs.Stepping.{IfDone, IfSink, IfStepDamaged, IfStepDevice, SaysEvicted, SaysPrefix, evicted_first, outcome_text};
 
 use crate::cache::Cache;

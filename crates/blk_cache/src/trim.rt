@@ -9,7 +9,7 @@ ghost use Rattle.law_state.specs.Commands.{Does, MayStopAtEach};
 ghost use Rattle.blk_object.specs.FailedChecks.{IsFailedCheck};
 ghost use Rattle.blk_cache.specs.CacheKeeping.{KeepsState};
 ghost use Rattle.blk_cache.specs.CommandClauses.{IsRefused, KeepsAny};
-ghost use Rattle.blk_items.specs.RoomPrinting.{FailsWhereItRose};
+ghost use Rattle.blk_evict.specs.RoomPrinting.{FailsWhereItRose};
 ghost use Rattle.blk_cache.specs.Stepping.{SaysEvicted, SaysPrefix};
 
 use crate::cache::Cache;

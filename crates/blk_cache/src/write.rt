@@ -21,7 +21,7 @@ ghost use Rattle.blk_object.specs.FailedChecks.{IsFailedCheck};
 ghost use Rattle.blk_cache.specs.declared.asking.Asked.TheVariants as asked;
 ghost use Rattle.blk_cache.specs.CacheKeeping.{KeepsState};
 ghost use Rattle.blk_cache.specs.CommandClauses.{IsRefused, KeepsAny};
-ghost use Rattle.blk_items.specs.RoomPrinting.{FailsWhereItRose};
+ghost use Rattle.blk_evict.specs.RoomPrinting.{FailsWhereItRose};
 ghost use Rattle.blk_cache.specs.Stepping.{SaysEvicted, SaysPrefix};
 ghost use Rattle.blk_cache.specs.Writing.{CanGetBytes, CountsRise, ForEachToUse, GoesOn, IsAskedToWrite, IsReadyToWrite, IsReadyToWriteSome, IsUsedAndCounted, KeepsToWrite, early_write_refusal};
 

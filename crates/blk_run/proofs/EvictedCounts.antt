@@ -18,9 +18,9 @@ use Rattle.blk_model.proofs.Evicted.{state_without}
 use Rattle.blk_model.proofs.States.{Named, named_object}
 use Rattle.blk_model.proofs.Steps.{none_comes, room_for_is_loose}
 use Rattle.law_state.proofs.CommandEnding.{groups-turn}
-use Rattle.blk_items.specs.RoomLaws.{IsLessByGroup, IsLastUnpinned, group_for}
-use Rattle.blk_items.proofs.RoomCounts.{counted-less}
-use Rattle.blk_items.proofs.RoomGroups.{last-goes, last-next, loose-for, nothing-more, without-none}
+use Rattle.blk_evict.specs.RoomLaws.{IsLessByGroup, IsLastUnpinned, group_for}
+use Rattle.blk_evict.proofs.RoomCounts.{counted-less}
+use Rattle.blk_evict.proofs.RoomGroups.{last-goes, last-next, loose-for, nothing-more, without-none}
 use Rattle.blk_cache.specs.Evicting.{count_of_groups}
 use Rattle.blk_cache.proofs.Creates.{items-after}
 use Rattle.blk_cache.proofs.WriteRoom.{items-same}

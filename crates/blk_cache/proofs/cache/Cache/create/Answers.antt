@@ -15,7 +15,7 @@ use Rattle.blk_cache.specs.Stepping.{SaysEvicted, SaysPrefix}
 use Rattle.blk_cache.proofs.CreateWhole.{front-before, if_ok_weaker, refused-says}
 use Rattle.blk_cache.proofs.Refusing.{says-kept}
 use Rattle.blk_object.proofs.DamageChecks.{handed, moved}
-use Rattle.blk_items.proofs.LookDamages.{look-checked}
+use Rattle.blk_evict.proofs.LookDamages.{look-checked}
 use Rattle.blk_cache.proofs.cache.Cache.create.Goals as goal
 
 -- It isn't known whether it is refused.

@@ -10,7 +10,7 @@ use Rattle.blk_cache.specs.CacheKeeping.{KeepsState}
 use Rattle.blk_cache.specs.Covering.{AreCovered}
 use Rattle.blk_cache.specs.Evicting.{IsEvicting}
 use Rattle.blk_cache.proofs.CoveredParts.{none-covered}
-use Rattle.blk_items.specs.RoomPrinting.{PrintsUnlessFailed}
+use Rattle.blk_evict.specs.RoomPrinting.{PrintsUnlessFailed}
 use Rattle.blk_cache.proofs.CreateWhole.{if_ok_weaker, made-front, made-says, on-ok, only-done, room-groups, room-stops, whole-does, whole-stops, whole-untold}
 use Rattle.blk_cache.proofs.cache.Cache.create_with_room.Goals as goal
 

@@ -6,7 +6,7 @@ use Rattle.blk_disk.specs.Open.{IsOpen}
 use Rattle.blk_disk.specs.Tables.{Agrees}
 use Rattle.blk_handles.specs.Bindings.{is_open}
 use Rattle.law_folder.specs.CommandLaws.{IsPlacedAsLive}
-use Rattle.blk_items.specs.DoomingObjects.{LiesAsTarget}
+use Rattle.blk_cache.specs.DoomingObjects.{LiesAsTarget}
 use Rattle.blk_cache.proofs.Dooms.{doomed-keeps, open-named}
 use Rattle.blk_cache.proofs.cache.Cache.doom_found.Goals as goal
 

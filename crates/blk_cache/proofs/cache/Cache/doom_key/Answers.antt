@@ -9,14 +9,14 @@ use Rattle.blk_model.specs.Request.{to_doom_key}
 use Rattle.blk_model.specs.State.{State}
 use Rattle.blk_model.specs.declared.Refusal.TheVariants as refusal
 use Rattle.law_state.proofs.Stopping.{nothing-stops, refusals-done}
-use Rattle.blk_items.specs.declared.dooming_objects.Target.{Target}
+use Rattle.blk_cache.specs.declared.dooming_objects.Target.{Target}
 use Rattle.blk_cache.specs.CacheKeeping.{KeepsState}
 use Rattle.blk_cache.specs.CommandClauses.{KeepsAny}
-use Rattle.blk_items.specs.DoomingObjects.{IsDoomTarget, IsTargetAt}
+use Rattle.blk_cache.specs.DoomingObjects.{IsDoomTarget, IsTargetAt}
 use Rattle.blk_cache.proofs.DoomSteps.{key-done, key-stops, missing-refused, no-key-refused}
 use Rattle.blk_object.proofs.DamageChecks.{handed, moved}
 use Rattle.blk_cache.proofs.Evictions.{untold-where}
-use Rattle.blk_items.proofs.LookDamages.{look-checked}
+use Rattle.blk_evict.proofs.LookDamages.{look-checked}
 use Rattle.blk_cache.proofs.Refusing.{says-kept}
 use Rattle.blk_cache.proofs.cache.Cache.doom_key.Goals as goal
 

@@ -6,12 +6,12 @@ use Rattle.blk_model.specs.Room.{without}
 use Rattle.blk_disk.specs.declared.tables.BlockFiles.{BlockFiles}
 use Rattle.blk_disk.specs.Tables.{is_node_among}
 use Rattle.blk_lru.proofs.Conditions.{told_now}
-use Rattle.blk_items.specs.declared.list_places.Unpinned.{Unpinned}
+use Rattle.blk_evict.specs.declared.list_places.Unpinned.{Unpinned}
 use Rattle.blk_cache.specs.Evicting.{KeepsThatMayGo, is_met}
-use Rattle.blk_items.specs.ListPlaces.{IsLast}
+use Rattle.blk_evict.specs.ListPlaces.{IsLast}
 use Rattle.blk_cache.specs.RoomSearch.{KeepsPinnedFrom}
 use Rattle.blk_cache.proofs.Evictions.{all-gone, gone-count, gone-kept, gone-prints, next-front, next-out, next-passes, none-yet, ran-out, so-far-front, so-far-passes, untold-on}
-use Rattle.blk_items.proofs.RoomTexts.{faults-on, same-fails}
+use Rattle.blk_evict.proofs.RoomTexts.{faults-on, same-fails}
 use Rattle.blk_cache.proofs.cache.Cache.evict_groups.Goals as goal
 
 pub loop-init : goal.loop-init

@@ -8,7 +8,7 @@ use Rattle.blk_disk.specs.Tables.{is_node_among}
 use Rattle.blk_cache.specs.CacheKeeping.{KeepsState}
 use Rattle.blk_cache.specs.Covering.{AreCovered}
 use Rattle.blk_cache.specs.Evicting.{OnlyItemsChange, is_met}
-use Rattle.blk_items.specs.RoomPrinting.{FailsWhereItRose}
+use Rattle.blk_evict.specs.RoomPrinting.{FailsWhereItRose}
 use Rattle.blk_cache.proofs.Evictions.{HasEvicted}
 use Rattle.blk_cache.proofs.cache.Cache.evict_groups.Given as goal
 

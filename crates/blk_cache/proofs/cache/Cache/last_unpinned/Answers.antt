@@ -17,7 +17,7 @@ use Rattle.blk_object.specs.ListWalks.{GoesTo}
 use Rattle.blk_object.proofs.DamageChecks.{handed}
 use Rattle.blk_object.proofs.ListWalks.{node-passed, nodes-kinds, none-passed, walk-ends, walk-over, walk-too-long}
 use Rattle.blk_object.proofs.MakingMade.{among-names}
-use Rattle.blk_items.specs.ListPlaces.{IsPlaceInList}
+use Rattle.blk_evict.specs.ListPlaces.{IsPlaceInList}
 use Rattle.blk_cache.specs.Covering.{covers}
 use Rattle.blk_cache.proofs.Ends.{kept-open}
 use Rattle.blk_cache.proofs.RoomLast.{front-is, last-found, met-few, more-so-far, node-loads, none-left, none-so-far}

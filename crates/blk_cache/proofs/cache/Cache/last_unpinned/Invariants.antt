@@ -8,7 +8,7 @@ use Rattle.blk_record.specs.declared.node.TheConstants.NodeView as NodeView
 use Rattle.blk_object.specs.ListWalks.{HasPassedNodes}
 use Rattle.blk_cache.specs.CacheKeeping.{KeepsState}
 use Rattle.blk_cache.specs.Covering.{LieCovered}
-use Rattle.blk_items.specs.ListPlaces.{IsPinnedFrom}
+use Rattle.blk_evict.specs.ListPlaces.{IsPinnedFrom}
 use Rattle.blk_cache.proofs.RoomLast.{IsPinnedSoFar}
 use Rattle.blk_cache.proofs.cache.Cache.last_unpinned.Given as goal
 

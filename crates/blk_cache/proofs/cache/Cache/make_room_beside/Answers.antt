@@ -10,7 +10,7 @@ use Rattle.blk_model.specs.Room.{Group, fits, room, without}
 use Rattle.blk_script.specs.Reply.{evicted_text}
 use Rattle.blk_cache.specs.CacheKeeping.{KeepsState}
 use Rattle.blk_cache.specs.Evicting.{IsEvicting}
-use Rattle.blk_items.specs.RoomPrinting.{PrintsUnlessFailed}
+use Rattle.blk_evict.specs.RoomPrinting.{PrintsUnlessFailed}
 use Rattle.blk_cache.proofs.RoomMade.{full-none, none-goes, none-kept, none-printed-of, none-stops, wanted-goes}
 use Rattle.blk_cache.proofs.cache.Cache.make_room_beside.Goals as goal
 

@@ -8,14 +8,14 @@ use Rattle.blk_disk.specs.declared.tables.BlockFiles.{BlockFiles}
 use Rattle.blk_disk.specs.Open.{IsOpen}
 use Rattle.blk_lru.specs.Damages.{IsTouchDamage}
 use Rattle.law_state.proofs.Stopping.{nothing-stops, refusals-done}
-use Rattle.blk_items.specs.declared.looking.Live.{Live}
+use Rattle.blk_evict.specs.declared.looking.Live.{Live}
 use Rattle.blk_cache.specs.CacheKeeping.{KeepsState}
 use Rattle.blk_cache.specs.CommandClauses.{IsOpenDamage}
-use Rattle.blk_items.specs.Looking.{IsLive}
+use Rattle.blk_evict.specs.Looking.{IsLive}
 use Rattle.blk_cache.proofs.OpenSteps.{IsFoundIn, mid-listed, opened-does, opened-stops}
 use Rattle.blk_cache.proofs.Refusing.{refused-early, refused-missing, says-kept}
 use Rattle.blk_object.proofs.DamageChecks.{handed, moved, touch-checked}
-use Rattle.blk_items.proofs.LookDamages.{look-checked}
+use Rattle.blk_evict.proofs.LookDamages.{look-checked}
 use Rattle.blk_cache.proofs.cache.Cache.open.Goals as goal
 
 -- Refused by the names and the key.

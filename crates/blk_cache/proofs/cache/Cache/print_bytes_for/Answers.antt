@@ -3,10 +3,10 @@ use Rattle.std.specs.Prelude.{OnOk}
 use Rattle.std.proofs.lemmas.Result.{on_ok_weaker}
 use Rattle.blk_model.specs.Request.{request_of}
 use Rattle.blk_model.specs.declared.Command.{Command}
-use Rattle.blk_items.specs.RoomPrinting.{PrintsUnlessFailed, PrintsInPart}
+use Rattle.blk_evict.specs.RoomPrinting.{PrintsUnlessFailed, PrintsInPart}
 use Rattle.blk_cache.specs.Replying.{ForBytes, IsStateAfter}
 use Rattle.blk_model.specs.declared.Answer.TheVariants as answer
-use Rattle.blk_items.proofs.RoomTexts.{none-printed, part-none}
+use Rattle.blk_evict.proofs.RoomTexts.{none-printed, part-none}
 use Rattle.blk_cache.proofs.Replies.{no-bytes, read-bytes, to-read}
 use Rattle.blk_cache.proofs.SparseReplies.{present-bytes, to-present}
 use Rattle.blk_cache.proofs.cache.Cache.print_bytes_for.Goals as goal

@@ -1,4 +1,4 @@
-use Rattle.blk_items.proofs.RoomTexts.{faults-on, part-whole}
+use Rattle.blk_evict.proofs.RoomTexts.{faults-on, part-whole}
 use Rattle.blk_cache.proofs.Replies.{part-longer, rows-and-end}
 use Rattle.blk_cache.proofs.cache.Cache.print_list.Goals as goal
 

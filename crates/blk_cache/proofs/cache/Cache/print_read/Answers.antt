@@ -4,9 +4,9 @@ use Rattle.blk_model.specs.Reply.{gave}
 use Rattle.blk_disk.specs.Tables.{is_record_among}
 use Rattle.blk_script.specs.Reply.{reply_text}
 use Rattle.blk_handles.specs.declared.open_object.OpenObject.{OpenObject}
-use Rattle.blk_items.specs.RoomPrinting.{PrintsUnlessFailed, PrintsInPart}
+use Rattle.blk_evict.specs.RoomPrinting.{PrintsUnlessFailed, PrintsInPart}
 use Rattle.blk_cache.proofs.DoomSteps.{bound-object}
-use Rattle.blk_items.proofs.RoomTexts.{part-none}
+use Rattle.blk_evict.proofs.RoomTexts.{part-none}
 use Rattle.blk_cache.proofs.ReadRanges.{it-fits, range-bytes, range-reply}
 use Rattle.blk_cache.proofs.cache.Cache.print_read.Goals as goal
 

@@ -1,6 +1,6 @@
 use Rattle.std.proofs.Common.{[], Option, sym, subst, ◌∙◌}
-use Rattle.blk_items.specs.declared.looking.Live.{Live}
-use Rattle.blk_items.specs.Looking.{IsLive, IsLiveAt}
+use Rattle.blk_evict.specs.declared.looking.Live.{Live}
+use Rattle.blk_evict.specs.Looking.{IsLive, IsLiveAt}
 use Rattle.blk_cache.proofs.CreateRefusing.{create-early, create-exists, create-missing}
 use Rattle.blk_cache.proofs.cache.Cache.refuses_create.Goals as goal
 

@@ -3,7 +3,7 @@ use Rattle.std.proofs.lemmas.Result.{on_ok_weaker}
 use Rattle.blk_model.specs.declared.Answer.{Answer}
 use Rattle.blk_cache.specs.Replying.{IsStateAfter}
 use Rattle.blk_model.specs.Request.{request_of}
-use Rattle.blk_items.specs.RoomPrinting.{PrintsUnlessFailed, PrintsInPart}
+use Rattle.blk_evict.specs.RoomPrinting.{PrintsUnlessFailed, PrintsInPart}
 use Rattle.blk_cache.proofs.Replies.{bytes-reply, rows-reply}
 use Rattle.blk_cache.proofs.cache.Cache.reply.Goals as goal
 

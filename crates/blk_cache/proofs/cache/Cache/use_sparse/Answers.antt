@@ -5,7 +5,7 @@ use Rattle.spec_image.specs.Told.{Told}
 use Rattle.blk_io.proofs.Carried.{carried, if_damaged_weaker}
 use Rattle.blk_model.specs.declared.Refusal.TheVariants as refusal
 use Rattle.blk_disk.specs.Open.{IsOpen}
-use Rattle.blk_items.proofs.PresentRanges.{by-files}
+use Rattle.blk_print.proofs.PresentRanges.{by-files}
 use Rattle.blk_chain.proofs.Heads.{names-parts}
 use Rattle.law_state.proofs.Stopping.{nothing-stops}
 use Rattle.blk_cache.specs.CacheKeeping.{KeepsState}

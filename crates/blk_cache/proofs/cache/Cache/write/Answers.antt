@@ -16,7 +16,7 @@ use Rattle.blk_cache.specs.declared.cache.Cache.{Cache}
 use Rattle.blk_cache.specs.CacheKeeping.{KeepsState}
 use Rattle.blk_cache.specs.Evicting.{IsEvicting}
 use Rattle.blk_cache.specs.MakingRoom.{says_full}
-use Rattle.blk_items.specs.RoomPrinting.{PrintsUnlessFailed}
+use Rattle.blk_evict.specs.RoomPrinting.{PrintsUnlessFailed}
 use Rattle.blk_cache.specs.Writing.{IsAskedToWrite}
 use Rattle.blk_cache.proofs.CreateWhole.{if_ok_weaker, on-ok}
 use Rattle.blk_cache.proofs.Refusing.{says-kept}

@@ -10,7 +10,7 @@ use Rattle.blk_disk.specs.Open.{IsOpen}
 use Rattle.blk_disk.specs.declared.tables.BlockFiles.{BlockFiles}
 use Rattle.law_state.specs.Commands.{Does, MayStopAtEach}
 use Rattle.law_state.proofs.Stopping.{nothing-stops}
-use Rattle.blk_items.proofs.PresentRanges.{by-files}
+use Rattle.blk_print.proofs.PresentRanges.{by-files}
 use Rattle.blk_cache.specs.CacheKeeping.{KeepsState}
 use Rattle.blk_cache.specs.CommandClauses.{KeepsAny}
 use Rattle.blk_cache.specs.Stepping.{SaysEvicted, SaysPrefix}

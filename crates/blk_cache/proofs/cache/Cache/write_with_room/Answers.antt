@@ -7,7 +7,7 @@ use Rattle.blk_model.specs.Request.{to_sparse_write}
 use Rattle.blk_model.specs.Room.{Group, without}
 use Rattle.blk_model.specs.State.{State}
 use Rattle.blk_script.specs.Reply.{evicted_text}
-use Rattle.blk_items.specs.RoomPrinting.{PrintsUnlessFailed}
+use Rattle.blk_evict.specs.RoomPrinting.{PrintsUnlessFailed}
 use Rattle.blk_cache.specs.CacheKeeping.{KeepsState}
 use Rattle.blk_cache.specs.Evicting.{IsEvicting}
 use Rattle.blk_cache.specs.Listing.{OnlyRoomChanges}

@@ -1,0 +1,89 @@
+-- Objects are doomed in a folder: what lies there, and what is left.
+use Rattle.std.specs.Prelude.{◌≡◌, ℕ, ◌+◌, List, [], Bool, false, true}
+use Rattle.std.specs.declared.option.Option.{Option}
+use Rattle.std.specs.declared.option.Option.TheVariants.{None, Some}
+use Rattle.spec_image.specs.Image.{Image}
+use Rattle.blk_model.specs.Effects.{doomed}
+use Rattle.blk_model.specs.Items.{main}
+use Rattle.blk_model.specs.Room.{items, total}
+use Rattle.blk_model.specs.State.{Object, State, is_named, live_with, object_at}
+use Rattle.law_folder.specs.CommandLaws.{IsPlacedAsLive}
+use Rattle.spec_folder.specs.Found.{charge_of}
+use Rattle.spec_folder.specs.Layout.{Layout}
+use Rattle.spec_folder.specs.Loads.{Loaded}
+use Rattle.law_state.specs.Changes.{SameSession}
+use Rattle.law_state.specs.Keeping.{Keeps}
+use Rattle.blk_object.specs.RemovingFound.{LiesAsFound}
+use Rattle.blk_object.specs.Writing.{node_of_object}
+use Rattle.blk_sparse.specs.declared.dropping.Gone.{Gone}
+use Rattle.blk_cache.specs.declared.dooming_objects.Target.{Target}
+use Rattle.blk_evict.specs.declared.item_names.EntryKind.{EntryKind}
+use Rattle.blk_evict.specs.declared.item_names.EntryKind.TheVariants.{Parent, Part, Plain}
+use Rattle.blk_evict.specs.EvictingGroups.{kind_of_role}
+
+-- What lies there.
+
+-- whether an entry of a kind has an index of parts
+abbrev pub has_index : EntryKind → Bool
+has_index Parent = true
+has_index Plain = false
+has_index Part = false
+
+-- a live object, which a handle names or none does, lies as a target: at its node with its record, after the record before that, with an entry of its kind and its charge
+pub record LiesAsTarget (held : Bool) (state : State) (layout : Layout) (number : ℕ) (object : Object) (target : Target) : Type 0 where
+  pub here : object_at state number ≡ Some object
+  pub live : object.live ≡ true
+  pub named : is_named state number ≡ held
+  pub lies : LiesAsFound state layout object.key target.node target.found.entry target.found.before
+  pub kind : kind_of_role lies.was.role ≡ target.kind
+  pub charge : target.charge ≡ charge_of lies.was
+
+-- what holds of each such object of a state that is kept
+abbrev pub ForEachDoomTarget : (held : Bool) → Target → Image → (State → Layout → ℕ → Object → Type 0) → Type 0
+ForEachDoomTarget held target image P = (state : State) (layout : Layout) (number : ℕ) (object : Object) → Keeps state layout [] image → LiesAsTarget held state layout number object target → P state layout number object
+
+-- and of each with this key
+abbrev pub ForEachWithKey : (held : Bool) → List ℕ → Target → Image → (State → Layout → ℕ → Object → Type 0) → Type 0
+ForEachWithKey held key target image P = ForEachDoomTarget held target image (λ state layout number object. object.key ≡ key → P state layout number object)
+
+-- the live object with a key lies as a target
+pub record IsTargetAt (state : State) (layout : Layout) (key : List ℕ) (target : Target) : Type 0 where
+  pub number : ℕ
+  pub is : live_with state key ≡ Some number
+  pub object : Object
+  pub of_key : object.key ≡ key
+  pub lies : LiesAsTarget (is_named state number) state layout number object target
+
+-- what is found for a key: nothing where no live object has it
+abbrev pub IsDoomTarget : State → Layout → List ℕ → Option Target → Type 0
+IsDoomTarget state layout key None = live_with state key ≡ None
+IsDoomTarget state layout key (Some target) = IsTargetAt state layout key target
+
+-- a live object that a handle names lies at this node with this record
+pub record LiesOpen (state : State) (layout : Layout) (number : ℕ) (object : Object) (node entry : ℕ) : Type 0 where
+  pub loaded : Loaded
+  pub lies : IsPlacedAsLive state layout number object loaded
+  pub named : is_named state number ≡ true
+  pub node_is : layout.place (main object.key) ≡ node
+  pub entry_is : loaded.contents ≡ entry
+
+-- what holds of each such object of a state that is kept
+abbrev pub ForEachOpenAt : (node entry : ℕ) → Image → (State → Layout → ℕ → Object → Type 0) → Type 0
+ForEachOpenAt node entry image P = (state : State) (layout : Layout) (number : ℕ) (object : Object) → Keeps state layout [] image → LiesOpen state layout number object node entry → P state layout number object
+
+-- What is left.
+
+-- each object that a handle names lies where it lay, doomed or not
+abbrev pub NamedObjectsLieOn : (state after : State) → (old new : Layout) → Type 0
+NamedObjectsLieOn state after old new =
+    (number : ℕ) (object left : Object) → object_at state number ≡ Some object → is_named state number ≡ true → object_at after number ≡ Some left
+    → (node_of_object new number left ≡ node_of_object old number object) × (new.at (node_of_object old number object) ≡ old.at (node_of_object old number object))
+
+-- an object is doomed: the state with it doomed is kept, in the same session, the objects that handles name lie where they lay, and so much is counted no longer
+pub record IsDoomed (state : State) (layout : Layout) (number : ℕ) (object : Object) (gone : Gone) (from image : Image) : Type 0 where
+  pub left : Layout
+  pub kept : Keeps (doomed number state (Some object)) left [] image
+  pub stay : NamedObjectsLieOn state (doomed number state (Some object)) layout left
+  pub items_less : items state ≡ items (doomed number state (Some object)) + gone.items
+  pub bytes_less : total state ≡ total (doomed number state (Some object)) + gone.bytes
+  pub session : SameSession from image

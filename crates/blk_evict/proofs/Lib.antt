@@ -1,0 +1,10 @@
+pub mod Looks
+pub mod LookDamages
+pub mod RoomGroups
+pub mod RoomTexts
+pub mod RoomNodes
+pub mod RoomCounts
+pub mod RoomApart
+pub mod GroupsOut
+pub mod PartsPrinted
+pub mod WholeGroups

@@ -1,0 +1,70 @@
+-- The live object of a key, as it is found in a folder.
+use Rattle.std.specs.Prelude.{◌≡◌, ◌⊎◌, ℕ, ◌+◌, List, false, slice_index, true}
+use Rattle.std.specs.declared.option.Option.{Option}
+use Rattle.std.specs.declared.option.Option.TheVariants.{None, Some}
+use Rattle.spec_image.specs.Image.{Image}
+use Rattle.spec_image.specs.Told.{Told}
+use Rattle.spec_format.specs.Address.{file_selector, place}
+use Rattle.blk_io.specs.declared.folder.FileId.TheVariants as names
+use Rattle.blk_io.specs.declared.fault.Damage.{Damage}
+use Rattle.blk_model.specs.Items.{main}
+use Rattle.blk_model.specs.Room.{own_charge}
+use Rattle.blk_model.specs.State.{Object, State, live_with, object_at}
+use Rattle.spec_folder.specs.Layout.{Layout}
+use Rattle.spec_folder.specs.Loads.{Loaded}
+use Rattle.spec_folder.specs.View.{entry_at}
+use Rattle.blk_disk.specs.declared.tables.BlockFiles.{BlockFiles}
+use Rattle.blk_disk.specs.Damages.{IsNodeWordDamage}
+use Rattle.blk_disk.specs.Tables.{is_record_among}
+use Rattle.blk_entry.specs.Keys.{IsHeadDamage, node_place}
+use Rattle.blk_chain.specs.Finding.{IsSearchDamage}
+use Rattle.law_state.specs.Keeping.{KeepsUncounted}
+use Rattle.blk_evict.specs.declared.looking.Live.{Live}
+
+-- Charges.
+
+-- the bytes of the key and of the three streams, as the words of the record say that a word names
+abbrev pub charge_at : Image → ℕ → ℕ
+charge_at image entry = (entry_at image entry).key_len + slice_index (entry_at image entry).data_size 0 + slice_index (entry_at image entry).data_size 1 + slice_index (entry_at image entry).data_size 2
+
+-- What is found.
+
+-- the record and the node of the live object with a key, and what the object is charged
+pub record IsLiveAt (state : State) (layout : Layout) (key : List ℕ) (live : Live) : Type 0 where
+  pub number : ℕ
+  pub is : live_with state key ≡ Some number
+  pub object : Object
+  pub here : object_at state number ≡ Some object
+  pub node : live.node ≡ layout.place (main key)
+  pub loaded : Loaded
+  pub at : layout.at live.node ≡ Some loaded
+  pub entry : live.entry ≡ loaded.contents
+  pub charge : live.charge ≡ own_charge object
+
+-- what is found for a key: nothing where no live object has it
+abbrev pub IsLive : State → Layout → List ℕ → Option Live → Type 0
+IsLive state layout key None = live_with state key ≡ None
+IsLive state layout key (Some live) = IsLiveAt state layout key live
+
+-- an image keeps some state, by some layout with some words unlinked
+pub record KeepsSomeState (image : Image) : Type 0 where
+  pub state : State
+  pub layout : Layout
+  pub unlinked : List ℕ
+  pub kept : KeepsUncounted state layout unlinked image
+
+-- Failed checks.
+
+-- a record fails its check or has too few bytes, or the word of its node names none
+abbrev pub IsEntryDamage : BlockFiles → Told → ℕ → Damage → Type 0
+IsEntryDamage files told entry damage = IsHeadDamage told entry damage ⊎ IsNodeWordDamage files told (names.Block (file_selector entry)) (place entry + node_place) damage
+
+-- a record that was found and is valid is so
+pub record IsWrongEntry (files : BlockFiles) (told : Told) (damage : Damage) : Type 0 where
+  pub entry : ℕ
+  pub stands : is_record_among files entry ≡ true
+  pub wrong : IsEntryDamage files told entry damage
+
+-- the failed checks of the search for a live object
+abbrev pub IsLookUpDamage : BlockFiles → Told → List ℕ → Damage → Type 0
+IsLookUpDamage files told key damage = IsSearchDamage files told key false damage ⊎ IsWrongEntry files told damage

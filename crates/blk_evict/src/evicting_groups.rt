@@ -1,0 +1,314 @@
+// A group goes out of a folder, and is printed.
+ghost use Rattle.std.specs.Prelude.{◌≡◌, ◌≤◌, ◌<◌, ◌^◌, ◌+◌, [], ◌∷◌, All, IfOk, IfSome, IsTrue, None, OnOk, length, true};
+ghost use Rattle.std.specs.Option.{ForSome};
+ghost use Rattle.spec_image.specs.Told.{Passes, Rises, Stays};
+ghost use Rattle.blk_io.specs.Faults.{IfDamaged, IfDevice};
+ghost use Rattle.blk_io.specs.Streams.{Appends};
+ghost use Rattle.blk_model.specs.Effects.{doomed};
+ghost use Rattle.blk_model.specs.Refusals.{no_key};
+ghost use Rattle.blk_model.specs.Room.{parts_among, without};
+ghost use Rattle.blk_model.specs.Sizes.{longest_key};
+ghost use Rattle.blk_script.specs.Reply.{evicted_text};
+ghost use Rattle.spec_format.specs.Address.{blocks_256, kind_of};
+ghost use Rattle.spec_format.specs.Names.{IsName, longest_name};
+ghost use Rattle.blk_ranges.specs.ChildNames.{name_within};
+ghost use Rattle.blk_disk.specs.Open.{IsOpen};
+ghost use Rattle.blk_disk.specs.Tables.{is_node_among, is_record_among, stands_among};
+ghost use Rattle.law_state.specs.Changes.{SameSession};
+ghost use Rattle.blk_object.specs.FailedChecks.{IsFailedCheck};
+ghost use Rattle.blk_object.specs.Freeing.{IsPlaceAmong};
+ghost use Rattle.blk_object.specs.Removing.{LiesBehind};
+ghost use Rattle.blk_object.specs.RemovingObjects.{FindsEither, IsOwnedBy};
+ghost use Rattle.blk_evict.specs.EvictingGroups.{ForEachGoing, ForEachListed, ForEachOfKind, IsGroupOut, IsItemName, alone_kind, text_of_parts};
+ghost use Rattle.blk_evict.specs.NameBuffer.{name_buffer_len};
+ghost use Rattle.blk_evict.specs.RoomPrinting.{FailsWhereItRose, PrintsUnlessFailed};
+ghost use Rattle.blk_sparse.specs.Parents.{ForEachParent, IsGoneWhole, IsGroupTold};
+
+use crate::item_names::{EntryKind, read_name};
+use crate::list_places::Unpinned;
+use crate::room_printing::{say_evicted, say_evicted_part};
+use blk_addr::Addr;
+use blk_chain::{Found, find};
+use blk_disk::BlockFiles;
+use blk_entry::record_damage;
+use blk_io::{Fault, Folder, Sink};
+use blk_object::{Owned, remove_read};
+use blk_ranges::{ChildName, KEY_OF_NAME, LONGEST_KEY, read_child_name};
+use blk_record::{CHILD, EntryView};
+use blk_sparse::{Gone, remove_parent_with};
+
+/// Evicts the group of an item that isn't pinned, and prints its items: a main item with its parts, or a part alone. How
+/// many items were evicted is given, and what they were charged.
+///
+/// Its key or name is read into `name`. A failed check is one of the reading, a key that is none, or one of the
+/// removal.
+pub fn evict_group<F: Folder, K: Sink>(
+    folder: &mut F,
+    files: &BlockFiles,
+    name: &mut [u8],
+    out: &mut K,
+    failed: &mut bool,
+    found: &Unpinned,
+) -> Result<Gone, Fault>
+    requires buffer { length name.old ≡ name_buffer_len }
+    requires node { IsTrue (is_node_among files.now found.now.node) }
+    requires record_stands { IsTrue (is_record_among files.now found.now.entry) }
+    requires is_open { ForSome (F.told folder.old).files (IsOpen files.now) }
+    ensures out { IfOk result (λ gone. ForSome (F.told folder.old).files (λ from. ForEachGoing found.now from (λ state layout group. ForSome (F.told folder.new).files (IsGroupOut state layout group gone from)))) }
+    ensures prints { OnOk result (ForSome (F.told folder.old).files (λ from. ForEachGoing found.now from (λ state layout group. PrintsUnlessFailed failed.old failed.new (K.written out.old) (K.written out.new) (evicted_text (group ∷ []))))) }
+    ensures stops { ForSome (F.told folder.old).files (λ from. ForEachGoing found.now from (λ state layout group. Passes (F.told folder.old) (F.told folder.new) (FindsEither state (without (group ∷ []) state)))) }
+    ensures front { ForSome (F.told folder.old).files (λ from. ForEachGoing found.now from (λ state layout group. Appends (K.written out.old) (K.written out.new) (evicted_text (group ∷ [])))) }
+    ensures quiet { failed.old ≡ true → (failed.new ≡ true) × (K.written out.new ≡ K.written out.old) }
+    ensures fails { FailsWhereItRose failed.old failed.new (K.faults out.old) (K.faults out.new) }
+    ensures is_open { ForSome (F.told folder.new).files (IsOpen files.now) }
+    ensures damaged { IfDamaged result (IsFailedCheck files.now (F.told folder.new)) }
+    ensures untold { ForSome (F.told folder.old).files (λ from. ForEachGoing found.now from (λ state layout group. IfDamaged result (λ _. (F.told folder.old).files ≡ None))) }
+    ensures silent { (F.told folder.old).files ≡ None → (F.told folder.new).files ≡ None }
+    ensures later { F.faults folder.old ≤ F.faults folder.new }
+    ensures sink_later { K.faults out.old ≤ K.faults out.new }
+    ensures device { IfDevice result (Rises (F.faults folder.old) (F.faults folder.new)) }
+{
+    let named = read_name(folder, files, found.entry, name)?;
+    match named.kind {
+        EntryKind::Plain => {
+            let key = &name[..named.len];
+            evict_plain(folder, files, key, &named.owned, out, failed, found)
+        }
+        EntryKind::Part => {
+            let name = &name[..named.len];
+            evict_part(folder, files, name, &named.owned, out, failed, found)
+        }
+        EntryKind::Parent => {
+            let (key, buffer) = name.split_at_mut(named.len);
+            evict_parent(folder, files, key, &named.owned, buffer, out, failed, found)
+        }
+    }
+}
+
+// Evicts an object without an index, which has no parts.
+fn evict_plain<F: Folder, K: Sink>(
+    folder: &mut F,
+    files: &BlockFiles,
+    key: &[u8],
+    owned: &Owned,
+    out: &mut K,
+    failed: &mut bool,
+    found: &Unpinned,
+) -> Result<Gone, Fault>
+    requires node { IsTrue (is_node_among files.now found.now.node) }
+    requires record_stands { IsTrue (is_record_among files.now found.now.entry) }
+    requires places { All (IsPlaceAmong files.now) owned.now.places }
+    requires is_open { ForSome (F.told folder.old).files (IsOpen files.now) }
+    ensures out { IfOk result (λ gone. ForSome (F.told folder.old).files (λ from. IsOwnedBy found.now.entry owned.now from → ForEachOfKind found.now EntryKind.Plain key.now from (λ state layout group. ForSome (F.told folder.new).files (IsGroupOut state layout group gone from)))) }
+    ensures prints { OnOk result (ForSome (F.told folder.old).files (λ from. ForEachOfKind found.now EntryKind.Plain key.now from (λ state layout group. PrintsUnlessFailed failed.old failed.new (K.written out.old) (K.written out.new) (evicted_text (group ∷ []))))) }
+    ensures stops { ForSome (F.told folder.old).files (λ from. IsOwnedBy found.now.entry owned.now from → ForEachOfKind found.now EntryKind.Plain key.now from (λ state layout group. Passes (F.told folder.old) (F.told folder.new) (FindsEither state (without (group ∷ []) state)))) }
+    ensures front { ForSome (F.told folder.old).files (λ from. ForEachOfKind found.now EntryKind.Plain key.now from (λ state layout group. Appends (K.written out.old) (K.written out.new) (evicted_text (group ∷ [])))) }
+    ensures quiet { failed.old ≡ true → (failed.new ≡ true) × (K.written out.new ≡ K.written out.old) }
+    ensures fails { FailsWhereItRose failed.old failed.new (K.faults out.old) (K.faults out.new) }
+    ensures is_open { ForSome (F.told folder.new).files (IsOpen files.now) }
+    ensures damaged { ForSome (F.told folder.old).files (IsItemName found.now.entry key.now) → IfDamaged result (IsFailedCheck files.now (F.told folder.new)) }
+    ensures untold { ForSome (F.told folder.old).files (λ from. IsOwnedBy found.now.entry owned.now from → ForEachOfKind found.now EntryKind.Plain key.now from (λ state layout group. IfDamaged result (λ _. (F.told folder.old).files ≡ None))) }
+    ensures silent { (F.told folder.old).files ≡ None → (F.told folder.new).files ≡ None }
+    ensures later { F.faults folder.old ≤ F.faults folder.new }
+    ensures sink_later { K.faults out.old ≤ K.faults out.new }
+    ensures device { IfDevice result (Rises (F.faults folder.old) (F.faults folder.new)) }
+{
+    say_evicted(out, failed, key);
+    remove_alone(folder, files, key, false, owned, found)
+}
+
+// Evicts a part, without its main item.
+fn evict_part<F: Folder, K: Sink>(
+    folder: &mut F,
+    files: &BlockFiles,
+    name: &[u8],
+    owned: &Owned,
+    out: &mut K,
+    failed: &mut bool,
+    found: &Unpinned,
+) -> Result<Gone, Fault>
+    requires node { IsTrue (is_node_among files.now found.now.node) }
+    requires record_stands { IsTrue (is_record_among files.now found.now.entry) }
+    requires places { All (IsPlaceAmong files.now) owned.now.places }
+    requires is_open { ForSome (F.told folder.old).files (IsOpen files.now) }
+    ensures out { IfOk result (λ gone. ForSome (F.told folder.old).files (λ from. IsOwnedBy found.now.entry owned.now from → ForEachOfKind found.now EntryKind.Part name.now from (λ state layout group. ForSome (F.told folder.new).files (IsGroupOut state layout group gone from)))) }
+    ensures prints { OnOk result (ForSome (F.told folder.old).files (λ from. ForEachOfKind found.now EntryKind.Part name.now from (λ state layout group. PrintsUnlessFailed failed.old failed.new (K.written out.old) (K.written out.new) (evicted_text (group ∷ []))))) }
+    ensures stops { ForSome (F.told folder.old).files (λ from. IsOwnedBy found.now.entry owned.now from → ForEachOfKind found.now EntryKind.Part name.now from (λ state layout group. Passes (F.told folder.old) (F.told folder.new) (FindsEither state (without (group ∷ []) state)))) }
+    ensures front { ForSome (F.told folder.old).files (λ from. ForEachOfKind found.now EntryKind.Part name.now from (λ state layout group. Appends (K.written out.old) (K.written out.new) (evicted_text (group ∷ [])))) }
+    ensures quiet { failed.old ≡ true → (failed.new ≡ true) × (K.written out.new ≡ K.written out.old) }
+    ensures fails { FailsWhereItRose failed.old failed.new (K.faults out.old) (K.faults out.new) }
+    ensures is_open { ForSome (F.told folder.new).files (IsOpen files.now) }
+    ensures damaged { ForSome (F.told folder.old).files (IsItemName found.now.entry name.now) → IfDamaged result (IsFailedCheck files.now (F.told folder.new)) }
+    ensures untold { ForSome (F.told folder.old).files (λ from. IsOwnedBy found.now.entry owned.now from → ForEachOfKind found.now EntryKind.Part name.now from (λ state layout group. IfDamaged result (λ _. (F.told folder.old).files ≡ None))) }
+    ensures silent { (F.told folder.old).files ≡ None → (F.told folder.new).files ≡ None }
+    ensures later { F.faults folder.old ≤ F.faults folder.new }
+    ensures sink_later { K.faults out.old ≤ K.faults out.new }
+    ensures device { IfDevice result (Rises (F.faults folder.old) (F.faults folder.new)) }
+{
+    let Some(child) = read_child_name(name) else {
+        return Err(record_damage(found.entry, EntryView::FLAGS, CHILD));
+    };
+    say_evicted_part(out, failed, parent_key(name, &child), u64::from(child.part));
+    remove_alone(folder, files, name, true, owned, found)
+}
+
+// Evicts an object with an index, by what was read of its record, and then its parts, whose names are made in `buffer`.
+fn evict_parent<F: Folder, K: Sink>(
+    folder: &mut F,
+    files: &BlockFiles,
+    key: &[u8],
+    owned: &Owned,
+    buffer: &mut [u8],
+    out: &mut K,
+    failed: &mut bool,
+    found: &Unpinned,
+) -> Result<Gone, Fault>
+    requires buffer { name_buffer_len ≤ length key.now + length buffer.old }
+    requires few { length key.now ≤ name_buffer_len }
+    requires node { IsTrue (is_node_among files.now found.now.node) }
+    requires record_stands { IsTrue (is_record_among files.now found.now.entry) }
+    requires places { All (IsPlaceAmong files.now) owned.now.places }
+    requires light { owned.now.charge < 2 ^ 34 }
+    requires is_open { ForSome (F.told folder.old).files (IsOpen files.now) }
+    ensures out { IfOk result (λ gone. ForSome (F.told folder.old).files (λ from. IsOwnedBy found.now.entry owned.now from → ForEachOfKind found.now EntryKind.Parent key.now from (λ state layout group. ForSome (F.told folder.new).files (IsGroupOut state layout group gone from)))) }
+    ensures prints { OnOk result (ForSome (F.told folder.old).files (λ from. IsOwnedBy found.now.entry owned.now from → ForEachOfKind found.now EntryKind.Parent key.now from (λ state layout group. PrintsUnlessFailed failed.old failed.new (K.written out.old) (K.written out.new) (evicted_text (group ∷ []))))) }
+    ensures stops { ForSome (F.told folder.old).files (λ from. IsOwnedBy found.now.entry owned.now from → ForEachOfKind found.now EntryKind.Parent key.now from (λ state layout group. Passes (F.told folder.old) (F.told folder.new) (FindsEither state (without (group ∷ []) state)))) }
+    ensures front { ForSome (F.told folder.old).files (λ from. IsOwnedBy found.now.entry owned.now from → ForEachOfKind found.now EntryKind.Parent key.now from (λ state layout group. Appends (K.written out.old) (K.written out.new) (evicted_text (group ∷ [])))) }
+    ensures quiet { failed.old ≡ true → (failed.new ≡ true) × (K.written out.new ≡ K.written out.old) }
+    ensures fails { FailsWhereItRose failed.old failed.new (K.faults out.old) (K.faults out.new) }
+    ensures is_open { ForSome (F.told folder.new).files (IsOpen files.now) }
+    ensures damaged { ForSome (F.told folder.old).files (IsItemName found.now.entry key.now) → IfDamaged result (IsFailedCheck files.now (F.told folder.new)) }
+    ensures untold { ForSome (F.told folder.old).files (λ from. IsOwnedBy found.now.entry owned.now from → ForEachOfKind found.now EntryKind.Parent key.now from (λ state layout group. IfDamaged result (λ _. (F.told folder.old).files ≡ None))) }
+    ensures silent { (F.told folder.old).files ≡ None → (F.told folder.new).files ≡ None }
+    ensures later { F.faults folder.old ≤ F.faults folder.new }
+    ensures sink_later { K.faults out.old ≤ K.faults out.new }
+    ensures device { IfDevice result (Rises (F.faults folder.old) (F.faults folder.new)) }
+{
+    if is_no_key(key) {
+        let len = key.len() as u32;
+        return Err(record_damage(found.entry, EntryView::KEY_LEN, len));
+    }
+    say_evicted(out, failed, key);
+    let at = find_listed(folder, files, key, false, found.entry)?;
+    remove_parent(
+        folder, files, &at, found.node, key, owned, buffer, out, failed,
+    )
+}
+
+/// Whether bytes are no key: none, or too many.
+pub fn is_no_key(key: &[u8]) -> bool
+    ensures { result ≡ no_key key.now }
+{
+    key.is_empty() || key.len() > LONGEST_KEY as usize
+}
+
+// Removes an object with an index, by what was read of its record, and then its parts, and prints each of these.
+fn remove_parent<F: Folder, K: Sink>(
+    folder: &mut F,
+    files: &BlockFiles,
+    at: &Found,
+    node: Addr,
+    key: &[u8],
+    owned: &Owned,
+    buffer: &mut [u8],
+    out: &mut K,
+    failed: &mut bool,
+) -> Result<Gone, Fault>
+    requires node { IsTrue (is_node_among files.now node) }
+    requires kind { kind_of at.now.entry ≡ blocks_256 }
+    requires stands { IsTrue (stands_among files.now at.now.entry) }
+    requires kind_before { IfSome at.now.before (λ before. kind_of before ≡ blocks_256) }
+    requires stands_before { IfSome at.now.before (λ before. IsTrue (stands_among files.now before)) }
+    requires some { 1 ≤ length key.now }
+    requires short { length key.now ≤ longest_key }
+    requires buffer { longest_name ≤ length buffer.old }
+    requires places { All (IsPlaceAmong files.now) owned.now.places }
+    requires light { owned.now.charge < 2 ^ 34 }
+    requires is_open { ForSome (F.told folder.old).files (IsOpen files.now) }
+    ensures removed { OnOk result (ForSome (F.told folder.old).files (λ from. IsOwnedBy at.now.entry owned.now from → ForEachParent key.now node at.now.entry at.now.before from (λ state layout unlinked number object. ForSome (F.told folder.new).files (IsGoneWhole state layout unlinked number object)))) }
+    ensures gone { IfOk result (λ gone. ForSome (F.told folder.old).files (λ from. IsOwnedBy at.now.entry owned.now from → ForEachParent key.now node at.now.entry at.now.before from (λ state layout unlinked number object. IsGroupTold state layout key.now gone))) }
+    ensures session { OnOk result (ForSome (F.told folder.old).files (λ from. IsOwnedBy at.now.entry owned.now from → ForEachParent key.now node at.now.entry at.now.before from (λ state layout unlinked number object. ForSome (F.told folder.new).files (SameSession from)))) }
+    ensures prints { OnOk result (ForSome (F.told folder.old).files (λ from. IsOwnedBy at.now.entry owned.now from → ForEachParent key.now node at.now.entry at.now.before from (λ state layout unlinked number object. PrintsUnlessFailed failed.old failed.new (K.written out.old) (K.written out.new) (text_of_parts key.now (parts_among key.now state.uses))))) }
+    ensures front { ForSome (F.told folder.old).files (λ from. IsOwnedBy at.now.entry owned.now from → ForEachParent key.now node at.now.entry at.now.before from (λ state layout unlinked number object. Appends (K.written out.old) (K.written out.new) (text_of_parts key.now (parts_among key.now state.uses)))) }
+    ensures quiet { failed.old ≡ true → (failed.new ≡ true) × (K.written out.new ≡ K.written out.old) }
+    ensures fails { FailsWhereItRose failed.old failed.new (K.faults out.old) (K.faults out.new) }
+    ensures stops { ForSome (F.told folder.old).files (λ from. IsOwnedBy at.now.entry owned.now from → ForEachParent key.now node at.now.entry at.now.before from (λ state layout unlinked number object. Passes (F.told folder.old) (F.told folder.new) (FindsEither state (doomed number state (Some object))))) }
+    ensures is_open { ForSome (F.told folder.new).files (IsOpen files.now) }
+    ensures damaged { IfDamaged result (IsFailedCheck files.now (F.told folder.new)) }
+    ensures untold { ForSome (F.told folder.old).files (λ from. IsOwnedBy at.now.entry owned.now from → ForEachParent key.now node at.now.entry at.now.before from (λ state layout unlinked number object. IfDamaged result (λ _. (F.told folder.old).files ≡ None))) }
+    ensures silent { (F.told folder.old).files ≡ None → (F.told folder.new).files ≡ None }
+    ensures later { F.faults folder.old ≤ F.faults folder.new }
+    ensures sink_later { K.faults out.old ≤ K.faults out.new }
+    ensures device { IfDevice result (Rises (F.faults folder.old) (F.faults folder.new)) }
+{
+    let mut say = |number: u32| say_evicted_part(out, failed, key, u64::from(number));
+    remove_parent_with(folder, files, at, node, key, owned, buffer, &mut say)
+}
+
+/// The key of the parent in the name of a part.
+pub fn parent_key<'a>(name: &'a [u8], child: &ChildName) -> &'a [u8]
+    requires named { IsName name.now (name_within name.now child.now) }
+    ensures { result.now ≡ (name_within name.now child.now).key }
+{
+    let behind = &name[KEY_OF_NAME..];
+    &behind[..child.key_len]
+}
+
+// Removes an item that goes alone, as an object without an index or a part, by its key or name, and by what was read of
+// its record.
+fn remove_alone<F: Folder>(
+    folder: &mut F,
+    files: &BlockFiles,
+    name: &[u8],
+    is_child: bool,
+    owned: &Owned,
+    found: &Unpinned,
+) -> Result<Gone, Fault>
+    requires node { IsTrue (is_node_among files.now found.now.node) }
+    requires record_stands { IsTrue (is_record_among files.now found.now.entry) }
+    requires places { All (IsPlaceAmong files.now) owned.now.places }
+    requires is_open { ForSome (F.told folder.old).files (IsOpen files.now) }
+    ensures out { IfOk result (λ gone. ForSome (F.told folder.old).files (λ from. IsOwnedBy found.now.entry owned.now from → ForEachOfKind found.now (alone_kind is_child) name.now from (λ state layout group. ForSome (F.told folder.new).files (IsGroupOut state layout group gone from)))) }
+    ensures stops { ForSome (F.told folder.old).files (λ from. IsOwnedBy found.now.entry owned.now from → ForEachOfKind found.now (alone_kind is_child) name.now from (λ state layout group. Passes (F.told folder.old) (F.told folder.new) (FindsEither state (without (group ∷ []) state)))) }
+    ensures is_open { ForSome (F.told folder.new).files (IsOpen files.now) }
+    ensures damaged { ForSome (F.told folder.old).files (IsItemName found.now.entry name.now) → IfDamaged result (IsFailedCheck files.now (F.told folder.new)) }
+    ensures untold { ForSome (F.told folder.old).files (λ from. IsOwnedBy found.now.entry owned.now from → ForEachOfKind found.now (alone_kind is_child) name.now from (λ state layout group. IfDamaged result (λ _. (F.told folder.old).files ≡ None))) }
+    ensures silent { (F.told folder.old).files ≡ None → (F.told folder.new).files ≡ None }
+    ensures later { F.faults folder.old ≤ F.faults folder.new }
+    ensures device { IfDevice result (Rises (F.faults folder.old) (F.faults folder.new)) }
+{
+    let at = find_listed(folder, files, name, is_child, found.entry)?;
+    remove_read(folder, files, &at, found.node, owned)?;
+    Ok(Gone {
+        items: 1,
+        bytes: owned.charge,
+    })
+}
+
+/// Finds the record of a listed item by its key or its name, and the one before it in its chain. Where it isn't found that
+/// is corruption, of the hash of its record.
+pub fn find_listed<F: Folder>(
+    folder: &mut F,
+    files: &BlockFiles,
+    name: &[u8],
+    is_child: bool,
+    entry: Addr,
+) -> Result<Found, Fault>
+    requires record_stands { IsTrue (is_record_among files.now entry) }
+    ensures lies { IfOk result (λ at. ForSome (F.told folder.old).files (λ image. ForEachListed name.now is_child image (λ state layout item was. was.contents ≡ at.entry))) }
+    ensures behind { IfOk result (λ at. ForSome (F.told folder.old).files (λ image. ForEachListed name.now is_child image (λ state layout item was. LiesBehind state layout item was at.before))) }
+    ensures kind { IfOk result (λ at. kind_of at.entry ≡ blocks_256) }
+    ensures stands { IfOk result (λ at. IsTrue (stands_among files.now at.entry)) }
+    ensures kind_before { IfOk result (λ at. IfSome at.before (λ before. kind_of before ≡ blocks_256)) }
+    ensures stands_before { IfOk result (λ at. IfSome at.before (λ before. IsTrue (stands_among files.now before))) }
+    ensures stays { Stays (F.told folder.old) (F.told folder.new) }
+    ensures damaged { ForSome (F.told folder.old).files (IsItemName entry name.now) → IfDamaged result (IsFailedCheck files.now (F.told folder.new)) }
+    ensures untold { ForSome (F.told folder.old).files (IsOpen files.now) → ForSome (F.told folder.old).files (λ image. ForEachListed name.now is_child image (λ state layout item was. IfDamaged result (λ _. (F.told folder.old).files ≡ None))) }
+    ensures later { F.faults folder.old ≤ F.faults folder.new }
+    ensures device { IfDevice result (Rises (F.faults folder.old) (F.faults folder.new)) }
+{
+    match find(folder, files, name, is_child)? {
+        Some(at) => Ok(at),
+        None => Err(record_damage(entry, EntryView::HASH, 0)),
+    }
+}

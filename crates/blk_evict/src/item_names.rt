@@ -1,0 +1,85 @@
+// What an item is, by its record: its kind, and its key or name.
+ghost use Rattle.std.specs.Prelude.{◌≡◌, ◌≤◌, ◌<◌, ◌^◌, All, IfOk, IsTrue, None, length, take};
+ghost use Rattle.std.specs.Option.{ForSome};
+ghost use Rattle.spec_image.specs.Told.{Rises, Stays};
+ghost use Rattle.blk_io.specs.Faults.{IfDamaged, IfDevice};
+ghost use Rattle.spec_folder.specs.Loads.{Loaded};
+ghost use Rattle.blk_disk.specs.Tables.{Agrees, is_record_among};
+ghost use Rattle.blk_entry.specs.Keys.{most_key};
+ghost use Rattle.blk_object.specs.FailedChecks.{IsFailedCheck};
+ghost use Rattle.blk_object.specs.Freeing.{IsPlaceAmong};
+ghost use Rattle.blk_object.specs.Owning.{LoadsWith};
+ghost use Rattle.blk_object.specs.RemovingObjects.{IsOwnedBy};
+ghost use Rattle.blk_evict.specs.EvictingGroups.{IsItemName, IsNamedAs, kind_said};
+
+use blk_addr::Addr;
+use blk_disk::BlockFiles;
+use blk_entry::key_piece;
+use blk_io::{Fault, Folder};
+use blk_object::{Owned, read_owned};
+use blk_record::{CHILD, PARENT};
+
+/// What kind of entry an item is.
+#[derive(Clone, Copy, Debug, PartialEq, Eq)]
+pub enum EntryKind {
+    /// An entry without an index.
+    Plain,
+    /// An entry with an index of parts.
+    Parent,
+    /// A part.
+    Part,
+}
+
+/// What the record of an item says: the kind of its entry, how many bytes its key or name has, and its places with what
+/// it is charged.
+#[derive(Clone, Copy)]
+pub struct Named {
+    pub kind: EntryKind,
+    pub len: usize,
+    pub owned: Owned,
+}
+
+/// Reads what an item is and what it has, and its key or name into the front of `buffer`: three folder calls.
+///
+/// A failed check is one of `read_owned` or `key_piece`.
+pub fn read_name<F: Folder>(
+    folder: &mut F,
+    files: &BlockFiles,
+    entry: Addr,
+    buffer: &mut [u8],
+) -> Result<Named, Fault>
+    requires stands { IsTrue (is_record_among files.now entry) }
+    requires buffer { most_key ≤ length buffer.old }
+    ensures named { IfOk result (λ named. ForSome (F.told folder.old).files (λ image. (loaded : Loaded) → LoadsWith entry loaded image → IsNamedAs loaded named buffer.new)) }
+    ensures read { IfOk result (λ named. ForSome (F.told folder.old).files (IsItemName entry (take named.len buffer.new))) }
+    ensures owned { IfOk result (λ named. ForSome (F.told folder.old).files (IsOwnedBy entry named.owned)) }
+    ensures places { IfOk result (λ named. All (IsPlaceAmong files.now) named.owned.places) }
+    ensures light { IfOk result (λ named. named.owned.charge < 2 ^ 34) }
+    ensures within { IfOk result (λ named. named.len ≤ length buffer.old) }
+    ensures stays { Stays (F.told folder.old) (F.told folder.new) }
+    ensures damaged { IfDamaged result (IsFailedCheck files.now (F.told folder.new)) }
+    ensures untold { ForSome (F.told folder.old).files (Agrees files.now) → ForSome (F.told folder.old).files (λ image. (loaded : Loaded) × LoadsWith entry loaded image) → IfDamaged result (λ _. (F.told folder.old).files ≡ None) }
+    ensures later { F.faults folder.old ≤ F.faults folder.new }
+    ensures device { IfDevice result (Rises (F.faults folder.old) (F.faults folder.new)) }
+{
+    let owned = read_owned(folder, files, entry)?;
+    let len = key_piece(folder, files, entry, 0, buffer)?;
+    Ok(Named {
+        kind: kind_said(owned.flags),
+        len,
+        owned,
+    })
+}
+
+/// What kind of entry the flags of a record say.
+pub fn kind_said(flags: u32) -> EntryKind
+    ensures { result ≡ kind_said flags }
+{
+    if flags == PARENT {
+        EntryKind::Parent
+    } else if flags == CHILD {
+        EntryKind::Part
+    } else {
+        EntryKind::Plain
+    }
+}

@@ -1,0 +1,111 @@
+// The live object of a key, as it is found in the folder.
+ghost use Rattle.std.specs.Prelude.{◌≡◌, ◌≤◌, ◌<◌, ℕ, IfOk, IfSome, IsTrue, List, None, true};
+ghost use Rattle.std.specs.Option.{ForSome};
+ghost use Rattle.spec_image.specs.Told.{Rises, Stays};
+ghost use Rattle.spec_format.specs.Address.{blocks_256, kind_of};
+ghost use Rattle.blk_io.specs.Faults.{IfDamaged, IfDevice};
+ghost use Rattle.blk_model.specs.State.{State};
+ghost use Rattle.spec_folder.specs.Layout.{Layout};
+ghost use Rattle.spec_folder.specs.Loads.{Loaded};
+ghost use Rattle.spec_folder.specs.View.{entry_at};
+ghost use Rattle.blk_disk.specs.Open.{IsOpen};
+ghost use Rattle.blk_disk.specs.Tables.{Agrees, is_node_among, is_record_among, stands_among};
+ghost use Rattle.blk_entry.specs.Keys.{IsHeadDamage};
+ghost use Rattle.law_state.specs.Keeping.{KeepsUncounted};
+ghost use Rattle.blk_object.specs.Owning.{LoadsWith};
+ghost use Rattle.blk_evict.specs.EvictingGroups.{kind_said};
+ghost use Rattle.blk_evict.specs.Looking.{IsEntryDamage, IsLive, IsLookUpDamage, KeepsSomeState, charge_at};
+
+use crate::item_names::{EntryKind, kind_said};
+use blk_addr::Addr;
+use blk_chain::find;
+use blk_disk::BlockFiles;
+use blk_entry::{read_head, record_damage};
+use blk_io::{Fault, Folder};
+use blk_object::charge_of_head;
+use blk_record::EntryView;
+
+/// The record and the node of a live object, and what it is charged as a main item.
+#[derive(Clone, Copy, Debug)]
+pub struct Live {
+    pub entry: Addr,
+    pub node: Addr,
+    pub charge: u64,
+}
+
+/// What the record of an object says: its node, what kind of entry it has, and what it is charged as a main item.
+#[derive(Clone, Copy)]
+pub struct Said {
+    pub node: Addr,
+    pub kind: EntryKind,
+    pub charge: u64,
+}
+
+/// Finds the live object with a key, by one folder call more than `find`. Nothing is written.
+///
+/// A failed check is one of `find`, or of the record that is found.
+pub fn find_live<F: Folder>(
+    folder: &mut F,
+    files: &BlockFiles,
+    key: &[u8],
+) -> Result<Option<Live>, Fault>
+    ensures live { IfOk result (λ answer. ForSome (F.told folder.old).files (λ image. (state : State) (layout : Layout) (unlinked : List ℕ) → KeepsUncounted state layout unlinked image → IsLive state layout key.now answer)) }
+    ensures names { IfOk result (λ answer. IfSome answer (λ live. IsTrue (is_record_among files.now live.entry))) }
+    ensures stands { IfOk result (λ answer. IfSome answer (λ live. IsTrue (is_node_among files.now live.node))) }
+    ensures stays { Stays (F.told folder.old) (F.told folder.new) }
+    ensures damaged { IfDamaged result (IsLookUpDamage files.now (F.told folder.old) key.now) }
+    ensures untold { ForSome (F.told folder.old).files (IsOpen files.now) → ForSome (F.told folder.old).files KeepsSomeState → IfDamaged result (λ _. (F.told folder.old).files ≡ None) }
+    ensures later { F.faults folder.old ≤ F.faults folder.new }
+    ensures device { IfDevice result (Rises (F.faults folder.old) (F.faults folder.new)) }
+{
+    let Some(found) = find(folder, files, key, false)? else {
+        return Ok(None);
+    };
+    let said = read_said(folder, files, found.entry)?;
+    Ok(Some(Live {
+        entry: found.entry,
+        node: said.node,
+        charge: said.charge,
+    }))
+}
+
+/// Reads what the record of an object says, by one folder call.
+pub fn read_said<F: Folder>(folder: &mut F, files: &BlockFiles, entry: Addr) -> Result<Said, Fault>
+    requires kind { kind_of entry ≡ blocks_256 }
+    requires stands { IsTrue (stands_among files.now entry) }
+    ensures node { IfOk result (λ said. ForSome (F.told folder.old).files (λ image. said.node ≡ (entry_at image entry).rankings_node)) }
+    ensures kind { IfOk result (λ said. ForSome (F.told folder.old).files (λ image. said.kind ≡ kind_said (entry_at image entry).flags)) }
+    ensures charge { IfOk result (λ said. ForSome (F.told folder.old).files (λ image. said.charge ≡ charge_at image entry)) }
+    ensures stands { IfOk result (λ said. IsTrue (is_node_among files.now said.node)) }
+    ensures stays { Stays (F.told folder.old) (F.told folder.new) }
+    ensures damaged { IfDamaged result (IsEntryDamage files.now (F.told folder.old) entry) }
+    ensures untold { ForSome (F.told folder.old).files (Agrees files.now) → ForSome (F.told folder.old).files (λ image. (loaded : Loaded) × LoadsWith entry loaded image) → ForSome (F.told folder.old).files (λ image. is_node_among files.now (entry_at image entry).rankings_node ≡ true) → IfDamaged result (λ _. (F.told folder.old).files ≡ None) }
+    ensures later { F.faults folder.old ≤ F.faults folder.new }
+    ensures device { IfDevice result (Rises (F.faults folder.old) (F.faults folder.new)) }
+{
+    let head = read_head(folder, files, entry)?;
+    let Some(node) = files.node(head.node) else {
+        return Err(record_damage(entry, EntryView::NODE, head.node));
+    };
+    Ok(Said {
+        node,
+        kind: kind_said(head.flags),
+        charge: charge_of_head(&head),
+    })
+}
+
+/// Reads what the object of a record is charged as a main item, by one folder call.
+///
+/// A failed check is one of `read_head`.
+pub fn read_charge<F: Folder>(folder: &mut F, files: &BlockFiles, entry: Addr) -> Result<u64, Fault>
+    requires names { IsTrue (is_record_among files.now entry) }
+    ensures charge { IfOk result (λ charge. ForSome (F.told folder.old).files (λ image. charge ≡ charge_at image entry)) }
+    ensures stays { Stays (F.told folder.old) (F.told folder.new) }
+    ensures damaged { IfDamaged result (IsHeadDamage (F.told folder.old) entry) }
+    ensures untold { ForSome (F.told folder.old).files (Agrees files.now) → ForSome (F.told folder.old).files (λ image. (loaded : Loaded) × LoadsWith entry loaded image) → IfDamaged result (λ _. (F.told folder.old).files ≡ None) }
+    ensures later { F.faults folder.old ≤ F.faults folder.new }
+    ensures device { IfDevice result (Rises (F.faults folder.old) (F.faults folder.new)) }
+{
+    let head = read_head(folder, files, entry)?;
+    Ok(charge_of_head(&head))
+}

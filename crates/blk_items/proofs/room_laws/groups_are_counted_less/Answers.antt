@@ -1,5 +1,0 @@
-use Rattle.blk_items.proofs.RoomCounts.{counted-less}
-use Rattle.blk_items.proofs.room_laws.groups_are_counted_less.Goals as goal
-
-pub returns : goal.returns
-returns c = counted-less

@@ -1,5 +1,0 @@
-use Rattle.blk_items.proofs.RoomTexts.{faults-on, none-printed, printed-on}
-use Rattle.blk_items.proofs.room_laws.prints_go_on.Goals as goal
-
-pub returns : goal.returns
-returns c = record { nothing = none-printed; on = printed-on; faults = faults-on }

@@ -1,0 +1,4 @@
+pub mod ListedRecords
+pub mod ListedLines
+pub mod PrintedRanges
+pub mod PresentRanges

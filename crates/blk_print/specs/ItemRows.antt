@@ -1,0 +1,37 @@
+-- The rows of a List, as they are printed.
+use Rattle.std.specs.Prelude.{◌≡◌, ◌<◌, ℕ, List, [], length, slice_index}
+use Rattle.std.specs.List.{filter_map, flat_map}
+use Rattle.std.specs.declared.option.Option.TheVariants.{Some}
+use Rattle.spec_image.specs.Image.{Image}
+use Rattle.blk_model.specs.Holding.{row_of}
+use Rattle.blk_model.specs.Items.{Item}
+use Rattle.blk_model.specs.State.{State}
+use Rattle.spec_format.specs.Names.{Name, read_name}
+use Rattle.spec_format.specs.SparseIndex.{PartIndex}
+use Rattle.spec_folder.specs.Entries.{IsPart, stream}
+use Rattle.spec_folder.specs.Layout.{Layout}
+use Rattle.spec_folder.specs.Loads.{Loaded}
+use Rattle.blk_disk.specs.declared.tables.BlockFiles.{BlockFiles}
+use Rattle.blk_disk.specs.Open.{IsOpen}
+use Rattle.blk_entry.specs.declared.keys.Head.{Head}
+use Rattle.law_state.specs.Keeping.{Keeps}
+use Rattle.blk_script.specs.Reply.{row_line}
+use Rattle.blk_evict.specs.EvictingGroups.{kind_of_role, kind_said}
+
+-- the lines of the rows of some items of a state
+abbrev pub lines_of : State → List Item → List ℕ
+lines_of state items = flat_map row_line (filter_map (row_of state) items)
+
+-- an image has a state by a layout with no word unlinked, and may be read by these block files
+pub record HasKeptState (files : BlockFiles) (image : Image) : Type 0 where
+  pub state : State
+  pub layout : Layout
+  pub kept : Keeps state layout [] image
+  pub is_open : IsOpen files image
+
+-- the words of a record and its key or name tell what lies there: its kind, its key, the lengths of its streams, and of a part its name
+pub record IsItemToldBy (loaded : Loaded) (name : List ℕ) (head : Head) : Type 0 where
+  pub kind : kind_said head.flags ≡ kind_of_role loaded.role
+  pub key : name ≡ loaded.key
+  pub sizes : (i : ℕ) → i < 3 → slice_index head.sizes i ≡ length (stream i loaded.streams)
+  pub named : (said : Name) (index : PartIndex) → loaded.role ≡ IsPart said index → read_name loaded.key ≡ Some said

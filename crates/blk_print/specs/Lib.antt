@@ -1,0 +1,3 @@
+pub mod ItemRows
+pub mod RangePrinting
+pub mod PresentPrinting
