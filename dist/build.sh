@@ -3,7 +3,7 @@
 # that is proved, for later builds and for the gate.
 
 # How many bytes of the crates' folders one processor proves in a second: by it a first build is judged.
-bytes_a_second=2200
+bytes_a_second=4500
 
 # Lists the crates that the program stands on, each after those that it stands on, and last the program.
 declare -A below=() line_of=() seen=()
