@@ -344,8 +344,8 @@ refusals_of_model() {
     done <"$1"
 }
 
-# Prints the numbers in the text of an item of the manual page, or in what follows the last item where the item is -: SECTION ITEM MANUAL.
-# Three of them are spelled out.
+# Prints the numbers in the text of an item of the manual page, in what comes before the first item where none is given, or in what follows the
+# last one where it is -: SECTION ITEM MANUAL. Three of them are spelled out.
 numbers_of_manual() {
     local line section= item= it head numbers=
     local -A spelled=([three]=3 [eighth]=8 [sixteenth]=16)
@@ -396,6 +396,9 @@ wrong_limits() {
         got=$(numbers_of_manual "$section" "$item" "$manual")
         [ "${wanted# }" = "$got" ] || echo "$section, $item: $got on the page, ${wanted# } in the sources"
     done <<'END_OF_LIMITS'
+DESCRIPTION::1 longest_key stream_count 0 1 last_stream 1 last_stream gibibytes 0700
+SESSION SCRIPTS::handle_names
+SESSION SCRIPTS:-:part_size 0 part_block_size
 OPTIONS:--max N:1 most_bytes bytes mebibytes
 OPTIONS:--items N:1 most_items items
 Refusals:1 BadHandle:handle_names
