@@ -90,7 +90,7 @@ class Floor:
         self.steps.append(Step("length", 0, rule) if size is None else Step("file length", size, rule))
 
     def sealed(self, rule, runs, is_joined=False):
-        """A sealed update: the seal 0, runs of words, and the seal, which may lie behind the last of them."""
+        """A sealed update: the seal 0, runs of words, and the seal, which may lie after the last of them."""
         self.word(rule)
         for run in runs[:-1]:
             self.word(rule, run)

@@ -315,7 +315,7 @@ class Bench:
             print(f"| {name} | {goal} | {most} | {measured:.2f} | {'yes' if measured <= most else 'no'} |")
 
     def print_kinds(self):
-        """The system calls of the program by their kinds, and behind the folder's those that the floor has."""
+        """The system calls of the program by their kinds, and after the folder's those that the floor has."""
         print("\nThe system calls of the program by their kinds, and in brackets those that the floor has:\n")
         print("| Workload | " + " | ".join(KINDS) + " | other |\n|---" + "|---" * (len(KINDS) + 1) + "|")
         for name, calls, asked in self.kinds:
@@ -326,14 +326,14 @@ class Bench:
                 counts.update({kind: f"{counts[kind]} ({of})" for kind, of in zip(KINDS, floors)})
             print(f"| {name} | " + " | ".join(map(str, counts.values())) + f" | {other} |")
 
-    # What stands beside.
+    # What is measured beside.
 
     def print_starts(self):
         """What a start takes that isn't in the seconds of the peers and the floor, and what one of the program does, which is in its own."""
         print("\n| Start of a process | Seconds | System calls |\n|---|---|---|")
         work = workloads.Workload(None, None)
         for label, words in (
-            ("blkcache without words", [self.program]),
+            ("blkcache without arguments", [self.program]),
             ("blkcache, a session without lines on a folder that was made", [self.program, f"{self.room}/folder", "session"]),
             ("python3 of the peers", self.words_of("none", self.folder_for("none"), work)),
         ):

@@ -75,7 +75,7 @@ def sparse(out, part):
     out.write("close 0\n")
 
 
-# What is made before, what is measured, the limit in bytes, which a smaller part lowers where it is to be met, and the program's last word.
+# What is made before, what is measured, the limit in bytes, which a smaller part lowers where it is to be met, and the program's last argument.
 Workload = namedtuple("Workload", "before work limit word", defaults=(DEFAULT_BYTES, "session"))
 
 WORKLOADS = {

@@ -1,4 +1,4 @@
-# The words of blkcache, for bash; install puts it into PREFIX/share/bash-completion/completions.
+# The arguments of blkcache, for bash; install puts it into PREFIX/share/bash-completion/completions.
 _blkcache() {
     local word=${COMP_WORDS[COMP_CWORD]} before=${COMP_WORDS[COMP_CWORD - 1]} words=
     case $COMP_CWORD:${COMP_WORDS[1]} in

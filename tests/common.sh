@@ -84,7 +84,7 @@ both() {
     times "$1"
 }
 
-# Runs the program on words. Leaves its status, and what it printed and complained.
+# Runs the program with arguments. Leaves its status, and what it printed and complained.
 count_in() {
     run "$1" count
 }
@@ -115,7 +115,7 @@ held() {
     picture_with "$1" 20 '\0\0\0\0'
 }
 
-# Makes a folder of a kind: empty, finished (made, and without entries), damaged (its version is wrong), or entries (it has one).
+# Makes a folder of a kind: empty, finished (made, and without entries), damaged (corrupt: its version is wrong), or entries (it has one).
 make() {
     mkdir "$2"
     case $1 in

@@ -1,5 +1,6 @@
 # What users read: README, the manual page, --help, the completion and the changes. Sentences and lines are short, the examples print what the
-# program prints, and each list of the manual page is the one that the others shorten. Each check is shown to refuse an error that is planted.
+# program prints, each list of the manual page is the one that the others shorten, and its names and limits are those of the sources. Each check is
+# shown to refuse an error that is planted.
 . "$(dirname "${BASH_SOURCE[0]}")/common.sh"
 
 # Prints the pieces of README on lines of their own: each begins with the number of its line, and a paragraph, an item of a list, a cell of a
@@ -79,7 +80,7 @@ long_sentences() {
     done
 }
 
-# Tells each line that is too wide, and a page that is too long. (A character of UTF-8 has one byte that doesn't go on one before.)
+# Tells each line that is too wide, and a page that is too long. (A character of UTF-8 has one byte that doesn't continue one before.)
 wide_lines() {
     local line number=0
     while IFS= read -r line || [ -n "$line" ]; do
@@ -109,7 +110,7 @@ dead_pages() {
     done <"$1"
 }
 
-# Prints the examples of a page as they stand: the lines that are indented in README, and those of displays in the manual page.
+# Prints the examples of a page as they are: the lines that are indented in README, and those of displays in the manual page.
 examples_of() {
     local line shown=
     while IFS= read -r line || [ -n "$line" ]; do
@@ -224,7 +225,7 @@ lists_of_manual() {
     done <"$1"
 }
 
-# Prints what the completion gives: the words behind the program, behind the folder, behind inspect and behind reset.
+# Prints what the completion gives: the arguments after the program, after the folder, after inspect and after reset.
 lists_of_completion() (
     . "$1"
     cd "$room/none" || exit
@@ -237,7 +238,7 @@ lists_of_completion() (
 )
 mkdir "$room/none"
 
-# Prints the first words of what is listed: those of commands and parts, options, and what stands in brackets.
+# Prints the first words of what is listed: those of commands and parts, options, and what is in brackets.
 first_words() {
     local kind head
     while read -r kind head; do
@@ -314,6 +315,108 @@ numbered_of_source() {
     done <"$1"
 }
 
+# The same of a table of a page, of its rows that begin with a number and a name; and what the program prints for each name of an enumeration.
+numbered_of_table() {
+    local line
+    while IFS= read -r line; do
+        [[ ! $line =~ ^\|\ ([0-9]+)\ \|\ ([A-Za-z]+)\ \| ]] || echo "${BASH_REMATCH[1]} ${BASH_REMATCH[2]}"
+    done <"$1"
+}
+printed_names() {
+    local line
+    while IFS= read -r line; do
+        [[ ! $line =~ ^\ +$2::([A-Za-z]+)\ =\>\ \"([A-Za-z]+)\",$ ]] || echo "${BASH_REMATCH[1]} ${BASH_REMATCH[2]}"
+    done <"$1"
+}
+
+# Prints the refusals in the table of commands of docs/MODEL.md.
+refusals_of_model() {
+    local line within= it
+    while IFS= read -r line; do
+        case $line in
+            '| Command | Refusals'*) within=yes ;;
+            '|'*)
+                [[ -n $within && $line =~ ^\|\ [A-Za-z]+\ \|\ ([A-Z][A-Za-z, ]*)\ \| ]] || continue
+                for it in ${BASH_REMATCH[1]}; do echo "${it%,}"; done
+                ;;
+            *) within= ;;
+        esac
+    done <"$1"
+}
+
+# Prints the numbers in the text of an item of the manual page, in what comes before the first item where none is given, or in what follows the
+# last one where it is -: SECTION ITEM MANUAL. Three of them are spelled out.
+numbers_of_manual() {
+    local line section= item= it head numbers=
+    local -A spelled=([three]=3 [eighth]=8 [sixteenth]=16)
+    while IFS= read -r line; do
+        case $line in
+            .S[hs]*) section=${line#.S? } item= ;;
+            .El*) item=- ;;
+            '.It '*)
+                show_head "${line#.It }"
+                item=$head
+                ;;
+            *)
+                [[ $section == "$1" && $item == "$2" ]] || continue
+                set -f
+                for it in ${line,,}; do
+                    it=${it//[!a-z0-9^]/}
+                    it=${spelled[${it:-none}]-$it}
+                    [[ $it != [0-9]* ]] || numbers+=" $it"
+                done
+                set +f
+                ;;
+        esac
+    done <"$3"
+    echo "${numbers# }"
+}
+
+# Leaves in sizes the numbers that files of definitions name, and what follows from them: FILE..
+read_sizes() {
+    local line
+    while IFS= read -r line; do
+        [[ ! $line =~ ^([a-z_]+)\ =\ ([0-9]+|2\ \^\ [0-9]+)$ ]] || sizes[${BASH_REMATCH[1]}]=${BASH_REMATCH[2]// /}
+        [[ ! $line =~ at_most_once\ ([0-9]+)\ parts.counts ]] || sizes[items]=${BASH_REMATCH[1]}
+        [[ ! $line =~ at_most_once\ ([0-9]+)\ parts.maxes ]] || sizes[bytes]=${BASH_REMATCH[1]}
+    done < <(cat "$@")
+    sizes[mebibytes]=$((sizes[bytes] >> 20)) sizes[gibibytes]=$((sizes[largest_offset] >> 30))
+    sizes[stream_bytes]=$((sizes[bytes] / sizes[stream_share])) sizes[last_stream]=$((sizes[stream_count] - 1))
+}
+
+# Tells each limit of a manual page that the definitions have otherwise: MANUAL FILE..
+wrong_limits() {
+    local section item names it wanted manual=$1 got
+    local -A sizes=()
+    shift
+    read_sizes "$@"
+    while IFS=: read -r section item names; do
+        wanted=
+        for it in $names; do wanted+=" ${sizes[$it]-$it}"; done
+        got=$(numbers_of_manual "$section" "$item" "$manual")
+        [ "${wanted# }" = "$got" ] || echo "$section, $item: $got on the page, ${wanted# } in the sources"
+    done <<'END_OF_LIMITS'
+DESCRIPTION::1 longest_key stream_count 0 1 last_stream 1 last_stream gibibytes 0700
+SESSION SCRIPTS::handle_names
+SESSION SCRIPTS:-:part_size 0 part_block_size
+OPTIONS:--max N:1 most_bytes bytes mebibytes
+OPTIONS:--items N:1 most_items items
+Refusals:1 BadHandle:handle_names
+Refusals:5 BadStream:last_stream
+Refusals:6 TooLarge:stream_share part_size
+Refusals:9 RangeEnd:largest_offset
+Refusals:13 BadKey:longest_key
+Faults:7 TooLong:longest_line longest_data
+LIMITS:Keys:1 longest_key
+LIMITS:Streams:stream_count stream_share stream_bytes
+LIMITS:Sparse data:largest_offset gibibytes part_size
+LIMITS:Handles:handle_names
+LIMITS:Input:longest_input budget
+LIMITS:Lines:longest_line longest_data
+LIMITS:-:parts_index_charge blocks_index_charge free_share
+END_OF_LIMITS
+}
+
 # Tells each text that a script says on standard error and that no item of the diagnostics has: MANUAL SCRIPT..
 untold_texts() {
     local line items=() text item quote
@@ -332,7 +435,7 @@ untold_texts() {
             while [[ $text =~ ^(.*)(\$\{[^\}]*\}|\$[a-z_0-9]+)(.*)$ ]]; do text="${BASH_REMATCH[1]}*${BASH_REMATCH[3]}"; done
             [ -n "${text//\*/}" ] || continue
             for item in "${items[@]}"; do
-                # (a build that fails names its log behind its text)
+                # (a build that fails names its log after its text)
                 # shellcheck disable=SC2053
                 [[ $item != $text && $item != $text'; the log is PATH' ]] || continue 2
             done
@@ -409,7 +512,7 @@ else
     skip 'the examples of the manual page' 'flock is missing'
 fi
 
-# Each list stands in the manual page; the others have the same, or what they are to have of it.
+# Each list is in the manual page; the others have the same, or what they are to have of it.
 help=$("$repository/blkcache" --help)
 in_help=$(lists_of_help "$help")
 in_manual=$(lists_of_manual "$manual")
@@ -472,12 +575,43 @@ plant "$manual" '.It 9 Li RangeEnd' '.It 9 Li EndOfRange'
 is 'planted: another name of a refusal' $'9 EndOfRange\n9 RangeEnd' \
     "$(differing "$(numbered_of_source "$top/crates/blk_model/src/lib.rt" BadHandle)" "$(numbered_of_manual Refusals "$room/planted")")"
 
+# The reasons are those of docs/RECOVERY.md too, and printed by their names; the refusals are those of docs/MODEL.md, but for the one that is
+# reserved.
+recovery=$top/docs/RECOVERY.md model=$top/docs/MODEL.md printing=$top/crates/blk_inspect/src/verdict.rt
+reasons=$(numbered_of_source "$top/crates/blk_verdict/src/reason.rt" Contents)
+is 'there are 16 reasons' 16 "$(count_like '[0-9]* [A-Z]*' <<<"$reasons")"
+is 'docs/RECOVERY.md: the reasons' "$reasons" "$(numbered_of_table "$recovery")"
+plant "$recovery" '| 4 | Back |' '| 4 | Forth |'
+is 'planted: another reason in docs/RECOVERY.md' $'4 Back\n4 Forth' "$(differing "$reasons" "$(numbered_of_table "$room/planted")")"
+named=$(while read -r _ it; do echo "$it $it"; done <<<"$reasons")
+is 'the reasons are printed by their names' "$named" "$(printed_names "$printing" Reason)"
+plant "$printing" 'Reason::Hash => "Hash"' 'Reason::Hash => "Key"'
+is 'planted: another printed name' $'Hash Hash\nHash Key' "$(differing "$named" "$(printed_names "$room/planted" Reason)")"
+plant "$manual" '.It 16 Li Unlisted' '.It 17 Li Unlisted'
+is 'planted: another number of a reason in the manual page' $'16 Unlisted\n17 Unlisted' \
+    "$(differing "$reasons" "$(numbered_of_manual 'Why recovery drops an entry' "$room/planted")")"
+refusals=$(numbered_of_source "$top/crates/blk_model/src/lib.rt" BadHandle | while read -r _ it; do echo "$it"; done)
+is 'docs/MODEL.md: the refusals' Memory "$(differing "$refusals" "$(refusals_of_model "$model")")"
+plant "$model" '| BadKey, Missing |' '| BadKey, Absent |'
+is 'planted: another refusal in docs/MODEL.md' $'Absent\nMemory' "$(differing "$refusals" "$(refusals_of_model "$room/planted")")"
+
+# The limits are those of the definitions: of each item the numbers of its text, in their order.
+limits=("$top"/crates/{blk_model/specs/Sizes,blk_args/specs/Words,blk_run/specs/WholeInputs,blk_run/specs/Work,blk_script/specs/Fields,blk_script/specs/Line}.antt)
+is 'the manual page: limits' '' "$(wrong_limits "$manual" "${limits[@]}")"
+plant "$manual" '4096 at a time.' '4095 at a time.'
+is 'planted: another limit' 'LIMITS, Handles: 4095 on the page, 4096 in the sources' "$(wrong_limits "$room/planted" "${limits[@]}")"
+plant "$manual" 'limit less a sixteenth of it' 'limit less an eighth of it'
+is 'planted: another limit, spelled out' 'LIMITS, -: 8256 192 8 on the page, 8256 192 16 in the sources' "$(wrong_limits "$room/planted" "${limits[@]}")"
+plant "${limits[0]}" 'most_items = 131072' 'most_items = 131073'
+is 'planted: another limit in the sources' 'OPTIONS, --items N: 1 131072 65536 on the page, 1 131073 65536 in the sources' \
+    "$(wrong_limits "$manual" "$room/planted" "${limits[@]:1}")"
+
 # What the script and its build say on standard error.
 is 'the manual page: diagnostics' '' "$(untold_texts "$manual" "$top/blkcache" "$top/dist/build.sh")"
 plant "$manual" '.It the folder cannot be locked' '.It the folder cannot be held'
 is 'planted: another diagnostic' 'the folder cannot be locked' "$(untold_texts "$room/planted" "$top/blkcache" "$top/dist/build.sh")"
 
-# The version stands in one place, and the newest changes are those of that version. README names the kit of the program at hand.
+# The version is in one place, and the newest changes are those of that version. README names the kit of the program at hand.
 newest_of() {
     local line
     while IFS= read -r line; do

@@ -1,4 +1,4 @@
-# The edits that stand beside the crates: each still names text of its crate, once, so that tests/edits can try it.
+# The edits that are beside the crates: each still names text of its crate, once, so that tests/edits can try it.
 . "$(dirname "${BASH_SOURCE[0]}")/common.sh"
 
 type -P awk >/dev/null || {

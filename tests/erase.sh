@@ -1,6 +1,6 @@
-# With BLKCACHE_ERASE=1 what is removed is gone: no byte of it stands in any file of the folder, also behind a kill and the next opening.
-# Without it the bytes are found. ERASE_KILLS says how many places of a kill are tried of each word, in even steps from the first to the
-# last, and always the same ones: 16; or all, those before each write, behind its first word, midway and before its last; or words, those
+# With BLKCACHE_ERASE=1 what is removed is gone: no byte of it is in any file of the folder, also after a kill and the next opening.
+# Without it the bytes are found. ERASE_KILLS says how many places of a kill are tried of each command, in even steps from the first to the
+# last, and always the same ones: 16; or all, those before each write, after its first word, midway and before its last; or words, those
 # between any two words that are written. ERASE_SEED is what the script is drawn from.
 . "$(dirname "${BASH_SOURCE[0]}")/common.sh"
 
@@ -13,7 +13,7 @@ done
 places_of_each=${ERASE_KILLS:-16}
 seed=${ERASE_SEED:-$RANDOM}
 
-# Letters and digits that are drawn, so that no 16 of them stand anywhere by chance. Each secret begins at a multiple of 16, and is found
+# Letters and digits that are drawn, so that no 16 of them are anywhere by chance. Each secret begins at a multiple of 16, and is found
 # by its pieces of 16.
 pool=$(head -c 230000 /dev/urandom | base64 -w0 | tr -d '+/=')
 pool=${pool:0:280000}
@@ -34,13 +34,13 @@ secret() {
     drawn=$((drawn + ($1 + 15) / 16 * 16))
 }
 
-# Prints the pieces that stand in the files of a folder, each as often as it does.
+# Prints the pieces that are in the files of a folder, each as often as it does.
 found_in() {
     cat "$1"/* | grep -aoFf "$room/pieces" | sort
 }
 
 # Prints the pieces that the program gives of a folder, each as often as it does: those of the keys, by their rows, and of the streams.
-# Where the runs of sparse data begin is in sparse_places, in whole blocks of 1024: of a block that isn't whole at its front nothing is given.
+# Where the runs of sparse data begin is in sparse_places, in whole blocks of 1024: of a block that isn't whole at its start nothing is given.
 sparse_places=
 given_of() {
     run "$1" list
@@ -57,7 +57,7 @@ given_of() {
     awk '$1 == "data" && $2 > 0 { print toupper($3) "0A" }' "$room/said" | basenc --base16 -d -i | cat - "$room/rows" | grep -aoFf "$room/pieces" | sort
 }
 
-# Prints how many pieces stand in the files of a folder that are none of what it holds, or stand there more often.
+# Prints how many pieces are in the files of a folder that are none of what it holds, or are there more often.
 left_in() {
     found_in "$1" >"$room/found"
     given_of "$1" >"$room/given"
@@ -77,12 +77,12 @@ blocks_left_in() {
         END { print left + 0 }'
 }
 
-# Prints how many bytes behind a file's header are not 0.
+# Prints how many bytes after a file's header are not 0.
 bytes_in() {
     tail -c +8193 "$1" | tr -d '\0' | wc -c
 }
 
-# Prints how many digits that are not 0 a folder has behind the ends of its streams, in the blocks or in the file of each.
+# Prints how many digits that are not 0 a folder has after the ends of its streams, in the blocks or in the file of each.
 behind_ends_in() {
     local sum=0 words word name value it at size place room_of file rest
     local -A of
@@ -117,7 +117,7 @@ behind_ends_in() {
     echo "$sum"
 }
 
-# Nothing is left: the block files hold zeros behind their headers, and there is no other.
+# Nothing is left: the block files hold zeros after their headers, and there is no other.
 is_blank() {
     is "$1" '0 0 0 0 ' "$(bytes_in "$2/data_0") $(bytes_in "$2/data_1") $(bytes_in "$2/data_2") $(bytes_in "$2/data_3") $(cd "$2" && ls | grep -E '^(f_|data_[4-9])')"
 }
@@ -223,7 +223,7 @@ fill() {
     plays "$1"
 }
 
-# Each way in which all but one of them go: prints the lines of a session, or runs words.
+# Each way in which all but one of them are removed: prints the lines of a session, or runs the program.
 by_doomkey() {
     printf 'doomkey %s\n' "${keys[@]}" "$sparse" >"$room/input"
     plays "$1"
@@ -403,7 +403,7 @@ is 'a folder without an index is made anew' "0 $empty_line" "$status $said"
 is_blank 'a folder that is made anew' "$room/gone"
 unset BLKCACHE_ERASE
 
-# Every reply is the same with erasing and without: those of a script that is drawn, of the words behind it, and of a game. Behind it
+# Every reply is the same with erasing and without: those of a script that is drawn, of the subcommands after it, and of a game. After it
 # no block that is free holds a byte.
 draw_script "$seed" 2500 >"$room/drawn"
 for limits in '--max 400000 --items 12' '--max 9000000 --items 60'; do
@@ -429,7 +429,7 @@ for limits in '--max 400000 --items 12' '--max 9000000 --items 60'; do
 done
 unset BLKCACHE_ERASE
 
-# A kill at places of what is written, and the next opening, which is killed too behind each third of them.
+# A kill at places of what is written, and the next opening, which is killed too after each third of them.
 if ! command -v cc >/dev/null || ! cc -shared -fPIC -o "$room/stopped.so" "$top/tests/stopped.c" -ldl 2>/dev/null; then
     skip 'what a kill leaves' 'cc is missing'
     finish
@@ -472,7 +472,7 @@ told_of() {
     : >"$room/input"
     cat "$room/said"
 }
-# What was found of a folder, by its names and the sums of its files: stops at many places lead to the same ones.
+# What was found of a folder, by its names and the sums of its files: kills at many places lead to the same ones.
 declare -A looked
 places=0
 # Shows that nothing of what was removed is left in a folder, and that the entries that stay have their bytes: NAME FOLDER

@@ -1,4 +1,4 @@
-# Whatever the words, nothing is changed but cache files of the folder: each call of the program is seen by strace, and has to be one that
+# Whatever the arguments, nothing is changed but cache files of the folder: each call of the program is seen by strace, and has to be one that
 # changes nothing, or is on a file of the folder with a cache file's name, or on an output.
 . "$(dirname "${BASH_SOURCE[0]}")/common.sh"
 
@@ -36,7 +36,7 @@ is_allowed() {
     esac
 }
 
-# Runs the program on words. Leaves its status, how many calls change a file, and the calls that may not be made.
+# Runs the program with arguments. Leaves its status, how many calls change a file, and the calls that may not be made.
 look() {
     local line
     timeout 60 strace -y -s 16 -o "$room/calls" "$program" "$folder" "$@" <"$room/input" >"$room/said" 2>"$room/complained"
@@ -47,7 +47,7 @@ look() {
     done <"$room/calls"
 }
 
-# What the words do on a folder of a kind: their status, and whether they change something.
+# What the arguments do on a folder of a kind: their status, and whether they change something.
 looks() {
     local kind=$1 wanted=$2
     rm -rf "$folder"
@@ -96,7 +96,7 @@ for BLKCACHE_ERASE in 0 1; do
     is 'a folder is made anew' '0 ' "$status $others"
 done
 
-# The rights of a file that is made are mended by its descriptor.
+# The rights of a file that is made are put right by its descriptor.
 before=$(umask)
 rm -rf "$folder"
 mkdir "$folder"

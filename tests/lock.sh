@@ -1,7 +1,7 @@
-# One process at a time has a folder, by a lock on it that every program can see; words that only read have it beside each other.
+# One process at a time has a folder, by a lock on it that every program can see; subcommands that only read have it beside each other.
 . "$(dirname "${BASH_SOURCE[0]}")/common.sh"
 
-# Five entries, which have to be there behind all that follows.
+# Five entries, which have to be there after all that follows.
 folder=$room/folder
 mkdir "$folder"
 for number in 1 2 3 4 5; do
@@ -108,7 +108,7 @@ for seconds in '' 0 3; do
     is "BLKCACHE_WAIT is [$seconds]" '0 items' "$status ${said%% *}"
 done
 
-# What the file system answers to the question for a lock, by strace: without locks the program goes on, and any other error is a failure of
+# What the file system answers to the question for a lock, by strace: without locks the program continues, and any other error is a failure of
 # the folder, before a name is read or a cache file is opened.
 lock_answers() {
     strace -o "$room/calls" -e trace=flock,openat,open,getdents64 -e "inject=flock:$1" "$program" "$folder" "${@:2}" <"$room/input" >"$room/said" 2>"$room/complained"

@@ -1,4 +1,4 @@
-# A session of 400 entries by eight handles, of which the last Close meets a folder that can't be written any more: what was settled is
+# A session of 400 entries by eight handles, of which the last Close meets a folder that can't be written any more: what was clean is
 # there, whole, and the last entry is gone.
 . "$(dirname "${BASH_SOURCE[0]}")/common.sh"
 
@@ -6,7 +6,7 @@ entries=400
 folder=$room/folder
 mkdir "$folder"
 
-# The digits of all streams: those of an entry begin one byte behind those of the one before.
+# The digits of all streams: those of an entry begin one byte after those of the one before.
 digits=$(seq -w 0 99999 | tr -d '\n')
 key_of() {
     printf -v key 'https://example.test/r/%03d' "$1"

@@ -5,14 +5,14 @@
 step=${MEMORY_STEP:-64}
 most=65536
 
-# Runs the program on words with so many kB of memory. Leaves its status, and what it printed.
+# Runs the program with arguments and so many kB of memory. Leaves its status, and what it printed.
 with_room() {
     { (ulimit -v "$1" && exec "$program" "${@:2}") <"$room/input" >"$room/said" 2>"$room/complained"; } 2>/dev/null
     status=$?
     said=$(cat "$room/said")
 }
 
-# Whether the program starts with so many kB: it says that the words are outside its grammar, or that there is no memory.
+# Whether the program starts with so many kB: it says that the arguments are outside its grammar, or that there is no memory.
 starts() {
     with_room "$1" "$room/made" no-word-of-it
     [ "$status $said" = '2 usage' ] || [ "$status $said" = '6 ' ]
@@ -37,7 +37,7 @@ while [ $((high - low)) -gt "$step" ]; do
 done
 first=$high
 
-# Words outside the grammar ask for no memory behind the folder's names and its window: where 6 is answered, one of these had none. The
+# Arguments outside the grammar ask for no memory after the folder's names and its window: where 6 is answered, one of these had none. The
 # names of an empty folder take no room to speak of, so where there is too little by more than some pages it was the window.
 mkdir "$room/none"
 before=$(both "$room/none")
@@ -53,7 +53,7 @@ is 'words outside the grammar, once there is room' '2 usage' "$status $said"
 is 'the window is refused its memory: a range of at least 128 kB' yes "$([ "$refused" -ge 128 ] && echo yes || echo "$refused kB")"
 is 'the folder is left as it was' "$before" "$(both "$room/none")"
 
-# Each word, on a folder of each kind, with more and more room: 6 and nothing done, up to where it does what it always does. The program's
+# Each subcommand, on a folder of each kind, with more and more room: 6 and nothing done, up to where it does what it always does. The program's
 # stack grows in the same room, and where it finds none the system stops the program (139): such a try shows nothing, and the folder is
 # made anew.
 refuses() {

@@ -1,4 +1,4 @@
-# What the program prints is gathered, and goes out when a text has come to its end: a reply is one call, and none waits for the next line.
+# What the program prints is gathered, and written when a text has come to its end: a reply is one call, and none waits for the next line.
 . "$(dirname "${BASH_SOURCE[0]}")/common.sh"
 
 folder=$room/output
@@ -34,7 +34,7 @@ eval "exec $talk_in>&-"
 wait "$talk_id"
 is 'a fault of a line is a refusal' 1 $?
 
-# Who reads only a front of the replies has a front of them: what the output failed in is not gone on with.
+# Who reads only the first replies has a prefix of them: what the output failed in is not continued.
 {
     echo 'open 0 page'
     for ((number = 0; number < 40; number++)); do
@@ -95,7 +95,7 @@ if ! command -v strace >/dev/null || ! strace -o /dev/null true 2>/dev/null; the
     finish
 fi
 
-# How many writes to standard output the program makes with these words, the script of the input before them.
+# How many writes to standard output the program makes with these arguments, the script of the input before them.
 writes_of() {
     strace -f -e trace=write,writev -o "$room/calls" "$program" "$folder" "${@:2}" <"$1" >"$room/said" 2>"$room/complained"
     status=$?
@@ -116,7 +116,7 @@ writes_of "$room/few" session
 is 'a few commands: the status' 1 "$status"
 is 'a few commands: a call for each reply' 7 "$writes"
 
-# 2 KiB are 4096 digits, which are more than what is gathered once the front of the line is there.
+# 2 KiB are 4096 digits, which are more than what is gathered once the start of the line is there.
 printf 'open 0 page\nread 0 0 0 2048\nclose 0\n' >"$room/long"
 writes_of "$room/long" session
 is 'data of 2 KiB: the status' 0 "$status"

@@ -27,7 +27,7 @@ place() {
     mv -fT "$2.new" "$2"
 }
 
-# Before a run: each name, on each word.
+# Before a run: each name, on each subcommand.
 for name in index data_0 data_1 data_2 data_3 f_000001; do
     for what in 'a hard link' 'a link' 'a link to nothing'; do
         rm -rf "$room/try"
@@ -43,7 +43,7 @@ for name in index data_0 data_1 data_2 data_3 f_000001; do
     done
 done
 
-# A file of another device that stands under a name by a mount.
+# A file of another device that has a name by a mount.
 mounted() {
     unshare --mount "$BASH" -c 'mount --bind "$1" "$2" && exec "${@:3}"' -- "$device/file" "$room/try/$name" "$@" 2>/dev/null
 }
@@ -112,7 +112,7 @@ for what in 'a hard link' 'a link' 'a link to nothing' 'a FIFO'; do
         before=$(both "$elsewhere")
         asked "$line"
         ends
-        # Of the reply to the read no more than its front is printed, without a byte of data.
+        # Of the reply to the read no more than its start is printed, without a byte of data.
         front=
         [[ $line != read* ]] || front='data 9'
         is "$what during a session, $line" "3 $front" "$status $reply"
@@ -120,8 +120,8 @@ for what in 'a hard link' 'a link' 'a link to nothing' 'a FIFO'; do
     done
 done
 
-# The index and the block files are open from the beginning: the session goes on in its own, and what is put in their place is not touched.
-# At its end it asks for the names again, and ends with 3. The next word refuses it too.
+# The index and the block files are open from the beginning: the session continues in its own, and what is put in their place is not touched.
+# At its end it asks for the names again, and ends with 3. The next run refuses it too.
 for name in index data_0 data_1 data_2 data_3; do
     for what in 'a hard link' 'a link' 'a link to nothing' 'a FIFO'; do
         rm -rf "$room/try"
@@ -165,7 +165,7 @@ for what in 'gone' 'moved away' 'made anew' 'given a second name'; do
     done
 done
 
-# What stands under the name of a file that a session is about to make is not taken over, and what it leads to is not made.
+# What has the name of a file that a session is about to make is not taken over, and what it leads to is not made.
 for what in 'a hard link' 'a link' 'a link to nothing' 'a FIFO'; do
     rm -rf "$room/try"
     cp -a "$room/two" "$room/try"
@@ -222,8 +222,8 @@ swaps() {
     done 2>/dev/null
 }
 
-# Runs the program on words beside such a program until there are so many openings, or seconds are over: OPENINGS SECONDS RUNS STATUSES NAME
-# WHAT.. -- WORDS, so many runs on each new folder, with the lines as input. A run of a word opens the name once; one of a session opens it
+# Runs the program with arguments beside such a program until there are so many openings, or seconds are over: OPENINGS SECONDS RUNS STATUSES NAME
+# WHAT.. -- WORDS, so many runs on each new folder, with the lines as input. A run of a subcommand opens the name once; one of a session opens it
 # again at every other line that it prints. The runs that are not refused end with one of the statuses, and nothing outside is written.
 beside_swaps() {
     local most=$1 ends=$((SECONDS + $2)) runs=$3 allowed=$4 name=$5 what=() openings=0 others= before swapper status number of_name=0
@@ -277,8 +277,8 @@ refused=0
 beside_swaps "${openings_of_each:-10000}" $((openings_of_each == 0 ? 30 : 3600)) 1 0 f_000001 'a link' 'a hard link' -- session
 is 'sessions beside a program that swaps: some are refused' yes "$([ "$refused" -gt 0 ] && echo yes)"
 
-# Words that open the others once each. A folder is put in place where nothing was for a moment, so an index may be made anew beside old
-# block files, which is a damaged folder.
+# Subcommands that open the others once each. A folder is put in place where nothing was for a moment, so an index may be made anew beside old
+# block files, which is a corrupt folder.
 : >"$room/lines"
 refused=0
 for name in index data_0 data_1 data_2 data_3; do

@@ -14,7 +14,7 @@ printf '%s\n' "crates $(printf %040d 1)" "crates.txt $(printf %040d 1)" 'kit som
 
 version=$(<"$top/VERSION") date='of no known commit'
 
-# Runs what was installed on a new folder, and with the words that name no folder.
+# Runs what was installed on a new folder, and with the arguments that name no folder.
 works() {
     local folder=$room/cache-$((number += 1)) said
     mkdir "$folder"
@@ -71,7 +71,7 @@ said=$("$repository/install" "$room/none" 2>&1)
 is 'without a program nothing is installed' "70 blkcache: $hand/SOURCES is not as dist/renew writes it no" "$? $said $([ -e "$room/none" ] && echo yes || echo no)"
 mv "$room/SOURCES" "$hand/SOURCES"
 
-# The completion gives words, and no name of a file where a key stands.
+# The completion gives arguments, and no name of a file where a key is.
 completed() {
     (
         . "$top/packaging/completion.bash"

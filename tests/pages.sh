@@ -1,12 +1,12 @@
 # The pages say nothing that isn't there. Refused in README.md, CONTRIBUTING.md, CHANGELOG.md and docs/*.md: a link that leads nowhere, a path
-# that no file has, a code word that names nothing, one that isn't in the file in which it is said to stand (of a name without its crate: in
+# that no file has, a code word that names nothing, one that isn't in the file in which it is said to be (of a name without its crate: in
 # no file of that name), and a label that the call of which it is said doesn't have; a place that is left to fill; a crate that the picture or
 # the table of docs/ARCHITECTURE.md lacks; and pages of docs/reference that aren't what docs/make-reference makes of the sources. Each kind is
 # shown to be refused. It needs awk, find, grep, sed and xargs.
 . "$(dirname "${BASH_SOURCE[0]}")/common.sh"
 
-# Code words that name nothing of the repository: calls, flags, signals and errors of the system.
-allowed='statx pread pwrite fchmod chdir nanosleep unlink getdents64 fcntl fsync fdatasync clock_gettime O_NONBLOCK ENOSYS EOPNOTSUPP ENOLCK'
+# Code words that name nothing of the repository: calls, flags, signals, errors and programs of the system.
+allowed='taskset statx pread pwrite fchmod chdir nanosleep unlink getdents64 fcntl fsync fdatasync clock_gettime O_NONBLOCK ENOSYS EOPNOTSUPP ENOLCK'
 
 for it in awk find grep sed xargs; do
     if ! command -v "$it" >/dev/null; then
@@ -16,7 +16,7 @@ for it in awk find grep sed xargs; do
 done
 cd "$top" || exit
 
-# Prints the names there are: what stands outside of comments in sources, definitions and scripts, what proofs declare, and each file's name
+# Prints the names there are: what is outside of comments in sources, definitions and scripts, what proofs declare, and each file's name
 # with and without its ending.
 print_names() {
     find crates \( -name '*.rt' -o -name '*.antt' \) -not -path '*/out/*' -print0 | xargs -0 awk '
@@ -31,7 +31,7 @@ print_names() {
     printf '%s\n' $allowed
 }
 
-# Prints what is wrong with pages of a folder, a line each: look_at FOLDER PAGE.. What stands in fences isn't looked at.
+# Prints what is wrong with pages of a folder, a line each: look_at FOLDER PAGE.. What is in fences isn't looked at.
 look_at() (
     cd "$1" || exit
     shift
@@ -48,7 +48,7 @@ look_at() (
             sub(/\/$/, "", path)
             return path
         }
-        # A path names a file from the top, the folders crates and docs, the page or a crate on. NAME, CRATE, FILE and * stand for anything; what is built
+        # A path names a file from the top, the folders crates and docs, the page or a crate on. NAME, CRATE, FILE and * match anything; what is built
         # into out/ may be there or not.
         function leads(path,   form, file) {
             sub(/^\.\//, "", path); sub(/\/$/, "", path)
@@ -65,7 +65,7 @@ look_at() (
             for (i = 1; i <= n; i++) if (parts[i] != "" && parts[i] !~ /^[0-9]/ && !(parts[i] in known)) return 0
             return n > 1
         }
-        # Numbers, hexadecimal ones too, and words in capitals, which stand for others, name nothing.
+        # Numbers, hexadecimal ones too, and words in capitals, which are placeholders, name nothing.
         function is_wrong(word) {
             sub(/^[\047-]+/, "", word); sub(/[\047-]+$/, "", word)
             if (length(word) < 2 || word ~ /^[0-9]/ || word ~ /^[A-Z][A-Z0-9]*$/ || word ~ /^[0-9a-f]+$/ || word ~ /^[a-z]+_[NXx0-9a-f]*$/) return 0
@@ -80,7 +80,7 @@ look_at() (
             for (i = 1; i <= n; i++) if ((one || words[i] ~ /[a-z0-9]_[a-z0-9]|[a-z][A-Z]/) && is_wrong(words[i])) say("no " words[i])
         }
         # Words in a file that is named by its crate: the file has them, as the place from which they are told. One that is named without its crate
-        # stands for all of that name, as a file of definitions without its ending.
+        # means all of that name, as a file of definitions without its ending.
         function find(text,   spans, n, i, file) {
             n = split(text, spans, "`")
             file = spans[n - 1]

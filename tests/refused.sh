@@ -7,7 +7,7 @@ if ! command -v cc >/dev/null || ! cc -shared -fPIC -o "$room/refused.so" "$top/
     finish
 fi
 
-# Runs the program on words with the piece of a number refused.
+# Runs the program with arguments, the piece of a number refused.
 run_refused() {
     REFUSED=$1 LD_PRELOAD=$room/refused.so timeout 60 "$program" "${@:2}" <"$room/input" >"$room/said" 2>"$room/complained"
     status=$?
@@ -19,8 +19,8 @@ sums() (
     cd "$1" && cksum -- * 2>/dev/null
 )
 
-# Words on a folder of a kind: each number is tried, until some in a row change nothing. A piece that is refused inside the objects that
-# stand for the machine is a fault of the folder, told by 3: then a front was printed, and the folder is opened again.
+# Arguments on a folder of a kind: each number is tried, until some in a row change nothing. A piece that is refused inside the objects that
+# are the machine is a fault of the folder, told by 3: then a prefix was printed, and the folder is opened again.
 most=2000
 refuses() {
     local kind=$1 wanted=$2 before number last=0

@@ -1,7 +1,7 @@
 # ./blkcache FOLDER reset removes the cache files of a folder and nothing else, and not where another process has the folder.
 . "$(dirname "${BASH_SOURCE[0]}")/common.sh"
 
-# Runs the script at the top, which needs no program for this word.
+# Runs the script at the top, which needs no program for this subcommand.
 reset() {
     "$BASH" "$top/blkcache" "$@" <"$room/input" >"$room/said" 2>"$room/complained"
     status=$?
@@ -129,7 +129,7 @@ reset "$folder" reset --yes
 is 'told not to erase' '0 removed 8 secret' "$status $said$complained $(cat "$room/kept")"
 unset BLKCACHE_ERASE
 
-# It is the way out of a damage, and a folder with more files than one call of rm gets is emptied.
+# It is the way out of a corruption, and a folder with more files than one call of rm gets is emptied.
 make damaged "$room/damaged"
 count_in "$room/damaged"
 is 'a damaged folder' "7 $(line_of damaged)" "$status $said"

@@ -1,7 +1,7 @@
-# The words that do one thing, each on a fresh folder and on one that was used; and which words are in the grammar.
+# The subcommands that do one thing, each on a fresh folder and on one that was used; and which arguments are in the grammar.
 . "$(dirname "${BASH_SOURCE[0]}")/common.sh"
 
-# Runs words over an input, and compares the status and all that is said: NAME FOLDER STATUS OUTPUT WORDS
+# Runs the program with arguments over an input, and compares the status and all that is said: NAME FOLDER STATUS OUTPUT WORDS
 says() {
     run "$2" "${@:5}"
     is "$1" "$3 $4" "$status $said$complained"
@@ -124,7 +124,7 @@ done
 generated $'commands 1493 refused 293 evicted 275 read 2761963\nitems 18 bytes 197884' gen 7 300 --max 200000
 generated $'commands 992 refused 192 evicted 152 read 2111745\nitems 40 bytes 357632' --items 40 gen 3 200
 
-# What is in the grammar. The options stand anywhere before a word --, and behind it all words are ordinary.
+# What is in the grammar. The options are anywhere before an argument --, and after it all arguments are ordinary.
 folder=$room/grammar
 mkdir "$folder"
 says 'an option before' "$folder" 0 "$empty_line" --max 5 count

@@ -1,4 +1,4 @@
-# Sessions: every line of the language, the faulty ones, the refusals, and what stands in a new process afterwards.
+# Sessions: every line of the language, the faulty ones, the refusals, and what is there for a new process afterwards.
 . "$(dirname "${BASH_SOURCE[0]}")/common.sh"
 
 # Runs a session with options over lines, each of which ends, and compares the status and the output: NAME FOLDER STATUS OUTPUT -- OPTIONS -- LINES
@@ -18,7 +18,7 @@ session() {
     is "$name: the errors" '' "$complained"
 }
 
-# What a new process answers to words: NAME FOLDER STATUS OUTPUT WORDS
+# What a new process answers to arguments: NAME FOLDER STATUS OUTPUT WORDS
 answers() {
     run "$2" "${@:5}"
     is "$1" "$3 $4" "$status $said$complained"
@@ -149,7 +149,7 @@ refused 10 Doomed
 refused 3 Missing' -- -- 'create 0 a' 'create 0 a' 'create 1 a' 'create 4096 x' 'read 9 0 0 1' 'open 1 zz' 'create 1 ' 'read 0 3 0 1' 'write 0 0 10485760 61' total 'doom 0' 'doom 0' 'doomkey a'
 answers 'a doomed object is gone with its name' "$room/refusals" 0 'end 0' list
 
-# Streams by their length: in blocks, and in a file of their own, which goes where they get short.
+# Streams by their length: in blocks, and in a file of their own, which is deleted where they get short.
 mkdir "$room/streams"
 session 'a stream in a file of its own' "$room/streams" 0 $'ok\nok 20000' -- -- 'create 0 g' "write 0 0 0 $(zs 20000)"
 is 'its file' 20000 "$(stat -c %s "$room/streams/f_000001")"
@@ -185,7 +185,7 @@ mkdir "$room/items"
 session 'items make room' "$room/items" 1 $'ok\nok\nrefused 11 Full\nok\nevicted a\nok' -- --items 2 -- 'create 0 a' 'create 1 b' 'create 2 c' 'close 0' 'create 2 c'
 answers 'in the order of their use' "$room/items" 0 $'main c 0 0 0\nmain b 0 0 0\nend 2' list
 
-# What is open is closed at the end, and what stands is found by a new process.
+# What is open is closed at the end, and what is there is found by a new process.
 mkdir "$room/open"
 session 'what is open at the end' "$room/open" 0 $'ok\nok\nok 1' -- -- 'create 7 a' 'create 3 b' 'write 3 0 0 62'
 answers 'it is there' "$room/open" 0 $'main b 1 0 0\nmain a 0 0 0\nend 2' list

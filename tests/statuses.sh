@@ -21,7 +21,7 @@ damaged=$(both "$room/damaged")
 answers 'a damaged folder once more' "$room/damaged" "7 $(line_of damaged)"
 is 'a damaged folder is not written to' "$damaged" "$(both "$room/damaged")"
 
-# A session that was stopped is opened again, and what isn't whole is dropped.
+# A session that was killed is opened again, and what isn't whole is dropped.
 patch "$room/entries/index" 32 '\001'
 answers 'a folder whose session was stopped' "$room/entries" '0 items 1 bytes 1'
 is 'its session is closed' "$listed" "$(held "$room/entries")"
@@ -29,7 +29,7 @@ patch "$room/entries/data_1" 8192 '\0'
 answers 'an entry that is not whole' "$room/entries" "0 $empty_line"
 answers 'and once more' "$room/entries" "0 $empty_line"
 
-# What a stop leaves is made anew.
+# What a crash leaves is made anew.
 make finished "$room/stopped"
 patch "$room/stopped/index" 0 '\0\0\0\0'
 answers 'a folder without its magic word' "$room/stopped" "0 $empty_line"
@@ -122,7 +122,7 @@ answers 'and the next run makes the folder' "$room/full" "0 $empty_line"
 if [ -w /dev/full ]; then
     timeout 60 "$program" "$room/finished" count >/dev/full 2>"$room/complained"
     is 'an output that is full' '5 ' "$? $(cat "$room/complained")"
-    # What replies behind its work tries the output before it.
+    # What replies after its work tries the output before it.
     make entries "$room/tried"
     mkdir "$room/untried"
     before=$(both "$room/tried" && both "$room/untried")
@@ -172,7 +172,7 @@ mkfifo "$room/pipe"
 exec 8<>"$room/pipe" 9>"$room/pipe" 8<&-
 timeout 60 "$program" "$room/finished" count >&9 2>"$room/complained"
 is 'an output that nobody reads' '5 ' "$? $(cat "$room/complained")"
-# An empty write does not tell of it, so what replies behind its work has done it, and put has made its entry.
+# An empty write does not tell of it, so what replies after its work has done it, and put has made its entry.
 printf x >"$room/one"
 for words in 'put b 0' 'doom a' 'trim 0'; do
     rm -rf "$room/unread"

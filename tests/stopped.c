@@ -1,5 +1,5 @@
 // Kills the program at one place of what it writes, the one with the number in the variable STOPPED: loaded before the C library. The
-// places are those before each write, new length, removal and file that is made; of a write of several words also those behind its first
+// places are those before each write, new length, removal and file that is made; of a write of several words also those after its first
 // word, midway, and before its last, or between any two where STOPPED_BETWEEN is words. Where no place has the number, how many there are
 // is said on standard error at the end. The clock stands still, so that the same commands write the same bytes each time.
 #define _GNU_SOURCE

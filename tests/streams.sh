@@ -25,7 +25,7 @@ for closed in '' '0' '1' '2' '0 1' '0 2' '1 2' '0 1 2'; do
         count_closed "$folder" "$closed"
         wanted=$(status_of "$kind")
         line=$(line_of "$kind")
-        # A reply that can't be printed is a failure of the output; what is wrong with the folder goes before it.
+        # A reply that can't be printed is a failure of the output; what is wrong with the folder comes before it.
         if [[ $closed == *1* ]]; then
             line=
             [ "$wanted" != 0 ] || wanted=5

@@ -12,7 +12,7 @@ TOP = os.path.dirname(os.path.dirname(os.path.abspath(__file__)))
 TICKS = os.sysconf("SC_CLK_TCK")
 BETWEEN = 0.25
 BEGIN, END = "<!-- times -->", "<!-- end of times -->"
-# What stands below the table.
+# What is below the table.
 LEGEND = (
     "Processor seconds, and when each began and ended, in minutes and seconds since the gate began; a `+` where its end was not",
     "told. The edits of a crate, so many, are tried one after another, the first over nothing, each further one over what those",
@@ -68,7 +68,7 @@ def processes(boot):
 
 
 def below(found, root):
-    """Returns those of the processes that stand below the process with the number root."""
+    """Returns those of the processes that are below the process with the number root."""
     parents = {pid: values[0] for (pid, _), values in found.items()}
 
     def is_below(pid):
@@ -91,7 +91,7 @@ def described(key, values):
 
 
 def sample(gate, out):
-    """Samples what stands below the gate until it has ended, and writes a line for each process that ended."""
+    """Samples what is below the gate until it has ended, and writes a line for each process that ended."""
     seen, boot = {}, booted()
     while True:
         is_over = gate.poll() is not None
@@ -244,7 +244,7 @@ def cells_of(parts, name, began):
 
 
 def table(*files):
-    """Returns the table and what stands around it, of runs of which each took what those before it had proved: a log and samples for each."""
+    """Returns the table and what is around it, of runs of which each took what those before it had proved: a log and samples for each."""
     runs = [(text_of(log), *read(samples)) for log, samples in zip(files[::2], files[1::2])]
     parts = parts_of([row for _, rows, _ in runs for row in rows], "\n".join(said for said, _, _ in runs))
     began, spent = min(told["began"] for _, _, told in runs), sum(told["spent"] for _, _, told in runs)

@@ -1,7 +1,7 @@
 # The program reads its folder in whole pages, and what it has read lately it doesn't read again. The calls are seen by strace.
 . "$(dirname "${BASH_SOURCE[0]}")/common.sh"
 
-# How many reads of files at a place the program makes with these words, the script of the input before them.
+# How many reads of files at a place the program makes with these arguments, the script of the input before them.
 reads_of() {
     strace -f -c -e trace=pread64 -o "$room/counts" "$program" "$folder" "${@:2}" <"$1" >"$room/said" 2>"$room/complained"
     status=$?

@@ -1,7 +1,7 @@
 # Words that are outside the grammar, those that aren't UTF-8 among them, print usage, and no folder is touched.
 . "$(dirname "${BASH_SOURCE[0]}")/common.sh"
 
-# The program refuses the words, and leaves all in the room as it is.
+# The program refuses the arguments, and leaves all in the room as it is.
 refused() {
     local before
     before=$(both "$room/here")

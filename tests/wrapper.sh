@@ -36,7 +36,7 @@ commit() {
     [ -z "$1" ] || printf '%040x\n%040x\n' "$1" "$1" >"$room/commit"
 }
 # An rt that proves nothing, and answers `rt ci` alone: a line for each crate of the repository that it is in, which it keeps, and at the end
-# the program. It fails at the crate that the file fails names, and then goes on until it is ended, or it fails behind all; it hangs at
+# the program. It fails at the crate that the file fails names, and then continues until it is ended, or it fails after all; it hangs at
 # the crate that hangs names. It says what the file notes has, does what meanwhile has, and leaves what it was given.
 cat >"$stubs/rt" <<'END'
 [ "$1" != version ] || { echo 'some kit'; exit 0; }
@@ -103,7 +103,7 @@ commit 1
 : >"$room/fails"
 : >"$room/hangs"
 
-# Runs the wrapper on words, with nothing on its path but the stand-ins and what it is said to need. Leaves its status, what it said, how often
+# Runs the wrapper with arguments, with nothing on its path but the stand-ins and what it is said to need. Leaves its status, what it said, how often
 # it built, and what it called, with the three calls of git at its start, which are made at once, as one line.
 wrap() {
     : >"$calls"
@@ -187,7 +187,7 @@ for it in --help --version; do
     fi
 done
 
-# The first run builds, a line for each crate, those below first; then the program has the caller's words, input and status.
+# The first run builds, a line for each crate, those below first; then the program has the caller's arguments, input and status.
 wrap "$folder" count 'two words'
 is 'after the build the program runs' "4 words: $(printf '%q ' "$folder" count)two\\ words input: caller" "$status $said"
 order=()
@@ -204,7 +204,7 @@ first='^blkcache: proving and building ([0-9]+) crates, since .*/blkcache is mis
 [[ ${complained%%$'\n'*} =~ $first ]]
 is 'the first line tells how many crates, and how long' "0 $total $(nproc)" "$? ${BASH_REMATCH[1]} ${BASH_REMATCH[2]}"
 
-# rt is given the crates that the program stands on, each after those that it stands on, and no others.
+# rt is given the crates that the program uses, each after those that it uses, and no others.
 declare -A below=() listed=() wanted=()
 while IFS=: read -r name crates; do
     [[ $name == '#'* || -z $name ]] || below[${name%% *}]=$crates
@@ -233,7 +233,7 @@ printf '%s\n' '# NAME: DEP DEP ..' 'blkcache may_wait=0: blk_run blk_io' 'spec_i
 touch -d '1 hour ago' "$repository/crates.txt"
 total=4
 
-# What the program gets beside its words: how long it waits, what its caller set, and a limit of the size of files as a failed write.
+# What the program gets beside its arguments: how long it waits, what its caller set, and a limit of the size of files as a failed write.
 surrounded() {
     local signal ignored=
     for signal in XFSZ TERM INT HUP PIPE; do
