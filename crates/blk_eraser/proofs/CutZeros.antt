@@ -1,5 +1,5 @@
 -- Zeros behind the end of a stream lie in blocks of an object that may change, and no shown data reaches them.
-use Rattle.std.proofs.Common.{◌≡◌, ℕ, ◌+◌, ◌-◌, ◌<◌, ◌≤◌, Bool, true, false, not, ◌&&◌, nat_le, nat_lt, if◌then◌else◌, List, [], Option, Some, None, refl, sym, ◌∙◌, ap, arith}
+use Rattle.std.proofs.Common.{◌≡◌, ℕ, ◌+◌, ◌-◌, ◌<◌, ◌≤◌, Bool, true, false, ◌&&◌, nat_le, nat_lt, refl, ap, arith}
 use Rattle.std.specs.Prelude.{◌≢◌, ◌==◌}
 use Rattle.std.proofs.lemmas.Bool.{ne_eqb}
 use Rattle.std.proofs.lemmas.Bool.Decides.{nat_tests}
@@ -16,17 +16,13 @@ use Rattle.spec_format.specs.BlockFiles.{stands_in}
 use Rattle.spec_format.specs.Claims.{Claim, claims_of, has_claim}
 use Rattle.blk_model.specs.Holding.{rest}
 use Rattle.blk_model.specs.Items.{main}
-use Rattle.blk_model.specs.State.{Object, State, object_at}
-use Rattle.spec_folder.specs.Footprint.{IsFreeBut}
-use Rattle.spec_folder.specs.Layout.{Layout}
-use Rattle.spec_folder.specs.View.{block_bytes, stored_at}
+use Rattle.spec_folder.specs.View.{block_bytes, store_of, stored_at}
 use Rattle.law_folder.proofs.claims.Inside.{writes-inside}
 use Rattle.law_state.specs.Changes.{ChangesOnly, Finds}
-use Rattle.law_state.specs.Keeping.{KeepsUncounted}
 use Rattle.law_state.proofs.Links.{data-inside}
 use Rattle.law_state.proofs.Objects.{doomed-find, unsettled-find}
 use Rattle.law_state.proofs.Writes.{block-writes}
-use Rattle.blk_eraser.specs.Cuts.{AreBlocksInHand, AreOfUnsettled, BytesBehindAreNotShown, CutZerosFindTheSame, DiffersBehind, DoomedCutZerosFindTheSame, zeros_behind}
+use Rattle.blk_eraser.specs.Cuts.{AreBlocksInHand, BytesBehindAreNotShown, CutZerosFindTheSame, DoomedCutZerosFindTheSame, zeros_behind}
 
 -- At each of the zeros.
 
@@ -77,10 +73,15 @@ stored_alike from image w n block_kind stands bytes =
     let kind : (kind_of w == external) ≡ false = ne_eqb (kind_of w) external block_kind in
     rw (stands, kind, bytes) refl
 
+-- what a store shows of data
+shown_alike : (from image : Image) (w n : ℕ) → stored_at image n w ≡ stored_at from n w → (store_of image).stored n w ≡ (store_of from).stored n w
+unfolding store_of
+shown_alike from image w n e = e
+
 pub not_shown : BytesBehindAreNotShown
 not_shown w size from image d =
     let change = writes-inside from image w (place w + size) (byte_size w - size) d.stands d.block_kind (omega arith) (let i = d.inside in omega (arith, i)) d.same in
     let bytes : (n : ℕ) → n ≤ size → range_at (block_bytes image w) (place w) n ≡ range_at (block_bytes from w) (place w) n =
     λ n few. same-range n (place w) (block_bytes image w) (block_bytes from w)
     (λ k low high. d.same.bytes (Block (file_selector w)) k (before_end (same_file (Block (file_selector w)) (Block (file_selector w))) (place w + size) (byte_size w - size) k (omega (arith, few, high)))) in
-    (λ n few. stored_alike from image w n d.block_kind (change.stands w) (bytes n few), change.shown)
+    (λ n few. shown_alike from image w n (stored_alike from image w n d.block_kind (change.stands w) (bytes n few)), change.shown)

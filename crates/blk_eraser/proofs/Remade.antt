@@ -1,5 +1,5 @@
 -- The zeros of recovery lie in what isn't kept.
-use Rattle.std.proofs.Common.{◌≡◌, ℕ, ⊎_elim, Bool, true, false, not, ◌&&◌, List, [], ◌∷◌, Some, refl, sym, ◌∙◌, ap, subst}
+use Rattle.std.proofs.Common.{◌≡◌, ℕ, ⊎_elim, Bool, true, false, not, List, [], ◌∷◌, Some, refl, sym, ◌∙◌, ap, subst}
 use Rattle.std.specs.Prelude.{◌==◌}
 use Rattle.std.specs.List.{flat_map}
 use Rattle.std.proofs.lemmas.Bool.{and_parts, cases_Bool, eqb-true}
@@ -7,7 +7,7 @@ use Rattle.spec_image.specs.Bytes.{content, spliced, zeros}
 use Rattle.spec_image.specs.Footprint.{Footprint, SameOutside}
 use Rattle.spec_image.specs.Image.{Block, External, Image, byte, bytes_of, length_of}
 use Rattle.spec_image.specs.Steps.{Delete, TrailStep, after, words}
-use Rattle.spec_image.specs.Told.{Along, Until}
+use Rattle.spec_image.specs.Told.{Along}
 use Rattle.spec_image.proofs.Runs.{until-append, until_last, until_weaker2}
 use Rattle.spec_format.specs.BlockFiles.{linked_as}
 use Rattle.spec_format.specs.Claims.{BlockOf, Claim, ExternalOf, claims_of_all, has_claim, same_claim}
@@ -25,7 +25,6 @@ use Rattle.law_recovery.proofs.MendedParts.{words-claim}
 use Rattle.blk_addr.specs.Claims.{IsClaimsOf}
 use Rattle.blk_addr.specs.declared.claim_set.Claims.{Claims}
 use Rattle.blk_alloc.specs.Rebuilding.{is_block_claimed}
-use Rattle.blk_eraser.specs.Erasing.{delete_steps}
 use Rattle.blk_eraser.specs.Laws.{EachFreed}
 use Rattle.blk_eraser.specs.Remade.{RemadeMapsMayErase, UnkeptFilesMayErase, WritesClaimedMarks}
 use Rattle.blk_eraser.proofs.Leaving.{block_bytes, bytes_after}
