@@ -198,7 +198,7 @@ fn call_behind(
     done: usize,
     calls: u64,
 ) -> Result<u64, Fail> {
-    let (mut low, mut high) = (1, calls.saturating_add(1));
+    let (mut low, mut high) = (1u64, calls.saturating_add(1));
     for _ in 0..10 {
         let middle = low.saturating_add(high.saturating_sub(low) / 2);
         let (out, _) = played(alloc, base, false, middle, text)?;
