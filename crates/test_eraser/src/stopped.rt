@@ -189,8 +189,8 @@ fn answered(out: &MemSink) -> usize {
     out.written().iter().filter(|byte| **byte == b'k').count()
 }
 
-// The first call of a session without erasing at which so many commands are answered, where there are so many calls: the first of the next
-// command, or the one behind the last.
+// Of the calls of a session without erasing, so many and fewer than 1024, the first at which so many commands are answered: the first of
+// the next command, or the one behind the last.
 fn call_behind(
     alloc: Global,
     base: &MemFolder,
