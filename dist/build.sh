@@ -1,11 +1,11 @@
 # Proves and builds the program, for ./blkcache, which reads this file where it has to. What proves is the kit's `rt ci`, in a copy of what
-# the program's proof reads: the crates that it stands on, without tests and must-fail edits. rt proves them side by side, and keeps each
+# the program's proof reads: the crates that it uses, without tests and must-fail edits. rt proves them side by side, and keeps each
 # that is proved, for later builds and for the gate.
 
 # How many bytes of the crates' folders one processor proves in a second: by it a first build is judged.
 bytes_a_second=4500
 
-# Lists the crates that the program stands on, each after those that it stands on, and last the program.
+# Lists the crates that the program uses, each after those that it uses, and last the program.
 declare -A below=() line_of=() seen=()
 order=()
 add() {
@@ -60,7 +60,7 @@ announce() {
     say "proving and building ${#order[@]} crates${why:+, since $why}, up to $at_once at once where memory holds them; $time"
 }
 
-# Lets no other build into this repository, and waits for one that goes on. What a killed one left is removed.
+# Lets no other build into this repository, and waits for one that is under way. What a killed one left is removed.
 hold() {
     local other words tries=0 it
     waited=
@@ -101,7 +101,7 @@ sweep() {
     remove "$1"
 }
 
-# Removes a build's folder. What rt started ends just behind it, and may still write there.
+# Removes a build's folder. What rt started ends just after it, and may still write there.
 remove() {
     local tries=0
     until rm -rf -- "$1" 2>/dev/null || [ $((tries += 1)) -ge 50 ]; do
@@ -165,7 +165,7 @@ run_rt() {
     [ -x "$made" ] || fail 'rt ci made no program'
 }
 
-# Ends rt, which ends what it started, and leaves no other file of the build. It goes by the process that was started last, since a signal
+# Ends rt, which ends what it started, and leaves no other file of the build. It takes the process that was started last, since a signal
 # may come before a number is noted.
 end_all() {
     trap '' INT TERM HUP

@@ -15,7 +15,7 @@ refuse() {
 is_newest() {
     local times first last
     times=$(cd "$here" && du -sc --time --time-style=+%s.%N -- "$built" crates.txt crates/*/{src,specs,proofs} 2>/dev/null) || :
-    # The first line has the time of the program, and the last that of the newest of all, each behind a size and a tab.
+    # The first line has the time of the program, and the last that of the newest of all, each after a size and a tab.
     first=${times#*$'\t'} last=${times##*$'\n'}
     first=${first%%$'\t'*} last=${last#*$'\t'}
     [ -n "$first" ] && [ "$first" = "${last%%$'\t'*}" ]

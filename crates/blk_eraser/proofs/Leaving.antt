@@ -102,7 +102,7 @@ only_freed image n place new =
 
 -- What is written over.
 
-bytes_after : (image : Image) (f : File) (place : ℕ) (bytes : List ℕ) → bytes_of (after (words f place bytes) image) f ≡ spliced place bytes (bytes_of image f)
+pub bytes_after : (image : Image) (f : File) (place : ℕ) (bytes : List ℕ) → bytes_of (after (words f place bytes) image) f ≡ spliced place bytes (bytes_of image f)
 bytes_after image f place bytes = ap (λ (i : Image). bytes_of i f) (after-words f place bytes image) ∙ ap (λ (o : Option (List ℕ)). unwrap_or o []) (with_file-same image f (written_over place bytes (image f))) ∙ bytes-written (image f) place bytes
 
 -- a byte that was 0, or that is among those that zeros are written over, is 0 then

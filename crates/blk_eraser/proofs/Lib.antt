@@ -4,3 +4,6 @@ pub mod Leaving
 pub mod Sizes
 pub mod Unlinked
 pub mod UnlinkedFiles
+pub mod Promised
+pub mod CutZeros
+pub mod Remade

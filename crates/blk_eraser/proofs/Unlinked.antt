@@ -67,21 +67,21 @@ counters_same F from image same apart = record { sizes = at 268; num_entries = a
     at p = same_word_outside F from image Index p same (λ k low high. apart k)
 
 -- the blocks of a file that pass a test
-abbrev of_blocks : ℕ → (ℕ → Bool) → Claim → Bool
+abbrev pub of_blocks : ℕ → (ℕ → Bool) → Claim → Bool
 of_blocks n which (BlockOf m b) = (n == m) && which b
 of_blocks n which (ExternalOf m) = false
 
 -- A change of the bytes of blocks.
 
 module _ (n size : ℕ) (which : ℕ → Bool) where
-  abbrev blocks : Footprint
+  abbrev pub blocks : Footprint
   blocks = block_bytes n size which
 
   spares : SparesHeaders blocks
   spares = record { bytes = λ m i small. before_header (same_file (Block n) (Block m)) (which ((i - 8192) / size)) i small }
 
   -- the blocks of the file have this size
-  abbrev IsSized : Image → Type 0
+  abbrev pub IsSized : Image → Type 0
   IsSized image = (kind : ℕ) → linked_as image n ≡ Some kind → size ≡ block_size kind
 
   covered : (image : Image) → IsSized image → Covers image blocks (of_blocks n which)
@@ -118,7 +118,7 @@ module _ (n size : ℕ) (which : ℕ → Bool) where
     at_word : (p : ℕ) → word image Index p ≡ word from Index p
     at_word p = same_word_outside blocks from image Index p same (λ k low high. refl)
 
-    only : IsSized from → ChangesOnly (of_blocks n which) from image
+    pub only : IsSized from → ChangesOnly (of_blocks n which) from image
     only sized = record {
       agree = covered-agrees blocks from image (of_blocks n which) same (covered from sized);
       headers = record {
@@ -133,19 +133,19 @@ module _ (n size : ℕ) (which : ℕ → Bool) where
 -- The zeros over blocks.
 
 module _ (image : Image) (n place : ℕ) (new : List ℕ) where
-  abbrev freed : ℕ → Bool
+  abbrev pub freed : ℕ → Bool
   freed b = nat_lt b 64896 && frees (bytes_of image (Block n)) place new b
 
-  abbrev size : ℕ
+  abbrev pub size : ℕ
   size = entry_size_of (byte image (Block n))
 
-  abbrev steps : List TrailStep
+  abbrev pub steps : List TrailStep
   steps = zeros_before_write image (Block n) place new
 
-  abbrev F : Footprint
+  abbrev pub F : Footprint
   F = block_bytes n size freed
 
-  inside : (start : Image) → Along (SameOutside F start) start steps
+  pub inside : (start : Image) → Along (SameOutside F start) start steps
   inside start =
       outside_steps F steps start start
       (zeros_within F (frees (bytes_of image (Block n)) place new) (Block n) size (length_of image (Block n)) 64896
@@ -158,7 +158,7 @@ module _ (image : Image) (n place : ℕ) (new : List ℕ) where
           ap (λ (t : Bool). t && frees (bytes_of image (Block n)) place new b) few ∙ is
 
   -- what is said of each block that is freed
-  said : (P : ℕ → Type 0) → EachFreed P image n place new → (m b : ℕ) → of_blocks n freed (BlockOf m b) ≡ true → (n ≡ m) × P b
+  pub said : (P : ℕ → Type 0) → EachFreed P image n place new → (m b : ℕ) → of_blocks n freed (BlockOf m b) ≡ true → (n ≡ m) × P b
   said P each m b e =
       let p = and_parts (n == m) (freed b) e in
       let q = and_parts (nat_lt b 64896) (frees (bytes_of image (Block n)) place new b) p.1 in

@@ -19,7 +19,7 @@ use Rattle.blk_eraser.proofs.Unlinked.{counters_same}
 
 module _ (from : Image) (file : File) where
   -- nothing but the file differs, and it is there as before
-  abbrev Moment : Image → Type 0
+  abbrev pub Moment : Image → Type 0
   Moment now = SameOutside (whole file) from now × (has_file now file ≡ has_file from file)
 
   range_whole : (place m : ℕ) → IsWithin (range file place m) (whole file)
@@ -35,7 +35,7 @@ module _ (from : Image) (file : File) where
     at : (now : Image) → own now → Moment now
     at now same = (outside_wider (range file place (length bytes)) (whole file) from now (range_whole place (length bytes)) same, same.files file refl)
 
-    written : Along Moment from (words file place bytes)
+    pub written : Along Moment from (words file place bytes)
     written = until_weaker2 own Moment own Moment (words file place bytes) from at at (words_inside file place bytes from)
 
   cut : (size : ℕ) → has_file from file ≡ true → Along Moment from (length_steps from file size)

@@ -1,12 +1,12 @@
 -- What erasing leaves, at each step of it.
-use Rattle.std.specs.Prelude.{◌≡◌, ℕ, ◌+◌, ◌-◌, ◌/◌, ◌<◌, ◌≤◌, ◌&&◌, true, false, nat_le, List, length, None}
+use Rattle.std.specs.Prelude.{◌≡◌, ◌≢◌, ℕ, ◌+◌, ◌-◌, ◌/◌, ◌<◌, ◌≤◌, ◌&&◌, true, false, nat_le, List, length, None}
 use Rattle.spec_image.specs.Bytes.{zeros}
 use Rattle.spec_image.specs.Footprint.{Footprint, SameOutside, either, range, whole}
 use Rattle.spec_image.specs.Image.{File, Block, External, Image, byte, bytes_of, has_file, length_of, same_file}
 use Rattle.spec_image.specs.Steps.{after, words}
 use Rattle.spec_image.specs.Told.{Along, Until}
-use Rattle.spec_format.specs.Address.{header_size}
-use Rattle.spec_format.specs.BlockFiles.{most_blocks, IsWellFormed}
+use Rattle.spec_format.specs.Address.{external, external_number, header_size, kind_of}
+use Rattle.spec_format.specs.BlockFiles.{is_among, most_blocks, IsWellFormed}
 use Rattle.spec_format.specs.Claims.{BlockOf, ExternalOf, claims_of_all, has_claim}
 use Rattle.spec_format.specs.Growth.{StaysWhole}
 use Rattle.spec_format.specs.Headers.{entry_size_of}
@@ -15,6 +15,7 @@ use Rattle.blk_model.specs.State.{State}
 use Rattle.spec_folder.specs.Layout.{Layout, Represents}
 use Rattle.spec_folder.specs.View.{view_of}
 use Rattle.law_state.specs.Changes.{KeepsWith, SameCounters, StillFinds}
+use Rattle.blk_alloc.specs.Owning.{FreesInProgress, IsFreed}
 use Rattle.blk_eraser.specs.Erasing.{delete_steps, frees, length_steps, place_of_block, write_steps, zeros_before_write}
 
 -- each byte of block b is 0, in a file whose blocks have so many bytes
@@ -93,3 +94,30 @@ abbrev pub UnlinkedFilesMayBeErased : Type 0
 UnlinkedFilesMayBeErased = (unlinked : List ℕ) (image : Image) (n : ℕ) → has_claim (claims_of_all unlinked) (ExternalOf n) ≡ true
     → Until (KeepsTheSame unlinked image) (λ now. Unit {0}) image (delete_steps image (External n))
     × ((size : ℕ) → has_file image (External n) ≡ true → Along (KeepsTheSame unlinked image) image (length_steps image (External n) size))
+
+-- What the calls that free promise is what the laws ask.
+
+-- a write to a map: before it each block of the file has its mark of one folder, and after it its mark of another
+pub record WritesMarks (n : ℕ) (from done image : Image) (place : ℕ) (new : List ℕ) : Type 0 where
+  pub before : (b : ℕ) → b < most_blocks → is_block_marked image n b ≡ is_block_marked from n b
+  pub behind : (b : ℕ) → b < most_blocks → is_block_marked (after (words (Block n) place new) image) n b ≡ is_block_marked done n b
+
+-- what `free` of blk_alloc promises of an unlinked address of blocks: the image in which it writes to the map is one of those in its midst, and with the marks that it writes it is done
+pub record FreesAsPromised (unlinked : List ℕ) (w : ℕ) (from image : Image) (n place : ℕ) (new : List ℕ) : Type 0 where
+  pub done : Image
+  pub among : is_among unlinked w ≡ true
+  pub some : w ≢ 0
+  pub block_kind : kind_of w ≢ external
+  pub midst : FreesInProgress w from image
+  pub freed : IsFreed from w done
+  pub marks : WritesMarks n from done image place new
+
+-- then the write frees blocks of unlinked words alone, and what was durable when the call began is found at each of the zeros before it
+abbrev pub PromisedFreesMayErase : Type 0
+PromisedFreesMayErase = (unlinked : List ℕ) (w : ℕ) (from image : Image) (n place : ℕ) (new : List ℕ) → FreesAsPromised unlinked w from image n place new
+    → FreesUnlinked unlinked image n place new × Along (StillFinds unlinked from) image (zeros_before_write image (Block n) place new)
+
+-- the external file of an unlinked address: before each step of its deletion the folder keeps the same
+abbrev pub PromisedDeletionsMayErase : Type 0
+PromisedDeletionsMayErase = (unlinked : List ℕ) (w : ℕ) (image : Image) → is_among unlinked w ≡ true → w ≢ 0 → kind_of w ≡ external
+    → Until (KeepsTheSame unlinked image) (λ now. Unit {0}) image (delete_steps image (External (external_number w)))

@@ -1,6 +1,9 @@
 // What erasing leaves, at each step of it.
 ghost use Rattle.blk_eraser.specs.Laws.{CutBytesAreBlank, CutsChangeOneFile, FreedBlocksAreBlank, OnlyFreedBlocksChange};
 ghost use Rattle.blk_eraser.specs.Laws.{UnownedBlocksMayBeErased, UnlinkedBlocksMayBeErased, UnlinkedFilesMayBeErased, ErasingFindsTheSame};
+ghost use Rattle.blk_eraser.specs.Laws.{PromisedFreesMayErase, PromisedDeletionsMayErase};
+ghost use Rattle.blk_eraser.specs.Cuts.{BytesAfterTheEndAreNotShown, CutZerosFindTheSame, DoomedCutZerosFindTheSame};
+ghost use Rattle.blk_eraser.specs.Remade.{RemadeMapsMayErase, UnkeptFilesMayErase};
 
 /// At each step of a write inside a header, a block that was marked and isn't is full of zeros. So a crash leaves each
 /// block that is freed marked, or erased whole.
@@ -41,4 +44,35 @@ pub fn unlinked_blocks_may_be_erased()
 /// unlinked, and what the index counts: before each step of a deletion, and at each step of a cut.
 pub fn unlinked_files_may_be_erased()
     ensures { UnlinkedFilesMayBeErased }
+{}
+
+/// A call that promises what `free` of `blk_alloc` promises, of an unlinked address, frees blocks of unlinked words alone by its write to
+/// the map, and what was durable when it began is found at each of the zeros before that write.
+pub fn promised_frees_may_erase()
+    ensures { PromisedFreesMayErase }
+{}
+
+/// The zeros before the deletion of the external file of an unlinked address leave each state that a folder keeps.
+pub fn promised_deletions_may_erase()
+    ensures { PromisedDeletionsMayErase }
+{}
+
+/// While a stream of an object that is dirty, or of a doomed one, is cut within its blocks, what was durable is found at each of the
+/// zeros from the new end to the end of the blocks.
+pub fn cut_zeros_find_the_same()
+    ensures unsettled { CutZerosFindTheSame }
+    ensures doomed { DoomedCutZerosFindTheSame }
+{}
+
+/// Bytes of a stream's blocks after its end are shown by nothing: two folders that differ there alone show the same data of each length
+/// up to the end, and the same of all other addresses.
+pub fn bytes_after_the_end_are_not_shown()
+    ensures { BytesAfterTheEndAreNotShown }
+{}
+
+/// Where recovery makes a map anew by the claims of what is kept, and deletes an external file that nothing that is kept claims, the same
+/// is kept and found at each of the zeros before.
+pub fn recovery_may_erase()
+    ensures maps { RemadeMapsMayErase }
+    ensures files { UnkeptFilesMayErase }
 {}

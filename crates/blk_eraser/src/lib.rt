@@ -12,6 +12,8 @@ mod zeros;
 
 pub use eraser::Eraser;
 pub use laws::{
-    cut_bytes_are_blank, cuts_change_one_file, freed_blocks_are_blank, only_freed_blocks_change,
+    bytes_after_the_end_are_not_shown, cut_bytes_are_blank, cut_zeros_find_the_same,
+    cuts_change_one_file, freed_blocks_are_blank, only_freed_blocks_change,
+    promised_deletions_may_erase, promised_frees_may_erase, recovery_may_erase,
     unlinked_blocks_may_be_erased, unlinked_files_may_be_erased, unowned_blocks_may_be_erased,
 };

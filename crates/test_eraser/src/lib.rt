@@ -7,3 +7,5 @@ mod erased;
 mod failing;
 #[cfg(test)]
 mod files;
+#[cfg(test)]
+mod stopped;
