@@ -1,4 +1,4 @@
-//! The tests of whole runs: the word `count`, sessions, and sparse data, with what is printed, writes at the borders of parts and blocks, stops at words, and folder calls.
+//! The tests of whole runs: the word `count`, sessions, and sparse data, with writes at the borders of parts and blocks, and stops at words.
 #![tactic(auto)]
 
 #[cfg(test)]
@@ -9,11 +9,5 @@ mod long_session;
 mod playing;
 #[cfg(test)]
 mod sparse_borders;
-#[cfg(test)]
-mod sparse_calls;
-#[cfg(test)]
-mod sparse_rows;
-#[cfg(test)]
-mod sparse_sessions;
 #[cfg(test)]
 mod sparse_stops;

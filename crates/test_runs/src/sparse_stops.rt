@@ -1,10 +1,16 @@
 // Sessions on sparse data that are stopped, and openings of what they left that are stopped too.
-use crate::sparse_sessions::{Held, LIMITS, MOMENT, held};
+use blk_audit::ScanFault;
 use blk_cache::Cache;
 use blk_io::{MemFolder, MemSink, NoMemory, SilentFolder};
 use blk_model::{Command, Limits};
 use std::alloc::Global;
 use std::test::Fail;
+use test_folders::folders::audited;
+use test_folders::found::found;
+use test_sessions::sessions::{Held, LIMITS};
+
+// The moment of each command.
+const MOMENT: u64 = 100;
 
 // Limits with room for three items.
 const THREE_ITEMS: Limits = Limits {
@@ -116,6 +122,12 @@ fn stopped(f: &MemFolder, steps: u64) -> Result<MemFolder, NoMemory> {
         Some(all) if steps <= all => f.image(steps),
         _ => Err(NoMemory),
     }
+}
+
+// Audits a folder. Gives what it holds.
+fn held(alloc: Global, f: &mut SilentFolder<MemFolder>) -> Result<Held, ScanFault> {
+    let scan = audited(alloc, f)?;
+    Ok((scan.items(), scan.bytes(), found(f, &scan)?))
 }
 
 // What is held after so many steps.
