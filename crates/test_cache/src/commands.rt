@@ -1,23 +1,12 @@
-// Commands on a cache of many objects, and on keys of one bucket.
+// Commands on a cache of many objects.
 use blk_cache::StepFault;
 use blk_io::{Failed, FileId, Folder};
-use blk_model::{Answer, Command, Limits, Refusal};
+use blk_model::{Answer, Command, Refusal};
 use itoa::Buffer;
 use std::alloc::Global;
 use std::test::Fail;
 use test_folders::stopping::{Mem, empty};
 use test_sessions::sessions::{LIMITS, Session};
-
-// Limits with space for three items.
-const THREE_ITEMS: Limits = Limits {
-    max_bytes: 83_886_080,
-    max_items: 3,
-};
-
-// Three keys of one bucket, and another key.
-const KEYS: [&[u8]; 3] = [b"iev", b"jio", b"nab"];
-
-const OTHER: &[u8] = b"other";
 
 // Makes an object by a handle.
 fn create(session: &mut Session, handle: u16, key: &[u8]) -> Result<(Answer, u64), StepFault> {
@@ -76,45 +65,5 @@ fn objects_are_found_by_their_chains(rt: HostRuntime) -> Result<(), Fail> {
     let (answer, calls) = open(&mut session, 0, b"k2000")?;
     assert_eq!(rt; answer, Answer::Done);
     assert!(rt; calls <= 41);
-    Ok(())
-}
-
-// A session with space for three items, in which the three keys were made and closed, one after another.
-fn three_objects(alloc: Global) -> Result<Session, Fail> {
-    let mut session = Session::over(alloc, empty(alloc), THREE_ITEMS)?;
-    for key in KEYS {
-        let (_, _) = create(&mut session, 0, key)?;
-        let (_, _) = close(&mut session, 0)?;
-    }
-    Ok(session)
-}
-
-#[test]
-fn the_middle_of_three_keys_of_a_bucket_is_evicted(rt: HostRuntime) -> Result<(), Fail> {
-    let mut session = three_objects(rt.alloc())?;
-    let [first, middle, last] = KEYS;
-    let (_, _) = open(&mut session, 1, first)?;
-    let (answer, _) = create(&mut session, 0, OTHER)?;
-    assert_eq!(rt; answer, Answer::Done);
-    let (answer, _) = open(&mut session, 2, middle)?;
-    assert_eq!(rt; answer, Answer::Refused(Refusal::Missing));
-    for (handle, key) in [(3, first), (4, last), (5, OTHER)] {
-        let (answer, _) = open(&mut session, handle, key)?;
-        assert_eq!(rt; answer, Answer::Done);
-    }
-    let printed = b"ok\nok\nok\nok\nok\nok\nok\nevicted jio\nok\nrefused 3 Missing\nok\nok\nok\n";
-    assert_eq!(rt; session.out.written(), printed.as_slice());
-
-    // All three are open: there is no space for one more.
-    let (answer, _) = create(&mut session, 6, middle)?;
-    assert_eq!(rt; answer, Answer::Refused(Refusal::Full));
-    let (totals, _) = session.step(&Command::Total)?;
-    assert_eq!(rt;
-        totals,
-        Answer::Totals {
-            items: 3,
-            bytes: 11
-        }
-    );
     Ok(())
 }

@@ -1,15 +1,11 @@
-//! The tests of the opening of a folder, and of commands by the lines of a script.
+//! The tests of the opening and the end of a cache, of commands on many objects, and of how the parts of an object go.
 #![tactic(auto)]
 
 #[cfg(test)]
-mod commands;
+mod closing;
 #[cfg(test)]
-mod evicting;
+mod commands;
 #[cfg(test)]
 mod opening;
 #[cfg(test)]
 mod parts;
-#[cfg(test)]
-mod rows;
-#[cfg(test)]
-mod stops;

@@ -72,7 +72,7 @@ fn put_parts(f: &mut Mem, bits: u32) -> Result<(), Failed> {
 }
 
 // A folder with the object and its parts.
-pub(crate) fn sparse_folder(alloc: Global) -> Result<Mem, Fail> {
+fn sparse_folder(alloc: Global) -> Result<Mem, Fail> {
     let mut f = empty(alloc);
     make(&mut f, 7)?;
     give_blocks(&mut f, 1024, [1024, 64, 16, 4])?;
@@ -215,56 +215,6 @@ fn calls_of(alloc: Global, going: Going, bits: u32, others: u8) -> Result<(u64, 
         Going::ByRecord => children_dropped(&mut f, true)?.0,
     };
     Ok((items, f.calls().wrapping_sub(start)))
-}
-
-#[test]
-fn parts_are_listed_and_go_alone_or_with_their_object(rt: HostRuntime) -> Result<(), Fail> {
-    let mut session = Session::over(rt.alloc(), sparse_folder(rt.alloc())?, LIMITS)?;
-    session.run(&[
-        b"list",
-        b"open 0 v",
-        b"size 0 1",
-        b"size 0 0",
-        b"write 0 1 0 61",
-        b"write 0 0 0 6162",
-        b"list",
-        b"trim 9000",
-        b"total",
-        b"close 0",
-        b"trim 0",
-        b"total",
-    ])?;
-    let printed =
-        b"part v 1 1024\npart v 0 1024\nsparse v 0\nend 3\nok\nrefused 8 SparseStream\nsize 0\n\
-        refused 8 SparseStream\nok 2\nsparse v 2\npart v 1 1024\npart v 0 1024\nend 3\n\
-        evicted v part 0\nevicted v part 1\nok 2\ntotal 1 8259\nok\nevicted v\nok 1\ntotal 0 0\n";
-    assert_eq!(rt; session.out.written(), printed.as_slice());
-    Ok(())
-}
-
-#[test]
-fn parts_go_with_their_object(rt: HostRuntime) -> Result<(), Fail> {
-    let mut session = Session::over(rt.alloc(), sparse_folder(rt.alloc())?, LIMITS)?;
-    session.run(&[b"trim 0", b"total"])?;
-    let printed = b"evicted v\nevicted v part 1\nevicted v part 0\nok 3\ntotal 0 0\n";
-    assert_eq!(rt; session.out.written(), printed.as_slice());
-    let mut session = Session::over(rt.alloc(), sparse_folder(rt.alloc())?, LIMITS)?;
-    session.run(&[
-        b"open 0 v",
-        b"doom 0",
-        b"list",
-        b"total",
-        b"create 1 v",
-        b"close 0",
-        b"total",
-        b"list",
-    ])?;
-    let printed = b"ok\nok\nend 0\ntotal 1 8257\nok\nok\ntotal 1 1\nmain v 0 0 0\nend 1\n";
-    assert_eq!(rt; session.out.written(), printed.as_slice());
-    let mut session = Session::over(rt.alloc(), sparse_folder(rt.alloc())?, LIMITS)?;
-    session.run(&[b"doomkey v", b"total"])?;
-    assert_eq!(rt; session.out.written(), b"ok\ntotal 0 0\n".as_slice());
-    Ok(())
 }
 
 #[test]

@@ -1,5 +1,4 @@
-//! The tests of whole runs: the subcommand `count`, sessions, and sparse data, with what is printed, writes at the borders of parts and blocks, crashes at words, and
-//! folder calls.
+//! The tests of whole runs: the subcommand `count`, sessions, and sparse data, with writes at the borders of parts and blocks, and crashes at words.
 #![tactic(auto)]
 
 #[cfg(test)]
@@ -10,11 +9,5 @@ mod long_session;
 mod playing;
 #[cfg(test)]
 mod sparse_borders;
-#[cfg(test)]
-mod sparse_calls;
-#[cfg(test)]
-mod sparse_rows;
-#[cfg(test)]
-mod sparse_sessions;
 #[cfg(test)]
 mod sparse_stops;

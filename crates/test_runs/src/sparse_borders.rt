@@ -1,10 +1,11 @@
 // Writes at the borders of parts and blocks.
-use crate::sparse_sessions::Session;
 use blk_cache::StepFault;
 use blk_io::MemSink;
 use blk_model::{Answer, Command, Refusal};
 use std::alloc::Global;
 use std::test::Fail;
+use test_folders::stopping::empty;
+use test_sessions::sessions::{LIMITS, Session};
 
 // The most bytes of a write, and where sparse data ends.
 const MOST: u64 = 1_048_576;
@@ -48,7 +49,7 @@ const CASES: [Case; 28] = [
 
 // A session with a new object.
 fn with_object(alloc: Global) -> Result<Session, Fail> {
-    let mut session = Session::new(alloc)?;
+    let mut session = Session::over(alloc, empty(alloc), LIMITS)?;
     session.step(&Command::Create {
         handle: 0,
         key: b"v",

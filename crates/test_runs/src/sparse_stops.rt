@@ -1,10 +1,16 @@
 // Sessions on sparse data that crash, and openings of what they left that crash too.
-use crate::sparse_sessions::{Held, LIMITS, MOMENT, held};
+use blk_audit::ScanFault;
 use blk_cache::Cache;
 use blk_io::{MemFolder, MemSink, NoMemory, SilentFolder};
 use blk_model::{Command, Limits};
 use std::alloc::Global;
 use std::test::Fail;
+use test_folders::folders::audited;
+use test_folders::found::found;
+use test_sessions::sessions::{Held, LIMITS};
+
+// The moment of each command.
+const MOMENT: u64 = 100;
 
 // Limits with space for three items.
 const THREE_ITEMS: Limits = Limits {
@@ -65,8 +71,8 @@ const COMMANDS: [Command<'static>; 16] = [
     Command::List,
 ];
 
-// An object with two parts that is closed, and one that is made where there is space for three items: the first goes with its parts,
-// which the read of both has put in front of it.
+// An object with two parts that is closed, and one that is made where there is room for three items: the first goes with its parts, which
+// the read of both has put in front of it.
 const EVICTING: [Command<'static>; 6] = [
     Command::Create {
         handle: 0,
@@ -94,7 +100,7 @@ const EVICTING: [Command<'static>; 6] = [
     },
 ];
 
-// A folder in which some commands were done, with its write trace.
+// A folder in which some commands were done, with its trail.
 fn done(alloc: Global, limits: Limits, commands: &[Command<'_>]) -> Result<MemFolder, Fail> {
     let mut f = SilentFolder::new(MemFolder::new(alloc));
     let mut cache = Cache::start(alloc, &mut f, limits, MOMENT)?;
@@ -105,7 +111,7 @@ fn done(alloc: Global, limits: Limits, commands: &[Command<'_>]) -> Result<MemFo
     Ok(f.into_inner())
 }
 
-// The number of steps of a folder with a write trace.
+// The number of steps of a folder with a trail.
 fn steps_of(f: &MemFolder) -> u64 {
     f.steps().unwrap_or(0)
 }
@@ -118,14 +124,19 @@ fn stopped(f: &MemFolder, steps: u64) -> Result<MemFolder, NoMemory> {
     }
 }
 
+// Audits a folder. Gives what it holds.
+fn held(alloc: Global, f: &mut SilentFolder<MemFolder>) -> Result<Held, ScanFault> {
+    let scan = audited(alloc, f)?;
+    Ok((scan.items(), scan.bytes(), found(f, &scan)?))
+}
+
 // What is held after so many steps.
 fn held_at(alloc: Global, f: &MemFolder, steps: u64) -> Result<Held, Fail> {
     let mut image = SilentFolder::new(stopped(f, steps)?);
     Ok(held(alloc, &mut image)?)
 }
 
-// What is held after so many steps, and where the folder is opened there; and the opened folder, with the write trace of the
-// opening.
+// What is held after so many steps, and where the folder is opened there; and the opened folder, with the trail of the opening.
 fn opened_at(alloc: Global, f: &MemFolder, steps: u64) -> Result<(Held, Held, MemFolder), Fail> {
     let mut image = SilentFolder::new(stopped(f, steps)?);
     let before = held(alloc, &mut image)?;

@@ -42,16 +42,6 @@ impl Session {
         })
     }
 
-    /// The session, where so many more steps pass.
-    pub fn stopping(self, steps: u64) -> Session {
-        let Session { f, cache, out } = self;
-        Session {
-            f: again(f, steps),
-            cache,
-            out,
-        }
-    }
-
     /// Does a command. Gives its answer and the number of its folder calls.
     pub fn step(&mut self, command: &Command) -> Result<(Answer, u64), StepFault> {
         let start = self.f.calls();
@@ -82,22 +72,6 @@ impl Session {
             self.line(line)?;
         }
         Ok(())
-    }
-
-    /// Writes so many bytes of one value over a stream.
-    pub fn write(&mut self, handle: u16, stream: u8, count: usize) -> Result<u64, StepFault> {
-        let bytes = [b'z'; 300];
-        if count > 300 {
-            return Err(StepFault::Device);
-        }
-        let (_, calls) = self.step(&Command::Write {
-            handle,
-            stream,
-            offset: 0,
-            cut: false,
-            bytes: &bytes[..count],
-        })?;
-        Ok(calls)
     }
 }
 

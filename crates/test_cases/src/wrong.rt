@@ -1,0 +1,10 @@
+// What is wrong with a line.
+
+/// A line can't be played. It isn't let go without being told.
+pub(crate) struct Wrong {}
+
+impl<E: Drop> From<E> for Wrong {
+    fn from(_: E) -> Wrong {
+        Wrong {}
+    }
+}
