@@ -28,14 +28,14 @@ returns-in_err-erase_block-clause-prefix g c =
 pub loop-block-preserved : goal.loop-block-preserved
 loop-block-preserved g c =
     elim c.if-is_freed.branch [
-      | then-is_freed+in_ok-erase_block w ↦ rw w.f-is (record {
+      | then-is_freed+in_ok-erase_block w ↦ rw w.folder-is (record {
         below = omega (arith, c.loop-block-test.true);
         known = w.erase_block.ensures.known;
         applies =
             subst (Applies (g.F.Folder.told c.args.folder.now) (g.F.Folder.told w.erase_block.new.folder)) (sym (over_one (frees c.args.header.now c.args.at c.args.bytes.now) (file_of c.args.file) c.block_size-size.result c.args.long c.loop-block.block (sym c.is_freed.ensures ∙ w.if-is_freed.true)))
             (grows_then c.loop-block.invariant.applies w.in_ok-erase_block.ensures.steps);
       })
-      | else-is_freed w ↦ rw w.f-is (record {
+      | else-is_freed w ↦ rw w.folder-is (record {
         below = omega (arith, c.loop-block-test.true);
         known = c.loop-block.invariant.known;
         applies =

@@ -32,22 +32,22 @@ loop-i-preserved g c = elim c.if-is_next.branch [
   | then-is_next w ↦
       record {
         taken =
-            subst (λ (t : Told). HasTaken (g.F.Folder.told c.args.folder.now) t c.args.files.now c.args.walked.now c.args.kept.now (c.loop-i.i + 1) c.if-is_next.passed) (ap g.F.Folder.told (sym w.f-is))
+            subst (λ (t : Told). HasTaken (g.F.Folder.told c.args.folder.now) t c.args.files.now c.args.walked.now c.args.kept.now (c.loop-i.i + 1) c.if-is_next.passed) (ap g.F.Folder.told (sym w.folder-is))
             (subst (λ (p : ℕ). HasTaken (g.F.Folder.told c.args.folder.now) (g.F.Folder.told c.loop-i.folder) c.args.files.now c.args.walked.now c.args.kept.now (c.loop-i.i + 1) p) (sym w.passed-is)
             (taken-pass (g.F.Folder.told c.args.folder.now) (g.F.Folder.told c.loop-i.folder) c.args.files.now c.args.walked.now c.args.kept.now c.loop-i.i c.loop-i.passed c.index-walked-i.result c.loop-i.invariant.taken c.loop-i-test.true c.index-walked-i.is
             (sym c.is_next.ensures ∙ w.if-is_next.true)));
         few = let one = c.loop-i.invariant.few in let is = w.passed-is in omega (arith, one, is);
-        later = let one = c.loop-i.invariant.later in subst (λ f. g.F.Folder.faults c.args.folder.now ≤ g.F.Folder.faults f) (sym w.f-is) one;
+        later = let one = c.loop-i.invariant.later in subst (λ f. g.F.Folder.faults c.args.folder.now ≤ g.F.Folder.faults f) (sym w.folder-is) one;
       }
   | else-is_next+in_ok-remove w ↦
       record {
         taken =
-            subst (λ (t : Told). HasTaken (g.F.Folder.told c.args.folder.now) t c.args.files.now c.args.walked.now c.args.kept.now (c.loop-i.i + 1) c.if-is_next.passed) (ap g.F.Folder.told (sym w.f-is))
+            subst (λ (t : Told). HasTaken (g.F.Folder.told c.args.folder.now) t c.args.files.now c.args.walked.now c.args.kept.now (c.loop-i.i + 1) c.if-is_next.passed) (ap g.F.Folder.told (sym w.folder-is))
             (subst (λ (p : ℕ). HasTaken (g.F.Folder.told c.args.folder.now) (g.F.Folder.told w.remove.new.f) c.args.files.now c.args.walked.now c.args.kept.now (c.loop-i.i + 1) p) (sym w.passed-is)
             (taken-out (g.F.Folder.told c.args.folder.now) (g.F.Folder.told c.loop-i.folder) c.args.files.now c.args.walked.now c.args.kept.now c.loop-i.i c.loop-i.passed c.index-walked-i.result c.loop-i.invariant.taken c.loop-i-test.true
             c.index-walked-i.is (sym c.is_next.ensures ∙ w.if-is_next.false) (g.F.Folder.told w.remove.new.f) w.in_ok-remove.ensures.steps w.remove.ensures.prefix.silent w.remove.ensures.is_open));
         few = let one = c.loop-i.invariant.few in let is = w.passed-is in omega (arith, one, is);
-        later = let one = c.loop-i.invariant.later in let other = w.remove.ensures.later in subst (λ f. g.F.Folder.faults c.args.folder.now ≤ g.F.Folder.faults f) (sym w.f-is) (omega (arith, one, other));
+        later = let one = c.loop-i.invariant.later in let other = w.remove.ensures.later in subst (λ f. g.F.Folder.faults c.args.folder.now ≤ g.F.Folder.faults f) (sym w.folder-is) (omega (arith, one, other));
       }
 ]
 
