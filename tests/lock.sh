@@ -64,7 +64,7 @@ is 'behind a session that was killed' "0 $old"$'\nend 5' "$status $said"
 puts() {
     local lane=$1 number
     for number in 1 2 3 4 5 6; do
-        echo "$lane$number" | timeout 60 "$program" "$folder" put "new$lane$number" 0 >/dev/null 2>&1
+        echo "$lane$number" | timeout 700 "$program" "$folder" put "new$lane$number" 0 >/dev/null 2>&1
         echo "$? new$lane$number"
     done >"$room/lane$lane"
 }
@@ -86,7 +86,7 @@ four_at_once() {
     is "$1: the old ones are there" "0 0" "$status $?"
 }
 four_at_once 'four at once'
-export BLKCACHE_WAIT=50
+export BLKCACHE_WAIT=600
 four_at_once 'four at once that wait'
 is 'four at once that wait: none is refused' 24 "$(count_like '0 *' <"$room/lanes")"
 unset BLKCACHE_WAIT

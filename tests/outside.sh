@@ -165,6 +165,32 @@ for what in 'gone' 'moved away' 'made anew' 'given a second name'; do
     done
 done
 
+# An external file is closed when another is used: it is asked for its name then, and the command fails. So is one that is to be deleted,
+# whether it is open or not.
+for what in 'a hard link' 'a link' 'a link to nothing' 'a FIFO' nothing; do
+    for line in 'write 1 0 0 6162' 'doomkey b' 'doom 0'; do
+        name=f_000001
+        [ "$line" != 'doomkey b' ] || name=f_000002
+        rm -rf "$room/try"
+        cp -a "$room/two" "$room/try"
+        talk
+        asked 'open 0 a'
+        [ "$line" = 'doomkey b' ] || asked 'open 1 b'
+        asked 'write 0 0 0 6162'
+        if [ "$what" = nothing ]; then
+            rm "$room/try/$name"
+        else
+            place "$what" "$room/try/$name"
+        fi
+        before=$(both "$elsewhere")
+        asked "$line"
+        [ "$line" != 'doom 0' ] || asked 'close 0'
+        ends
+        is "$what as $name during a session, before $line" 3 "$status"
+        is "$what as $name during a session, before $line: what is outside" "$before" "$(both "$elsewhere")"
+    done
+done
+
 # What has the name of a file that a session is about to make is not taken over, and what it leads to is not made.
 for what in 'a hard link' 'a link' 'a link to nothing' 'a FIFO'; do
     rm -rf "$room/try"

@@ -113,6 +113,16 @@ impl OpenFiles {
         }
     }
 
+    // The file, where it is open.
+    fn get(&self, file: FileId) -> Option<&OpenFile> {
+        match file {
+            FileId::Index => self.index.as_ref(),
+            FileId::Block(n) => self.blocks[usize::from(n)].as_ref(),
+            FileId::External(n) if n == self.number => self.external.as_ref(),
+            FileId::External(_) => None,
+        }
+    }
+
     // The place of a file, with nothing where it is not open. The place of an external file closes another one.
     fn place(&mut self, file: FileId) -> &mut Option<OpenFile> {
         match file {
@@ -154,6 +164,7 @@ impl<R: Files<File = File> + Drop> Disk<R> {
     ///
     /// It fails where what was opened is not the folder's own file under its name.
     pub fn open(&mut self, file: FileId) -> io::Result<&mut OpenFile> {
+        self.check_other(file)?;
         let place = self.open.place(file);
         match place {
             Some(open) => Ok(open),
@@ -171,6 +182,7 @@ impl<R: Files<File = File> + Drop> Disk<R> {
 
     /// Makes a file that is not there, with no bytes, which only its owner may read and write. It fails where there is one.
     pub fn create(&mut self, file: FileId) -> io::Result<&mut OpenFile> {
+        self.check_other(file)?;
         let name = name_of(self.alloc, file)?;
         let made = OpenOptions::new()
             .read(true)
@@ -187,9 +199,12 @@ impl<R: Files<File = File> + Drop> Disk<R> {
         Ok(self.open.place(file).insert(made))
     }
 
-    /// Removes a file that is there, and closes it.
+    /// Removes a file that is there, and closes it. It fails where its name has something else.
     pub fn remove(&mut self, file: FileId) -> io::Result<()> {
+        self.check_other(file)?;
+        self.check_open(file)?;
         let name = name_of(self.alloc, file)?;
+        own_identity(&self.rt, &self.held, name.as_str())?;
         again(|| fs::remove_file(&self.rt, name.as_str()))?;
         *self.open.place(file) = None;
         Ok(())
@@ -199,22 +214,28 @@ impl<R: Files<File = File> + Drop> Disk<R> {
     ///
     /// It fails where one isn't: what was written to it may not be in the folder.
     pub fn check(&self) -> io::Result<()> {
-        if let Some(open) = &self.open.index {
-            self.check_file(FileId::Index, open)?;
-        }
+        self.check_open(FileId::Index)?;
         for number in 0..=u8::MAX {
-            if let Some(open) = &self.open.blocks[usize::from(number)] {
-                self.check_file(FileId::Block(number), open)?;
-            }
+            self.check_open(FileId::Block(number))?;
         }
-        if let Some(open) = &self.open.external {
-            self.check_file(FileId::External(self.open.number), open)?;
-        }
-        Ok(())
+        self.check_open(FileId::External(self.open.number))
     }
 
-    // Asks whether an open file is the folder's own under its name.
-    fn check_file(&self, file: FileId, open: &OpenFile) -> io::Result<()> {
+    // Asks the same of an external file that is closed for this one.
+    fn check_other(&self, file: FileId) -> io::Result<()> {
+        match file {
+            FileId::External(n) if n != self.open.number => {
+                self.check_open(FileId::External(self.open.number))
+            }
+            _ => Ok(()),
+        }
+    }
+
+    // Asks the same of a file, where it is open.
+    fn check_open(&self, file: FileId) -> io::Result<()> {
+        let Some(open) = self.open.get(file) else {
+            return Ok(());
+        };
         let name = name_of(self.alloc, file)?;
         own_metadata(&self.rt, &self.held, name.as_str(), open.file())?;
         Ok(())
@@ -226,13 +247,20 @@ impl<R: Files<File = File> + Drop> Disk<R> {
 fn own_metadata<R: Files>(rt: &R, held: &Held, name: &str, file: &File) -> io::Result<Metadata> {
     let metadata = metadata_of(file)?;
     let opened = Identity::of(&metadata);
-    if !opened.is_own(held.device()) {
-        return Err(io::Error::from(ErrorKind::InvalidData));
-    }
-    // A link is not followed here.
-    let named = again(|| fs::symlink_metadata(rt, name))?;
-    if opened.is_same(&Identity::of(&named)) {
+    let named = own_identity(rt, held, name)?;
+    if opened.is_own(held.device()) && opened.is_same(&named) {
         Ok(metadata)
+    } else {
+        Err(io::Error::from(ErrorKind::InvalidData))
+    }
+}
+
+// What the machine says of the file that a name has. It fails unless it is a regular file with one name, on the folder's device.
+fn own_identity<R: Files>(rt: &R, held: &Held, name: &str) -> io::Result<Identity> {
+    // A link is not followed here.
+    let named = Identity::of(&again(|| fs::symlink_metadata(rt, name))?);
+    if named.is_own(held.device()) {
+        Ok(named)
     } else {
         Err(io::Error::from(ErrorKind::InvalidData))
     }

@@ -39,7 +39,7 @@ impl<R: Files<File = File> + AllocGlobal + Clone + Drop> RealFolder<R> {
 
     /// Closes the files and lets the folder go.
     ///
-    /// The index and the block files are open from their first use on, so their names are asked here once more.
+    /// The names of the files that are open are asked once more: that of an external file was asked when another took its place.
     ///
     /// # Errors
     /// The machine's, and `InvalidData` where a file that is open is no longer the folder's own under its name: it was removed, moved,
