@@ -75,13 +75,14 @@ hindrance() (
         END { if (!pairs) say("it has no pair") }' "$2"
 )
 
-for folder in "$top"/edits/*/; do
-    name=$(basename "$folder")
+for folder in "$top"/edits/*/ "$top"/crates/*/must-fail/; do
+    name=${folder#"$top"/*/}
+    name=${name%%/*}
     said=
     for edit in "$folder"*.edit; do
         said+=$(hindrance "$name" "$edit")
     done
-    is "the edits of $name apply" '' "$said"
+    is "the edits of ${folder#"$top"/} apply to $name" '' "$said"
 done
 is 'each crate with edits is listed' "$(cd "$top/edits" && printf '%s\n' *)" "$("$BASH" "$top/tests/edits")"
 finish
