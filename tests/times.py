@@ -169,7 +169,8 @@ def parts_of(rows, said):
             parts[key].add(row)
     for name, tests in re.findall(r"^rt: (\w+)(: its tests are)? proved$", said, re.M):
         parts[name, "tests" if tests else "proof"].is_whole = True
-    for name in re.findall(r"^rt: must-fail (\w+)/", said, re.M):
+    # (A run tells again of what an earlier one tried.)
+    for name, _ in sorted(set(re.findall(r"^rt: must-fail (\w+)/(\S+):", said, re.M))):
         parts[name, "edits"].edits += 1
         parts[name, "edits"].is_whole = True
     return {key: part for key, part in parts.items() if part.checks}

@@ -24,9 +24,8 @@ cat >"$stubs/git" <<'END'
 echo "git $3" >>"$calls"
 case ${3-} in
     rev-parse) [ -s "$room/commit" ] && echo "$(<"$room/commit")" ;;
-    diff-index) [ ! -s "$room/changes" ] ;;
     ls-files) echo -n "$(<"$room/new")$(<"$room/ignored")" ;;
-    status) echo -n "$(<"$room/changes")$(<"$room/new")" ;;
+    status) echo -n "$(<"$room/changes")$([[ " $* " == *'files=no '* ]] || echo "$(<"$room/new")")" ;;
     log) echo 2026-01-02 ;;
 esac
 END
@@ -114,7 +113,7 @@ wrap() {
     complained=$(cat "$room/complained")
     called=$(cat "$calls")
     builds=$(count_like 'rt ci' <"$calls")
-    if [ "$(head -n 3 "$calls" | sort)" = $'git diff-index\ngit ls-files\ngit rev-parse' ]; then
+    if [ "$(head -n 3 "$calls" | sort)" = $'git ls-files\ngit rev-parse\ngit status' ]; then
         called=$(echo 'git is asked' && tail -n +4 "$calls")
     fi
 }
