@@ -249,11 +249,15 @@ end_swaps() {
 # anything else than without swaps, and nothing outside is written or made.
 beside_swaps() {
     local most=$1 name=$2 most_there=$3 ends=$((SECONDS + 8)) openings=0 well=0 silent=0 late=0 others=
-    local swaps=0 faults=0 no_exchange= swapper wanted before replies
+    local swaps=0 faults=0 no_exchange= swapper wanted counted before replies
     shift 3
     rm -rf "$room/try" "$room/aside" "$elsewhere"
     cp -a "$room/two" "$room/try"
     wanted=$("$program" "$room/try" "$@" <"$room/lines")
+    counted=$("$program" "$room/try" count)
+    is "$name, before it is swapped: two entries are counted" 'items 2 bytes' "${counted% *}"
+    rm -rf "$room/two"
+    cp -a "$room/try" "$room/two"
     mkdir "$elsewhere" "$room/aside" "$room/aside/folder"
     cp "$room/two/$name" "$elsewhere/file"
     ln -s "$elsewhere/file" "$room/aside/link"
@@ -281,11 +285,11 @@ beside_swaps() {
         if [ "$1" = session ]; then
             mapfile -t replies <"$room/said"
             openings=$((openings + (${#replies[@]} < 3 ? 0 : (${#replies[@]} - 1) / 2)))
-            # A session that was refused leaves its entries open, and the next one drops them.
-            [ "$status" = 0 ] || { end_swaps && begin_swaps "$name" "$most_there"; }
         elif [ "$status" = 0 ]; then
             openings=$((openings + 1))
         fi
+        # A run that was refused leaves its entries open, and the next one drops them.
+        [ "$status" = 0 ] || { end_swaps && begin_swaps "$name" "$most_there"; }
     done
     end_swaps
     is "$name swapped: it was, up to the end" 0 "$faults"
@@ -302,9 +306,6 @@ if ! command -v cc >/dev/null || ! cc -O1 -o "$room/swapped" "$top/tests/swapped
     skip 'openings beside a program that swaps the names' 'cc is missing'
     finish
 fi
-counted=$("$program" "$room/two" count)
-is 'two entries are counted' 'items 2 bytes' "${counted% *}"
-
 # Sessions that open an external file again and again.
 {
     printf '%s\n' 'open 0 a' 'open 1 b'
@@ -314,9 +315,11 @@ is 'two entries are counted' 'items 2 bytes' "${counted% *}"
 } >"$room/lines"
 beside_swaps "${openings_of_each:-10000}" f_000001 128000 session
 
-# Subcommands that open the others once each.
+# Subcommands that open the others once each. Count writes the index alone; put writes the block file of its length too, and data_0.
 : >"$room/lines"
-for name in index data_0 data_1 data_2 data_3; do
-    beside_swaps "${openings_of_each:-300}" "$name" 64000 count
+beside_swaps "${openings_of_each:-300}" index 64000 count
+for it in data_0:1000 data_1:100 data_2:3000 data_3:10000; do
+    printf "%${it#*:}s" '' >"$room/lines"
+    beside_swaps "${openings_of_each:-300}" "${it%:*}" 64000 put b 1
 done
 finish
