@@ -104,4 +104,81 @@ umask 777
 look count
 umask "$before"
 is 'under umask 777' '0 5 ' "$status $(count_like 'fchmod(*' <"$room/calls") $others"
+
+# While another program swaps a name. What is in its place may be opened then, and nothing else is done with it. A file of the folder has
+# at that moment the name of what is in its place. That the file outside isn't written, which has the swapped name then, shows its time.
+if ! command -v cc >/dev/null || ! cc -O1 -o "$room/swapped" "$top/tests/swapped.c" 2>/dev/null; then
+    skip 'the calls of the program while a name is swapped' 'cc is missing'
+    finish
+fi
+aside=$(cd "$room" && pwd -P)/aside
+elsewhere=$room/elsewhere
+mkdir "$room/two" "$elsewhere" "$aside" "$aside/folder"
+digits=$(printf '7a%.0s' {1..20000})
+printf '%s\n' 'create 0 a' "write 0 0 0 $digits" 'create 1 b' "write 1 0 0 $digits" 'close 0' 'close 1' >"$room/input"
+run "$room/two" session
+is 'two entries with files of their own' '0 f_000001 f_000002' "$status $(cd "$room/two" && echo f_*)"
+ln -s "$elsewhere/file" "$aside/link"
+ln -s "$elsewhere/nothing" "$aside/link-to-nothing"
+mkfifo "$aside/fifo"
+one="[0-9]+<($folder/$name|$aside/[a-z.-]+)>"
+changes="^((pwrite64|ftruncate)\\($one, |fchmod\\($one, 0600\\) )"
+opens="^openat\\(AT_FDCWD<$folder>, \"$name\", O_RDWR(\\|O_NOCTTY|\\|O_CLOEXEC|\\|O_LARGEFILE)*\\) = "
+
+# Where the run was refused: as the names were read, at an opening of the name, or later.
+refused_at() {
+    local line at=names
+    while IFS= read -r line; do
+        case $line in
+            openat\(*"\"$1\", O_RDWR"*) at=opening ;;
+            pread64\(* | pwrite64\(*) [ "$at" = names ] || at=later ;;
+        esac
+    done <"$room/calls"
+    echo "$at"
+}
+
+# Runs the program while a name is swapped, until it was refused at each of these: NAME WORDS
+looks_beside_swaps() {
+    local swapped=$1 tries at wrong= before swapper
+    declare -A refusals=()
+    shift
+    rm -f "$elsewhere/file" "$aside/second-name"
+    cp "$room/two/$swapped" "$elsewhere/file"
+    ln "$elsewhere/file" "$aside/second-name"
+    before=$(both "$elsewhere")
+    for ((tries = 0; tries < 2000 && ${#refusals[@]} < 3 || tries < 20; tries++)); do
+        rm -rf "$folder"
+        cp -a "$room/two" "$folder"
+        : >"$room/going"
+        "$room/swapped" "$room/going" 8000 4000 "$folder/$swapped" "$aside/"* >"$room/swaps" &
+        swapper=$!
+        look "$@"
+        rm "$room/going"
+        wait "$swapper" || wrong+=' not swapped'
+        wrong+=$others
+        case $status in
+            0) ;;
+            3)
+                at=$(refused_at "$swapped")
+                refusals[$at]=$((${refusals[$at]-0} + 1))
+                ;;
+            *) wrong+=" status $status" ;;
+        esac
+    done
+    echo "$tries runs while $swapped was swapped: refused ${refusals[names]-0} at the names," \
+        "${refusals[opening]-0} at an opening, ${refusals[later]-0} later"
+    is "$swapped swapped, $*: it is refused as the names are read, at an opening, and later" 3 "${#refusals[@]}"
+    is "$swapped swapped, $*: no other call, and no other status" '' "$wrong"
+    is "$swapped swapped, $*: what is outside" "$before" "$(both "$elsewhere")"
+}
+: >"$room/input"
+looks_beside_swaps index count
+looks_beside_swaps data_1 count
+{
+    printf '%s\n' 'open 0 a' 'open 1 b'
+    for number in {1..20}; do
+        printf '%s\n' 'write 0 0 0 6162' 'write 1 0 0 6162'
+    done
+} >"$room/input"
+looks_beside_swaps f_000001 session
 finish

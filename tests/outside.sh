@@ -1,6 +1,6 @@
 # Nothing outside the folder is read or written: links and second names of cache files are refused, before a run and during one.
-# OUTSIDE_OPENINGS says how many openings of each name are made beside a program that swaps it. Without it there are ten thousand of an
-# external file, which sessions open again and again, and some hundreds of each other, which take a run each.
+# OUTSIDE_OPENINGS says how many openings of each name have to go well beside a program that swaps it, however long that takes. Without it
+# there are up to ten thousand of an external file, which sessions open again and again, and 300 of each other, which take a run each.
 . "$(dirname "${BASH_SOURCE[0]}")/common.sh"
 openings_of_each=${OUTSIDE_OPENINGS:-}
 
@@ -225,73 +225,87 @@ run "$room/moved" list
 is 'its entries are in the folder that was moved' $'0 main c 20000 0 0\nmain b 20000 0 0\nmain a 20000 0 0\nend 3' "$status $said"
 rm -rf "$room/try" "$room/instead"
 
-# A program that swaps a file with other things and with itself, all the while: its name, and what is put in its place. What is there
-# while a folder is put in place is nothing, now and then.
-mkfifo "$elsewhere/fifo"
-swaps() {
-    local name=$1 what
-    shift
-    while [ -e "$room/going" ]; do
-        for what; do
-            rm -rf "$room/other.new"
-            cp -f "$room/two/$name" "$room/own.new"
-            case $what in
-                'a link') ln -s "$elsewhere/file" "$room/other.new" ;;
-                'a hard link') ln "$elsewhere/file" "$room/other.new" ;;
-                'a FIFO') ln "$elsewhere/fifo" "$room/other.new" ;;
-                'a folder') mkdir "$room/other.new" && rm "$room/try/$name" ;;
-            esac
-            mv -fT "$room/other.new" "$room/try/$name"
-            [ "$what" != 'a folder' ] || rmdir "$room/try/$name"
-            mv -fT "$room/own.new" "$room/try/$name"
-        done
-    done 2>/dev/null
-}
-
-# Runs the program with arguments beside such a program until there are so many openings, or seconds are over: OPENINGS SECONDS RUNS STATUSES NAME
-# WHAT.. -- WORDS, so many runs on each new folder, with the lines as input. A run of a subcommand opens the name once; one of a session opens it
-# again at every other line that it prints. The runs that are not refused end with one of the statuses, and nothing outside is written.
-beside_swaps() {
-    local most=$1 ends=$((SECONDS + $2)) runs=$3 allowed=$4 name=$5 what=() openings=0 others= before swapper status number of_name=0
-    shift 5
-    while [ "$1" != -- ]; do
-        what+=("$1")
-        shift
-    done
-    shift
-    rm -f "$elsewhere/file"
-    cp "$room/two/$name" "$elsewhere/file"
-    before=$(both "$elsewhere")
+# Begins to swap a file of a new folder with what is in the folder beside: NAME MICROSECONDS, which it is there for at a time. Then ends it,
+# with the file in its place again.
+begin_swaps() {
     rm -rf "$room/try"
     cp -a "$room/two" "$room/try"
     : >"$room/going"
-    swaps "$name" "${what[@]}" &
+    "$room/swapped" "$room/going" "$2" 4000 "$room/try/$1" "$room/aside/"* >"$room/swaps" &
     swapper=$!
-    while [ "$openings" -lt "$most" ] && [ "$SECONDS" -lt "$ends" ]; do
-        rm -rf "$room/next" "$room/try.old"
-        cp -a "$room/two" "$room/next"
-        mv "$room/try" "$room/try.old"
-        mv "$room/next" "$room/try"
-        for ((number = 0; number < runs; number++)); do
-            "$program" "$room/try" "$@" <"$room/lines" >"$room/said" 2>&1
-            status=$?
-            mapfile -t said <"$room/said"
-            [ "$1" = session ] && openings=$((openings + 1 + ${#said[@]} / 2)) || openings=$((openings + 1))
-            case $status in
-                3) of_name=$((of_name + 1)) ;;
-                *) [[ " $allowed " == *" $status "* ]] || others+=" $status" ;;
-            esac
-        done
-    done
+}
+end_swaps() {
+    local number by
     rm "$room/going"
-    wait "$swapper"
-    refused=$((refused + of_name))
-    echo "$openings openings beside a program that swaps $name with ${what[*]}, $of_name runs refused"
-    [ "$openings" -ge "$most" ] || skip "some of $most openings beside a program that swaps $name" 'the machine is too slow'
-    is "$name swapped with ${what[*]}: no other status" '' "$others"
-    is "$name swapped with ${what[*]}: what is outside" "$before" "$(both "$elsewhere")"
+    wait "$swapper" || faults=$((faults + 1))
+    read -r number by <"$room/swaps"
+    swaps=$((swaps + ${number:-0}))
+    [ "$by" != rename ] || no_exchange=yes
 }
 
+# Runs the program with arguments beside one that swaps a file with all that may be put in its place, until so many openings have gone well,
+# or some seconds are over: OPENINGS NAME MICROSECONDS WORDS, with the lines as input. A run of a subcommand opens the file once; one of a
+# session opens it again at every other reply from the third on. What was refused is no opening, but has to be there too. No run prints
+# anything else than without swaps, and nothing outside is written or made.
+beside_swaps() {
+    local most=$1 name=$2 most_there=$3 ends=$((SECONDS + 8)) openings=0 well=0 silent=0 late=0 others=
+    local swaps=0 faults=0 no_exchange= swapper wanted counted before replies
+    shift 3
+    rm -rf "$room/try" "$room/aside" "$elsewhere"
+    cp -a "$room/two" "$room/try"
+    wanted=$("$program" "$room/try" "$@" <"$room/lines")
+    counted=$("$program" "$room/try" count)
+    is "$name, before it is swapped: two entries are counted" 'items 2 bytes' "${counted% *}"
+    rm -rf "$room/two"
+    cp -a "$room/try" "$room/two"
+    mkdir "$elsewhere" "$room/aside" "$room/aside/folder"
+    cp "$room/two/$name" "$elsewhere/file"
+    ln -s "$elsewhere/file" "$room/aside/link"
+    ln -s "$elsewhere/nothing" "$room/aside/link-to-nothing"
+    ln "$elsewhere/file" "$room/aside/second-name"
+    mkfifo "$room/aside/fifo"
+    before=$(picture "$room/aside" && both "$elsewhere")
+    begin_swaps "$name" "$most_there"
+    while [ "$openings" -lt "$most" ] || [ "$well" = 0 ] || [ $((silent + late)) = 0 ]; do
+        [ -n "$openings_of_each" ] || [ "$SECONDS" -lt "$ends" ] || break
+        "$program" "$room/try" "$@" <"$room/lines" >"$room/said" 2>&1
+        status=$?
+        said=$(<"$room/said")
+        case $status in
+            0)
+                well=$((well + 1))
+                [ "$said" = "$wanted" ] || others+=" $status [${said:0:100}]"
+                ;;
+            3)
+                [ -n "$said" ] && late=$((late + 1)) || silent=$((silent + 1))
+                [[ $wanted == "$said"* ]] || others+=" $status [${said:0:100}]"
+                ;;
+            *) others+=" $status" ;;
+        esac
+        if [ "$1" = session ]; then
+            mapfile -t replies <"$room/said"
+            openings=$((openings + (${#replies[@]} < 3 ? 0 : (${#replies[@]} - 1) / 2)))
+        elif [ "$status" = 0 ]; then
+            openings=$((openings + 1))
+        fi
+        # A run that was refused leaves its entries open, and the next one drops them.
+        [ "$status" = 0 ] || { end_swaps && begin_swaps "$name" "$most_there"; }
+    done
+    end_swaps
+    is "$name swapped: it was, up to the end" 0 "$faults"
+    echo "$openings openings of $name beside $swaps swaps: $well runs ended well, $silent were refused at once, $late after they had printed"
+    [ "$openings" -ge "$most" ] || skip "some of $most openings of $name beside a program that swaps it" 'the machine is too slow'
+    [ -z "$no_exchange" ] || skip "a folder in place of $name" 'the file system exchanges no names'
+    is "$name swapped: some runs end well, and some are refused" yes "$([ "$well" -gt 0 ] && [ $((silent + late)) -gt 0 ] && echo yes)"
+    is "$name swapped: no other status and no other output" '' "$others"
+    is "$name swapped: what is outside, and what was put in its place" "$before" "$(picture "$room/aside" && both "$elsewhere")"
+    run "$room/try" count
+    is "$name swapped: the entries are there" "0 $counted" "$status $said"
+}
+if ! command -v cc >/dev/null || ! cc -O1 -o "$room/swapped" "$top/tests/swapped.c" 2>/dev/null; then
+    skip 'openings beside a program that swaps the names' 'cc is missing'
+    finish
+fi
 # Sessions that open an external file again and again.
 {
     printf '%s\n' 'open 0 a' 'open 1 b'
@@ -299,17 +313,13 @@ beside_swaps() {
         printf '%s\n' 'write 0 0 0 6162' 'write 1 0 0 6162'
     done
 } >"$room/lines"
-refused=0
-beside_swaps "${openings_of_each:-10000}" $((openings_of_each == 0 ? 30 : 3600)) 1 0 f_000001 'a link' 'a hard link' -- session
-is 'sessions beside a program that swaps: some are refused' yes "$([ "$refused" -gt 0 ] && echo yes)"
+beside_swaps "${openings_of_each:-10000}" f_000001 128000 session
 
-# Subcommands that open the others once each. A folder is put in place where nothing was for a moment, so an index may be made anew beside old
-# block files, which is a corrupt folder.
+# Subcommands that open the others once each. Count writes the index alone; put writes the block file of its length too, and data_0.
 : >"$room/lines"
-refused=0
-for name in index data_0 data_1 data_2 data_3; do
-    beside_swaps "${openings_of_each:-300}" $((openings_of_each == 0 ? 5 : 3600)) 20 0 "$name" 'a link' 'a hard link' 'a FIFO' -- count
-    beside_swaps 150 3 20 '0 7' "$name" 'a folder' -- count
+beside_swaps "${openings_of_each:-300}" index 64000 count
+for it in data_0:1000 data_1:100 data_2:3000 data_3:10000; do
+    printf "%${it#*:}s" '' >"$room/lines"
+    beside_swaps "${openings_of_each:-300}" "${it%:*}" 64000 put b 1
 done
-is 'words beside a program that swaps: some are refused' yes "$([ "$refused" -gt 0 ] && echo yes)"
 finish
