@@ -107,7 +107,7 @@ is 'under umask 777' '0 5 ' "$status $(count_like 'fchmod(*' <"$room/calls") $ot
 
 # While another program swaps a name. What is in its place may be opened then, and nothing else is done with it. A file of the folder has
 # at that moment the name of what is in its place. That the file outside isn't written, which has the swapped name then, shows its time.
-if ! command -v cc >/dev/null || ! cc -O1 -o "$room/swapped" "$top/tests/swapped.c" 2>/dev/null; then
+if ! command -v cc >/dev/null || ! cc -o "$room/swapped" "$top/tests/swapped.c" 2>/dev/null; then
     skip 'the calls of the program while a name is swapped' 'cc is missing'
     finish
 fi

@@ -302,7 +302,7 @@ beside_swaps() {
     run "$room/try" count
     is "$name swapped: the entries are there" "0 $counted" "$status $said"
 }
-if ! command -v cc >/dev/null || ! cc -O1 -o "$room/swapped" "$top/tests/swapped.c" 2>/dev/null; then
+if ! command -v cc >/dev/null || ! cc -o "$room/swapped" "$top/tests/swapped.c" 2>/dev/null; then
     skip 'openings beside a program that swaps the names' 'cc is missing'
     finish
 fi
