@@ -196,7 +196,10 @@ fail() {
 # Proves and builds all.
 build() {
     local earlier=${!-} held='' stage='' top made failed='' told=0 anew=0 waited at_once
-    type -P rt >/dev/null || fail "${why:-there is no program}, and there is no rt here to build it"
+    if ! type -P rt >/dev/null; then
+        [ -z "${why-}" ] || fail "$why, and there is no rt here to build it"
+        fail 'there is no rt here to prove the program'
+    fi
     [ $((BASH_VERSINFO[0] * 100 + BASH_VERSINFO[1])) -ge 501 ] || fail 'to build, bash 5.1 is needed'
     trap 'stop 129' HUP
     trap 'stop 130' INT

@@ -52,6 +52,8 @@ works 'installed' "$prefix/bin/blkcache"
 said=$("$repository/install" "$prefix" 2>&1)
 is 'it is installed once more' '0 ' "$? $said"
 is 'the files are the same' "$wanted" "$(names_in "$prefix" | sort)"
+said=$("$prefix/bin/blkcache" --prove 2>&1)
+is 'what is installed cannot be proved' '70 blkcache: there are no sources here to build the program from' "$? $said"
 printf x | dd of="$prefix/lib/blkcache/dist/${hand##*/}/blkcache" bs=1 seek=100 conv=notrunc status=none
 said=$("$prefix/bin/blkcache" "$room" count 2>&1)
 is 'a changed byte of what is installed is one line' "70 blkcache: $prefix/lib/blkcache/dist/${hand##*/}/blkcache has another SHA-256 than SOURCES, and there are no sources here to build it from" "$? $said"

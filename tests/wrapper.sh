@@ -542,6 +542,10 @@ while read -r what why; do
     mv "$room/rt" "$stubs/rt"
     is "${what//_/ }: without rt one line says why" "70 blkcache: ${why//HAND/$hand}, and there is no rt here to build it" "$status $said$complained"
     is "${what//_/ }: it is not run" no "$([ -e "$room/ran" ] && echo yes || echo no)"
+    mv "$stubs/rt" "$room/rt"
+    wrap --prove
+    mv "$room/rt" "$stubs/rt"
+    is "${what//_/ }: --prove without rt" '70 blkcache: there is no rt here to prove the program' "$status $said$complained"
 done <<'END'
 cut_short HAND/blkcache has another SHA-256 than SOURCES
 other_byte HAND/blkcache has another SHA-256 than SOURCES
