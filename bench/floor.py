@@ -435,7 +435,16 @@ class Floor:
             self.free_all(entry)
             self.bytes -= entry.charge()
             self.items -= 1
-        elif entry.is_dirty:
+        else:
+            self.settle(entry)
+
+    def flush(self, handle):
+        entry = self.handles.get(handle)
+        if entry and not entry.is_doomed:
+            self.settle(entry)
+
+    def settle(self, entry):
+        if entry.is_dirty:
             self.read_node(entry)
             self.sealed("dirty word", [1], True)
             entry.is_dirty = False
@@ -593,6 +602,8 @@ class Floor:
             self.doom(self.find(key))
         elif word == "close":
             self.close(fields[0])
+        elif word == "flush":
+            self.flush(fields[0])
         elif word == "trim":
             self.evict_until(int(fields[0]), self.max_items)
         elif word == "list":

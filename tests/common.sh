@@ -184,7 +184,8 @@ draw_script() {
                 else if (n < 0.69) print "sread", handle(), place(), 1 + below(5000)
                 else if (n < 0.72) print "srange", handle(), place(), 1048576
                 else if (n < 0.76) print "read", handle(), below(3), below(100), 1 + below(3000)
-                else if (n < 0.94) print "close", handle()
+                else if (n < 0.91) print "close", handle()
+                else if (n < 0.94) print "flush", handle()
                 else if (n < 0.96) print "doomkey", key()
                 else if (n < 0.97) print "doom", handle()
                 else if (n < 0.98) print "trim", below(200000)

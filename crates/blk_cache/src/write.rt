@@ -132,7 +132,7 @@ impl Cache {
         ensures later { F.faults folder.old ≤ F.faults folder.new }
         ensures device { IfDevice result (Rises (F.faults folder.old) (F.faults folder.new)) }
     {
-        self.set_dirty(folder, handle)?;
+        self.set_dirty(folder, handle, true)?;
         self.write_to_dirty(folder, handle, stream, offset, cut, bytes, size, moment)?;
         Ok(Answer::Wrote(bytes.len() as u64))
     }

@@ -11,7 +11,7 @@ use Rattle.blk_model.specs.Sizes.{stream_share}
 use Rattle.blk_model.specs.Items.{Item, main, part, PartValue, same_item, signature_of, is_sparse, Shape}
 use Rattle.blk_model.specs.Charge.{part_charge}
 use Rattle.blk_model.specs.State.{Object, State, Bounds, IsValidState, IsObject, object_at, live_with}
-use Rattle.blk_model.specs.Request.{Request, to_create, to_open, to_read, to_write, to_size, to_sparse_write, to_sparse_read, to_sparse_range, to_doom, to_doom_key, to_close, to_list, to_trim, to_total}
+use Rattle.blk_model.specs.Request.{Request, to_create, to_open, to_read, to_write, to_size, to_sparse_write, to_sparse_read, to_sparse_range, to_doom, to_doom_key, to_close, to_flush, to_list, to_trim, to_total}
 use Rattle.blk_model.specs.Room.{Group, whole, single, after, room, is_out, is_pinned, left_of, of_slot, charge, own_charge, item_count, total, items, without}
 use Rattle.blk_model.specs.Sparse.{covered_parts, parts_after}
 use Rattle.blk_model.specs.Refusals.{refused, refusals, first_refusal, evicted, evicted_for, is_full, room_for, covered, names_none, has_one_stream}
@@ -300,6 +300,7 @@ module _ (state : State) (valid : IsValidState state) (moment : ℕ) (group : Gr
   rest-behind (to_doom handle) others is = absurd (no-group group (groups ++ others) is.groups)
   rest-behind (to_doom_key key) others is = absurd (no-group group (groups ++ others) is.groups)
   rest-behind (to_close handle) others is = absurd (no-group group (groups ++ others) is.groups)
+  rest-behind (to_flush handle) others is = absurd (no-group group (groups ++ others) is.groups)
   rest-behind to_list others is = absurd (no-group group (groups ++ others) is.groups)
   rest-behind (to_trim bytes) others is = trim-rest bytes others is
   rest-behind to_total others is = absurd (no-group group (groups ++ others) is.groups)
