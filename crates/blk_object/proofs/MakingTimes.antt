@@ -124,7 +124,7 @@ times-missed node p w kind low high also = record { kind = also; next = at 16 (o
       apart : (b c o p : ℕ) → 16 ≤ o → o + 4 ≤ 36 → p < 8192 + b * 36 + 16 → 8192 + b * 36 ≤ p → (x : ℕ) → x ≡ 8192 + c * 36 → x + o ≤ p → x + o + 4 ≤ p
       apart b c o p from to high low x is past = omega (arith, from, to, high, low, is, past)
 
--- and so does what lies in another file
+-- a write to another file misses the words of a node
 pub file-missed : (f p w : ℕ) → kind_of w ≡ rankings → (same_file (Block (file_selector w)) (Block f)) ≡ false → Misses f p w
 file-missed f p w kind other = record { kind = kind; next = rw other refl; prev = rw other refl; seal = rw other refl }
 

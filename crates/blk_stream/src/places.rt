@@ -103,7 +103,7 @@ fn no_place(files: &BlockFiles, entry: Addr, stream: u8, word: u32) -> Result<St
     ensures damaged { IfDamaged result (IsMisplacedStreamBy files.now entry stream 0 word) }
     ensures never { IfDevice result ⊥ }
 {
-    // The block files are asked for by the contract alone: what they say of the folder is known once they are named.
+    // Only the contract needs the block files: the proof knows what they say of the folder once they are named here.
     let _files = files;
     if word != 0 {
         return Err(record_damage(entry, addr_at(stream), word));
