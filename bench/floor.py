@@ -245,13 +245,14 @@ class Floor:
     # Items that come and go.
 
     def count(self, entries, is_other):
-        """The counters of the index: how many entries, beside it the sum of their charges, and how many nodes."""
+        """The counters of the index: how many entries, the two words of the sum of their charges, and how many nodes."""
         self.read_head()
         if entries:
+            self.word("counters")
             self.word("counters", 2)
             self.word("counters")
         elif is_other:
-            self.word("counters")
+            self.word("counters", 2)
 
     def write_entry(self, entry):
         """Takes the places of a new entry, and writes its key, its record and its node."""

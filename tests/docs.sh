@@ -403,12 +403,12 @@ OPTIONS:--max N:1 most_bytes bytes mebibytes
 OPTIONS:--items N:1 most_items items
 Refusals:1 BadHandle:handle_names
 Refusals:5 BadStream:last_stream
-Refusals:6 TooLarge:stream_share part_size
+Refusals:6 TooLarge:part_size
 Refusals:9 RangeEnd:largest_offset
 Refusals:13 BadKey:longest_key
 Faults:7 TooLong:longest_line longest_data
 LIMITS:Keys:1 longest_key
-LIMITS:Streams:stream_count stream_share stream_bytes
+LIMITS:Streams:stream_count stream_share most_stream stream_bytes
 LIMITS:Sparse data:largest_offset gibibytes part_size
 LIMITS:Handles:handle_names
 LIMITS:Input:longest_input budget

@@ -201,6 +201,7 @@ no-bytes (command.SparseRange handle offset count) state other sparse = refl
 no-bytes (command.Doom handle) state other sparse = refl
 no-bytes (command.DoomKey key) state other sparse = refl
 no-bytes (command.Close handle) state other sparse = refl
+no-bytes (command.Flush handle) state other sparse = refl
 no-bytes command.List state other sparse = refl
 no-bytes (command.Trim bytes) state other sparse = refl
 no-bytes command.Total state other sparse = refl

@@ -7,6 +7,7 @@ use Rattle.blk_model.specs.Items.{main_row, plain}
 use Rattle.blk_model.specs.Request.{Request, to_create, to_open, to_read, to_write, to_size, to_list, to_total, to_doom, to_doom_key, to_close, to_flush, to_sparse_write, to_sparse_read, to_sparse_range}
 use Rattle.blk_model.specs.Reply.{Reply, answered, gave, showed}
 use Rattle.blk_model.specs.Room.{Group, whole}
+use Rattle.blk_model.specs.Sizes.{longest_stream}
 use Rattle.blk_model.specs.State.{State}
 use Rattle.blk_model.specs.Holding.{open_state}
 use Rattle.blk_model.specs.Step.{step, Outcome}
@@ -65,6 +66,13 @@ refuses why = ([], answered (answer.Refused why))
 -- so many data bytes
 abbrev pub fill : ℕ → List ℕ
 fill n = replicate n 0x7A
+
+-- a stream has an eighth of what a cache keeps, and at most 2147483647 bytes
+longest_streams : (longest_stream 1 ≡ 0) × ((longest_stream 1000 ≡ 125) × ((longest_stream 83886080 ≡ 10485760) × (longest_stream 17179869175 ≡ 2147483646)))
+longest_streams = (refl, (refl, (refl, refl)))
+
+capped_streams : (longest_stream 17179869176 ≡ 2147483647) × ((longest_stream 17179869184 ≡ 2147483647) × (longest_stream 1099511627776 ≡ 2147483647))
+capped_streams = (refl, (refl, refl))
 
 -- a write past the end of a stream fills the gap with zeros
 gap_is_zeros : replies new (to_create 0 (codes "g") ∷ to_write 0 1 5000 false (codes "abc") ∷ to_read 0 1 4998 9 ∷ to_size 0 1 ∷ [])

@@ -1,8 +1,8 @@
 -- Why a command is refused.
-use Rattle.std.specs.Prelude.{ℕ, ◌+◌, ◌-◌, ◌/◌, Bool, true, false, not, ◌&&◌, ◌||◌, ◌==◌, nat_lt, nat_le, if◌then◌else◌, List, [], ◌∷◌, length, map, Option, Some, None, is_some, is_none}
+use Rattle.std.specs.Prelude.{ℕ, ◌+◌, ◌-◌, Bool, true, false, not, ◌&&◌, ◌||◌, ◌==◌, nat_lt, nat_le, if◌then◌else◌, List, [], ◌∷◌, length, map, Option, Some, None, is_some, is_none}
 use Rattle.blk_model.specs.declared.Refusal.{Refusal}
 use Rattle.blk_model.specs.declared.Refusal.TheVariants as refusal
-use Rattle.blk_model.specs.Sizes.{longest_key, handle_names, stream_count, stream_share, part_size, largest_offset}
+use Rattle.blk_model.specs.Sizes.{longest_key, handle_names, longest_stream, stream_count, part_size, largest_offset}
 use Rattle.blk_model.specs.Items.{Item, part, is_sparse}
 use Rattle.blk_model.specs.State.{Object, State, named_by, live_with}
 use Rattle.blk_model.specs.Sparse.{covered_parts}
@@ -12,7 +12,7 @@ use Rattle.blk_model.specs.Effects.{object_of, effect}
 
 -- a stream has at most this many bytes
 abbrev pub stream_limit : State → ℕ
-stream_limit state = state.limits.max_bytes / stream_share
+stream_limit state = longest_stream state.limits.max_bytes
 
 -- the first refusal of a row whose test passes
 abbrev pub first_refusal : List (Bool × Refusal) → Option Refusal

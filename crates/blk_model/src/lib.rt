@@ -11,7 +11,7 @@ mod bounds;
 mod checked;
 pub mod laws;
 
-pub use bounds::{Limits, MOST_BYTES, MOST_ITEMS};
+pub use bounds::{Limits, MOST_BYTES, MOST_ITEMS, MOST_STREAM};
 pub use checked::limits;
 use std::error::Error;
 use std::fmt;

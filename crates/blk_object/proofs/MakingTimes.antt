@@ -35,7 +35,7 @@ use Rattle.blk_chain.specs.Linking.{link_front_steps, place_of_front}
 use Rattle.blk_entry.specs.declared.writing.NewEntry.{NewEntry}
 use Rattle.blk_entry.specs.Writing.{IsWritten, new_node, new_record}
 use Rattle.blk_object.specs.Making.{HasTimes, KeepsTimes}
-use Rattle.blk_object.specs.Counters.{AreCountersWritten}
+use Rattle.law_state.specs.CounterLaws.{AreCountersWritten}
 use Rattle.blk_object.proofs.MakingListed.{record-parts}
 
 -- ---- a byte that no write touches
@@ -202,7 +202,7 @@ listing-times a b d files entry node open_folder among kind can inserts links fr
 
 pub counting-times : (entry node x y z : ℕ) (from image : Image) → AreCountersWritten x y z from image → KeepsTimes entry node from image
 counting-times entry node x y z from image w moment t =
-    let block-same : (f p : ℕ) → byte image (Block f) p ≡ byte from (Block f) p = λ f p. w.size_written.outside.bytes (Block f) p refl ∙ w.bytes_written.outside.bytes (Block f) p refl ∙ w.entries_written.outside.bytes (Block f) p refl in
+    let block-same : (f p : ℕ) → byte image (Block f) p ≡ byte from (Block f) p = λ f p. w.nodes_written.outside.bytes (Block f) p refl ∙ w.sum_written.high.outside.bytes (Block f) p refl ∙ w.sum_written.low.outside.bytes (Block f) p refl ∙ w.items_written.outside.bytes (Block f) p refl in
     times-same entry node moment from image (λ p low high. block-same (file_selector node) p) (λ p low high. block-same (file_selector entry) p) t
 
 -- ---- what was written

@@ -186,8 +186,8 @@ module _ (from : Image) (limits : Bounds) (readings : Readings) (old : Outside) 
       is_ended =
           let are = ends.are (clock_after (later_of readings) (readings_of made)) (clock_made made clock_mid read) in
           let count : readings_of made + length ends.commands ≡ readings_in (run_with all) =
-              ap (λ (l : List Stamped). readings_of made + length l) are
-              ∙ ap (λ (l : List Turn). readings_of l + length (closings (bound_names (state_after opened (commands_of l))) (clock_after (later_of readings) (readings_of l)))) (sym same) in
+          ap (λ (l : List Stamped). readings_of made + length l) are
+          ∙ ap (λ (l : List Turn). readings_of l + length (closings (bound_names (state_after opened (commands_of l))) (clock_after (later_of readings) (readings_of l)))) (sym same) in
           record {
             holds = λ image is. ends.closes.holds image is ∙ ap (λ (l : List Stamped). rest (state_after opened l)) (sym all_commands);
             ends = ends.closes.ends;

@@ -204,8 +204,8 @@ end_undamaged f damage far new clock_old clock_new is ends = let e : EndsRun (Er
 pub end_failed : (f : Fault) (far : SoFar) (new : Told) (clock_old clock_new : Option Readings) → f ≡ fault.Device → EndsRun (Err f) far new clock_old clock_new → EndsRun (Err fault.Device) far new clock_old clock_new
 end_failed f far new clock_old clock_new is ends = subst (λ (x : Fault). EndsRun (Err x) far new clock_old clock_new) is ends
 
-pub runs_as : (s t : Status) (limits : Bounds) (budget : ℕ) (from : Image) (readings : Readings) (input : List ℕ) (source sink : Type 0) (old new : Outside) → s ≡ t → Runs t limits budget from readings input source sink old new → Runs s limits budget from readings input source sink old new
-runs_as s t limits budget from readings input source sink old new is runs = subst (λ (x : Status). Runs x limits budget from readings input source sink old new) (sym is) runs
+pub runs_as : (s t : Status) (limits : Bounds) (budget : ℕ) (from : Image) (readings : Readings) (input : List ℕ) (source sink : Type 0) (old new : Outside) → s ≡ t → Runs by_lines t limits budget from readings input source sink old new → Runs by_lines s limits budget from readings input source sink old new
+runs_as s t limits budget from readings input source sink old new is runs = subst (λ (x : Status). Runs by_lines x limits budget from readings input source sink old new) (sym is) runs
 
 -- what was opened may be written
 pub opened_at : (files : Option Image) (middle : Told) (is_open : Image → Type 0) → (files ≡ None → middle.files ≡ None) → ((from : Image) → files ≡ Some from → ForSome middle.files is_open) → ForSome middle.files is_open

@@ -1,5 +1,5 @@
 -- The rest of a command isn't refused, evicts the others, has the later steps and ends alike.
-use Rattle.std.proofs.Common.{◌≡◌, ℕ, ◌+◌, ◌-◌, ◌/◌, Bool, true, false, not, ◌&&◌, ◌||◌, cond, List, [], ◌∷◌, ◌++◌, Some, None, is_some, refl, ap, sym, ◌∙◌, subst, arith, set, length, map, ◌⊎◌, inl, inr, ⊎_elim}
+use Rattle.std.proofs.Common.{◌≡◌, ℕ, ◌+◌, ◌-◌, Bool, true, false, not, ◌&&◌, ◌||◌, cond, List, [], ◌∷◌, ◌++◌, Some, None, is_some, refl, ap, sym, ◌∙◌, subst, arith, set, length, map, ◌⊎◌, inl, inr, ⊎_elim}
 use Rattle.std.specs.List.{list_any, sum_by, AllByRecursion}
 use Rattle.std.specs.Option.{option_and_then, unwrap_or}
 use Rattle.std.specs.Bool.{nat_le, nat_lt}
@@ -7,7 +7,7 @@ use Rattle.std.specs.Str.{bytes_eq}
 use Rattle.std.specs.Prelude.{◌==◌}
 use Rattle.std.proofs.lemmas.Bool.{cases_Bool, or_parts, or_left, or_right, and_parts, not-false}
 use Rattle.blk_model.specs.declared.Refusal.{Refusal}
-use Rattle.blk_model.specs.Sizes.{stream_share}
+use Rattle.blk_model.specs.Sizes.{longest_stream}
 use Rattle.blk_model.specs.Items.{Item, main, part, PartValue, same_item, signature_of, is_sparse, Shape}
 use Rattle.blk_model.specs.Charge.{part_charge}
 use Rattle.blk_model.specs.State.{Object, State, Bounds, IsValidState, IsObject, object_at, live_with}
@@ -213,7 +213,7 @@ module _ (state : State) (valid : IsValidState state) (moment : ℕ) (group : Gr
       let h = handled [] loose handle p.0 in
       let r = room-rest request others (write-alike handle stream offset cut bytes h) p.1.1.1.1.0 is.groups in
       record {
-        passes = all-pass (refusals moment request left) (h.bound-left, (p.1.0, (ap (λ (l : Bounds). nat_lt (l.max_bytes / stream_share) (offset + length bytes)) (limits-left state group groups) ∙ p.1.1.0, (ap (λ (o : Object). is_sparse o.shape && nat_lt 0 stream) h.object-left ∙ p.1.1.1.0, (has-room request others r, tt)))));
+        passes = all-pass (refusals moment request left) (h.bound-left, (p.1.0, (ap (λ (l : Bounds). nat_lt (longest_stream l.max_bytes) (offset + length bytes)) (limits-left state group groups) ∙ p.1.1.0, (ap (λ (o : Object). is_sparse o.shape && nat_lt 0 stream) h.object-left ∙ p.1.1.1.0, (has-room request others r, tt)))));
         goes = evicts request others r;
         uses = ap (λ (o : Object). cond o.live (main o.key ∷ []) []) h.object-left;
         doomed = refl;
