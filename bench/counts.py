@@ -37,6 +37,7 @@ LINES = [
     ("Open in the middle of the list", f"open 0 {KEY.format(500)}"),
     ("Read at the head of the list", "read 0 0 0 100"),
     ("Write over 10 bytes of a clean object", f"write 0 0 0 {digits(10)}"),
+    ("Flush of a changed object", "flush 0"),
     ("Size", "size 0 0"),
     (None, "close 0"),
     ("Open at the end of the list", f"open 0 {KEY.format(0)}"),

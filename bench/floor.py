@@ -245,13 +245,14 @@ class Floor:
     # Items that come and go.
 
     def count(self, entries, is_other):
-        """The counters of the index: how many entries, beside it the sum of their charges, and how many nodes."""
+        """The counters of the index: how many entries, the two words of the sum of their charges, and how many nodes."""
         self.read_head()
         if entries:
+            self.word("counters")
             self.word("counters", 2)
             self.word("counters")
         elif is_other:
-            self.word("counters")
+            self.word("counters", 2)
 
     def write_entry(self, entry):
         """Takes the places of a new entry, and writes its key, its record and its node."""
@@ -435,7 +436,16 @@ class Floor:
             self.free_all(entry)
             self.bytes -= entry.charge()
             self.items -= 1
-        elif entry.is_dirty:
+        else:
+            self.settle(entry)
+
+    def flush(self, handle):
+        entry = self.handles.get(handle)
+        if entry and not entry.is_doomed:
+            self.settle(entry)
+
+    def settle(self, entry):
+        if entry.is_dirty:
             self.read_node(entry)
             self.sealed("dirty word", [1], True)
             entry.is_dirty = False
@@ -593,6 +603,8 @@ class Floor:
             self.doom(self.find(key))
         elif word == "close":
             self.close(fields[0])
+        elif word == "flush":
+            self.flush(fields[0])
         elif word == "trim":
             self.evict_until(int(fields[0]), self.max_items)
         elif word == "list":

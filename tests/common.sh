@@ -101,6 +101,23 @@ patch() {
     printf "$3" | dd of="$1" bs=1 seek="$2" conv=notrunc status=none
 }
 
+# Prints words of a folder's index: words_of FOLDER PLACE ..
+words_of() {
+    local place words=
+    for place in "${@:2}"; do
+        words+=$(od -An -tx4 -j "$place" -N 4 "$1/index")
+    done
+    echo "${words# }"
+}
+
+# Puts a folder's index back to the first version: put_back FOLDER WORD [WORDS], where WORD is the one at 12 and WORDS are those from 48 on,
+# each as printf's escapes.
+put_back() {
+    patch "$1/index" 4 '\0\0\002\0'
+    patch "$1/index" 12 "$2"
+    [ $# -lt 3 ] || patch "$1/index" 48 "$3"
+}
+
 # Prints all that a folder has, with these bytes from a place of its index on.
 picture_with() {
     local copy=$room/pictured
@@ -151,7 +168,7 @@ status_of() {
 line_of() {
     case $1 in
         empty | finished) echo "$empty_line" ;;
-        damaged) echo 'damaged index 4 00020003' ;;
+        damaged) echo 'damaged index 4 00030003' ;;
         entries) echo 'items 1 bytes 1' ;;
     esac
 }
@@ -184,7 +201,8 @@ draw_script() {
                 else if (n < 0.69) print "sread", handle(), place(), 1 + below(5000)
                 else if (n < 0.72) print "srange", handle(), place(), 1048576
                 else if (n < 0.76) print "read", handle(), below(3), below(100), 1 + below(3000)
-                else if (n < 0.94) print "close", handle()
+                else if (n < 0.91) print "close", handle()
+                else if (n < 0.94) print "flush", handle()
                 else if (n < 0.96) print "doomkey", key()
                 else if (n < 0.97) print "doom", handle()
                 else if (n < 0.98) print "trim", below(200000)

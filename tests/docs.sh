@@ -403,12 +403,12 @@ OPTIONS:--max N:1 most_bytes bytes mebibytes
 OPTIONS:--items N:1 most_items items
 Refusals:1 BadHandle:handle_names
 Refusals:5 BadStream:last_stream
-Refusals:6 TooLarge:stream_share part_size
+Refusals:6 TooLarge:part_size
 Refusals:9 RangeEnd:largest_offset
 Refusals:13 BadKey:longest_key
 Faults:7 TooLong:longest_line longest_data
 LIMITS:Keys:1 longest_key
-LIMITS:Streams:stream_count stream_share stream_bytes
+LIMITS:Streams:stream_count stream_share most_stream stream_bytes
 LIMITS:Sparse data:largest_offset gibibytes part_size
 LIMITS:Handles:handle_names
 LIMITS:Input:longest_input budget
@@ -575,7 +575,7 @@ plant "$manual" '.It 9 Li RangeEnd' '.It 9 Li EndOfRange'
 is 'planted: another name of a refusal' $'9 EndOfRange\n9 RangeEnd' \
     "$(differing "$(numbered_of_source "$top/crates/blk_model/src/lib.rt" BadHandle)" "$(numbered_of_manual Refusals "$room/planted")")"
 
-# The reasons are those of docs/RECOVERY.md too, and printed by their names; the refusals are those of docs/MODEL.md, but for the one that is
+# The reasons are those of docs/RECOVERY.md too, and printed by their names; the refusals are those of docs/MODEL.md, but for those that are
 # reserved.
 recovery=$top/docs/RECOVERY.md model=$top/docs/MODEL.md printing=$top/crates/blk_inspect/src/verdict.rt
 reasons=$(numbered_of_source "$top/crates/blk_verdict/src/reason.rt" Contents)
@@ -591,9 +591,9 @@ plant "$manual" '.It 16 Li Unlisted' '.It 17 Li Unlisted'
 is 'planted: another number of a reason in the manual page' $'16 Unlisted\n17 Unlisted' \
     "$(differing "$reasons" "$(numbered_of_manual 'Why recovery drops an entry' "$room/planted")")"
 refusals=$(numbered_of_source "$top/crates/blk_model/src/lib.rt" BadHandle | while read -r _ it; do echo "$it"; done)
-is 'docs/MODEL.md: the refusals' Memory "$(differing "$refusals" "$(refusals_of_model "$model")")"
+is 'docs/MODEL.md: the refusals' $'Memory\nNoHandle' "$(differing "$refusals" "$(refusals_of_model "$model")")"
 plant "$model" '| BadKey, Missing |' '| BadKey, Absent |'
-is 'planted: another refusal in docs/MODEL.md' $'Absent\nMemory' "$(differing "$refusals" "$(refusals_of_model "$room/planted")")"
+is 'planted: another refusal in docs/MODEL.md' $'Absent\nMemory\nNoHandle' "$(differing "$refusals" "$(refusals_of_model "$room/planted")")"
 
 # The limits are those of the definitions: of each item the numbers of its text, in their order.
 limits=("$top"/crates/{blk_model/specs/Sizes,blk_args/specs/Words,blk_run/specs/WholeInputs,blk_run/specs/Work,blk_script/specs/Fields,blk_script/specs/Line}.antt)

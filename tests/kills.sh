@@ -84,7 +84,7 @@ for ((number = 0; number < 12; number++)); do
     killed "$number" "${signals[number % ${#signals[@]}]}"
 done
 
-# A session that waits for its next line is ended at once, and leaves no lock; what it closed is there.
+# A session that waits for its next line is ended at once, and leaves no lock; what it closed is there, and what it flushed.
 waits=$room/waits
 many=$(printf '7a%.0s' {1..20000})
 for it in "${signals[@]}"; do
@@ -96,12 +96,13 @@ for it in "${signals[@]}"; do
     eval "exec ${talk[1]}>&-"
     talk_id=$talk_PID
     replies=
-    for line in 'create 0 a' 'write 0 0 0 616263' 'close 0' 'create 0 b' "write 0 0 0 $many" 'close 0' 'create 0 c' 'write 0 0 0 65'; do
+    for line in 'create 0 a' 'write 0 0 0 616263' 'close 0' 'create 0 b' "write 0 0 0 $many" 'close 0' 'create 1 d' 'write 1 0 0 646566' \
+        'flush 1' 'create 0 c' 'write 0 0 0 65'; do
         echo "$line" >&"$talk_in"
         read -r -t 20 reply <&"$talk_out"
         replies+="$reply, "
     done
-    is "${it%:*}: a session waits" 'ok, ok 3, ok, ok, ok 20000, ok, ok, ok 1, ' "$replies"
+    is "${it%:*}: a session waits" 'ok, ok 3, ok, ok, ok 20000, ok, ok, ok 3, ok, ok, ok 1, ' "$replies"
     kill -s "${it%:*}" "$talk_id"
     read -r -t 10 reply <&"$talk_out"
     is "${it%:*}: it ends at once, with no further reply" '1 ' "$? $reply"
@@ -114,6 +115,8 @@ for it in "${signals[@]}"; do
     is "${it%:*}: the next command has the folder, and what was closed is there" $'0 ok\ndata 3 616263\nok' "$status $said$complained"
     run "$waits" get b 0
     is "${it%:*}: so is what has a file of its own" $'0 ok\ndata 20000 7a7a' "$status ${said:0:18}"
+    run "$waits" get d 0
+    is "${it%:*}: so is what was flushed" $'0 ok\ndata 3 646566\nok' "$status $said$complained"
     run "$waits" verify
     is "${it%:*}: the folder is sound" 0 "$status"
 done

@@ -84,7 +84,10 @@ make finished "$room/inspected"
 before=$(both "$room/inspected")
 zeros=$(printf '%s 00000000\n' num_entries num_bytes last_file)
 more=$(printf '%s 00000000\n' crash experiment size head tail transaction operation)
-says 'the index' "$room/inspected" 0 $'magic c103cac3\nversion 00020000\n'"$zeros"$'\nthis_id 00000001\nstats 00000000\ntable_len 00010000\n'"$more" inspect index
+said_of_index() {
+    printf 'magic c103cac3\nversion %s\n%s\nthis_id 00000001\nstats 00000000\ntable_len 00010000\n%s' "$1" "$zeros" "$more"
+}
+says 'the index' "$room/inspected" 0 "$(said_of_index 00030000)" inspect index
 says 'a block address' "$room/inspected" 0 'block 2 1 4 2' inspect address a1010004
 says 'an external address' "$room/inspected" 0 'external 1' inspect address 80000001
 says 'no address' "$room/inspected" 0 none inspect address a4010000
@@ -97,6 +100,11 @@ says 'no entry' "$room/inspected" 0 none inspect entry a1010004
 says 'nothing is kept' "$room/inspected" 0 $'kept 0\nitems 0 bytes 0' verify
 says 'options change nothing' "$room/inspected" 0 $'kept 0\nitems 0 bytes 0' --max 1 -- verify
 is 'the folder is left by all of these' "$before" "$(both "$room/inspected")"
+put_back "$room/inspected" '\0\0\0\0'
+before=$(both "$room/inspected")
+says 'the index of the first version' "$room/inspected" 0 "$(said_of_index 00020000)" inspect index
+says 'nothing is kept there' "$room/inspected" 0 $'kept 0\nitems 0 bytes 0' verify
+is 'the folder of the first version is left too' "$before" "$(both "$room/inspected")"
 make entries "$room/entry"
 before=$(both "$room/entry")
 says 'an entry is kept' "$room/entry" 0 $'kept 1\nitems 1 bytes 1' verify
@@ -130,7 +138,8 @@ mkdir "$folder"
 says 'an option before' "$folder" 0 "$empty_line" --max 5 count
 says 'an option behind' "$folder" 0 "$empty_line" count --max=5
 says 'both options' "$folder" 0 "$empty_line" --items=3 count --max 5
-says 'the greatest limits' "$folder" 0 "$empty_line" --items 131072 --max 2147483647 count
+says 'the greatest limits' "$folder" 0 "$empty_line" --items 131072 --max 1099511627776 count
+says 'a limit of 32 bits' "$folder" 0 "$empty_line" --max 2147483648 count
 says 'the word -- before' "$folder" 0 "$empty_line" -- count
 says 'the word -- behind' "$folder" 0 "$empty_line" count --
 input k
@@ -162,7 +171,7 @@ outside trim
 outside trim 0x10
 outside trim 18446744073709551616
 outside --max 0 count
-outside --max 2147483648 count
+outside --max 1099511627777 count
 outside --max 18446744073709551616 count
 outside --max 5 --max 6 count
 outside --max=5 count --max 5

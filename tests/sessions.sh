@@ -46,7 +46,7 @@ is 'it does not write' "$before" "$(both "$room/damaged")"
 every=('create 0 a' 'write 0 1 5000 616263' 'read 0 1 4998 9' 'size 0 1' 'cut 0 1 2 4A4b' 'read 0 1 0 18446744073709551615' 'write 0 0 0 -'
     'open 4095 a' 'close 0' 'list' 'total' 'create 1 a%20b' 'close 1' 'list' 'open 1 %61' 'doom 1' 'write 1 0 0 7a' 'read 1 0 0 5' 'total'
     'close 1' 'close 4095' 'total' 'doomkey a%20b' 'trim 0' 'swrite 0 0 61' 'create 2 s'
-    'swrite 2 1023 6162' 'sread 2 1023 9' 'srange 2 0 1048576' 'total' 'doom 2' 'total')
+    'swrite 2 1023 6162' 'flush 2' 'sread 2 1023 9' 'srange 2 0 1048576' 'total' 'doom 2' 'total')
 replies='ok
 ok 3
 data 5 0000616263
@@ -77,6 +77,7 @@ ok 0
 refused 1 BadHandle
 ok
 ok 2
+ok
 data 0 -
 range 1024 1
 total 2 9497

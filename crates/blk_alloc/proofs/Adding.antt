@@ -11,7 +11,7 @@ use Rattle.spec_image.specs.Steps.{with_word}
 use Rattle.spec_image.specs.Footprint.{SameOutside, either, range, whole}
 use Rattle.spec_image.proofs.Splices.{content-zeros}
 use Rattle.spec_format.specs.Address.{block_size}
-use Rattle.spec_format.specs.Headers.{empty_of, allocations_of, max_entries_of, block_magic, version}
+use Rattle.spec_format.specs.Headers.{empty_of, allocations_of, max_entries_of, block_magic, block_version}
 use Rattle.spec_format.specs.Claims.{has_claim, is_in_file, repeats}
 use Rattle.spec_format.specs.BlockFiles.{is_among, max_entries_in, stands_in}
 use Rattle.spec_format.specs.Maps.{is_block_marked, groups_with, groups_of, AreAllocations, EmptyAgrees}
@@ -35,9 +35,9 @@ use Rattle.blk_alloc.proofs.Widening.{Widens, allocations_more, mark_kept}
 -- past its first fields a new header has zeros
 zero_past : (kind n k : ℕ) → 16 ≤ k → content (new_header kind n) k ≡ 0
 zero_past kind n k past =
-    byte_beside 12 (block_size kind) (with_word 8 n (with_word 4 version (with_word 0 block_magic (zeros 8192)))) k (inr (omega arith))
-    ∙ byte_beside 8 n (with_word 4 version (with_word 0 block_magic (zeros 8192))) k (inr (omega arith))
-    ∙ byte_beside 4 version (with_word 0 block_magic (zeros 8192)) k (inr (omega arith))
+    byte_beside 12 (block_size kind) (with_word 8 n (with_word 4 block_version (with_word 0 block_magic (zeros 8192)))) k (inr (omega arith))
+    ∙ byte_beside 8 n (with_word 4 block_version (with_word 0 block_magic (zeros 8192))) k (inr (omega arith))
+    ∙ byte_beside 4 block_version (with_word 0 block_magic (zeros 8192)) k (inr (omega arith))
     ∙ byte_beside 0 block_magic (zeros 8192) k (inr (omega arith))
     ∙ content-zeros 8192 k
 

@@ -200,7 +200,7 @@ pub fn allocate_counted<F: Folder, L: Ledger>(
     ensures most { IfOk result (λ addr. steps.new ≤ steps.old + most_words files.new (file_selector addr)) }
     ensures once { IfOk result (λ addr. ForSome (F.told f.old).files (λ from. LiesAtHint files.old files.new (kind_number kind) blocks from addr → steps.new ≡ steps.old + 1)) }
 
-    // Of a failed check of a file that was there, by its counters and hints, and of full files nothing is written.
+    // Nothing is written where a check of the counters or hints of an existing file fails, or where all files are full.
     ensures cause { IfDamaged result (IsRefusal files.old files.new (kind_number kind) blocks (F.told f.old) (F.told f.new)) }
     ensures untold { ForSome (F.told f.old).files (AreCounted files.old (kind_number kind)) → IfDamaged result (λ _. (F.told f.old).files ≡ None) }
     ensures silent { (F.told f.old).files ≡ None → (F.told f.new).files ≡ None }

@@ -55,6 +55,14 @@ pub no_bytes : words_ask (codes "--max" ∷ codes "0" ∷ codes "count" ∷ []) 
 unfolding words_ask taken_apart word_of asked_by limits_in task_in task_of first_words number_field
 no_bytes = refl
 
+pub as_many_bytes_as_may_be : words_ask (codes "--max" ∷ codes "1099511627776" ∷ codes "count" ∷ []) ≡ with_limits 1099511627776 65536 do_count
+unfolding words_ask taken_apart word_of asked_by limits_in task_in task_of first_words number_field
+as_many_bytes_as_may_be = refl
+
+pub too_many_bytes : words_ask (codes "--max" ∷ codes "1099511627777" ∷ codes "count" ∷ []) ≡ None
+unfolding words_ask taken_apart word_of asked_by limits_in task_in task_of first_words number_field
+too_many_bytes = refl
+
 pub a_limit_twice : words_ask (codes "--max" ∷ codes "5" ∷ codes "--max" ∷ codes "6" ∷ codes "count" ∷ []) ≡ None
 unfolding words_ask taken_apart word_of asked_by limits_in task_in task_of first_words number_field
 a_limit_twice = refl

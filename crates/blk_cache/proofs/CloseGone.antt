@@ -97,11 +97,7 @@ module _ (cache : Cache) (handle : ℕ) (small : handle < 2 ^ 16) (b : Binding) 
       -- once they are
       freed-keeps : (i : Image) → Removes words image i → Keeps next left [] i
       freed-keeps i r =
-          let same = all-counted words image i r in
-          record {
-            entries = all-gone words image i r next left [] unlinked.entries;
-            counters = record { sizes = same.sizes ∙ unlinked.counters.sizes; num_entries = same.num_entries ∙ unlinked.counters.num_entries; num_bytes = same.num_bytes ∙ unlinked.counters.num_bytes };
-          }
+          record { entries = all-gone words image i r next left [] unlinked.entries; counters = all-counted words image i r ∙ unlinked.counters }
 
       freed-id : (i : Image) → Removes words image i → this_id_of (byte i Index) ≡ this_id_of (byte image Index)
       freed-id i r = ap this_id_of same where

@@ -12,8 +12,9 @@ use Rattle.spec_image.proofs.Images.{bytes_of-written}
 use Rattle.spec_image.proofs.Runs.{some_inj, told_whole}
 use Rattle.spec_image.proofs.Splices.{length-zeros}
 use Rattle.spec_image.proofs.Words.{length-with_word, length-with_words, word-beside, word-there}
-use Rattle.spec_format.specs.Headers.{create_time_of, index_length, index_magic, table_length, version}
+use Rattle.spec_format.specs.Headers.{create_time_of, index_length, index_magic, index_version, table_length}
 use Rattle.spec_format.specs.NewFolder.{IsMade, new_index_words}
+use Rattle.spec_format.proofs.Counts.{its-version}
 use Rattle.spec_folder.specs.Found.{charge_of, kept}
 use Rattle.law_folder.proofs.states.Bare.{bare-sound}
 use Rattle.law_folder.proofs.states.NewFolders.{Neighbours, new-bare, words_beside}
@@ -33,9 +34,9 @@ moment-there : (moment : ℕ) (bytes : List ℕ) → moment < 2 ^ 64 → 48 ≤ 
 moment-there moment bytes fits room =
     let low : ℕ = moment % 2 ^ 32 in
     let high : ℕ = moment / 2 ^ 32 in
-    let before : List ℕ = with_words ((4, version) ∷ (28, table_length) ∷ []) bytes in
+    let before : List ℕ = with_words ((4, index_version) ∷ (28, table_length) ∷ []) bytes in
     let between : List ℕ = with_word 40 low before in
-    let long : length before ≡ length bytes = length-with_words ((4, version) ∷ (28, table_length) ∷ []) bytes in
+    let long : length before ≡ length bytes = length-with_words ((4, index_version) ∷ (28, table_length) ∷ []) bytes in
     let longer : length between ≡ length before = length-with_word 40 low before in
     let at_low : word_at (content (with_words (new_index_words moment) bytes)) 40 ≡ low = words_beside 40 ((44, high) ∷ (0, index_magic) ∷ []) between (inl (lit≤ tt), (inr (lit≤ tt), tt)) ∙ word-there 40 low before (omega arith) (omega (arith, long, room)) in
     let at_high : word_at (content (with_words (new_index_words moment) bytes)) 44 ≡ high = words_beside 44 ((0, index_magic) ∷ []) (with_word 44 high between) (inr (lit≤ tt), tt) ∙ word-there 44 high between (omega (arith, fits)) (omega (arith, longer, long, room)) in
@@ -49,7 +50,8 @@ made-moment moment image fits made =
 -- nothing is to be repaired of it but words of the index
 pub made-needs : (scan : Scan) (image : Image) → IsJustMade image → IsEmptyScan scan → NeedsOnlyWords scan image
 made-needs scan image made empty =
-    let now : IsMended image = sound-mended image (bare-sound image (new-bare made.0 image made.1)) in
+    let bare = new-bare made.0 image made.1 in
+    let now : IsMended image = sound-mended image (bare-sound image bare) (its-version (byte image Index) 0 0 bare.index.counts) in
     record { links = now.links; files = now.files; only = now.only; bare = empty.bare }
 
 -- ---- while words of the index are written
@@ -83,8 +85,8 @@ two-words from image low high = ap₂ (λ (a b : ℕ). a + 4294967296 * b) low h
 counting-keeps : (items bytes id : ℕ) (image : Image) → WasMadeAt (create_time_of (byte image Index)) (after (index_steps items bytes id image) image)
 counting-keeps items bytes id image =
     two-words image (after (index_steps items bytes id image) image)
-    (index-beside items bytes id image 40 (inl (lit≤ tt), (inr (lit≤ tt), (inr (lit≤ tt), (inr (lit≤ tt), tt)))) (inr (lit≤ tt)))
-    (index-beside items bytes id image 44 (inl (lit≤ tt), (inr (lit≤ tt), (inr (lit≤ tt), (inr (lit≤ tt), tt)))) (inr (lit≤ tt)))
+    (index-beside items bytes id image 40 (inl (lit≤ tt), (inr (lit≤ tt), (inl (lit≤ tt), (inl (lit≤ tt), (inr (lit≤ tt), (inr (lit≤ tt), (inr (lit≤ tt), tt))))))) (inr (lit≤ tt)))
+    (index-beside items bytes id image 44 (inl (lit≤ tt), (inr (lit≤ tt), (inl (lit≤ tt), (inl (lit≤ tt), (inr (lit≤ tt), (inr (lit≤ tt), (inr (lit≤ tt), tt))))))) (inr (lit≤ tt)))
 
 crash-keeps : (value : ℕ) (image : Image) → WasMadeAt (create_time_of (byte image Index)) (after (word_step Index crash_place value) image)
 crash-keeps value image = two-words image (after (word_step Index crash_place value) image) (step-beside image crash_place value 40 (inr (lit≤ tt))) (step-beside image crash_place value 44 (inr (lit≤ tt)))
@@ -96,7 +98,7 @@ kept-after {a} {b} steps from there made kept =
 
 -- the counters, the number of the session and the crash word are beside the moment
 pub counted-moment : {a b : Told} (entry : Image) (id : ℕ) (from : Image) → a.files ≡ Some from → Applies a b (counting_steps entry id from) → ForSome b.files (WasMadeAt (create_time_of (byte from Index)))
-counted-moment entry id from there made = kept-after (counting_steps entry id from) from there made (counting-keeps (length (kept entry)) (sum_by charge_of (kept entry) % 2 ^ 32) id from)
+counted-moment entry id from there made = kept-after (counting_steps entry id from) from there made (counting-keeps (length (kept entry)) (sum_by charge_of (kept entry)) id from)
 
 pub crash-moment : {a b : Told} (value : ℕ) → Applies a b (word_step Index crash_place value) → ForSome a.files (λ from. ForSome b.files (WasMadeAt (create_time_of (byte from Index))))
 crash-moment value made from there = kept-after (word_step Index crash_place value) from there made (crash-keeps value from)

@@ -1,16 +1,19 @@
 -- Where a cache keeps a state its folder may be written, and ends sound where no name is bound.
-use Rattle.std.proofs.Common.{◌≡◌, inr, ℕ, Option, Some, None, refl, subst, arith, false}
+use Rattle.std.proofs.Common.{◌≡◌, inl, inr, ℕ, length, Option, Some, None, refl, ◌∙◌, subst, arith, false}
 use Rattle.std.specs.Option.{ForSome}
-use Rattle.spec_image.specs.Image.{Image, Index, word}
+use Rattle.spec_image.specs.Image.{Image, Index, byte, word}
 use Rattle.spec_image.specs.Steps.{after, word_step}
 use Rattle.spec_image.specs.Told.{Told, Applies}
 use Rattle.spec_image.proofs.Images.{word-after_same}
 use Rattle.spec_image.proofs.Runs.{told_whole}
-use Rattle.spec_format.specs.Headers.{HasWholeIndex}
+use Rattle.spec_format.specs.Headers.{HasWholeIndex, index_version, version_of}
 use Rattle.spec_image.specs.Footprint.{SameOutside, one_word}
 use Rattle.blk_model.specs.State.{State, is_named, named_by}
+use Rattle.spec_format.proofs.Counts.{its-version}
 use Rattle.spec_format.proofs.Finished.{whole_index}
 use Rattle.spec_folder.specs.Layout.{Layout}
+use Rattle.law_folder.proofs.updates.IndexWords.{word-still}
+use Rattle.law_state.specs.CounterLaws.{charged}
 use Rattle.law_state.proofs.Keeping.{kept-sound}
 use Rattle.law_recovery.specs.Mended.{IsMended}
 use Rattle.law_recovery.specs.MendedChanges.{KeepsMendedLinks}
@@ -41,8 +44,15 @@ free-unnamed cache state image k free number =
 
 -- then it is repaired
 module _ (cache : Cache) (state : State) (from image : Image) (k : KeepsState cache state from) (free : AreAllFree cache.handles) (outside : SameOutside (one_word Index 32) from image) where
+  version-was : version_of (byte from Index) ≡ index_version
+  version-was = its-version (byte from Index) (length state.uses) (charged state k.layout) k.kept.counters
+
   was : IsMended from
-  was = sound-mended from (kept-sound state k.layout from k.kept (unnamed-rests state k.kept.entries.valid (free-unnamed cache state from k free)))
+  was = sound-mended from (kept-sound state k.layout from k.kept (unnamed-rests state k.kept.entries.valid (free-unnamed cache state from k free))) version-was
+
+  -- the version stays
+  version-now : version_of (byte image Index) ≡ index_version
+  version-now = word-still from image 32 outside 4 (inl (omega arith)) ∙ version-was
 
   keeps : KeepsMendedLinks from image
   keeps = hidden-change from image 32 was.links refl (omega arith) refl refl outside
@@ -65,7 +75,7 @@ pub holds-still : FreeCachesHoldStill
 holds-still cache state from image k free outside = still cache state from image k free outside
 
 pub ends-sound : FreeCachesEndSound
-ends-sound cache state from image k free outside are = mended-sound image (now cache state from image k free outside) are
+ends-sound cache state from image k free outside are = (mended-sound image (now cache state from image k free outside) are, version-now cache state from image k free outside)
 
 -- the crash word is 0 once that is written
 pub crash-cleared : {a b : Told} → ForSome a.files HasWholeIndex → Applies a b (word_step Index 32 0) → ForSome b.files (λ image. word image Index 32 ≡ 0)

@@ -56,6 +56,7 @@ pub mod DoomSteps
 pub mod ChangedObjects
 pub mod Unsettles
 pub mod UnsettleSteps
+pub mod FlushSteps
 pub mod WriteRoom
 pub mod ListedRows
 pub mod Replies

@@ -2,7 +2,7 @@
 use Rattle.std.proofs.Common.{◌≡◌, ℕ, suc, true, List, [], ◌∷◌, length, Option, Some, None, refl, sym, ap, ◌∙◌}
 use Rattle.std.specs.List.{cons_option, filter_map}
 use Rattle.std.proofs.lemmas.Bool.{or_left, or_right}
-use Rattle.spec_image.specs.Image.{Image, Index, word}
+use Rattle.spec_image.specs.Image.{Image, Index, byte, word}
 use Rattle.blk_model.specs.Holding.{row_of, rows}
 use Rattle.blk_model.specs.Items.{Item, Row, same_item}
 use Rattle.blk_model.specs.Refusals.{evicted, refusals}
@@ -13,7 +13,9 @@ use Rattle.blk_model.specs.Step.{outcome, reply, step}
 use Rattle.blk_model.specs.declared.Answer.TheVariants as answer
 use Rattle.blk_model.specs.State.{State}
 use Rattle.blk_model.proofs.Same.{same_item_self}
+use Rattle.spec_format.proofs.Counts.{its-nodes}
 use Rattle.spec_folder.specs.Layout.{Layout, is_in}
+use Rattle.law_state.specs.CounterLaws.{charged}
 use Rattle.law_state.specs.Keeping.{Keeps}
 use Rattle.blk_cache.specs.declared.cache.Cache.{Cache}
 use Rattle.blk_cache.specs.CacheKeeping.{KeepsState}
@@ -39,7 +41,7 @@ rows-counted state layout image k = counted (row_of state) state.uses (λ item a
 
 -- so the word of the index says how many there are
 pub rows-said : (state : State) (layout : Layout) (image : Image) → Keeps state layout [] image → word image Index 268 ≡ length (rows state)
-rows-said state layout image k = k.counters.sizes ∙ sym (rows-counted state layout image k)
+rows-said state layout image k = its-nodes (byte image Index) (length state.uses) (charged state layout) k.counters ∙ sym (rows-counted state layout image k)
 
 pub list-answer : (state : State) (moment : ℕ) → answer_of (step state moment to_list).reply ≡ answer.Listed (length (rows state))
 unfolding step outcome reply refusals evicted without

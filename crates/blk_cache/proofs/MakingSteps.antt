@@ -5,7 +5,7 @@ use Rattle.std.proofs.lemmas.List.Elements.{All-cons, All-nil}
 use Rattle.spec_image.specs.Image.{File, Index, Block}
 use Rattle.spec_image.specs.Steps.{TrailStep, SetLength, word_steps}
 use Rattle.spec_format.specs.Address.{header_size}
-use Rattle.spec_format.specs.Headers.{index_length, index_magic, table_length, version}
+use Rattle.spec_format.specs.Headers.{index_length, index_magic, index_version, table_length}
 use Rattle.spec_format.specs.NewFolder.{new_file_words, new_index_words}
 use Rattle.blk_index.specs.Making.{blank_steps, deletions, files_steps, first_file_steps, folder_steps}
 use Rattle.blk_repair.specs.Counters.{is_in_crash_word}
@@ -22,7 +22,7 @@ spare-made (suc n) = spare-append (files_steps n) (first_file_steps n) (spare-ma
 index-elsewhere : (moment : ℕ) → All (λ (w : ℕ × ℕ). is_in_crash_word w.0 4 ≡ false) (new_index_words moment)
 index-elsewhere moment =
     let O : ℕ × ℕ → Type 0 = (λ (w : ℕ × ℕ). is_in_crash_word w.0 4 ≡ false) in
-    All-cons O (4, version) ((28, table_length) ∷ (40, moment % 2 ^ 32) ∷ (44, moment / 2 ^ 32) ∷ (0, index_magic) ∷ []) refl
+    All-cons O (4, index_version) ((28, table_length) ∷ (40, moment % 2 ^ 32) ∷ (44, moment / 2 ^ 32) ∷ (0, index_magic) ∷ []) refl
     (All-cons O (28, table_length) ((40, moment % 2 ^ 32) ∷ (44, moment / 2 ^ 32) ∷ (0, index_magic) ∷ []) refl
     (All-cons O (40, moment % 2 ^ 32) ((44, moment / 2 ^ 32) ∷ (0, index_magic) ∷ []) refl (All-cons O (44, moment / 2 ^ 32) ((0, index_magic) ∷ []) refl (All-cons O (0, index_magic) [] refl (All-nil O)))))
 

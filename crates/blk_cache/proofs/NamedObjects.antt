@@ -160,7 +160,7 @@ module _ (less more : State) (handle number : ℕ) (object : Object) (names : mo
   pub named-it : is_named more number ≡ true
   named-it = named-now number ∙ ap (λ (b : Bool). b || is_named less number) (same-number number)
 
-  -- where it was named already
+  -- a second name for an object changes nothing in the list of objects with names
   pub named-before : is_named less number ≡ true → named_objects more ≡ named_objects less
   named-before was = named-same less more (λ n. ⊎_elim (λ (e : n ≡ number). ap (is_named more) e ∙ named-it ∙ sym (ap (is_named less) e ∙ was)) (λ (e : n ≢ number). named-else n e) (cases_eq n number)) 0 more.objects ∙ sym slots
 

@@ -5,7 +5,7 @@ use Rattle.std.specs.List.{flat_map, sum_by}
 use Rattle.std.proofs.lemmas.Bool.{eq-eqb}
 use Rattle.std.proofs.lemmas.List.{length-map}
 use Rattle.std.proofs.lemmas.List.Elements.{All-nil}
-use Rattle.spec_image.specs.Image.{Image, Index}
+use Rattle.spec_image.specs.Image.{Image, Index, byte}
 use Rattle.spec_image.specs.Footprint.{one_word}
 use Rattle.spec_image.proofs.Footprints.{outside-refl}
 use Rattle.blk_model.specs.Items.{IsValidHolding, Row}
@@ -14,6 +14,7 @@ use Rattle.blk_model.specs.State.{State, Object, Bounds, is_named, object_at}
 use Rattle.blk_model.specs.Holding.{open_state}
 use Rattle.blk_model.proofs.Opened.{open_valid}
 use Rattle.spec_format.specs.BlockFiles.{is_among}
+use Rattle.spec_format.proofs.Counts.{its-version}
 use Rattle.spec_format.proofs.Finished.{well_formed-finished}
 use Rattle.spec_folder.specs.Audit.{kept_by}
 use Rattle.spec_folder.specs.Found.{charge_of, found, kept, row_of_loaded}
@@ -113,7 +114,7 @@ module _ (image : Image) (bare : HasNoEntries image) where
     rows i b = rw (well_formed-finished i b.well_formed) refl
 
   mended : IsMended image
-  mended = sound-mended image (bare-sound image bare)
+  mended = sound-mended image (bare-sound image bare) (its-version (byte image Index) 0 0 bare.index.counts)
 
   walk-none : completed_walk image ≡ []
   walk-none = walk-idle (list_of image) mended.links.rests.idle ∙ sym (kept-walked image mended.links) ∙ ap (λ (ks : List Loaded). map (λ k. k.node) ks) kept-none

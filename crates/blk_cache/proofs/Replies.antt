@@ -13,7 +13,7 @@ use Rattle.blk_model.specs.Holding.{rows}
 use Rattle.blk_model.specs.Reply.{answer_of, answered, gave}
 use Rattle.blk_model.specs.declared.Command.{Command}
 use Rattle.blk_model.specs.declared.Command.TheVariants as command
-use Rattle.blk_model.specs.Request.{Request, request_of, to_close, to_create, to_doom, to_doom_key, to_list, to_open, to_read, to_size, to_sparse_range, to_sparse_read, to_sparse_write, to_total, to_trim, to_write}
+use Rattle.blk_model.specs.Request.{Request, request_of, to_close, to_flush, to_create, to_doom, to_doom_key, to_list, to_open, to_read, to_size, to_sparse_range, to_sparse_read, to_sparse_write, to_total, to_trim, to_write}
 use Rattle.blk_model.specs.Room.{without}
 use Rattle.blk_model.specs.State.{IsValidState, Object, State, named_by, object_at}
 use Rattle.blk_model.specs.Step.{Outcome, outcome, reply, step}
@@ -52,6 +52,7 @@ done-text moment (to_sparse_range handle offset count) state = refl
 done-text moment (to_doom handle) state = refl
 done-text moment (to_doom_key key) state = refl
 done-text moment (to_close handle) state = refl
+done-text moment (to_flush handle) state = refl
 done-text moment to_list state = refl
 done-text moment (to_trim bytes) state = refl
 done-text moment to_total state = refl
@@ -200,6 +201,7 @@ no-bytes (command.SparseRange handle offset count) state other sparse = refl
 no-bytes (command.Doom handle) state other sparse = refl
 no-bytes (command.DoomKey key) state other sparse = refl
 no-bytes (command.Close handle) state other sparse = refl
+no-bytes (command.Flush handle) state other sparse = refl
 no-bytes command.List state other sparse = refl
 no-bytes (command.Trim bytes) state other sparse = refl
 no-bytes command.Total state other sparse = refl

@@ -108,7 +108,7 @@ module _ (state : State) (valid : IsValidState state) (moment handle offset : �
 
   -- ---- space
 
-  module _ (passes : refused moment (to_sparse_write handle offset bytes) state ≡ None) (max_bytes max_items : ℕ) (limits : state.limits ≡ record { max_bytes = max_bytes; max_items = max_items }) (few_bytes : max_bytes ≤ 2147483647) (few_items : max_items ≤ 131072)
+  module _ (passes : refused moment (to_sparse_write handle offset bytes) state ≡ None) (max_bytes max_items : ℕ) (limits : state.limits ≡ record { max_bytes = max_bytes; max_items = max_items }) (few_bytes : max_bytes ≤ 1099511627776) (few_items : max_items ≤ 131072)
       (light : total state < 2 ^ 64) (few_before : items state ≤ 131072) where
     -- what is added fits in what a cache may keep
     pub record Fits (left : State) : Type 0 where

@@ -6,7 +6,7 @@ use Rattle.spec_image.specs.Steps.{after}
 use Rattle.spec_image.specs.Told.{Told}
 use Rattle.blk_io.specs.Streams.{Appends}
 use Rattle.blk_model.specs.Refusals.{evicted, refused}
-use Rattle.blk_model.specs.Request.{Request, to_close, to_doom, to_doom_key, to_list, to_open, to_read, to_size, to_sparse_range, to_sparse_read, to_total}
+use Rattle.blk_model.specs.Request.{Request, to_close, to_flush, to_doom, to_doom_key, to_list, to_open, to_read, to_size, to_sparse_range, to_sparse_read, to_total}
 use Rattle.blk_model.specs.Room.{Group}
 use Rattle.blk_model.specs.State.{State}
 use Rattle.blk_model.specs.Step.{outcome, step}
@@ -31,6 +31,7 @@ EvictsNothing (to_open handle key) = Unit {0}
 EvictsNothing (to_read handle stream offset count) = Unit {0}
 EvictsNothing (to_size handle stream) = Unit {0}
 EvictsNothing (to_close handle) = Unit {0}
+EvictsNothing (to_flush handle) = Unit {0}
 EvictsNothing (to_sparse_read handle offset count) = Unit {0}
 EvictsNothing (to_sparse_range handle offset count) = Unit {0}
 EvictsNothing (to_doom handle) = Unit {0}
@@ -45,6 +46,7 @@ none-evicted moment (to_open handle key) state n = refl
 none-evicted moment (to_read handle stream offset count) state n = refl
 none-evicted moment (to_size handle stream) state n = refl
 none-evicted moment (to_close handle) state n = refl
+none-evicted moment (to_flush handle) state n = refl
 none-evicted moment (to_sparse_read handle offset count) state n = refl
 none-evicted moment (to_sparse_range handle offset count) state n = refl
 none-evicted moment (to_doom handle) state n = refl

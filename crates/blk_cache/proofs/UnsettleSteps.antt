@@ -1,5 +1,5 @@
--- An object of a handle is dirty, from the moments of its dirty word.
-use Rattle.std.proofs.Common.{◌≡◌, ℕ, ◌<◌, ◌^◌, Bool, true, false, not, [], inl, Option, Some, None, Result, refl, sym, ap, subst, ◌∙◌}
+-- An object of a handle becomes dirty, or clean, from the moments of its dirty word.
+use Rattle.std.proofs.Common.{◌≡◌, ℕ, ◌<◌, ◌^◌, Bool, true, false, not, [], inl, Option, Some, None, Result, refl, sym, ap, subst, ◌∙◌, arith}
 use Rattle.std.specs.Prelude.{◌⊎◌, ◌==◌, IfSome, IsSome, OnOk, if◌then◌else◌}
 use Rattle.std.specs.Option.{ForSome, option_map}
 use Rattle.spec_image.specs.Image.{Image, Index, byte}
@@ -18,6 +18,7 @@ use Rattle.blk_disk.specs.Open.{IsOpen}
 use Rattle.blk_disk.specs.Tables.{is_node_among, is_record_among}
 use Rattle.blk_lru.proofs.NodeWords.{node_kind}
 use Rattle.blk_entry.specs.Marks.{SetsDirty, mark_steps}
+use Rattle.blk_handles.specs.declared.open_object.OpenObject.{OpenObject}
 use Rattle.blk_handles.specs.Bindings.{Binding, Bindings, binding_of, with_change, with_status}
 use Rattle.blk_handles.proofs.BindingLemmas.{binding_of-change}
 use Rattle.law_state.specs.Changes.{Finds}
@@ -29,14 +30,14 @@ use Rattle.blk_cache.specs.declared.cache.Cache.{Cache}
 use Rattle.blk_cache.specs.BoundNames.{AreBoundAmong}
 use Rattle.blk_cache.specs.CacheKeeping.{IsBoundTo, KeepsState}
 use Rattle.blk_cache.specs.CommandClauses.{KeepsAny, OnlyNamesChange}
-use Rattle.blk_cache.specs.Unsettling.{ForEachNamed}
+use Rattle.blk_cache.specs.Unsettling.{ForEachNamed, dirty_word}
 use Rattle.blk_cache.proofs.BoundObjects.{number-of}
 use Rattle.blk_cache.proofs.ChangedObjects.{bound-to, its-object}
-use Rattle.blk_cache.proofs.Unsettles.{at-node, marked-same, node-is, unsettled-keeps, unsettling-finds}
+use Rattle.blk_cache.proofs.Unsettles.{at-node, marked-keeps, marked-same, marking-finds-either, node-is}
 
 -- the durable contents are recovered, before and after
-abbrev Either : State → ℕ → Object → Image → Type 0
-Either state number object image = Finds (rest state) image ⊎ Finds (rest (marked state number object false)) image
+abbrev Either : State → ℕ → Object → (dirty : Bool) → Image → Type 0
+Either state number object dirty image = Finds (rest state) image ⊎ Finds (rest (marked state number object (not dirty))) image
 
 -- ---- names
 
@@ -64,26 +65,35 @@ change-bound bindings change entry name some = subst (λ (o : Option Binding). I
 
 -- ---- the object
 
-module _ (cache : Cache) (handle : ℕ) (b : Binding) (bound : binding_of cache.handles handle ≡ Some b) where
-  -- one that is dirty stays as it is
-  module _ (loose : b.dirty ≡ true) (told : Told) where
-    its-loose : (from : Image) (state : State) (number : ℕ) (object : Object) → KeepsState cache state from → Names state handle number object → object.settled ≡ false
-    its-loose from state number object k names =
+-- the word of a node is set as it is told
+pub sets-so : {A : Type 0} (files : BlockFiles) (old now : Told) (result : Result A Fault) (object other : OpenObject) → object ≡ other → (word told : ℕ) → word ≡ told → SetsDirty files old now object.node word result → SetsDirty files old now other.node told result
+sets-so files old now result object other same word told is sets =
+    subst (λ (w : ℕ). SetsDirty files old now other.node w result) is (subst (λ (o : OpenObject). SetsDirty files old now o.node word result) same sets)
+
+word-small : (cache : Cache) (dirty : Bool) → cache.mark < 2 ^ 32 → dirty_word cache dirty < 2 ^ 32
+word-small cache true few = few
+word-small cache false few = omega arith
+
+module _ (cache : Cache) (handle : ℕ) (b : Binding) (bound : binding_of cache.handles handle ≡ Some b) (dirty : Bool) where
+  -- one that is so stays as it is
+  module _ (same : b.dirty ≡ dirty) (told : Told) where
+    its-mark : (from : Image) (state : State) (number : ℕ) (object : Object) → KeepsState cache state from → Names state handle number object → object.settled ≡ not dirty
+    its-mark from state number object k names =
         let it : IsBoundTo state k.layout number b = bound-to cache state from k handle number object names b bound in
-        not-true object.settled (sym loose ∙ it.dirty ∙ ap (λ (o : Object). not o.settled) (its-object cache state from k handle number object names b it))
+        other-way object.settled dirty (sym same ∙ it.dirty ∙ ap (λ (o : Object). not o.settled) (its-object cache state from k handle number object names b it))
       where
-        not-true : (t : Bool) → true ≡ not t → t ≡ false
-        not-true false e = refl
-        not-true true e = e
+        other-way : (s d : Bool) → d ≡ not s → s ≡ not d
+        other-way true d e = ap not (sym e)
+        other-way false d e = ap not (sym e)
 
-    pub loose-keeps : ForSome told.files (λ from. ForEachNamed cache handle from (λ state number object. ForSome told.files (KeepsState cache (marked state number object false))))
-    loose-keeps from here state number object k names i there =
-        subst (KeepsState cache (marked state number object false)) (some_inj (sym here ∙ there))
-        (subst (λ (s : State). KeepsState cache s from) (sym (marked-same state number object names.here (its-loose from state number object k names))) k)
+    pub same-keeps : ForSome told.files (λ from. ForEachNamed cache handle from (λ state number object. ForSome told.files (KeepsState cache (marked state number object (not dirty)))))
+    same-keeps from here state number object k names i there =
+        subst (KeepsState cache (marked state number object (not dirty))) (some_inj (sym here ∙ there))
+        (subst (λ (s : State). KeepsState cache s from) (sym (marked-same state number object (not dirty) names.here (its-mark from state number object k names))) k)
 
-    pub loose-stops : ForSome told.files (λ from. ForEachNamed cache handle from (λ state number object. Passes told told (Either state number object)))
-    loose-stops from here state number object k names =
-        passes_none (Either state number object) refl (λ i there. inl (subst (λ (z : Image). Finds (rest state) z) (some_inj (sym here ∙ there)) (k.kept.entries.well_formed, kept-found state k.layout [] from k.kept.entries)))
+    pub same-stops : ForSome told.files (λ from. ForEachNamed cache handle from (λ state number object. Passes told told (Either state number object dirty)))
+    same-stops from here state number object k names =
+        passes_none (Either state number object dirty) refl (λ i there. inl (subst (λ (z : Image). Finds (rest state) z) (some_inj (sym here ∙ there)) (k.kept.entries.well_formed, kept-found state k.layout [] from k.kept.entries)))
 
   -- its node checks
   module _ (old : Told) (bytes : TellsBytes old) (stands : is_node_among cache.files b.node ≡ true) where
@@ -91,7 +101,7 @@ module _ (cache : Cache) (handle : ℕ) (b : Binding) (bound : binding_of cache.
     node-good from state number object k names =
         let it : IsBoundTo state k.layout number b = bound-to cache state from k handle number object names b bound in
         nodes-check state k.layout [] from b.node it.loaded k.kept.entries
-        (ap k.layout.at (node-is cache state from k handle number object names b bound) ∙ at-node cache state from k handle number object names b bound)
+        (ap k.layout.at (node-is cache state from k handle number object names b bound dirty) ∙ at-node cache state from k handle number object names b bound dirty)
 
     node-checks : (from : Image) → old.files ≡ Some from → (state : State) (number : ℕ) (object : Object) (k : KeepsState cache state from) → Names state handle number object → RecordChecks b.node from
     node-checks from here state number object k names = check-as-records from b.node (bytes from here) (node_kind cache.files b.node stands) (node-good from state number object k names)
@@ -102,19 +112,20 @@ module _ (cache : Cache) (handle : ℕ) (b : Binding) (bound : binding_of cache.
         let n = number-of one.0 one.1.layout [] from one.1.kept.entries one.0.names cache.handles one.1.names handle b bound in
         node-checks from here one.0 n.0 n.2.object one.1 (record { names = n.1; here = n.2.here })
 
-    module _ {A : Type 0} (now : Told) (result : Result A Fault) (sets : SetsDirty cache.files old now b.node cache.mark result) where
-      pub mark-stops : ForSome old.files (λ from. ForEachNamed cache handle from (λ state number object. Passes old now (Either state number object)))
+    module _ {A : Type 0} (now : Told) (result : Result A Fault) (sets : SetsDirty cache.files old now b.node (dirty_word cache dirty) result) where
+      pub mark-stops : ForSome old.files (λ from. ForEachNamed cache handle from (λ state number object. Passes old now (Either state number object dirty)))
       mark-stops from here state number object k names =
           let checks : ForSome old.files (RecordChecks b.node) = λ i there. subst (RecordChecks b.node) (some_inj (sym here ∙ there)) (node-checks from here state number object k names) in
-          let run : Passes old now (IsMarking from b.node cache.mark) = being-set b.node cache.mark old now checks sets.stops from here in
-          let may : (i : Image) → IsMarking from b.node cache.mark i → Either state number object i = λ i m. unsettling-finds cache state from k handle number object names b bound i m in
+          let run : Passes old now (IsMarking from b.node (dirty_word cache dirty)) = being-set b.node (dirty_word cache dirty) old now checks sets.stops from here in
+          let may : (i : Image) → IsMarking from b.node (dirty_word cache dirty) i → Either state number object dirty i = λ i m. marking-finds-either cache state from k handle number object names b bound dirty i m in
           passes_weaker run may may
 
-      module _ (ok : (P : Type 0) → OnOk result P → P) (still : ForSome now.files (IsOpen cache.files)) (new : Cache) (changes : new.handles ≡ with_change (with_status b.doomed true) b.entry cache.handles) (others : OnlyNamesChange cache new) (charged : new.open_bytes ≡ cache.open_bytes) where
-        pub mark-keeps : ForSome old.files (λ from. ForEachNamed cache handle from (λ state number object. ForSome now.files (KeepsState new (marked state number object false))))
+      module _ (ok : (P : Type 0) → OnOk result P → P) (still : ForSome now.files (IsOpen cache.files)) (new : Cache) (changes : new.handles ≡ with_change (with_status b.doomed dirty) b.entry cache.handles) (others : OnlyNamesChange cache new) (charged : new.open_bytes ≡ cache.open_bytes) where
+        pub mark-keeps : ForSome old.files (λ from. ForEachNamed cache handle from (λ state number object. ForSome now.files (KeepsState new (marked state number object (not dirty)))))
         mark-keeps from here state number object k names i there =
-            let small : cache.mark < 2 ^ 32 = subst (λ (n : ℕ). n < 2 ^ 32) (sym k.mark) (word-fits (byte from Index) (bytes from here Index) 20) in
+            let few : cache.mark < 2 ^ 32 = subst (λ (n : ℕ). n < 2 ^ 32) (sym k.mark) (word-fits (byte from Index) (bytes from here Index) 20) in
+            let small : dirty_word cache dirty < 2 ^ 32 = word-small cache dirty few in
             let well = λ (z : Image) (at : old.files ≡ Some z). subst IsWellFormed (some_inj (sym here ∙ at)) k.kept.entries.well_formed in
             let good = λ (z : Image) (at : old.files ≡ Some z). subst (λ (y : Image). (list_of y).checks b.node ≡ true) (some_inj (sym here ∙ at)) (node-good from state number object k names) in
-            let done : IsMarked from b.node cache.mark i = marks-set b.node cache.mark old now bytes well good small (ok (ForSome old.files (λ z. Applies old now (mark_steps z b.node cache.mark))) sets.steps) from here i there in
-            unsettled-keeps cache state from k handle number object names b bound i done new changes others charged (still i there).agrees
+            let done : IsMarked from b.node (dirty_word cache dirty) i = marks-set b.node (dirty_word cache dirty) old now bytes well good small (ok (ForSome old.files (λ z. Applies old now (mark_steps z b.node (dirty_word cache dirty)))) sets.steps) from here i there in
+            marked-keeps cache state from k handle number object names b bound dirty i done new changes others charged (still i there).agrees

@@ -1,5 +1,5 @@
 -- A Write, from where its object becomes dirty.
-use Rattle.std.proofs.Common.{◌≡◌, ⊎_elim, inl, inr, ℕ, zero, suc, ◌+◌, ◌/◌, ◌<◌, ◌≤◌, Bool, true, false, List, [], ◌∷◌, length, set, get_or, Option, Some, None, Result, refl, sym, ap, ap₂, subst, ◌∙◌}
+use Rattle.std.proofs.Common.{◌≡◌, ⊎_elim, inl, inr, ℕ, zero, suc, ◌+◌, ◌<◌, ◌≤◌, Bool, true, false, List, [], ◌∷◌, length, set, get_or, Option, Some, None, Result, refl, sym, ap, ap₂, subst, ◌∙◌}
 use Rattle.std.specs.Prelude.{◌⊎◌, IsSome, is_none, nat_lt}
 use Rattle.std.specs.Option.{ForSome}
 use Rattle.spec_image.specs.Image.{Image}
@@ -15,6 +15,7 @@ use Rattle.blk_model.specs.Refusals.{evicted, first_refusal, no_stream, refused}
 use Rattle.blk_model.specs.Reply.{answer_of}
 use Rattle.blk_model.specs.Request.{to_write}
 use Rattle.blk_model.specs.Room.{total}
+use Rattle.blk_model.specs.Sizes.{longest_stream}
 use Rattle.blk_model.specs.State.{IsValidState, Object, State, named_by, object_at}
 use Rattle.blk_model.specs.Step.{reply, step}
 use Rattle.blk_model.specs.declared.Answer.TheVariants as answer
@@ -51,7 +52,7 @@ not-first false b c p q r e = refl
 -- its name is bound
 pub write-bound : (cache : Cache) (handle stream offset count : ℕ) → early_write_refusal cache handle stream offset count ≡ None → IsSome (binding_of cache.handles handle)
 write-bound cache handle stream offset count passes =
-    by (binding_of cache.handles handle) (not-first (is_none (binding_of cache.handles handle)) (no_stream stream) (nat_lt (cache.limits.max_bytes / 8) (offset + count)) refusal.BadHandle refusal.BadStream refusal.TooLarge passes)
+    by (binding_of cache.handles handle) (not-first (is_none (binding_of cache.handles handle)) (no_stream stream) (nat_lt (longest_stream cache.limits.max_bytes) (offset + count)) refusal.BadHandle refusal.BadStream refusal.TooLarge passes)
   where
     by : (o : Option Binding) → is_none o ≡ false → IsSome o
     by None e = cc
@@ -60,8 +61,8 @@ write-bound cache handle stream offset count passes =
 -- and where the names change but for which are bound, it isn't refused early still
 pub early-still : (old new : Cache) (handle stream offset count : ℕ) → OnlyNamesChange old new → IsSome (binding_of new.handles handle) → early_write_refusal old handle stream offset count ≡ None → early_write_refusal new handle stream offset count ≡ None
 early-still old new handle stream offset count others bound passes =
-    ap₂ (λ (a : Bool) (n : ℕ). first_refusal ((a, refusal.BadHandle) ∷ (no_stream stream, refusal.BadStream) ∷ (nat_lt (n / 8) (offset + count), refusal.TooLarge) ∷ []))
-    (by (binding_of new.handles handle) bound ∙ sym (not-first (is_none (binding_of old.handles handle)) (no_stream stream) (nat_lt (old.limits.max_bytes / 8) (offset + count)) refusal.BadHandle refusal.BadStream refusal.TooLarge passes))
+    ap₂ (λ (a : Bool) (n : ℕ). first_refusal ((a, refusal.BadHandle) ∷ (no_stream stream, refusal.BadStream) ∷ (nat_lt (longest_stream n) (offset + count), refusal.TooLarge) ∷ []))
+    (by (binding_of new.handles handle) bound ∙ sym (not-first (is_none (binding_of old.handles handle)) (no_stream stream) (nat_lt (longest_stream old.limits.max_bytes) (offset + count)) refusal.BadHandle refusal.BadStream refusal.TooLarge passes))
     (ap (λ l. l.max_bytes) others.limits) ∙ passes
   where
     by : (o : Option Binding) → IsSome o → is_none o ≡ false

@@ -1,9 +1,10 @@
 -- Why a Write of a cache that keeps a state is refused.
-use Rattle.std.proofs.Common.{◌≡◌, ℕ, ◌+◌, ◌/◌, Bool, true, false, List, [], ◌∷◌, length, Option, Some, None, refl, sym, ap, ap₂, subst, ◌∙◌}
+use Rattle.std.proofs.Common.{◌≡◌, ℕ, ◌+◌, Bool, true, false, List, [], ◌∷◌, length, Option, Some, None, refl, sym, ap, ap₂, subst, ◌∙◌}
 use Rattle.std.specs.Prelude.{if◌then◌else◌, is_none, nat_lt}
 use Rattle.spec_image.specs.Image.{Image}
 use Rattle.blk_model.specs.Refusals.{first_refusal, is_kept_from_streams, names_none, no_room, no_stream, refusals, refused, stream_limit}
 use Rattle.blk_model.specs.Request.{to_write}
+use Rattle.blk_model.specs.Sizes.{longest_stream}
 use Rattle.blk_model.specs.State.{Bounds, State}
 use Rattle.blk_model.specs.declared.Refusal.{Refusal}
 use Rattle.blk_model.specs.declared.Refusal.TheVariants as refusal
@@ -45,7 +46,7 @@ only-fifth false false false false e p q r s t early is = refl
 module _ (cache : Cache) (state : State) (image : Image) (k : KeepsState cache state image) (moment handle stream offset : ℕ) (cut : Bool) (bytes : List ℕ) where
   -- the early ones of the cache are those of the state
   early-same : first_refusal ((names_none state handle, refusal.BadHandle) ∷ (no_stream stream, refusal.BadStream) ∷ (nat_lt (stream_limit state) (offset + length bytes), refusal.TooLarge) ∷ []) ≡ early_write_refusal cache handle stream offset (length bytes)
-  early-same = ap₂ (λ (a : Bool) (l : Bounds). first_refusal ((a, refusal.BadHandle) ∷ (no_stream stream, refusal.BadStream) ∷ (nat_lt (l.max_bytes / 8) (offset + length bytes), refusal.TooLarge) ∷ [])) (none-named cache state image k handle stream) k.limits
+  early-same = ap₂ (λ (a : Bool) (l : Bounds). first_refusal ((a, refusal.BadHandle) ∷ (no_stream stream, refusal.BadStream) ∷ (nat_lt (longest_stream l.max_bytes) (offset + length bytes), refusal.TooLarge) ∷ [])) (none-named cache state image k handle stream) k.limits
 
   pub write-early : (why : Refusal) → early_write_refusal cache handle stream offset (length bytes) ≡ Some why → refused moment (to_write handle stream offset cut bytes) state ≡ Some why
   unfolding refusals

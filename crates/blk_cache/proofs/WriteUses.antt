@@ -2,7 +2,6 @@
 use Rattle.std.proofs.Common.{◌≡◌, ℕ, ◌+◌, ◌<◌, Bool, true, false, List, [], ◌∷◌, ◌++◌, set, Option, Some, None, Result, Ok, Err, refl, sym, ap, subst, ◌∙◌, arith}
 use Rattle.std.specs.Prelude.{OnOk, if◌then◌else◌, nat_lt}
 use Rattle.std.specs.Option.{ForSome, option_map}
-use Rattle.spec_image.specs.Bytes.{word_at}
 use Rattle.spec_image.specs.Image.{Image, Index, byte}
 use Rattle.spec_image.specs.Steps.{after}
 use Rattle.spec_image.specs.Told.{Applies, Passes, TellsBytes, Told}
@@ -20,7 +19,6 @@ use Rattle.spec_folder.specs.ListPlans.{touch_writes}
 use Rattle.spec_folder.specs.ListSteps.{IsTouched}
 use Rattle.spec_folder.specs.View.{list_of}
 use Rattle.law_folder.proofs.states.Settling.{main-listed}
-use Rattle.law_folder.proofs.states.Tidying.{counter-same}
 use Rattle.blk_disk.specs.declared.tables.BlockFiles.{BlockFiles}
 use Rattle.blk_disk.specs.Open.{IsOpen}
 use Rattle.blk_lru.specs.Moments.{IsMidTouch}
@@ -28,6 +26,7 @@ use Rattle.law_state.specs.Changes.{Finds, KeepsWith, SameCounters}
 use Rattle.law_state.specs.CommandStates.{IsUnsettled, KeepsOtherKeys, amidst}
 use Rattle.law_state.specs.Keeping.{KeepsUncounted}
 use Rattle.law_state.specs.ListLaws.{IsTouchDone, with_used}
+use Rattle.law_state.proofs.Counts.{touch-count}
 use Rattle.law_state.proofs.Keeping.{kept-found}
 use Rattle.law_state.proofs.NotAtRest.{own-uses, unsettled-rest}
 use Rattle.law_state.proofs.Touched.{touch-keeps}
@@ -90,11 +89,8 @@ module _ (files : BlockFiles) (node : ℕ) (old mid : Told) (from : Image) (here
     pub touched-keeps : KeepsUncounted (with_used state (main object.key)) layout [] i
     touched-keeps = touch-keeps state layout [] from i (main object.key) is.kept listed done
 
-    same-word : (at : ℕ) → at + 3 < 288 → word_at (byte i Index) at ≡ word_at (byte from Index) at
-    same-word = counter-same (touch_writes (layout.place (main object.key)) (list_of from)) (layout.place (main object.key)) from i done.touched.outside
-
     pub touched-counters : SameCounters from i
-    touched-counters = record { sizes = same-word 268 (omega arith); num_entries = same-word 8 (omega arith); num_bytes = same-word 12 (omega arith) }
+    touched-counters = touch-count (touch_writes (layout.place (main object.key)) (list_of from)) (layout.place (main object.key)) from i done.touched.outside
 
 -- ---- both
 

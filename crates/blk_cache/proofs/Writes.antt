@@ -1,5 +1,5 @@
 -- A stream of a dirty object of a cache that keeps a state is written, used and counted.
-use Rattle.std.proofs.Common.{◌≡◌, ◌⊎◌, ⊎_elim, inl, inr, ℕ, zero, suc, ◌+◌, ◌-◌, ◌<◌, ◌≤◌, ◌^◌, ◌%◌, Bool, true, false, not, List, [], ◌∷◌, length, set, get_or, Option, Some, None, refl, sym, ap, subst, ◌∙◌, arith, cond}
+use Rattle.std.proofs.Common.{◌≡◌, ◌⊎◌, ⊎_elim, inl, inr, ℕ, zero, suc, ◌+◌, ◌-◌, ◌<◌, ◌≤◌, ◌^◌, Bool, true, false, not, List, [], ◌∷◌, length, set, get_or, Option, Some, None, refl, sym, ap, ap₂, subst, ◌∙◌, arith, cond}
 use Rattle.std.specs.Prelude.{◌&&◌, ◌==◌, ◌||◌, IfSome, if◌then◌else◌, is_none, nat_le, nat_lt, sum_by}
 use Rattle.std.proofs.lemmas.Bool.{ltb-false}
 use Rattle.std.proofs.lemmas.Bool.Decides.{nat_tests}
@@ -11,7 +11,7 @@ use Rattle.blk_model.specs.Room.{charge, of_slot, own_charge, total}
 use Rattle.blk_model.specs.State.{Bounds, IsObject, IsValidState, Object, State, has_item, is_named, named_by, object_at}
 use Rattle.blk_model.proofs.States.{if_some_is}
 use Rattle.blk_model.proofs.Written.{state_changed, state_written}
-use Rattle.spec_format.specs.Headers.{this_id_of}
+use Rattle.spec_format.specs.Headers.{counting, this_id_of}
 use Rattle.spec_folder.specs.Layout.{Layout, is_listed}
 use Rattle.spec_folder.specs.Loads.{Loaded}
 use Rattle.law_folder.proofs.states.Changing.{at-elsewhere, at-itself}
@@ -175,7 +175,7 @@ module _ (cache : Cache) (state : State) (from : Image) (k : KeepsState cache st
       node = node_of_object k.layout can.number can.object
 
       lies-there : k.layout.at node ≡ Some was
-      lies-there = at-node cache state from k handle number object can.names b bound
+      lies-there = at-node cache state from k handle number object can.names b bound true
 
       pub to-write : IsToBeWritten state k.layout [] number object was b.entry stream offset cut bytes from
       to-write = record {
@@ -217,7 +217,7 @@ module _ (cache : Cache) (state : State) (from : Image) (k : KeepsState cache st
           here = set-at state number object other can.names.here;
           live = alive;
           unsettled = refl;
-          node_is = node-is cache state from k handle number object can.names b bound ∙ live-node alive;
+          node_is = node-is cache state from k handle number object can.names b bound true ∙ live-node alive;
         }
 
         module _ (new : Cache) (counts : CountsAs cache new object other) (handles : new.handles ≡ cache.handles) where
@@ -232,11 +232,7 @@ module _ (cache : Cache) (state : State) (from : Image) (k : KeepsState cache st
           dead-counts dead =
               let risen = w.rise_of_doomed dead in
               let bytes-same = risen.bytes in
-              record {
-                sizes = w.counters.sizes ∙ k.kept.counters.sizes ∙ sym risen.items;
-                num_entries = w.counters.num_entries ∙ k.kept.counters.num_entries ∙ sym risen.items;
-                num_bytes = w.counters.num_bytes ∙ k.kept.counters.num_bytes ∙ ap (λ (n : ℕ). n % 2 ^ 32) (sym (charged bytes-same));
-              }
+              w.counters ∙ k.kept.counters ∙ ap₂ counting (sym risen.items) (sym (charged bytes-same))
             where
               charged : {x y : ℕ} → x + 0 ≡ y + 0 → x ≡ y
               charged e = omega (arith, e)
@@ -252,11 +248,7 @@ module _ (cache : Cache) (state : State) (from : Image) (k : KeepsState cache st
             written-state = with_written state can.number can.object stream offset cut bytes
 
             counted-before : CountsItems u.touched state k.layout
-            counted-before = record {
-              sizes = u.counters.sizes ∙ w.counters.sizes ∙ k.kept.counters.sizes;
-              num_entries = u.counters.num_entries ∙ w.counters.num_entries ∙ k.kept.counters.num_entries;
-              num_bytes = u.counters.num_bytes ∙ w.counters.num_bytes ∙ k.kept.counters.num_bytes;
-            }
+            counted-before = u.counters ∙ w.counters ∙ k.kept.counters
 
             live-counted : object.live ≡ true → Keeps (with_used written-state (main other.key)) there [] end
             live-counted alive =

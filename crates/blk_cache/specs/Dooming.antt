@@ -18,7 +18,7 @@ use Rattle.blk_cache.specs.CacheKeeping.{KeepsState}
 
 -- Refusals.
 
--- why a Doom is refused, by what its name is bound to
+-- why a Doom or a Flush is refused, by what its name is bound to
 abbrev pub doom_refusal : Bindings → ℕ → Option Refusal
 doom_refusal bindings handle = first_refusal ((is_none (binding_of bindings handle), refusal.BadHandle) ∷ (option_map_or (λ object. object.doomed) (binding_of bindings handle) false, refusal.Doomed) ∷ [])
 

@@ -5,7 +5,7 @@ use Rattle.spec_image.specs.Told.{Told}
 use Rattle.blk_model.specs.Holding.{open_state}
 use Rattle.blk_model.specs.State.{Bounds}
 use Rattle.spec_format.specs.BlockFiles.{IsWellFormed}
-use Rattle.spec_format.specs.Headers.{IsUnfinished, crash_of, create_time_of, this_id_of, unfinished}
+use Rattle.spec_format.specs.Headers.{IsUnfinished, crash_of, create_time_of, index_version, this_id_of, unfinished, version_of}
 use Rattle.spec_folder.specs.Found.{found}
 use Rattle.spec_folder.specs.Sound.{IsSound}
 use Rattle.spec_folder.specs.StandsFor.{StandsFor}
@@ -49,10 +49,11 @@ opened_id image = if unfinished image then 1 else next_id (this_id_of (byte imag
 abbrev pub WasMadeAt : ℕ → Image → Type 0
 WasMadeAt moment image = create_time_of (byte image Index) ≡ moment
 
--- a cache ended: the folder is sound, and no session is open
+-- a cache ended: the folder is sound, no session is open, and its index has the version that is made now
 pub record EndsSession (image : Image) : Type 0 where
   pub sound : IsSound image
   pub closed : crash_of (byte image Index) ≡ 0
+  pub version : version_of (byte image Index) ≡ index_version
 
 -- Answers.
 

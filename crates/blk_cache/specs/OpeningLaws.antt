@@ -1,6 +1,7 @@
 -- The laws of an opening and of an end.
 use Rattle.std.specs.Prelude.{◌≡◌, ℕ, length}
-use Rattle.spec_image.specs.Image.{Image, Index, AreBytes}
+use Rattle.spec_image.specs.Image.{AreBytes, Image, Index, byte}
+use Rattle.spec_format.specs.Headers.{index_version, version_of}
 use Rattle.spec_image.specs.Footprint.{SameOutside, one_word}
 use Rattle.blk_model.specs.Holding.{open_state}
 use Rattle.blk_model.specs.Room.{items, total}
@@ -48,6 +49,7 @@ KeptFoldersAreOpen = (cache : Cache) (state : State) (image : Image) → KeepsSt
 abbrev pub FreeCachesHoldStill : Type 0
 FreeCachesHoldStill = (cache : Cache) (state : State) (from image : Image) → KeepsState cache state from → AreAllFree cache.handles → SameOutside (one_word Index crash_place) from image → HoldsStill from image
 
--- and the folder is sound then
+-- and the folder is sound then, and its index has the version that is made now
 abbrev pub FreeCachesEndSound : Type 0
-FreeCachesEndSound = (cache : Cache) (state : State) (from image : Image) → KeepsState cache state from → AreAllFree cache.handles → SameOutside (one_word Index crash_place) from image → AreBytes image → IsSound image
+FreeCachesEndSound = (cache : Cache) (state : State) (from image : Image) → KeepsState cache state from → AreAllFree cache.handles → SameOutside (one_word Index crash_place) from image → AreBytes image
+    → IsSound image × (version_of (byte image Index) ≡ index_version)

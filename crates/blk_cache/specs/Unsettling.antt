@@ -1,10 +1,14 @@
--- An open object that is clean is marked dirty.
-use Rattle.std.specs.Prelude.{ℕ}
+-- An open object is marked dirty, or clean.
+use Rattle.std.specs.Prelude.{ℕ, Bool, if◌then◌else◌}
 use Rattle.spec_image.specs.Image.{Image}
 use Rattle.blk_model.specs.State.{Object, State}
 use Rattle.law_state.specs.OneCallLaws.{Names}
 use Rattle.blk_cache.specs.declared.cache.Cache.{Cache}
 use Rattle.blk_cache.specs.CacheKeeping.{KeepsState}
+
+-- the dirty word of an object: the number of the session, or 0 of one that is clean
+abbrev pub dirty_word : Cache → Bool → ℕ
+dirty_word cache dirty = if dirty then cache.mark else 0
 
 -- what holds of the object that a handle names, by its number, in each state that a cache keeps
 abbrev pub ForEachNamed : Cache → (handle : ℕ) → Image → (State → ℕ → Object → Type 0) → Type 0

@@ -8,7 +8,7 @@ use Rattle.blk_model.specs.Items.{is_sparse, main}
 use Rattle.blk_model.specs.Refusals.{first_refusal, no_room, no_stream, refused}
 use Rattle.blk_model.specs.Request.{to_write}
 use Rattle.blk_model.specs.Room.{total}
-use Rattle.blk_model.specs.Sizes.{stream_share}
+use Rattle.blk_model.specs.Sizes.{longest_stream}
 use Rattle.blk_model.specs.State.{IsValidState, Object, State, object_at}
 use Rattle.blk_model.specs.declared.Refusal.{Refusal}
 use Rattle.blk_model.specs.declared.Refusal.TheVariants as refusal
@@ -33,7 +33,7 @@ use Rattle.blk_cache.specs.Creating.{sum_within}
 -- why a Write is refused, by what the names, the number of the stream and the length tell
 abbrev pub early_write_refusal : Cache → (handle stream offset count : ℕ) → Option Refusal
 early_write_refusal cache handle stream offset count =
-    first_refusal ((is_none (binding_of cache.handles handle), refusal.BadHandle) ∷ (no_stream stream, refusal.BadStream) ∷ (nat_lt (cache.limits.max_bytes / stream_share) (offset + count), refusal.TooLarge) ∷ [])
+    first_refusal ((is_none (binding_of cache.handles handle), refusal.BadHandle) ∷ (no_stream stream, refusal.BadStream) ∷ (nat_lt (longest_stream cache.limits.max_bytes) (offset + count), refusal.TooLarge) ∷ [])
 
 -- a stream of an object that a handle names is found, and may be written unless there is no space
 pub record MayBeWritten (state : State) (layout : Layout) (moment handle stream offset : ℕ) (cut : Bool) (bytes : List ℕ) (found : NamedStream) : Type 0 where

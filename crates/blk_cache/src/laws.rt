@@ -10,7 +10,7 @@ pub fn repaired_folders_keep_their_state()
 {}
 
 /// Where a cache keeps a state on a folder, that may be written; where no name is bound besides, the same is found while
-/// the crash word changes, and then the folder is sound.
+/// the crash word changes, and then the folder is sound, and its index has the version that is made now.
 pub fn kept_folders_end_sound()
     ensures is_open { KeptFoldersAreOpen }
     ensures still { FreeCachesHoldStill }

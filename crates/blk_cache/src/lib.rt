@@ -13,6 +13,7 @@ mod dooming_objects;
 mod ending;
 mod evicting;
 mod fault;
+mod flush;
 mod goal;
 mod laws;
 mod listing;

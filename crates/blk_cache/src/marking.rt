@@ -1,5 +1,5 @@
-// An open object that is clean is marked dirty.
-ghost use Rattle.std.specs.Prelude.{◌≡◌, ◌≤◌, IsSome, None, OnOk, false};
+// An open object is marked dirty, or clean.
+ghost use Rattle.std.specs.Prelude.{◌≡◌, ◌≤◌, IsSome, None, OnOk, not, true};
 ghost use Rattle.std.specs.Option.{ForSome};
 ghost use Rattle.spec_image.specs.Told.{Passes, Rises};
 ghost use Rattle.blk_io.specs.Faults.{IfDamaged, IfDevice};
@@ -10,26 +10,31 @@ ghost use Rattle.blk_object.specs.FailedChecks.{IsFailedCheck};
 ghost use Rattle.blk_object.specs.RemovingObjects.{FindsEither};
 ghost use Rattle.blk_cache.specs.CacheKeeping.{KeepsState};
 ghost use Rattle.blk_cache.specs.CommandClauses.{KeepsAny, OnlyNamesChange};
-ghost use Rattle.blk_cache.specs.Unsettling.{ForEachNamed};
+ghost use Rattle.blk_cache.specs.Unsettling.{ForEachNamed, dirty_word};
 
 use crate::cache::Cache;
 use blk_io::{Fault, Folder};
 use blk_object::set_dirty_word;
 
 impl Cache {
-    /// Makes the object that a handle names, live or doomed, dirty, where it is clean: the dirty word of its node
-    /// becomes the number of the session, and its names are marked so.
+    /// Makes the object that a handle names, live or doomed, dirty or clean, where it isn't so: the dirty word of its
+    /// node becomes the number of the session, or 0, and then its names are marked so.
     ///
-    /// This takes three folder calls, and none where it is dirty.
-    pub(crate) fn set_dirty<F: Folder>(&mut self, folder: &mut F, handle: u16) -> Result<(), Fault>
+    /// This takes three folder calls, and none where it is so.
+    pub(crate) fn set_dirty<F: Folder>(
+        &mut self,
+        folder: &mut F,
+        handle: u16,
+        dirty: bool,
+    ) -> Result<(), Fault>
         requires bound { IsSome (binding_of self.old.handles handle) }
         requires is_open { ForSome (F.told folder.old).files (IsOpen self.old.files) }
 
-        // In the end each state that was kept is kept with its object dirty.
-        ensures unsettled { OnOk result (ForSome (F.told folder.old).files (λ from. ForEachNamed self.old handle from (λ state number object. ForSome (F.told folder.new).files (KeepsState self.new (marked state number object false))))) }
+        // In the end each state that was kept is kept with its object dirty, or clean.
+        ensures marked { OnOk result (ForSome (F.told folder.old).files (λ from. ForEachNamed self.old handle from (λ state number object. ForSome (F.told folder.new).files (KeepsState self.new (marked state number object (not dirty)))))) }
 
         // At each word the old durable contents are recovered, or the new ones.
-        ensures stops { ForSome (F.told folder.old).files (λ from. ForEachNamed self.old handle from (λ state number object. Passes (F.told folder.old) (F.told folder.new) (FindsEither state (marked state number object false)))) }
+        ensures stops { ForSome (F.told folder.old).files (λ from. ForEachNamed self.old handle from (λ state number object. Passes (F.told folder.old) (F.told folder.new) (FindsEither state (marked state number object (not dirty))))) }
 
         ensures stays_bound { IsSome (binding_of self.new.handles handle) }
         ensures others { OnlyNamesChange self.old self.new }
@@ -46,11 +51,26 @@ impl Cache {
         let Some(object) = self.handles.object(handle) else {
             unreachable!();
         };
-        if object.dirty {
+        if same(object.dirty, dirty) {
             return Ok(());
         }
-        set_dirty_word(folder, &self.files, object.node, self.mark)?;
-        self.handles.mark(handle, object.doomed, true);
+        let word = self.dirty_word(dirty);
+        set_dirty_word(folder, &self.files, object.node, word)?;
+        self.handles.mark(handle, object.doomed, dirty);
         Ok(())
     }
+
+    // The dirty word of an object that is dirty, or clean.
+    fn dirty_word(&self, dirty: bool) -> u32
+        ensures { result ≡ dirty_word self.now dirty }
+    {
+        if dirty { self.mark } else { 0 }
+    }
+}
+
+// Whether two marks are the same.
+fn same(a: bool, b: bool) -> bool
+    ensures { result ≡ true → a ≡ b }
+{
+    a == b
 }

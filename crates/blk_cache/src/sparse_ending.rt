@@ -61,7 +61,7 @@ impl Cache {
         ensures later { F.faults folder.old ≤ F.faults folder.new }
         ensures device { IfDevice result (Rises (F.faults folder.old) (F.faults folder.new)) }
     {
-        self.set_dirty(folder, handle)?;
+        self.set_dirty(folder, handle, true)?;
         self.store_to_dirty(
             folder, handle, target, offset, bytes, more_bytes, more_items, moment,
         )?;

@@ -180,6 +180,7 @@ impl Cache {
             Command::Doom { handle } => self.doom(folder, handle),
             Command::DoomKey { key } => self.doom_key(folder, key),
             Command::Close { handle } => self.close(folder, handle),
+            Command::Flush { handle } => self.flush(folder, handle),
             Command::List => self.list(folder),
             Command::Trim { bytes } => self.trim(folder, out, failed, bytes),
             Command::Total => Ok(self.total()),

@@ -6,7 +6,7 @@ ghost use Rattle.blk_io.specs.Faults.{IfDamaged, IfDevice};
 ghost use Rattle.blk_model.specs.Effects.{written};
 ghost use Rattle.blk_model.specs.Holding.{rest};
 ghost use Rattle.blk_model.specs.Request.{to_write};
-ghost use Rattle.blk_model.specs.Sizes.{stream_count, stream_share};
+ghost use Rattle.blk_model.specs.Sizes.{longest_stream, most_stream, stream_count, stream_share};
 ghost use Rattle.blk_model.specs.State.{State};
 ghost use Rattle.blk_model.specs.declared.Answer.TheVariants as answer;
 ghost use Rattle.spec_folder.specs.Entries.{most_stream_bytes};
@@ -32,7 +32,7 @@ use crate::room::exceeds;
 use blk_disk::BlockFiles;
 use blk_io::{Fault, Folder, Sink};
 use blk_lru::touch;
-use blk_model::{Answer, Refusal};
+use blk_model::{Answer, MOST_STREAM, Refusal};
 use blk_object::{count_rise, write_object};
 
 // A stream has at most this share of the bytes that a cache keeps.
@@ -45,9 +45,9 @@ impl Cache {
     /// is written its item is put in front of the LRU list. A doomed object has no item.
     ///
     /// It is refused with `BadHandle` where the name is free, or 4096 or more, `BadStream` where the number of the stream
-    /// is 3 or more, `TooLarge` where the bytes end past an eighth of the limit, `SparseStream` where the object is
-    /// sparse and the number isn't 0, and `Full` where the open objects and what is added exceed a limit, the first of
-    /// these. After a fault nothing is promised of the cache but that it can be dropped.
+    /// is 3 or more, `TooLarge` where the bytes end past an eighth of the limit or past 2147483647, `SparseStream` where
+    /// the object is sparse and the number isn't 0, and `Full` where the open objects and what is added exceed a limit,
+    /// the first of these. After a fault nothing is promised of the cache but that it can be dropped.
     pub(crate) fn write<F: Folder, K: Sink>(
         &mut self,
         folder: &mut F,
@@ -132,7 +132,7 @@ impl Cache {
         ensures later { F.faults folder.old ≤ F.faults folder.new }
         ensures device { IfDevice result (Rises (F.faults folder.old) (F.faults folder.new)) }
     {
-        self.set_dirty(folder, handle)?;
+        self.set_dirty(folder, handle, true)?;
         self.write_to_dirty(folder, handle, stream, offset, cut, bytes, size, moment)?;
         Ok(Answer::Wrote(bytes.len() as u64))
     }
@@ -227,7 +227,7 @@ impl Cache {
         if let Some(why) = self.refuses_stream(handle, stream) {
             return Some(why);
         }
-        if exceeds(offset, count, self.limits.max_bytes / STREAM_SHARE) {
+        if exceeds(offset, count, stream_limit(self.limits.max_bytes)) {
             return Some(Refusal::TooLarge);
         }
         None
@@ -274,6 +274,14 @@ fn use_and_count<F: Folder>(
     }
     touch(folder, files, object.node, moment)?;
     count_rise(folder, files, u64::from(object.size), after)
+}
+
+// The most bytes of a stream, where a cache keeps so many.
+fn stream_limit(max_bytes: u64) -> u64
+    ensures limit { result ≡ longest_stream max_bytes }
+    ensures few { result ≤ most_stream }
+{
+    (max_bytes / STREAM_SHARE).min(u64::from(MOST_STREAM))
 }
 
 // The length of a stream of so many bytes once these are written over it from an offset on.

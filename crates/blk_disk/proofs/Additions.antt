@@ -15,7 +15,7 @@ use Rattle.spec_image.proofs.Splices.{length-zeros, resized-empty, resized-zero}
 use Rattle.spec_image.proofs.WordSteps.{quiet-word_steps}
 use Rattle.spec_image.proofs.Words.{length-with_word, length-with_words, word-beside, word-there, word-zeros}
 use Rattle.spec_format.specs.Address.{block_size}
-use Rattle.spec_format.specs.Headers.{block_magic, version, magic_of, version_of, this_file_of, next_file_of, entry_size_of, max_entries_of}
+use Rattle.spec_format.specs.Headers.{block_magic, block_version, magic_of, version_of, this_file_of, next_file_of, entry_size_of, max_entries_of}
 use Rattle.spec_format.specs.BlockFiles.{file_checks, is_block_count}
 use Rattle.blk_disk.specs.Growth.{header_words, link_steps, file_steps}
 use Rattle.blk_disk.proofs.Ranges.{size_small}
@@ -37,7 +37,7 @@ new_header kind n = with_words (header_words kind n) (zeros 8192)
 -- the fields of a new header
 pub record IsNew (kind n : ℕ) (f : ℕ → ℕ) : Type 0 where
   pub magic : magic_of f ≡ block_magic
-  pub is_version : version_of f ≡ version
+  pub is_version : version_of f ≡ block_version
   pub numbers : word_at f 8 ≡ n
   pub entry_size : entry_size_of f ≡ block_size kind
   pub blocks : max_entries_of f ≡ 0
@@ -47,7 +47,7 @@ module _ (kind n : ℕ) (below : n < 256) where
   one = with_word 0 block_magic (zeros 8192)
 
   two : List ℕ
-  two = with_word 4 version one
+  two = with_word 4 block_version one
 
   three : List ℕ
   three = with_word 8 n two
@@ -58,7 +58,7 @@ module _ (kind n : ℕ) (below : n < 256) where
 
   two_size : length two ≡ 8192
   unfolding two
-  two_size = length-with_word 4 version one ∙ one_size
+  two_size = length-with_word 4 block_version one ∙ one_size
 
   three_size : length three ≡ 8192
   unfolding three
@@ -67,12 +67,12 @@ module _ (kind n : ℕ) (below : n < 256) where
   pub header_new : IsNew kind n (content (new_header kind n))
   unfolding one two three
   header_new = record {
-    magic = word-beside 0 12 (block_size kind) three (inl (omega arith)) ∙ word-beside 0 8 n two (inl (omega arith)) ∙ word-beside 0 4 version one (inl (omega arith)) ∙ word-there 0 block_magic (zeros 8192) (omega arith) (omega (arith, length-zeros 8192));
-    is_version = word-beside 4 12 (block_size kind) three (inl (omega arith)) ∙ word-beside 4 8 n two (inl (omega arith)) ∙ word-there 4 version one (omega arith) (omega (arith, one_size));
+    magic = word-beside 0 12 (block_size kind) three (inl (omega arith)) ∙ word-beside 0 8 n two (inl (omega arith)) ∙ word-beside 0 4 block_version one (inl (omega arith)) ∙ word-there 0 block_magic (zeros 8192) (omega arith) (omega (arith, length-zeros 8192));
+    is_version = word-beside 4 12 (block_size kind) three (inl (omega arith)) ∙ word-beside 4 8 n two (inl (omega arith)) ∙ word-there 4 block_version one (omega arith) (omega (arith, one_size));
     numbers = word-beside 8 12 (block_size kind) three (inl (omega arith)) ∙ word-there 8 n two (omega arith) (omega (arith, two_size));
     entry_size = word-there 12 (block_size kind) three (let small = size_small kind in omega (arith, small)) (omega (arith, three_size));
     blocks =
-        word-beside 20 12 (block_size kind) three (inr (omega arith)) ∙ word-beside 20 8 n two (inr (omega arith)) ∙ word-beside 20 4 version one (inr (omega arith))
+        word-beside 20 12 (block_size kind) three (inr (omega arith)) ∙ word-beside 20 8 n two (inr (omega arith)) ∙ word-beside 20 4 block_version one (inr (omega arith))
         ∙ word-beside 20 0 block_magic (zeros 8192) (inr (omega arith)) ∙ word-zeros 8192 20;
   }
 
@@ -94,7 +94,7 @@ new_passes kind n f size below is new met left =
     (record {
       whole = ap (nat_le 8192) is;
       magic = ap (λ (w : ℕ). w == block_magic) new.magic;
-      is_version = ap (λ (w : ℕ). w == version) new.is_version;
+      is_version = ap (λ (w : ℕ). w == block_version) new.is_version;
       this_file = ap (λ (w : ℕ). w == n) (this_is kind n f below new) ∙ (let e : (n == n) ≡ true = grind (arith, nat_tests) in e);
       link = link_zero met left (next_file_of f) (ap (λ (w : ℕ). w == 0) (next_is kind n f below new));
       entry_size = ap (λ (w : ℕ). w == block_size kind) new.entry_size ∙ (let e : (block_size kind == block_size kind) ≡ true = grind (arith, nat_tests) in e);

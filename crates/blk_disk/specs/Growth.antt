@@ -6,7 +6,7 @@ use Rattle.spec_image.specs.Image.{Image, Block, byte}
 use Rattle.spec_image.specs.Steps.{TrailStep, Word, SetLength, word_steps}
 use Rattle.spec_image.specs.Footprint.{Footprint, either, one_word, range, size_of, whole}
 use Rattle.spec_format.specs.Address.{block_size, header_size}
-use Rattle.spec_format.specs.Headers.{block_magic, blocks_place, empty_of, empty_place, entry_size_place, magic_place, next_file_place, this_file_place, version, version_place}
+use Rattle.spec_format.specs.Headers.{block_magic, blocks_place, empty_of, empty_place, entry_size_place, magic_place, next_file_place, this_file_place, block_version, version_place}
 use Rattle.spec_format.specs.BlockFiles.{kind_among, is_among, blocks_a_growth, most_blocks}
 use Rattle.blk_disk.specs.declared.tables.BlockFiles.{BlockFiles}
 use Rattle.blk_disk.specs.Tables.{files_of, all_files, blocks_of, length_in}
@@ -88,7 +88,7 @@ last_file files kind = get_or (files_of files kind) (length (files_of files kind
 
 -- the words of a new header that aren't 0, each with its place: magic, version, this_file with no next_file, entry_size
 abbrev pub header_words : ℕ → ℕ → List (ℕ × ℕ)
-header_words kind n = (magic_place, block_magic) ∷ (version_place, version) ∷ (this_file_place, n) ∷ (entry_size_place, block_size kind) ∷ []
+header_words kind n = (magic_place, block_magic) ∷ (version_place, block_version) ∷ (this_file_place, n) ∷ (entry_size_place, block_size kind) ∷ []
 
 -- a file gets the length 0, then that of a header, and then the words of the header
 abbrev pub file_steps : ℕ → ℕ → List TrailStep

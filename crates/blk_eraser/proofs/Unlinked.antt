@@ -33,6 +33,7 @@ use Rattle.law_folder.proofs.states.Standing.{found-at_rest}
 use Rattle.law_folder.proofs.updates.WellFormed.{well_formed_still}
 use Rattle.law_state.specs.Changes.{AreOfWords, ChangesOnly, SameCounters, StillFinds}
 use Rattle.law_state.specs.Keeping.{KeepsUncounted}
+use Rattle.law_state.proofs.Counts.{count-outside}
 use Rattle.law_state.proofs.Free.{unlinked-change}
 use Rattle.blk_eraser.specs.Erasing.{frees, zeros_before_write}
 use Rattle.blk_eraser.specs.Laws.{EachFreed, UnownedBlocksMayBeErased, UnlinkedBlocksMayBeErased, ErasingFindsTheSame, FreesUnlinked, KeepsTheSame, ShowsWhole}
@@ -61,10 +62,7 @@ block_at kind size b i is low high =
 
 -- the counters of the index, where no byte of it differs
 pub counters_same : (F : Footprint) (from image : Image) → SameOutside F from image → ((i : ℕ) → F.bytes Index i ≡ false) → SameCounters from image
-counters_same F from image same apart = record { sizes = at 268; num_entries = at 8; num_bytes = at 12 }
-  where
-    at : (p : ℕ) → word image Index p ≡ word from Index p
-    at p = same_word_outside F from image Index p same (λ k low high. apart k)
+counters_same F from image same apart = count-outside F from image same (λ i small. apart i)
 
 -- the blocks of a file that pass a test
 abbrev pub of_blocks : ℕ → (ℕ → Bool) → Claim → Bool

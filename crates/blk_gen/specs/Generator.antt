@@ -4,7 +4,7 @@ use Rattle.std.proofs.Common.{zero, suc}
 use Rattle.blk_model.specs.State.{State}
 use Rattle.blk_model.specs.Request.{Request, to_create, to_open, to_read, to_write, to_close}
 use Rattle.blk_model.specs.Step.{Outcome}
-use Rattle.spec_run.specs.Script.{Script, ended, says, asks, is_missing, is_refused, totals_text}
+use Rattle.spec_run.specs.Script.{Script, ended, says, asks, is_missing, is_refused, shown_where, totals_text}
 use Rattle.blk_gen.specs.declared.drawing.Turn.{Turn}
 use Rattle.blk_gen.specs.declared.counting.Counts.{Counts}
 use Rattle.blk_gen.specs.Draws.{turn_behind, value_behind, generated_key, generated_bytes}
@@ -12,7 +12,7 @@ use Rattle.blk_gen.specs.Counting.{no_counts, with_outcome, counts_line}
 
 -- a command whose reply isn't shown, and what follows it by its outcome and by the counts with it
 abbrev pub asks_counted : Request → Counts → (Outcome → Counts → Script) → Script
-asks_counted request counts following = asks request (λ outcome. false) (λ outcome. following outcome (with_outcome outcome counts))
+asks_counted request counts following = asks request (shown_where false) (λ outcome. following outcome (with_outcome outcome counts))
 
 -- an iteration whose handle names its object: a Write with cut, a Read and a Close, of which none ends the iteration
 abbrev pub used_turn : ℕ → Turn → Counts → (Counts → Script) → Script

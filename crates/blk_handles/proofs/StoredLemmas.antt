@@ -455,7 +455,7 @@ module _ (ns : List (Option ℕ)) (s : Slab OpenObject) (sound : AreNamesStored 
         | inr other ↦ other (sound.distinct key k p o (sym (updates.others key other) ∙ at-key) here same)
       ]
 
-    -- and not where one is left
+    -- where other names of the object are left, the answer is More
     pub told-more : (new : OpenObject) → Updates s t k (Some new) → new.entry ≡ o.entry → new.names + 1 ≡ o.names → 0 < new.names
         → IfSome (binding_of (bindings_of ns s) name) (λ object. More ≡ (if is_open (bindings_of (set ns name None) t) object.entry then More else Last (open_object (bindings_of ns s) object)))
     told-more new updates same less some = rw (bound-slot ns s sound name k o is here, left-leave ns s sound name k is o here t distinct new updates.changed same less some) refl

@@ -1,6 +1,7 @@
 // The words of the index's header, and the words of its table.
 ghost use Rattle.std.specs.Prelude.{◌≡◌, ◌⊎◌, ◌+◌, ◌*◌, ◌%◌, ◌<◌, ◌≤◌, IfOk, None, OnErr, OnOk, length};
 ghost use Rattle.std.specs.Option.{ForSome};
+ghost use Rattle.spec_image.specs.Bytes.{long_at};
 ghost use Rattle.spec_image.specs.Footprint.{SameOutside, one_word};
 ghost use Rattle.spec_image.specs.Image.{HasRange, byte, word, Index as index};
 ghost use Rattle.spec_image.specs.Steps.{word_step};
@@ -37,6 +38,28 @@ pub fn word<F: Folder>(f: &mut F, at: u64) -> Result<u32, Fault>
     ensures device { IfDevice result (Rises (F.faults f.old) (F.faults f.new)) }
 {
     read_word(f, FileId::Index, at)
+}
+
+/// Reads the number of eight bytes of the header at a place in bytes, by one folder call.
+///
+/// Too few bytes are corruption. `Device` comes only where the folder failed in this call.
+pub fn long<F: Folder>(folder: &mut F, at: u64) -> Result<u64, Fault>
+    requires aligned { at % 4 ≡ 0 }
+    requires inside { at + 8 ≤ header_length }
+    ensures number { IfOk result (λ n. ForSome (F.told folder.old).files (λ image. n ≡ long_at (byte image index) at)) }
+    ensures checked { OnOk result (ForSome (F.told folder.old).files (λ image. HasRange image index at 8)) }
+    ensures stays { Stays (F.told folder.old) (F.told folder.new) }
+
+    // Too few bytes, which an observable folder gives only where the index is too short.
+    ensures short { IfDamaged result (IsShort (F.told folder.old) FileId.Index at 8) }
+    ensures untold { ForSome (F.told folder.old).files HasWholeIndex → IfDamaged result (λ _. (F.told folder.old).files ≡ None) }
+
+    ensures later { F.faults folder.old ≤ F.faults folder.new }
+    ensures device { IfDevice result (Rises (F.faults folder.old) (F.faults folder.new)) }
+{
+    let mut bytes = [0u8; 8];
+    read_exact(folder, FileId::Index, at, &mut bytes)?;
+    Ok(LittleEndian::read_u64(&bytes))
 }
 
 /// Reads the word of a bucket: the first address of its chain, or 0.

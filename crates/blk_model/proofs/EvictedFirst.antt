@@ -9,7 +9,7 @@ use Rattle.blk_model.specs.Items.{Item, main, part, Row, PartValue, part_row, ke
 use Rattle.blk_model.specs.State.{Object, State, IsValidState, object_at, part_at, has_item, slot_has_item, first_with, live_with}
 use Rattle.blk_model.specs.Holding.{row_in, owner, settled_row, rest}
 use Rattle.blk_model.specs.Sparse.{covered_parts}
-use Rattle.blk_model.specs.Request.{Request, to_create, to_open, to_read, to_write, to_size, to_sparse_write, to_sparse_read, to_sparse_range, to_doom, to_doom_key, to_close, to_list, to_trim, to_total}
+use Rattle.blk_model.specs.Request.{Request, to_create, to_open, to_read, to_write, to_size, to_sparse_write, to_sparse_read, to_sparse_range, to_doom, to_doom_key, to_close, to_flush, to_list, to_trim, to_total}
 use Rattle.blk_model.specs.Room.{Group, whole, single, takes, is_out, is_pinned, left_of, parts_among, not_out, without}
 use Rattle.blk_model.specs.Refusals.{refused, refusals, evicted, covered, names_none}
 use Rattle.blk_model.specs.Effects.{object_of, used}
@@ -24,7 +24,7 @@ use Rattle.blk_model.proofs.Steps.{none_comes, room_for_is_loose}
 use Rattle.blk_model.proofs.Evicted.{IsLoose, kept_parts, kept_part_at, left_slot_has, map_at, named_stays}
 use Rattle.blk_model.proofs.LruList.{after_steps-append, outs, without_uses}
 use Rattle.blk_model.proofs.StopRests.{picked_before, owner_key}
-use Rattle.blk_model.proofs.Leads.{is_close, step_leads}
+use Rattle.blk_model.proofs.Leads.{may_settle, step_leads}
 use Rattle.blk_model.proofs.Chosen.{Owner, owner_of, picked_chooses, settled_chooses, stays_through}
 
 -- Groups that go leave who has an item that isn't out.
@@ -213,6 +213,7 @@ fronts_dooms P (to_sparse_write handle offset bytes) state = tt
 fronts_dooms P (to_sparse_read handle offset count) state = tt
 fronts_dooms P (to_sparse_range handle offset count) state = tt
 fronts_dooms P (to_close handle) state = tt
+fronts_dooms P (to_flush handle) state = tt
 fronts_dooms P to_list state = tt
 fronts_dooms P (to_trim bytes) state = tt
 fronts_dooms P to_total state = tt
@@ -305,6 +306,7 @@ module _ (state : State) (valid : IsValidState state) (moment : ℕ) (first othe
   uses_stay (to_doom handle) passed groups = none_out (sym groups) (uses_of (to_doom handle) state)
   uses_stay (to_doom_key key) passed groups = none_out (sym groups) (uses_of (to_doom_key key) state)
   uses_stay (to_close handle) passed groups = none_out (sym groups) (uses_of (to_close handle) state)
+  uses_stay (to_flush handle) passed groups = none_out (sym groups) (uses_of (to_flush handle) state)
   uses_stay to_list passed groups = none_out (sym groups) (uses_of to_list state)
   uses_stay to_total passed groups = none_out (sym groups) (uses_of to_total state)
 
@@ -376,7 +378,7 @@ module _ (state : State) (moment : ℕ) (request : Request) (first others : List
   evicting : StopOutcome state moment request (step state moment request).state (rest (without first state))
   unfolding rest pick
   evicting =
-      let closes = is_close request in
+      let closes = may_settle request in
       let after = (step state moment request).state in
       record {
         step_count = length first + 0;

@@ -10,8 +10,8 @@ use Rattle.blk_model.specs.Items.{Item, main, part, part_row, PartValue}
 use Rattle.blk_model.specs.State.{Object, State, IsValidState, object_at, has_item, owners, live_with, part_at, is_named}
 use Rattle.blk_model.specs.Holding.{row_in}
 use Rattle.blk_model.specs.Room.{Group, left_of, without, is_out}
-use Rattle.blk_model.specs.Request.{Request, to_create, to_open, to_read, to_write, to_size, to_sparse_write, to_sparse_read, to_sparse_range, to_doom, to_doom_key, to_close, to_list, to_trim, to_total}
-use Rattle.blk_model.specs.Effects.{new_object, with_name, with_stream, stream_after, stream_of, created, opened, written, sparse_after, sparse_written, sparse_used, doomed, doomed_slot, doomed_key, released, released_slot, closed, effect, object_of, number_of}
+use Rattle.blk_model.specs.Request.{Request, to_create, to_open, to_read, to_write, to_size, to_sparse_write, to_sparse_read, to_sparse_range, to_doom, to_doom_key, to_close, to_flush, to_list, to_trim, to_total}
+use Rattle.blk_model.specs.Effects.{new_object, with_name, with_stream, stream_after, stream_of, created, opened, written, sparse_after, sparse_written, sparse_used, doomed, doomed_slot, doomed_key, released, released_slot, closed, settled_at, flushed, effect, object_of, number_of}
 use Rattle.blk_model.specs.Refusals.{no_name, names_none, first_refusal, refusals, refused, evicted, covered}
 use Rattle.blk_model.specs.Step.{outcome, step}
 use Rattle.blk_model.proofs.Slots.{owners-first_none}
@@ -144,14 +144,21 @@ settled_items : (object : Object) (item : Item) → has_item (record object { se
 settled_items object (main key) has = (has, refl)
 settled_items object (part key n) has = (has, refl)
 
+to_settled : (object : Object) → LeadsTo true object (record object { settled = true })
+to_settled object = record { key = refl; live = λ l. l; unturned = λ s. absurd (contrary s refl); stays = λ s l e. refl; items = λ l e item has. settled_items object item has }
+
 released_slot_leads : (held live : Bool) (object : Object) → Leads true Never (Some object) (cond held (Some object) (cond live (Some (record object { settled = true })) None))
 released_slot_leads true live object = to_self true object
-released_slot_leads false true object = record { key = refl; live = λ l. l; unturned = λ s. absurd (contrary s refl); stays = λ s l e. refl; items = λ l e item has. settled_items object item has }
+released_slot_leads false true object = to_settled object
 released_slot_leads false false object = tt
 
 released_leads : (number : ℕ) (state : State) (slot : Option Object) → object_at state number ≡ slot → (n : ℕ) → Leads true Never (object_at state n) (object_at (released number state slot) n)
 released_leads number state None here n = to_same true Never (object_at state n)
 released_leads number state (Some object) here n = set_leads true state.objects number object (released_slot (is_named state number) object) here (released_slot_leads (is_named state number) object.live object) n
+
+settled_leads : (number : ℕ) (state : State) (slot : Option Object) → object_at state number ≡ slot → (n : ℕ) → Leads true Never (object_at state n) (object_at (settled_at number state slot) n)
+settled_leads number state None here n = to_same true Never (object_at state n)
+settled_leads number state (Some object) here n = set_leads true state.objects number object (Some (record object { settled = true })) here (to_settled object) n
 
 -- a write through a handle
 written_leads : (state : State) (valid : IsValidState state) (handle stream offset : ℕ) (cut : Bool) (bytes : List ℕ) → names_none state handle ≡ false → (n : ℕ) → Leads false Never (object_at state n) (object_at (written handle stream offset cut bytes state) n)
@@ -176,9 +183,10 @@ sparse_written_leads state valid moment handle offset bytes bound n =
     set_leads false state.objects (number_of state handle) object (Some (sparse_after moment object offset bytes)) (ap (object_at state) named.number_is ∙ named.here ∙ ap Some (sym named.object_is)) (sparse_after_leads moment object offset bytes) n
 
 -- whether a request is one that may make an object clean
-abbrev pub is_close : Request → Bool
-is_close (to_close handle) = true
-is_close _ = false
+abbrev pub may_settle : Request → Bool
+may_settle (to_close handle) = true
+may_settle (to_flush handle) = true
+may_settle _ = false
 
 -- no object of a state has the key of another
 abbrev pub IsFresh : State → Object → Type 0
@@ -191,8 +199,8 @@ after_eviction : (state : State) (groups : List Group) (after : ℕ → Option O
 after_eviction state groups after leads n = lifted false (IsFresh state) (object_at state n) (after n) (through (object_at state n) (object_at (without groups state) n) (after n) (without_leads groups state n) (leads n))
 
 effect_leads : (state : State) (valid : IsValidState state) (moment : ℕ) (request : Request) → first_refusal (refusals moment request state) ≡ None → (n : ℕ) →
-    Leads (is_close request) (IsFresh state) (object_at state n) (object_at (effect moment request (without (evicted moment request state) state)) n)
-unfolding effect evicted refusals without opened sparse_used closed created
+    Leads (may_settle request) (IsFresh state) (object_at state n) (object_at (effect moment request (without (evicted moment request state) state)) n)
+unfolding effect evicted refusals without opened sparse_used closed flushed created
 effect_leads state valid moment (to_create handle key) accepted n =
     let groups = evicted moment (to_create handle key) state in
     let passed = none_comes (refusals moment (to_create handle key) state) accepted in
@@ -219,15 +227,17 @@ effect_leads state valid moment (to_doom handle) accepted n =
 effect_leads state valid moment (to_doom_key key) accepted n = lifted false (IsFresh state) (object_at state n) _ (doomed_key_leads state (live_with state key) n)
 effect_leads state valid moment (to_close handle) accepted n =
     lifted true (IsFresh state) (object_at state n) _ (released_leads (number_of state handle) (with_name handle None state) (object_at state (number_of state handle)) refl n)
+effect_leads state valid moment (to_flush handle) accepted n =
+    lifted true (IsFresh state) (object_at state n) _ (settled_leads (number_of state handle) state (object_at state (number_of state handle)) refl n)
 effect_leads state valid moment to_list accepted n = to_same false (IsFresh state) (object_at state n)
 effect_leads state valid moment (to_trim bytes) accepted n = lifted false (IsFresh state) (object_at state n) _ (without_leads (evicted moment (to_trim bytes) state) state n)
 effect_leads state valid moment to_total accepted n = to_same false (IsFresh state) (object_at state n)
 
 -- what a command makes of each object
-pub step_leads : (state : State) (valid : IsValidState state) (moment : ℕ) (request : Request) (n : ℕ) → Leads (is_close request) (IsFresh state) (object_at state n) (object_at (step state moment request).state n)
+pub step_leads : (state : State) (valid : IsValidState state) (moment : ℕ) (request : Request) (n : ℕ) → Leads (may_settle request) (IsFresh state) (object_at state n) (object_at (step state moment request).state n)
 unfolding step outcome
 step_leads state valid moment request n =
-    elim (refused moment request state) as (λ why. refused moment request state ≡ why → Leads (is_close request) (IsFresh state) (object_at state n) (object_at (outcome moment request state why).state n)) [
-      | Some why ↦ λ e. to_same (is_close request) (IsFresh state) (object_at state n)
+    elim (refused moment request state) as (λ why. refused moment request state ≡ why → Leads (may_settle request) (IsFresh state) (object_at state n) (object_at (outcome moment request state why).state n)) [
+      | Some why ↦ λ e. to_same (may_settle request) (IsFresh state) (object_at state n)
       | None ↦ λ e. effect_leads state valid moment request e n
     ] refl

@@ -11,6 +11,7 @@ pub mod States
 pub mod Owners
 pub mod Created
 pub mod Doomed
+pub mod Settled
 pub mod Evicted
 pub mod Written
 pub mod Steps

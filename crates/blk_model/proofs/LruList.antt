@@ -8,10 +8,10 @@ use Rattle.blk_model.specs.Items.{Item, main, part}
 use Rattle.blk_model.specs.State.{Object, State, IsValidState, object_at, live_with, slot_has_item}
 use Rattle.blk_model.specs.Sparse.{covered_parts}
 use Rattle.blk_model.specs.Room.{Group, whole, parts_among, takes, is_out, not_out, without}
-use Rattle.blk_model.specs.Request.{Request, to_create, to_open, to_read, to_write, to_size, to_sparse_write, to_sparse_read, to_sparse_range, to_doom, to_doom_key, to_close, to_list, to_trim, to_total}
+use Rattle.blk_model.specs.Request.{Request, to_create, to_open, to_read, to_write, to_size, to_sparse_write, to_sparse_read, to_sparse_range, to_doom, to_doom_key, to_close, to_flush, to_list, to_trim, to_total}
 use Rattle.blk_model.specs.Step.{step, outcome}
 use Rattle.blk_model.specs.ListSteps.{ListStep, out, front, after_step, after_steps, doom_steps, object_for, uses_of, dooms, steps_unless, list_steps}
-use Rattle.blk_model.specs.Effects.{doomed, doomed_key, effect, existing_parts, number_of, object_of, released, used, used_all, with_name, closed, created, opened, sparse_used, sparse_written, written}
+use Rattle.blk_model.specs.Effects.{doomed, doomed_key, effect, existing_parts, number_of, object_of, released, settled_at, flushed, used, used_all, with_name, closed, created, opened, sparse_used, sparse_written, written}
 use Rattle.blk_model.specs.Refusals.{covered, evicted, first_refusal, refusals, refused, room_for}
 use Rattle.blk_model.proofs.Slots.{first_with_has}
 use Rattle.blk_model.proofs.States.{named_object}
@@ -84,9 +84,13 @@ released_uses : (number : ℕ) (state : State) (slot : Option Object) → (relea
 released_uses number state None = refl
 released_uses number state (Some object) = refl
 
+settled_uses : (number : ℕ) (state : State) (slot : Option Object) → (settled_at number state slot).uses ≡ state.uses
+settled_uses number state None = refl
+settled_uses number state (Some object) = refl
+
 pub effect_uses : (state : State) (valid : IsValidState state) (moment : ℕ) (request : Request) → first_refusal (refusals moment request state) ≡ None →
     after_steps (map out (evicted moment request state) ++ dooms request state ++ map front (uses_of request state)) state.uses ≡ (effect moment request (without (evicted moment request state) state)).uses
-unfolding effect dooms uses_of created opened evicted without refusals written room_for sparse_written covered_parts sparse_used closed
+unfolding effect dooms uses_of created opened evicted without refusals written room_for sparse_written covered_parts sparse_used closed flushed
 effect_uses state valid moment (to_create handle key) accepted = gone_then_used (evicted moment (to_create handle key) state) (main key ∷ []) state
 effect_uses state valid moment (to_open handle key) accepted = refl
 effect_uses state valid moment (to_read handle stream offset count) accepted = let object = object_of state handle in fronts (cond object.live (main object.key ∷ []) []) state.uses ∙ used_if object.live (main object.key) state.uses
@@ -119,6 +123,7 @@ effect_uses state valid moment (to_doom handle) accepted =
 effect_uses state valid moment (to_doom_key key) accepted =
     after_steps-append (doom_steps state (object_for state (live_with state key))) [] state.uses ∙ doomed_key_uses state key (live_with state key) refl
 effect_uses state valid moment (to_close handle) accepted = sym (released_uses (number_of state handle) (with_name handle None state) (object_at state (number_of state handle)))
+effect_uses state valid moment (to_flush handle) accepted = sym (settled_uses (number_of state handle) state (object_at state (number_of state handle)))
 effect_uses state valid moment to_list accepted = refl
 effect_uses state valid moment (to_trim bytes) accepted = gone_then_used (evicted moment (to_trim bytes) state) [] state
 effect_uses state valid moment to_total accepted = refl

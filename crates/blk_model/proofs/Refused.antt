@@ -5,7 +5,7 @@ use Rattle.blk_model.specs.declared.Refusal.{Refusal}
 use Rattle.blk_model.specs.declared.Refusal.TheVariants as refusal
 use Rattle.blk_model.specs.declared.Answer.TheVariants as answer
 use Rattle.blk_model.specs.State.{State}
-use Rattle.blk_model.specs.Request.{Request, to_create, to_open, to_read, to_write, to_size, to_sparse_write, to_sparse_read, to_sparse_range, to_doom, to_doom_key, to_close, to_list, to_trim, to_total}
+use Rattle.blk_model.specs.Request.{Request, to_create, to_open, to_read, to_write, to_size, to_sparse_write, to_sparse_read, to_sparse_range, to_doom, to_doom_key, to_close, to_flush, to_list, to_trim, to_total}
 use Rattle.blk_model.specs.Reply.{answered}
 use Rattle.blk_model.specs.Room.{Group, without}
 use Rattle.blk_model.specs.Refusals.{refused, evicted}
@@ -13,7 +13,7 @@ use Rattle.blk_model.specs.Effects.{effect}
 use Rattle.blk_model.specs.Step.{reply, outcome, step}
 use Rattle.blk_model.specs.ListSteps.{steps_unless, list_steps}
 use Rattle.blk_model.specs.Laws.{ChangesNothing}
-use Rattle.blk_model.proofs.Memory.{never_memory}
+use Rattle.blk_model.proofs.Memory.{never_memory, never_no_handle}
 
 -- the reply to a command that is not refused is no refusal
 no_refusal : (request : Request) (groups : List Group) (state : State) (why : Refusal) → reply request groups state ≢ answered (answer.Refused why)
@@ -29,6 +29,7 @@ no_refusal (to_sparse_range handle offset count) groups state why e = cc
 no_refusal (to_doom handle) groups state why e = cc
 no_refusal (to_doom_key key) groups state why e = cc
 no_refusal (to_close handle) groups state why e = cc
+no_refusal (to_flush handle) groups state why e = cc
 no_refusal to_list groups state why e = cc
 no_refusal (to_trim bytes) groups state why e = cc
 no_refusal to_total groups state why e = cc
@@ -60,6 +61,9 @@ refused_nothing state moment request why e =
 
 pub never_for_memory : (state : State) (moment : ℕ) (request : Request) → (step state moment request).reply ≢ answered (answer.Refused refusal.Memory)
 never_for_memory state moment request e = never_memory state moment request (refusal_is state moment request refusal.Memory e)
+
+pub never_for_no_handle : (state : State) (moment : ℕ) (request : Request) → (step state moment request).reply ≢ answered (answer.Refused refusal.NoHandle)
+never_for_no_handle state moment request e = never_no_handle state moment request (refusal_is state moment request refusal.NoHandle e)
 
 -- a refused command, whole
 pub refused_step : (state : State) (moment : ℕ) (request : Request) (why : Refusal) → refused moment request state ≡ Some why → step state moment request ≡ record { groups = []; reply = answered (answer.Refused why); state = state }

@@ -4,9 +4,10 @@ use Rattle.blk_model.specs.declared.Answer.TheVariants as answer
 use Rattle.blk_model.specs.declared.Refusal.TheVariants as refusal
 use Rattle.blk_model.specs.declared.Refusal.{Refusal}
 use Rattle.blk_model.specs.Items.{main_row, plain}
-use Rattle.blk_model.specs.Request.{Request, to_create, to_open, to_read, to_write, to_size, to_list, to_total, to_doom, to_doom_key, to_close, to_sparse_write, to_sparse_read, to_sparse_range}
+use Rattle.blk_model.specs.Request.{Request, to_create, to_open, to_read, to_write, to_size, to_list, to_total, to_doom, to_doom_key, to_close, to_flush, to_sparse_write, to_sparse_read, to_sparse_range}
 use Rattle.blk_model.specs.Reply.{Reply, answered, gave, showed}
 use Rattle.blk_model.specs.Room.{Group, whole}
+use Rattle.blk_model.specs.Sizes.{longest_stream}
 use Rattle.blk_model.specs.State.{State}
 use Rattle.blk_model.specs.Holding.{open_state}
 use Rattle.blk_model.specs.Step.{step, Outcome}
@@ -66,6 +67,13 @@ refuses why = ([], answered (answer.Refused why))
 abbrev pub fill : ℕ → List ℕ
 fill n = replicate n 0x7A
 
+-- a stream has an eighth of what a cache keeps, and at most 2147483647 bytes
+longest_streams : (longest_stream 1 ≡ 0) × ((longest_stream 1000 ≡ 125) × ((longest_stream 83886080 ≡ 10485760) × (longest_stream 17179869175 ≡ 2147483646)))
+longest_streams = (refl, (refl, (refl, refl)))
+
+capped_streams : (longest_stream 17179869176 ≡ 2147483647) × ((longest_stream 17179869184 ≡ 2147483647) × (longest_stream 1099511627776 ≡ 2147483647))
+capped_streams = (refl, (refl, refl))
+
 -- a write past the end of a stream fills the gap with zeros
 gap_is_zeros : replies new (to_create 0 (codes "g") ∷ to_write 0 1 5000 false (codes "abc") ∷ to_read 0 1 4998 9 ∷ to_size 0 1 ∷ [])
     ≡ ok ∷ wrote 3 ∷ gives (0 ∷ 0 ∷ 97 ∷ 98 ∷ 99 ∷ []) ∷ ([], answered (answer.Size 5003)) ∷ []
@@ -83,6 +91,12 @@ doomed_object_is_read : replies new (to_create 0 (codes "k") ∷ to_write 0 0 0 
     ≡ ok ∷ wrote 2 ∷ ok ∷ ok ∷ gives (codes "ab") ∷ refuses refusal.Doomed ∷ ok ∷ ([], showed (main_row (codes "k") plain ([], [], []) ∷ [])) ∷ totals 2 4 ∷ []
 unfolding computing
 doomed_object_is_read = refl
+
+-- an object is flushed while it isn't doomed, and moves nowhere
+flushed_object_stays : replies new (to_create 0 (codes "a") ∷ to_create 1 (codes "b") ∷ to_flush 0 ∷ to_flush 0 ∷ to_flush 2 ∷ to_flush 4096 ∷ to_list ∷ to_doom 0 ∷ to_flush 0 ∷ to_doom_key (codes "b") ∷ to_flush 1 ∷ [])
+    ≡ ok ∷ ok ∷ ok ∷ ok ∷ refuses refusal.BadHandle ∷ refuses refusal.BadHandle ∷ ([], showed (main_row (codes "b") plain ([], [], []) ∷ main_row (codes "a") plain ([], [], []) ∷ [])) ∷ ok ∷ refuses refusal.Doomed ∷ ok ∷ refuses refusal.Doomed ∷ []
+unfolding computing
+flushed_object_stays = refl
 
 -- a doomed object is also written through its handle, and is charged until it is closed
 doomed_object_is_written : replies new (to_create 0 (codes "k") ∷ to_doom_key (codes "k") ∷ to_write 0 2 0 false (codes "abc") ∷ to_total ∷ to_list ∷ to_read 0 2 1 9 ∷ to_close 0 ∷ to_total ∷ [])

@@ -8,7 +8,7 @@ use Rattle.blk_model.specs.declared.Refusal.{Refusal}
 use Rattle.blk_model.specs.Items.{Item, main, IsKey, IsBytes, is_sparse}
 use Rattle.blk_model.specs.State.{State, IsValidState, named_by, owners, live_with}
 use Rattle.blk_model.specs.Room.{Group, without, is_out, is_pinned, room, full, after, fits, total_of, count_of, pinned, evicted_until, low, total, items, left_of}
-use Rattle.blk_model.specs.Request.{Request, IsRequest, to_create, to_open, to_read, to_write, to_size, to_sparse_write, to_sparse_read, to_sparse_range, to_doom, to_doom_key, to_close, to_list, to_trim, to_total}
+use Rattle.blk_model.specs.Request.{Request, IsRequest, to_create, to_open, to_read, to_write, to_size, to_sparse_write, to_sparse_read, to_sparse_range, to_doom, to_doom_key, to_close, to_flush, to_list, to_trim, to_total}
 use Rattle.blk_model.specs.Step.{step, outcome}
 use Rattle.blk_model.specs.Sizes.{handle_names, largest_offset, longest_key}
 use Rattle.blk_model.specs.Effects.{created, effect, sparse_written, written}
@@ -17,6 +17,7 @@ use Rattle.blk_model.proofs.Slots.{owners-map, owners-first_none}
 use Rattle.blk_model.proofs.States.{none_of, state_used_main, state_opened}
 use Rattle.blk_model.proofs.Created.{state_created}
 use Rattle.blk_model.proofs.Doomed.{state_doomed_handle, state_doomed_key, state_closed}
+use Rattle.blk_model.proofs.Settled.{state_flushed}
 use Rattle.blk_model.proofs.Evicted.{IsLoose, state_without, evicted_are_loose, left_slot_has}
 use Rattle.blk_model.proofs.SparseWritten.{state_sparse_used, state_sparse_written}
 use Rattle.blk_model.proofs.Written.{state_written, without_names, object_left}
@@ -120,6 +121,7 @@ effect_valid state valid moment (to_sparse_range handle offset count) can accept
 effect_valid state valid moment (to_doom handle) can accepted = let passed = none_comes (refusals moment (to_doom handle) state) accepted in state_doomed_handle state valid handle passed.0 passed.1.0
 effect_valid state valid moment (to_doom_key key) can accepted = state_doomed_key state valid key (live_with state key) refl
 effect_valid state valid moment (to_close handle) can accepted = state_closed state valid handle (none_comes (refusals moment (to_close handle) state) accepted).0
+effect_valid state valid moment (to_flush handle) can accepted = state_flushed state valid handle
 effect_valid state valid moment to_list can accepted = valid
 effect_valid state valid moment (to_trim bytes) can accepted = state_without state valid [] _ (evicted_are_loose (λ left. nat_le (total left) bytes) state [])
 effect_valid state valid moment to_total can accepted = valid

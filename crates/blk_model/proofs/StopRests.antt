@@ -18,7 +18,7 @@ use Rattle.blk_model.proofs.Owners.{has_item_main}
 use Rattle.blk_model.proofs.Doomed.{contrary}
 use Rattle.blk_model.proofs.Steps.{step_valid}
 use Rattle.blk_model.proofs.LruList.{uses_after_steps}
-use Rattle.blk_model.proofs.Leads.{Leads, LeadsTo, IsFresh, is_close, step_leads}
+use Rattle.blk_model.proofs.Leads.{Leads, LeadsTo, IsFresh, may_settle, step_leads}
 use Rattle.blk_model.proofs.Chosen.{Owner, owned_at, owner_of, has_owner, settled_chooses, picked_chooses, stays_through}
 
 -- two tests that agree on the items of a list give the same rows
@@ -96,7 +96,7 @@ unfolding after_of
 live_and_settled_is None = refl
 live_and_settled_is (Some object) = refl
 
--- no object becomes clean by a command that is no Close, and none becomes dirty by a Close
+-- no object becomes clean by a command that settles none, and none becomes dirty by one that may settle
 none_settled : (closes : Bool) (Fresh : Object → Type 0) (old : Object) (slot : Option Object) → Leads closes Fresh (Some old) slot → closes ≡ false → is_live slot ≡ true → after_of slot ≡ true → old.settled ≡ true
 unfolding after_of
 none_settled closes Fresh old None leads no_close live settled = cc
@@ -104,8 +104,8 @@ none_settled closes Fresh old (Some new) leads no_close live settled = leads.unt
 
 none_unsettled : (closes : Bool) (Fresh : Object → Type 0) (old : Object) (slot : Option Object) → Leads closes Fresh (Some old) slot → closes ≡ true → is_live slot ≡ true → old.settled ≡ true → after_of slot ≡ true
 unfolding after_of
-none_unsettled closes Fresh old None leads is_close live settled = cc
-none_unsettled closes Fresh old (Some new) leads is_close live settled = leads.stays is_close live settled
+none_unsettled closes Fresh old None leads may live settled = cc
+none_unsettled closes Fresh old (Some new) leads may live settled = leads.stays may live settled
 
 before_stays : (closes : Bool) (Fresh : Object → Type 0) (old : Object) (slot : Option Object) → Leads closes Fresh (Some old) slot → stays_by old.settled (is_live slot) (is_live slot && after_of slot) (not closes) ≡ old.settled
 before_stays true Fresh old slot leads = unturned_stay old.settled (is_live slot) (after_of slot) (none_unsettled true Fresh old slot leads refl)
@@ -211,8 +211,8 @@ rest_before state moment request valid =
     record {
       step_count = 0;
       within = omega arith;
-      with_turned = not (is_close request);
-      picked_rows = sym (same_rows (picked state after (not (is_close request))) (settled_row state) state.uses (λ item some. picked_before state after (is_close request) (step_leads state valid moment request) item));
+      with_turned = not (may_settle request);
+      picked_rows = sym (same_rows (picked state after (not (may_settle request))) (settled_row state) state.uses (λ item some. picked_before state after (may_settle request) (step_leads state valid moment request) item));
     }
 
 -- the durable contents after a command may be left by a crash in it
@@ -221,7 +221,7 @@ unfolding rest pick list_after
 rest_after state moment request valid can =
     let after = (step state moment request).state in
     let steps = list_steps state moment request in
-    let closes = is_close request in
+    let closes = may_settle request in
     record {
       step_count = length steps;
       within = omega arith;

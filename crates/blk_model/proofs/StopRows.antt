@@ -8,7 +8,7 @@ use Rattle.blk_model.specs.EvictionLaws.{EvictsFirst, later_steps}
 use Rattle.blk_model.proofs.EvictedFirst.{evictions-stop, evictions-first, rests-of}
 use Rattle.blk_model.proofs.Opened.{open_valid}
 use Rattle.blk_model.proofs.Steps.{step_valid}
-use Rattle.blk_model.specs.Request.{Request, to_create, to_open, to_write, to_close, to_trim, to_doom_key, to_sparse_write, to_sparse_read}
+use Rattle.blk_model.specs.Request.{Request, to_create, to_open, to_write, to_close, to_flush, to_trim, to_doom_key, to_sparse_write, to_sparse_read}
 use Rattle.blk_model.specs.State.{State, IsValidState}
 use Rattle.blk_model.specs.Holding.{rest}
 use Rattle.blk_model.specs.Step.{step}
@@ -60,6 +60,24 @@ closed_steps = refl
 closed_held : held changed (to_close 5) 0 false ∷ held changed (to_close 5) 0 true ∷ [] ≡ (main c ∷ main b ∷ []) ∷ (main a ∷ main c ∷ main b ∷ []) ∷ []
 unfolding computing
 closed_held = refl
+
+-- flushing it is alike, and then it is durable while it is open
+flushed_steps : length (list_steps changed 100 (to_flush 5)) ≡ 0
+unfolding computing
+flushed_steps = refl
+
+flushed_held : held changed (to_flush 5) 0 false ∷ held changed (to_flush 5) 0 true ∷ [] ≡ (main c ∷ main b ∷ []) ∷ (main a ∷ main c ∷ main b ∷ []) ∷ []
+unfolding computing
+flushed_held = refl
+
+flushed_rest : map item_of (rest (after_all changed (to_flush 5 ∷ []))) ≡ main a ∷ main c ∷ main b ∷ []
+unfolding computing
+flushed_rest = refl
+
+-- until it is written again
+written_again : map item_of (rest (after_all changed (to_flush 5 ∷ to_write 5 0 0 false (codes "y") ∷ []))) ≡ main c ∷ main b ∷ []
+unfolding computing
+written_again = refl
 
 -- the first write to an open clean object: it is there with what it had, or absent, in the old order or the new one
 abbrev opened_a : State

@@ -3,7 +3,7 @@ use Rattle.std.proofs.Common.{◌≡◌, ℕ, zero, suc, ◌≤◌, Bool, true, 
 use Rattle.std.proofs.lemmas.Bool.{and_parts}
 use Rattle.blk_model.specs.Items.{Item, main, part, Row, IsValidHolding, same_item, times}
 use Rattle.blk_model.specs.State.{Object, State, IsValidState, object_at, live_with}
-use Rattle.blk_model.specs.Request.{Request, to_create, to_open, to_read, to_write, to_size, to_sparse_write, to_sparse_read, to_sparse_range, to_doom, to_doom_key, to_close, to_list, to_trim, to_total}
+use Rattle.blk_model.specs.Request.{Request, to_create, to_open, to_read, to_write, to_size, to_sparse_write, to_sparse_read, to_sparse_range, to_doom, to_doom_key, to_close, to_flush, to_list, to_trim, to_total}
 use Rattle.blk_model.specs.Room.{Group, whole, single, takes}
 use Rattle.blk_model.specs.Effects.{object_of, number_of, existing_parts, used}
 use Rattle.blk_model.specs.Sparse.{covered_parts}
@@ -122,6 +122,7 @@ dooms_fit (to_sparse_range handle offset count) state items = tt
 dooms_fit (to_doom handle) state items = doom_steps_fit state (object_at state (number_of state handle)) items
 dooms_fit (to_doom_key key) state items = doom_steps_fit state (object_for state (live_with state key)) items
 dooms_fit (to_close handle) state items = tt
+dooms_fit (to_flush handle) state items = tt
 dooms_fit to_list state items = tt
 dooms_fit (to_trim bytes) state items = tt
 dooms_fit to_total state items = tt
@@ -155,6 +156,7 @@ uses_fit (to_sparse_range handle offset count) state items = let object = object
 uses_fit (to_doom handle) state items = tt
 uses_fit (to_doom_key key) state items = tt
 uses_fit (to_close handle) state items = tt
+uses_fit (to_flush handle) state items = tt
 uses_fit to_list state items = tt
 uses_fit (to_trim bytes) state items = tt
 uses_fit to_total state items = tt

@@ -7,7 +7,7 @@ use Rattle.blk_model.specs.Bytes.{overwritten, overwritten_and_cut}
 use Rattle.blk_model.specs.Items.{Item, main, part, same_item, key_of, Shape, plain, sparse, Streams}
 use Rattle.blk_model.specs.State.{Object, State, object_at, part_at, named_by, is_named, live_with}
 use Rattle.blk_model.specs.Sparse.{covered_parts, parts_after}
-use Rattle.blk_model.specs.Request.{Request, to_create, to_open, to_read, to_write, to_size, to_sparse_write, to_sparse_read, to_sparse_range, to_doom, to_doom_key, to_close, to_list, to_trim, to_total}
+use Rattle.blk_model.specs.Request.{Request, to_create, to_open, to_read, to_write, to_size, to_sparse_write, to_sparse_read, to_sparse_range, to_doom, to_doom_key, to_close, to_flush, to_list, to_trim, to_total}
 
 -- an object that was just made
 abbrev pub new_object : List ℕ → Object
@@ -149,6 +149,15 @@ released number state (Some object) = with_slot number (released_slot (is_named 
 unfoldable pub closed : ℕ → State → State
 closed handle state = released (number_of state handle) (with_name handle None state) (object_at state (number_of state handle))
 
+-- the state with the object of a number settled
+abbrev pub settled_at : ℕ → State → Option Object → State
+settled_at number state None = state
+settled_at number state (Some object) = with_slot number (Some (record object { settled = true })) state
+
+-- after Flush: the object that the handle names is settled, and nothing else changes
+unfoldable pub flushed : ℕ → State → State
+flushed handle state = settled_at (number_of state handle) state (object_at state (number_of state handle))
+
 -- the state after a command that was not refused, what it evicts left aside
 unfoldable pub effect : ℕ → Request → State → State
 effect moment (to_create handle key) state = created handle key state
@@ -162,6 +171,7 @@ effect moment (to_sparse_range handle offset count) state = sparse_used handle o
 effect moment (to_doom handle) state = doomed (number_of state handle) state (object_at state (number_of state handle))
 effect moment (to_doom_key key) state = doomed_key state (live_with state key)
 effect moment (to_close handle) state = closed handle state
+effect moment (to_flush handle) state = flushed handle state
 effect moment to_list state = state
 effect moment (to_trim bytes) state = state
 effect moment to_total state = state

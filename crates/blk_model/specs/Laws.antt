@@ -64,6 +64,10 @@ RefusalsAreTheFirst = (state : State) (moment : ℕ) (request : Request) (why : 
 abbrev pub NoneIsRefusedForMemory : Type 0
 NoneIsRefusedForMemory = (state : State) (moment : ℕ) (request : Request) → (step state moment request).reply ≢ answered (answer.Refused refusal.Memory)
 
+-- no command is refused for handles that are bound elsewhere
+abbrev pub NoneIsRefusedForNoHandle : Type 0
+NoneIsRefusedForNoHandle = (state : State) (moment : ℕ) (request : Request) → (step state moment request).reply ≢ answered (answer.Refused refusal.NoHandle)
+
 -- the totals of a valid state are the sums over its listed rows and its doomed objects
 abbrev pub TotalsAreSums : Type 0
 TotalsAreSums = (state : State) → IsValidState state → AreSums state

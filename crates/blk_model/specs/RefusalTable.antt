@@ -18,6 +18,7 @@ number_of_refusal refusal.Doomed = 10
 number_of_refusal refusal.Full = 11
 number_of_refusal refusal.Memory = 12
 number_of_refusal refusal.BadKey = 13
+number_of_refusal refusal.NoHandle = 14
 
 -- the name of a refusal, as text
 abbrev pub name_of_refusal : Refusal → List ℕ
@@ -34,3 +35,4 @@ name_of_refusal refusal.Doomed = codes "Doomed"
 name_of_refusal refusal.Full = codes "Full"
 name_of_refusal refusal.Memory = codes "Memory"
 name_of_refusal refusal.BadKey = codes "BadKey"
+name_of_refusal refusal.NoHandle = codes "NoHandle"

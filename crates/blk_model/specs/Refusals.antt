@@ -1,18 +1,18 @@
 -- Why a command is refused.
-use Rattle.std.specs.Prelude.{ℕ, ◌+◌, ◌-◌, ◌/◌, Bool, true, false, not, ◌&&◌, ◌||◌, ◌==◌, nat_lt, nat_le, if◌then◌else◌, List, [], ◌∷◌, length, map, Option, Some, None, is_some, is_none}
+use Rattle.std.specs.Prelude.{ℕ, ◌+◌, ◌-◌, Bool, true, false, not, ◌&&◌, ◌||◌, ◌==◌, nat_lt, nat_le, if◌then◌else◌, List, [], ◌∷◌, length, map, Option, Some, None, is_some, is_none}
 use Rattle.blk_model.specs.declared.Refusal.{Refusal}
 use Rattle.blk_model.specs.declared.Refusal.TheVariants as refusal
-use Rattle.blk_model.specs.Sizes.{longest_key, handle_names, stream_count, stream_share, part_size, largest_offset}
+use Rattle.blk_model.specs.Sizes.{longest_key, handle_names, longest_stream, stream_count, part_size, largest_offset}
 use Rattle.blk_model.specs.Items.{Item, part, is_sparse}
 use Rattle.blk_model.specs.State.{Object, State, named_by, live_with}
 use Rattle.blk_model.specs.Sparse.{covered_parts}
-use Rattle.blk_model.specs.Request.{Request, to_create, to_open, to_read, to_write, to_size, to_sparse_write, to_sparse_read, to_sparse_range, to_doom, to_doom_key, to_close, to_list, to_trim, to_total}
+use Rattle.blk_model.specs.Request.{Request, to_create, to_open, to_read, to_write, to_size, to_sparse_write, to_sparse_read, to_sparse_range, to_doom, to_doom_key, to_close, to_flush, to_list, to_trim, to_total}
 use Rattle.blk_model.specs.Room.{Group, total, items, evicted_until, Room, full, after, room}
 use Rattle.blk_model.specs.Effects.{object_of, effect}
 
 -- a stream has at most this many bytes
 abbrev pub stream_limit : State → ℕ
-stream_limit state = state.limits.max_bytes / stream_share
+stream_limit state = longest_stream state.limits.max_bytes
 
 -- the first refusal of a row whose test passes
 abbrev pub first_refusal : List (Bool × Refusal) → Option Refusal
@@ -120,6 +120,7 @@ refusals moment (to_sparse_range handle offset count) state =
 refusals moment (to_doom handle) state = (names_none state handle, refusal.BadHandle) ∷ (is_doomed state handle, refusal.Doomed) ∷ []
 refusals moment (to_doom_key key) state = (no_key key, refusal.BadKey) ∷ (is_none (live_with state key), refusal.Missing) ∷ []
 refusals moment (to_close handle) state = (names_none state handle, refusal.BadHandle) ∷ []
+refusals moment (to_flush handle) state = (names_none state handle, refusal.BadHandle) ∷ (is_doomed state handle, refusal.Doomed) ∷ []
 refusals moment to_list state = []
 refusals moment (to_trim bytes) state = []
 refusals moment to_total state = []

@@ -17,6 +17,7 @@ pub data Request : Type 0 where
   to_doom : ℕ → Request
   to_doom_key : List ℕ → Request
   to_close : ℕ → Request
+  to_flush : ℕ → Request
   to_list : Request
   to_trim : ℕ → Request
   to_total : Request
@@ -34,6 +35,7 @@ request_of (command.SparseRange handle offset count) = to_sparse_range handle of
 request_of (command.Doom handle) = to_doom handle
 request_of (command.DoomKey key) = to_doom_key key.now
 request_of (command.Close handle) = to_close handle
+request_of (command.Flush handle) = to_flush handle
 request_of command.List = to_list
 request_of (command.Trim bytes) = to_trim bytes
 request_of command.Total = to_total
@@ -63,6 +65,7 @@ IsRequest (to_sparse_range handle offset count) = IsHandle handle × IsLong offs
 IsRequest (to_doom handle) = IsHandle handle
 IsRequest (to_doom_key key) = IsBytes key
 IsRequest (to_close handle) = IsHandle handle
+IsRequest (to_flush handle) = IsHandle handle
 IsRequest to_list = Unit {0}
 IsRequest (to_trim bytes) = IsLong bytes
 IsRequest to_total = Unit {0}

@@ -1,5 +1,5 @@
 -- The numbers that the model rests on. A copy with smaller ones here is a smaller model of the same rules.
-use Rattle.std.specs.Prelude.{ℕ, ◌^◌}
+use Rattle.std.specs.Prelude.{ℕ, ◌/◌, ◌^◌, min}
 
 -- a byte is below this
 abbrev pub byte_values : ℕ
@@ -20,6 +20,14 @@ stream_count = 3
 -- a stream has at most this share of the bytes that a cache keeps
 abbrev pub stream_share : ℕ
 stream_share = 8
+
+-- and no stream has more than this many, whatever a cache keeps
+abbrev pub most_stream : ℕ
+most_stream = 2147483647
+
+-- so a stream of a cache that keeps so many bytes has at most this many
+abbrev pub longest_stream : ℕ → ℕ
+longest_stream most = min (most / stream_share) most_stream
 
 -- space is made until this share of the bytes that a cache keeps is free
 abbrev pub free_share : ℕ
@@ -59,7 +67,7 @@ blocks_index_charge = 192
 
 -- a cache keeps at most this many bytes, whatever it is told
 abbrev pub most_bytes : ℕ
-most_bytes = 2147483647
+most_bytes = 1099511627776
 
 -- a cache keeps at most this many items, whatever it is told
 abbrev pub most_items : ℕ

@@ -6,7 +6,7 @@ use Rattle.blk_model.specs.Bytes.{bytes_from}
 use Rattle.blk_model.specs.State.{State}
 use Rattle.blk_model.specs.Holding.{rows}
 use Rattle.blk_model.specs.Sparse.{sparse_bytes, present_run}
-use Rattle.blk_model.specs.Request.{Request, to_create, to_open, to_read, to_write, to_size, to_sparse_write, to_sparse_read, to_sparse_range, to_doom, to_doom_key, to_close, to_list, to_trim, to_total}
+use Rattle.blk_model.specs.Request.{Request, to_create, to_open, to_read, to_write, to_size, to_sparse_write, to_sparse_read, to_sparse_range, to_doom, to_doom_key, to_close, to_flush, to_list, to_trim, to_total}
 use Rattle.blk_model.specs.Reply.{Reply, answered, gave, showed}
 use Rattle.blk_model.specs.Room.{Group, items_of_group, total, items, without}
 use Rattle.blk_model.specs.Effects.{object_of, stream_of, effect}
@@ -25,6 +25,7 @@ reply (to_sparse_range handle offset count) groups state = let run = present_run
 reply (to_doom handle) groups state = answered answer.Done
 reply (to_doom_key key) groups state = answered answer.Done
 reply (to_close handle) groups state = answered answer.Done
+reply (to_flush handle) groups state = answered answer.Done
 reply to_list groups state = showed (rows state)
 reply (to_trim bytes) groups state = answered (answer.Trimmed (sum_by (λ group. length (items_of_group group)) groups))
 reply to_total groups state = answered (answer.Totals (items state) (total state))

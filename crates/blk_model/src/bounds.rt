@@ -3,7 +3,9 @@ ghost use Rattle.std.specs.Prelude.{◌≤◌};
 ghost use Rattle.blk_model.specs.Sizes.{most_bytes, most_items};
 
 /// The greatest number of bytes that a cache may be told to keep.
-pub const MOST_BYTES: u64 = 2147483647;
+pub const MOST_BYTES: u64 = 1099511627776;
+/// The most bytes of a stream, whatever a cache keeps.
+pub const MOST_STREAM: u32 = 2147483647;
 /// The greatest number of items that a cache may be told to keep.
 pub const MOST_ITEMS: u32 = 131072;
 

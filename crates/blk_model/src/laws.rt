@@ -1,7 +1,7 @@
 //! Laws of the model, each the contract of a function that does nothing.
 ghost use Rattle.blk_model.specs.Request.{IsRequest, request_of};
 ghost use Rattle.blk_model.specs.Items.{IsBytes};
-ghost use Rattle.blk_model.specs.Laws.{StepsKeepStatesValid, ListStepsLeadToTheLruList, OpenedStatesAreValid, WhatIsFoundIsAtRest, RestsAreHoldings, StopsLeaveHoldings, StopsMayLeaveWhatWas, StopsMayLeaveWhatIs, RefusalsChangeNothing, RefusalsAreTheFirst, NoneIsRefusedForMemory, TotalsAreSums};
+ghost use Rattle.blk_model.specs.Laws.{StepsKeepStatesValid, ListStepsLeadToTheLruList, OpenedStatesAreValid, WhatIsFoundIsAtRest, RestsAreHoldings, StopsLeaveHoldings, StopsMayLeaveWhatWas, StopsMayLeaveWhatIs, RefusalsChangeNothing, RefusalsAreTheFirst, NoneIsRefusedForMemory, NoneIsRefusedForNoHandle, TotalsAreSums};
 ghost use Rattle.blk_model.specs.EvictionLaws.{EvictionsMayStop, EvictionsComeFirst, RestsOfCommandsAreOfThem};
 
 use crate::Command;
@@ -27,6 +27,7 @@ pub fn commands_are_requests(command: Command<'_>)
         | Command::SparseRange { .. } => {}
         Command::Doom { .. }
         | Command::Close { .. }
+        | Command::Flush { .. }
         | Command::List
         | Command::Trim { .. }
         | Command::Total => {}
@@ -61,11 +62,12 @@ pub fn stops_may_leave_what_is_at_rest()
     ensures after { StopsMayLeaveWhatIs }
 {}
 
-/// A refused command changes nothing; its refusal is the first that holds, and never for being out of memory.
+/// A refused command changes nothing; its refusal is the first that holds, and never for being out of memory or of handles.
 pub fn refusals_change_nothing()
     ensures nothing { RefusalsChangeNothing }
     ensures first { RefusalsAreTheFirst }
     ensures memory { NoneIsRefusedForMemory }
+    ensures handles { NoneIsRefusedForNoHandle }
 {}
 
 /// The totals are the sums over the listed rows and the doomed objects.

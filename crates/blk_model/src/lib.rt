@@ -11,7 +11,7 @@ mod bounds;
 mod checked;
 pub mod laws;
 
-pub use bounds::{Limits, MOST_BYTES, MOST_ITEMS};
+pub use bounds::{Limits, MOST_BYTES, MOST_ITEMS, MOST_STREAM};
 pub use checked::limits;
 use std::error::Error;
 use std::fmt;
@@ -79,6 +79,10 @@ pub enum Command<'a> {
     Close {
         handle: u16,
     },
+    /// Settles the object that the handle names.
+    Flush {
+        handle: u16,
+    },
     /// Lists all items, the last used first.
     List,
     /// Evicts until the total is at most so many bytes.
@@ -118,12 +122,14 @@ pub enum Refusal {
     Memory = 12,
     /// The key has no byte, or too many.
     BadKey = 13,
+    /// Too many handles are bound. The map model never says so.
+    NoHandle = 14,
 }
 
 impl Refusal {
     ghost use Rattle.blk_model.specs.RefusalTable.{number_of_refusal, name_of_refusal};
 
-    /// The number of the refusal, from 1 to 13.
+    /// The number of the refusal, from 1 to 14.
     pub fn number(self) -> u8
         ensures { result ≡ number_of_refusal self }
     {
@@ -148,6 +154,7 @@ impl Refusal {
             Refusal::Full => "Full",
             Refusal::Memory => "Memory",
             Refusal::BadKey => "BadKey",
+            Refusal::NoHandle => "NoHandle",
         }
     }
 }

@@ -17,7 +17,7 @@ use Rattle.spec_folder.specs.Tidy.{loaded_at}
 use Rattle.law_folder.proofs.claims.ByteChanges.{stands-blocks}
 use Rattle.blk_alloc.specs.Owning.{CanBeFreed}
 use Rattle.law_state.specs.Changes.{Finds, KeepsWith, RemovesAllocation, RemovesExternal, StillFinds}
-use Rattle.spec_format.specs.Headers.{num_bytes_of, num_entries_of, sizes_of}
+use Rattle.spec_format.specs.Headers.{count_of}
 use Rattle.law_state.specs.Keeping.{KeepsUncounted, words_in_use}
 use Rattle.law_state.specs.PartlyOut.{KeepsPartlyOut, left_nodes}
 use Rattle.law_state.specs.PartlyOutStops.{LeavesOtherKeys}
@@ -89,11 +89,7 @@ same-index [] from image is i = ap (λ (x : Image). byte x Index i) is
 same-index (w ∷ words) from image r i = same-index words r.0 image r.1.1 i ∙ r.1.0.index i
 
 pub all-counted : FreedWordsLeaveCounters
-all-counted words from image r = record {
-  sizes = ap (λ (f : ℕ → ℕ). sizes_of f 0) same;
-  num_entries = ap num_entries_of same;
-  num_bytes = ap num_bytes_of same;
-} where
+all-counted words from image r = ap count_of same where
   same : byte image Index ≡ byte from Index
   same = λ j i. same-index words from image r i j
 

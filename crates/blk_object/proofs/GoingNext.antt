@@ -49,7 +49,7 @@ some-none : {A : Type 0} {x : A} → ◌≡◌ {A = Option A} (Some x) None → 
 some-none e = cc
 
 pub then-counters : (from mid image : Image) → SameCounters from mid → SameCounters mid image → SameCounters from image
-then-counters from mid image a b = record { sizes = b.sizes ∙ a.sizes; num_entries = b.num_entries ∙ a.num_entries; num_bytes = b.num_bytes ∙ a.num_bytes }
+then-counters from mid image a b = b ∙ a
 
 module _ (state : State) (layout : Layout) (keep : Item → Bool) (chains : ℕ → List ℕ) (unlinked : List ℕ) (item : Item) (node entry : ℕ) (before : Option ℕ) (from : Image) (k : KeepsPartlyOut state layout keep chains unlinked from) (p : LiesNext state layout keep chains item node entry before) where
   abbrev its : ℕ
@@ -113,10 +113,10 @@ module _ (state : State) (layout : Layout) (keep : Item → Bool) (chains : ℕ 
       }
 
   -- once it is counted no longer
-  pub out-and-counted : (charge : ℕ) (mid image : Image) → CountsLeft state layout keep from → IsOutUncounted state layout keep chains unlinked item entry charge from mid → AreCountedLess (charge % 2 ^ 32) mid image → IsOutAndCounted state layout keep chains unlinked item entry image
+  pub out-and-counted : (charge : ℕ) (mid image : Image) → CountsLeft state layout keep from → IsOutUncounted state layout keep chains unlinked item entry charge from mid → AreCountedLess charge mid image → IsOutAndCounted state layout keep chains unlinked item entry image
   out-and-counted charge mid image c u less = record {
-    out = still-out (charge % 2 ^ 32) mid image less state layout (keeps_but keep item) (chains_but chains entry) unlinked u.out;
-    counted = next-counted state layout keep item u.was mid image k.valid p.lies.lies.listed p.lies.stays u.here (still-counted state layout keep from mid u.counters c) (subst (λ (w : ℕ). AreCountedLess (w % 2 ^ 32) mid image) u.charge_is less);
+    out = still-out charge mid image less state layout (keeps_but keep item) (chains_but chains entry) unlinked u.out;
+    counted = next-counted state layout keep item u.was mid image k.valid p.lies.lies.listed p.lies.stays u.here (still-counted state layout keep from mid u.counters c) (subst (λ (w : ℕ). AreCountedLess w mid image) u.charge_is less);
   }
 
 -- ---- what is told
@@ -208,15 +208,15 @@ module _ (a m b : Told) (state : State) (layout : Layout) (keep : Item → Bool)
   gone-on : IsTold m (IsGoingNext state layout keep chains unlinked item node entry before from)
   gone-on = told_then a m from (IsGoingNext state layout keep chains unlinked item node entry before from) there first
 
-  pub next-counted-out : KeepsPartlyOut state layout keep chains unlinked from → LiesNext state layout keep chains item node entry before → CountsLeft state layout keep from → ForSome m.files (λ at. ForSome b.files (AreCountedLess (charge % 2 ^ 32) at)) → ForSome b.files (IsOutAndCounted state layout keep chains unlinked item entry)
+  pub next-counted-out : KeepsPartlyOut state layout keep chains unlinked from → LiesNext state layout keep chains item node entry before → CountsLeft state layout keep from → ForSome m.files (λ at. ForSome b.files (AreCountedLess charge at)) → ForSome b.files (IsOutAndCounted state layout keep chains unlinked item entry)
   next-counted-out k p counted less image is =
       out-and-counted state layout keep chains unlinked item node entry before from k p charge gone-on.image image counted (out gone-on.image gone-on.is) (less gone-on.image gone-on.is image is)
 
-  pub next-session : ForSome m.files (λ at. ForSome b.files (AreCountedLess (charge % 2 ^ 32) at)) → ForSome b.files (SameSession from)
-  next-session less = counted-then a m b from (IsGoingNext state layout keep chains unlinked item node entry before from) (charge % 2 ^ 32) there first (λ image is. (out image is).session) less
+  pub next-session : ForSome m.files (λ at. ForSome b.files (AreCountedLess charge at)) → ForSome b.files (SameSession from)
+  next-session less = counted-then a m b from (IsGoingNext state layout keep chains unlinked item node entry before from) charge there first (λ image is. (out image is).session) less
 
-  pub next-keeps : ForSome m.files (λ at. ForSome b.files (AreCountedLess (charge % 2 ^ 32) at)) → ForSome b.files (KeepsUnlinked unlinked from)
-  next-keeps less image is = λ s n l u. counted-keeps (charge % 2 ^ 32) unlinked gone-on.image image (less gone-on.image gone-on.is image is) s n l ((out gone-on.image gone-on.is).loads s n l u)
+  pub next-keeps : ForSome m.files (λ at. ForSome b.files (AreCountedLess charge at)) → ForSome b.files (KeepsUnlinked unlinked from)
+  next-keeps less image is = λ s n l u. counted-keeps charge unlinked gone-on.image image (less gone-on.image gone-on.is image is) s n l ((out gone-on.image gone-on.is).loads s n l u)
 
   -- so it isn't silent in between
   pub next-told : m.files ≡ None → a.files ≡ None
@@ -283,15 +283,15 @@ module _ (a m b : Told) (state : State) (layout : Layout) (unlinked : List ℕ) 
       finds image still = inr (partly-out-finds state layout number object (keeps_but (λ item. true) (main object.key)) (chains_but layout.chains p.was.contents) (words_of p.was ++ unlinked) image at (main-leaves object.key)
           (still state layout (keeps_but (λ item. true) (main object.key)) (chains_but layout.chains p.was.contents) (words_of p.was ++ unlinked) main-out))
 
-    module _ (charge : ℕ) (less : ForSome m.files (λ i. ForSome b.files (AreCountedLess (charge % 2 ^ 32) i))) where
+    module _ (charge : ℕ) (less : ForSome m.files (λ i. ForSome b.files (AreCountedLess charge i))) where
       pub main-counted : CountsItems from state layout → charge ≡ charge_of p.was → ForSome b.files (IsMainOut state layout unlinked object.key p.was)
       main-counted counts is image told = record {
-        out = still-out (charge % 2 ^ 32) main-on.image image (less main-on.image main-on.is image told) state layout (keeps_but (λ item. true) (main object.key)) (chains_but layout.chains p.was.contents) (words_of p.was ++ unlinked) main-out;
+        out = still-out charge main-on.image image (less main-on.image main-on.is image told) state layout (keeps_but (λ item. true) (main object.key)) (chains_but layout.chains p.was.contents) (words_of p.was ++ unlinked) main-out;
         counted = next-counted state layout (λ item. true) (main object.key) p.was main-on.image image k.valid p.lies.listed refl p.lies.here
             (still-counted state layout (λ item. true) from main-on.image (counters-left node entry before from main-on.image main-taken) (all-counted state layout unlinked from (record { entries = k; counters = counts })))
-            (subst (λ (w : ℕ). AreCountedLess (w % 2 ^ 32) main-on.image image) is (less main-on.image main-on.is image told));
-        lies = counted-keeps (charge % 2 ^ 32) (words_of p.was ++ unlinked) main-on.image image (less main-on.image main-on.is image told) entry_normal (layout.place (main object.key)) p.was main-lies;
+            (subst (λ (w : ℕ). AreCountedLess w main-on.image image) is (less main-on.image main-on.is image told));
+        lies = counted-keeps charge (words_of p.was ++ unlinked) main-on.image image (less main-on.image main-on.is image told) entry_normal (layout.place (main object.key)) p.was main-lies;
       }
 
       pub main-session : ForSome b.files (SameSession from)
-      main-session image told = then-session from main-on.image image (taken-session node entry before from main-on.image main-taken) (counted-session (charge % 2 ^ 32) main-on.image image (less main-on.image main-on.is image told))
+      main-session image told = then-session from main-on.image image (taken-session node entry before from main-on.image main-taken) (counted-session charge main-on.image image (less main-on.image main-on.is image told))

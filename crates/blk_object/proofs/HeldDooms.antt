@@ -1,5 +1,5 @@
 -- An object that a handle names is doomed: its record gets state 2 once its items are out, and it is kept as a doomed one then.
-use Rattle.std.proofs.Common.{◌≡◌, ◌≢◌, inr, ⊎_elim, ℕ, ◌%◌, ◌<◌, ◌≤◌, List, [], ◌∷◌, ◌++◌, refl, ap, sym, ◌∙◌, subst, arith, lit≤, Bool, true, false, Ok, Option, None, Some}
+use Rattle.std.proofs.Common.{◌≡◌, ◌≢◌, inr, ⊎_elim, ℕ, ◌%◌, ◌<◌, ◌≤◌, List, [], ◌∷◌, ◌++◌, length, refl, ap, sym, ◌∙◌, subst, arith, lit≤, Bool, true, false, Ok, Option, None, Some}
 use Rattle.std.specs.Prelude.{◌^◌, ◌||◌, filter, if◌then◌else◌, not}
 use Rattle.std.specs.List.{sum_by}
 use Rattle.std.specs.Option.{ForSome, option_map_or}
@@ -18,7 +18,7 @@ use Rattle.blk_model.specs.State.{Object, State}
 use Rattle.spec_format.specs.Address.{blocks_256, kind_of, rankings}
 use Rattle.spec_format.specs.BlockFiles.{is_among}
 use Rattle.spec_format.specs.Claims.{Claim, claims_of, has_claim}
-use Rattle.spec_format.specs.Headers.{header_length}
+use Rattle.spec_format.specs.Headers.{counting, header_length}
 use Rattle.spec_format.specs.Records.{Node, node_is_sealed}
 use Rattle.spec_format.specs.Sealed.{AreChanges, IsMidUpdate, RecordChecks, record_range, seal_place, sealed_steps}
 use Rattle.blk_disk.specs.declared.tables.BlockFiles.{BlockFiles}
@@ -65,7 +65,7 @@ use Rattle.blk_object.specs.RemovingObjects.{FindsEither}
 use Rattle.blk_object.specs.UnlinkedLoads.{HeldOutObjectsAreCounted}
 use Rattle.blk_object.proofs.CounterWords.{less-counted}
 use Rattle.blk_object.proofs.GoingNext.{main-loads, main-may-go, main-on, main-out, main-taken, main-taking, then-counters}
-use Rattle.blk_object.proofs.RemovedObjects.{still-counts}
+use Rattle.blk_object.proofs.Counts.{still-counts}
 use Rattle.blk_object.proofs.Sessions.{counted-session, taken-session, then-session}
 use Rattle.blk_object.proofs.TakenItems.{counters-left}
 use Rattle.blk_object.proofs.TakenParts.{node-clear}
@@ -184,12 +184,8 @@ pub held-out-counted : HeldOutObjectsAreCounted
 unfolding doomed
 held-out-counted state layout number object loaded chains unlinked image h c = record {
   entries = held-out-objects-doomed state layout number object loaded chains unlinked image h;
-  counters = record {
-    sizes = c.sizes;
-    num_entries = c.num_entries;
-    num_bytes = c.num_bytes ∙ ap (λ (ls : List Loaded). sum_by charge_of ls % 2 ^ 32) (sym (groups.same-at layout (part_nodes state layout object.key) (nodes_of layout (filter (is_of_another object.key) state.uses))
-        (places.others-stay state layout number object loaded chains h.keeps.numbers h.keeps.valid h.keeps.lies h.keeps.owners h.placed h.named)));
-  };
+  counters = c ∙ ap (λ (ls : List Loaded). counting (length (filter (is_of_another object.key) state.uses)) (sum_by charge_of ls)) (sym (groups.same-at layout (part_nodes state layout object.key) (nodes_of layout (filter (is_of_another object.key) state.uses))
+      (places.others-stay state layout number object loaded chains h.keeps.numbers h.keeps.valid h.keeps.lies h.keeps.owners h.placed h.named)));
 }
 
 -- ---- an object without parts
@@ -298,9 +294,9 @@ module _ (a m b : Told) (state : State) (layout : Layout) (unlinked : List ℕ) 
     finds : (image : Image) → KeepsWith [] [] doomed-on.image image → FindsEither state (doomed number state (Some object)) image
     finds image still = inr (then-found [] [] doomed-on.image image still (doomed number state (Some object)) now unlinked kept.kept)
 
-  module _ (charge : ℕ) (less : ForSome m.files (λ i. ForSome b.files (AreCountedLess (charge % 2 ^ 32) i))) where
+  module _ (charge : ℕ) (less : ForSome m.files (λ i. ForSome b.files (AreCountedLess charge i))) where
     pub doomed-session : ForSome b.files (SameSession from)
-    doomed-session image is = then-session from doomed-on.image image kept.session (counted-session (charge % 2 ^ 32) doomed-on.image image (less doomed-on.image doomed-on.is image is))
+    doomed-session image is = then-session from doomed-on.image image kept.session (counted-session charge doomed-on.image image (less doomed-on.image doomed-on.is image is))
 
     pub doomed-counted : CountsItems from state layout → charge ≡ charge_of loaded → ForSome b.files (Keeps (doomed number state (Some object)) now unlinked)
     doomed-counted counts is image told =

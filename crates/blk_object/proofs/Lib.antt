@@ -11,6 +11,7 @@ pub mod MakingRoom
 pub mod MakingTaken
 pub mod MakingStored
 pub mod MakingPlaces
+pub mod Counts
 pub mod CounterWords
 pub mod MakingListed
 pub mod MakingWritten

@@ -6,26 +6,33 @@ use Rattle.std.proofs.lemmas.Bool.{and_parts, eqb-true}
 use Rattle.spec_image.specs.Image.{Image}
 use Rattle.spec_image.specs.Steps.{TrailStep, after}
 use Rattle.spec_image.specs.Told.{Applies, Commits, MakesPartOf, Passes, TellsBytes, Told}
+use Rattle.spec_image.proofs.Footprints.{outside_wider, within_left}
 use Rattle.spec_image.proofs.Runs.{passes_end, passes_then, passes_weaker, some_inj}
 use Rattle.spec_format.specs.Address.{blocks_256, is_address, kind_of}
+use Rattle.spec_format.specs.Sealed.{record_range}
+use Rattle.spec_folder.specs.Chains.{bucket_at}
 use Rattle.blk_disk.specs.declared.tables.BlockFiles.{BlockFiles}
 use Rattle.blk_disk.specs.Open.{IsOpen}
 use Rattle.blk_disk.specs.Tables.{is_record_among, names_among, stands_among}
 use Rattle.spec_folder.specs.Completion.{insert}
 use Rattle.spec_folder.specs.ListImages.{operation_steps, walked}
 use Rattle.spec_folder.specs.ListPlans.{writes_of}
-use Rattle.spec_folder.specs.ListSteps.{IsPartly}
-use Rattle.spec_folder.specs.ListView.{CanBeInserted}
+use Rattle.spec_folder.specs.ListSteps.{IsPartly, touched_by_writes}
+use Rattle.spec_folder.specs.ListView.{CanBeInserted, ListWrite}
 use Rattle.spec_folder.specs.Sound.{words_of}
 use Rattle.spec_folder.specs.View.{list_of}
 use Rattle.blk_lru.specs.Moments.{IsMidOperation}
 use Rattle.blk_chain.specs.Linking.{CanBeLinked, IsLinkedInFront}
+use Rattle.law_folder.proofs.states.Tidying.{touch_range}
+use Rattle.law_state.specs.Changes.{SameCounters}
 use Rattle.law_state.specs.NewEntryLaws.{HasRecordInFront, IsInsertDone}
 use Rattle.law_state.proofs.NewEntries.{entries-kept, inserts-find, links-find}
 use Rattle.blk_object.proofs.KeptLists.{inserts-done, new-can-be}
 use Rattle.blk_object.proofs.KeptMarks.{come-in-front, in-front}
 use Rattle.blk_object.proofs.KeptNewEntries.{new-can-be-linked}
 use Rattle.blk_object.specs.Making.{CanBeListed, FindsUntilListed, IsEntryListed}
+use Rattle.law_state.proofs.Counts.{bucket-count, touch-count}
+use Rattle.blk_object.proofs.MakingStored.{counters-then}
 use Rattle.blk_object.proofs.MakingTaken.{none-before, told-mid}
 
 -- what is among the records is one that is there
@@ -96,6 +103,17 @@ module _ (a b : Told) (files : BlockFiles) (entry node : ℕ) where
             let mid = inserted-mid from there in
             entries-kept state layout unlinked key loaded handle from mid.0 image q.kept q.entry q.valid (subst (λ (n : ℕ). IsInsertDone from n mid.0) (sym rn) (inserted from mid.0 there mid.1 c))
             (subst (λ (w : ℕ). HasRecordInFront mid.0 w image) (sym re) (in-front entry mid.0 image (linked mid.0 mid.1 (can-link from mid.0 there mid.1 c) image now)))
+
+        -- the counters stay
+        pub listing-counts : ForSome b.files (λ mid. CanBeLinked entry mid → ForSome d.files (IsLinkedInFront mid entry)) → ForSome a.files (λ from. CanBeListed entry node from → ForSome d.files (SameCounters from))
+        listing-counts linked from there c image now =
+            let mid = inserted-mid from there in
+            let writes : List ListWrite = writes_of insert node (list_of from) in
+            let done = inserted from mid.0 there mid.1 c in
+            let front = in-front entry mid.0 image (linked mid.0 mid.1 (can-link from mid.0 there mid.1 c) image now) in
+            counters-then from mid.0 image
+            (touch-count writes node from mid.0 (outside_wider (touched_by_writes writes) (touch_range writes node) from mid.0 (within_left (touched_by_writes writes) (record_range node)) done.partly.outside))
+            (bucket-count (bucket_at mid.0 entry) mid.0 image front.outside)
 
 -- a folder that is opaque after a part of some steps was opaque before
 pub part-tells : (a b : Told) (steps_on : Image → List TrailStep) → MakesPartOf a b steps_on → b.files ≡ None → a.files ≡ None

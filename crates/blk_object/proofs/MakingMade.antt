@@ -1,6 +1,6 @@
 -- A new object is made, from its stages: places, entry, list and chain, counters.
 use Rattle.std.proofs.Common.{◌≡◌, ℕ, ◌+◌, ◌%◌, ◌<◌, List, [], ◌++◌, length, Option, None, Some, refl, sym, ◌∙◌, ap, subst, arith, lit≤, true}
-use Rattle.std.specs.Prelude.{◌==◌}
+use Rattle.std.specs.Prelude.{◌==◌, ◌^◌}
 use Rattle.std.specs.Option.{ForSome}
 use Rattle.std.proofs.lemmas.Bool.{eq-eqb}
 use Rattle.spec_image.specs.Image.{Image, Index, byte}
@@ -10,17 +10,17 @@ use Rattle.spec_format.specs.Address.{is_address, kind_of}
 use Rattle.spec_format.specs.Headers.{this_id_of}
 use Rattle.blk_disk.specs.declared.tables.BlockFiles.{BlockFiles}
 use Rattle.blk_disk.specs.Tables.{names_among, stands_among}
-use Rattle.law_folder.specs.IndexWrites.{IsIndexWord}
 use Rattle.blk_model.specs.Effects.{created}
 use Rattle.blk_model.specs.State.{State}
 use Rattle.spec_folder.specs.Creation.{with_new}
 use Rattle.spec_folder.specs.Layout.{Layout}
 use Rattle.spec_folder.specs.Loads.{Loaded}
 use Rattle.spec_folder.specs.Sound.{words_of}
-use Rattle.law_state.specs.Changes.{KeepsWith, StillFinds}
-use Rattle.law_state.specs.CounterLaws.{counted_bytes}
+use Rattle.law_state.specs.Changes.{KeepsWith, SameCounters, StillFinds}
+use Rattle.law_state.specs.CounterLaws.{AreCountersWritten, charged}
 use Rattle.law_state.specs.Keeping.{Keeps, KeepsUncounted}
 use Rattle.law_state.specs.NewEntryLaws.{IsOneMore}
+use Rattle.law_state.proofs.Charges.{charges-small}
 use Rattle.law_state.proofs.Counters.{counters-count}
 use Rattle.law_state.proofs.Free.{then-found}
 use Rattle.law_state.proofs.NewEntries.{one-more}
@@ -28,8 +28,12 @@ use Rattle.blk_object.specs.declared.making.Made.{Made}
 use Rattle.blk_object.specs.declared.counters.Counters.{Counters}
 use Rattle.blk_object.specs.declared.making_places.Places.{Places}
 use Rattle.blk_object.specs.Making.{CanBeListed, CanHaveNew, FindsUntilListed, FindsWhileMade, HasNewObjects, HasRoomForNew, IsEntryOfKept, IsEntryListed, IsToBeListed, LeavesRoom, Takes, new_loaded, words_of_places}
-use Rattle.blk_object.specs.Counters.{AreIndexCounters, AreCountersWritten}
+use Rattle.blk_object.specs.Counters.{AreIndexCounters}
+use Rattle.blk_object.proofs.CounterWords.{charge-more}
+use Rattle.spec_format.proofs.Counts.{its-bytes64, its-entries, its-nodes}
+use Rattle.blk_object.proofs.Counts.{still-counts, written-as}
 use Rattle.blk_object.proofs.MakingRoom.{uses-few}
+use Rattle.blk_object.proofs.MakingStored.{counters-then}
 use Rattle.blk_object.proofs.MakingTaken.{none-before, told-mid}
 
 -- ---- what is among the addresses of a kind
@@ -91,6 +95,13 @@ module _ (a d : Told) (key : List ℕ) (mark : ℕ) (take : ForSome a.files (λ 
           let t = unlinked-then from mid.0 there mid.1 r in
           written mid.0 mid.1 late now state layout [] handle (t.kept state layout [] k.entries) can (t.session.id ∙ r.session)
 
+      listed-by : (from late : Image) → a.files ≡ Some from → e.files ≡ Some late → HasRoomForNew key mark from → CanBeListed places.entry places.node late
+      listed-by from late there now r =
+          record { state = r.state; layout = r.layout; unlinked = []; handle = r.handle; key = key; loaded = new_loaded places mark key; is = to-be from late there now r r.state r.layout r.handle r.kept r.can; record_is = refl; node_is = refl }
+
+      can-listed : (from : Image) → (there : a.files ≡ Some from) → (r : HasRoomForNew key mark from) → CanBeListed places.entry places.node (late-of from there r).0
+      can-listed from there r = let late = late-of from there r in listed-by from late.0 there late.1 r
+
       pub can-list : ForSome a.files (HasRoomForNew key mark) → (a.files ≡ None → e.files ≡ None) → ForSome e.files (CanBeListed places.entry places.node)
       can-list room silent late now = go a.files refl where
         clash : None ≡ Some late → ⊥
@@ -99,8 +110,7 @@ module _ (a d : Told) (key : List ℕ) (mark : ℕ) (take : ForSome a.files (λ 
         go : (o : Option Image) → a.files ≡ o → CanBeListed places.entry places.node late
         go None none = absurd (clash (sym (silent none) ∙ now))
         go (Some from) there =
-            let r = room from there in
-            record { state = r.state; layout = r.layout; unlinked = []; handle = r.handle; key = key; loaded = new_loaded places mark key; is = to-be from late there now r r.state r.layout r.handle r.kept r.can; record_is = refl; node_is = refl }
+            listed-by from late there now (room from there)
 
       -- ---- and its list and chain
 
@@ -108,7 +118,7 @@ module _ (a d : Told) (key : List ℕ) (mark : ℕ) (take : ForSome a.files (λ 
         pub listing-made : ForSome a.files (λ from. HasRoomForNew key mark from → Passes a h (FindsWhileMade key from))
         listing-made from there r =
             let late = late-of from there r in
-            let can : CanBeListed places.entry places.node late.0 = record { state = r.state; layout = r.layout; unlinked = []; handle = r.handle; key = key; loaded = new_loaded places mark key; is = to-be from late.0 there late.1 r r.state r.layout r.handle r.kept r.can; record_is = refl; node_is = refl } in
+            let can : CanBeListed places.entry places.node late.0 = can-listed from there r in
             let finds : (image : Image) → FindsUntilListed places.entry places.node late.0 image → FindsWhileMade key from image =
             λ image f state layout handle k can. f state layout [] handle key (new_loaded places mark key) (to-be from late.0 there late.1 r state layout handle k can) refl refl in
             passes_then (writing-made from there r) (passes_weaker (list late.0 late.1 can) finds finds)
@@ -139,13 +149,19 @@ module _ (a d : Told) (key : List ℕ) (mark : ℕ) (take : ForSome a.files (λ 
                 (now.0, now.1 ∙ sym before.1 ∙ (passes_end first named.0 named.1 state layout handle k can).1) in
                 passes_then first (passes_weaker (count named.0 named.1) finds finds)
 
-            module _ (counters : Counters) (read : ForSome a.files (AreIndexCounters counters)) (charge : ℕ) (long : charge ≡ length key)
-                (counted : ForSome h.files (λ named. ForSome i.files (AreCountersWritten ((counters.entries + 1) % 4294967296) ((counters.bytes + charge) % 4294967296) ((counters.size + 1) % 4294967296) named))) where
+            module _ (writes : ForSome d.files (λ mid. ForSome e.files (SameCounters mid))) (lists : ForSome e.files (λ late. CanBeListed places.entry places.node late → ForSome h.files (SameCounters late))) (counters : Counters) (read : ForSome a.files (AreIndexCounters counters)) (charge : ℕ) (long : charge ≡ length key)
+                (counted : ForSome h.files (λ named. ForSome i.files (AreCountersWritten ((counters.entries + 1) % 4294967296) ((counters.bytes + charge) % 2 ^ 64) ((counters.size + 1) % 4294967296) named))) where
               one-counted : (n uses : ℕ) → n ≡ uses → uses < 131072 → (n + 1) % 4294967296 ≡ uses + 1
               one-counted n uses is few = omega (arith, is, few)
 
-              bytes-counted : (n sum extra : ℕ) → n ≡ sum % 4294967296 → (n + extra) % 4294967296 ≡ (extra + sum) % 4294967296
-              bytes-counted n sum extra is = omega (arith, is)
+              -- until then the index counts as before
+              counts-named : (from : Image) → a.files ≡ Some from → (r : HasRoomForNew key mark from) → (named : Image) → h.files ≡ Some named → SameCounters from named
+              counts-named from there r named now =
+                  let mid = mid-of from there r in
+                  let late = late-of from there r in
+                  let can : CanBeListed places.entry places.node late.0 = can-listed from there r in
+                  counters-then from mid.0 named (unlinked-then from mid.0 there mid.1 r).counters
+                  (counters-then mid.0 late.0 named (writes mid.0 mid.1 late.0 late.1) (lists late.0 late.1 can named now))
 
               pub object-made : (made : Made) → made.entry ≡ places.entry → made.node ≡ places.node → ForSome a.files (λ from. this_id_of (byte from Index) ≡ mark → ForSome i.files (HasNewObjects key made from))
               object-made made entry_is node_is from there session image now state layout handle k can =
@@ -153,24 +169,28 @@ module _ (a d : Told) (key : List ℕ) (mark : ℕ) (take : ForSome a.files (λ 
                   let late = late-of from there r in
                   let named = named-of from there r in
                   let loaded : Loaded = new_loaded places mark key in
+                  let after : State = created handle key state in
+                  let laid : Layout = with_new layout key loaded in
                   let q = to-be from late.0 there late.1 r state layout handle k can in
                   let more : IsOneMore state layout key loaded handle = one-more state layout (words_of loaded ++ []) key loaded handle late.0 q.kept q.entry in
-                  let w = counted named.0 named.1 image now in
+                  let made_kept = kept-named from named.0 there named.1 r state layout handle k can in
                   let c = read from there in
+                  let f : ℕ → ℕ = byte from Index in
                   let few = can.few in
                   let short = uses-few state layout [] from k.entries in
-                  let items : (counters.entries + 1) % 4294967296 ≡ length (created handle key state).uses = one-counted counters.entries (length state.uses) (c.entries ∙ k.counters.num_entries) (omega (arith, few, short)) ∙ sym more.items in
-                  let sizes : (counters.size + 1) % 4294967296 ≡ length (created handle key state).uses = one-counted counters.size (length state.uses) (c.size ∙ k.counters.sizes) (omega (arith, few, short)) ∙ sym more.items in
-                  let bytes : (counters.bytes + charge) % 4294967296 ≡ counted_bytes (created handle key state) (with_new layout key loaded) =
-                  ap (λ (n : ℕ). (counters.bytes + n) % 4294967296) (long ∙ plain-charge (length key)) ∙ bytes-counted counters.bytes _ (length key + 0) (c.bytes ∙ k.counters.num_bytes) ∙ ap (λ (n : ℕ). n % 4294967296) (sym more.bytes) in
+                  let items : (counters.entries + 1) % 4294967296 ≡ length after.uses = one-counted counters.entries (length state.uses) (c.entries ∙ its-entries f (length state.uses) (charged state layout) k.counters) (omega (arith, few, short)) ∙ sym more.items in
+                  let nodes : (counters.size + 1) % 4294967296 ≡ length after.uses = one-counted counters.size (length state.uses) (c.size ∙ its-nodes f (length state.uses) (charged state layout) k.counters) (omega (arith, few, short)) ∙ sym more.items in
+                  let sum : (counters.bytes + charge) % 2 ^ 64 ≡ charged after laid =
+                  charge-more counters.bytes (charged state layout) (charged after laid) charge (c.bytes ∙ its-bytes64 f (length state.uses) (charged state layout) k.counters)
+                  (more.bytes ∙ other-way (length key) (charged state layout) charge long) (charges-small after laid [] named.0 made_kept) in
                   record {
                     loaded = loaded;
                     record_is = sym entry_is;
                     node_is = sym node_is;
                     mark_is = sym session;
-                    kept = counters-count (created handle key state) (with_new layout key loaded) [] named.0 w.first w.second image (kept-named from named.0 there named.1 r state layout handle k can)
-                        (subst (λ (n : ℕ). IsIndexWord 8 n named.0 w.first) items w.entries_written) (subst (λ (n : ℕ). IsIndexWord 12 n w.first w.second) bytes w.bytes_written) (subst (λ (n : ℕ). IsIndexWord 268 n w.second image) sizes w.size_written);
+                    kept = counters-count after state laid layout [] named.0 image made_kept (still-counts from named.0 state layout (counts-named from there r named.0 named.1) k.counters)
+                        (written-as named.0 image ((counters.entries + 1) % 4294967296) ((counters.bytes + charge) % 2 ^ 64) ((counters.size + 1) % 4294967296) (length after.uses) (charged after laid) (length after.uses) items sum nodes (counted named.0 named.1 image now));
                   }
                 where
-                  plain-charge : (n : ℕ) → n ≡ n + 0
-                  plain-charge n = omega arith
+                  other-way : (n sum charge : ℕ) → charge ≡ n → n + 0 + sum ≡ sum + charge
+                  other-way n sum charge is = omega (arith, is)

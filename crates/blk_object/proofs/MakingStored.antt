@@ -14,7 +14,7 @@ use Rattle.spec_format.specs.Address.{external, external_number, kind_of}
 use Rattle.spec_format.specs.BlockFiles.{is_among}
 use Rattle.spec_format.specs.Claims.{BlockOf, Claim, ExternalOf, claims_of, claims_of_all, has_claim, repeats, same_claim}
 use Rattle.spec_format.specs.Growth.{HaveGrown}
-use Rattle.spec_format.specs.Headers.{num_bytes_of, num_entries_of, sizes_of}
+use Rattle.spec_format.specs.Headers.{count_of}
 use Rattle.spec_format.proofs.Among.{is_among-append}
 use Rattle.spec_folder.specs.Footprint.{AgreeBut, IsClear, is_absent}
 use Rattle.spec_folder.specs.Layout.{Layout}
@@ -35,12 +35,13 @@ use Rattle.blk_stream.proofs.Naming.{apart_place}
 use Rattle.law_state.specs.Changes.{AddsExternal, AreOfWords, ChangesOnly, KeepsWith, SameCounters}
 use Rattle.law_state.specs.Keeping.{KeepsUncounted, all_loaded}
 use Rattle.blk_object.specs.Making.{KeepsStored}
+use Rattle.spec_format.proofs.Counts.{same-count}
 
 -- ---- counters
 
 -- the same index has the same counters
 pub index-counters : (from image : Image) → ((i : ℕ) → byte image Index i ≡ byte from Index i) → SameCounters from image
-index-counters from image same = record { sizes = ap (λ (f : ℕ → ℕ). sizes_of f 0) all; num_entries = ap num_entries_of all; num_bytes = ap num_bytes_of all }
+index-counters from image same = ap count_of all
   where
     all : byte image Index ≡ byte from Index
     all j i = same i j
@@ -53,7 +54,7 @@ allocating-index files kind n from image (inr (inr added)) i = added.2.bytes Ind
 
 -- and an external file that is made leaves the counters
 pub making-counters : (n : ℕ) (from image : Image) → SameOutside (touched_by_making n) from image → SameCounters from image
-making-counters n from image same = record { sizes = at 268 (inr (omega arith)); num_entries = at 8 (inl (omega arith)); num_bytes = at 12 (inl (omega arith)) }
+making-counters n from image same = same-count (byte image Index) (byte from Index) (at 4 (inl (omega arith))) (at 8 (inl (omega arith))) (at 12 (inl (omega arith))) (at 48 (inr (omega arith))) (at 52 (inr (omega arith))) (at 268 (inr (omega arith)))
   where
     at : (p : ℕ) → (p + 4 ≤ 16) ⊎ (20 ≤ p) → word image Index p ≡ word from Index p
     at p away = same_word_outside (touched_by_making n) from image Index p same
@@ -69,7 +70,7 @@ made-outside files n kind a b first is steps from there image now =
 
 -- one after another
 pub counters-then : (from mid image : Image) → SameCounters from mid → SameCounters mid image → SameCounters from image
-counters-then from mid image a b = record { sizes = b.sizes ∙ a.sizes; num_entries = b.num_entries ∙ a.num_entries; num_bytes = b.num_bytes ∙ a.num_bytes }
+counters-then from mid image a b = b ∙ a
 
 -- ---- what is stored
 

@@ -85,7 +85,7 @@ index-session from image same = record { crash = ap (λ (o : Option (List ℕ)).
 pub nothing-taken : (a b : Told) → b ≡ a → ForSome a.files (λ from. ForSome b.files (Takes [] from))
 nothing-taken a b same from there image now =
     let is : image ≡ from = some_inj (sym now ∙ ap (λ (t : Told). t.files) same ∙ there) in
-    subst (Takes [] from) (sym is) (record { kept = λ state layout unlinked k. k; session = record { crash = refl; id = refl }; counters = record { sizes = refl; num_entries = refl; num_bytes = refl }; stored = λ state layout unlinked k size w bytes among there. there })
+    subst (Takes [] from) (sym is) (record { kept = λ state layout unlinked k. k; session = record { crash = refl; id = refl }; counters = refl; stored = λ state layout unlinked k size w bytes among there. there })
 
 pub nothing-finds : (words : List ℕ) (a b : Told) → b ≡ a → ForSome a.files (λ from. Passes a b (StillFinds words from))
 nothing-finds words a b same from there =

@@ -35,7 +35,7 @@ use Rattle.blk_chain.specs.Linking.{link_front_steps, place_of_front}
 use Rattle.blk_entry.specs.declared.writing.NewEntry.{NewEntry}
 use Rattle.blk_entry.specs.Writing.{IsWritten, new_node, new_record}
 use Rattle.blk_object.specs.Making.{HasTimes, KeepsTimes}
-use Rattle.blk_object.specs.Counters.{AreCountersWritten}
+use Rattle.law_state.specs.CounterLaws.{AreCountersWritten}
 use Rattle.blk_object.proofs.MakingListed.{record-parts}
 
 -- ---- a byte that no write touches
@@ -124,7 +124,7 @@ times-missed node p w kind low high also = record { kind = also; next = at 16 (o
       apart : (b c o p : ℕ) → 16 ≤ o → o + 4 ≤ 36 → p < 8192 + b * 36 + 16 → 8192 + b * 36 ≤ p → (x : ℕ) → x ≡ 8192 + c * 36 → x + o ≤ p → x + o + 4 ≤ p
       apart b c o p from to high low x is past = omega (arith, from, to, high, low, is, past)
 
--- and so does what lies in another file
+-- a write to another file misses the words of a node
 pub file-missed : (f p w : ℕ) → kind_of w ≡ rankings → (same_file (Block (file_selector w)) (Block f)) ≡ false → Misses f p w
 file-missed f p w kind other = record { kind = kind; next = rw other refl; prev = rw other refl; seal = rw other refl }
 
@@ -202,7 +202,7 @@ listing-times a b d files entry node open_folder among kind can inserts links fr
 
 pub counting-times : (entry node x y z : ℕ) (from image : Image) → AreCountersWritten x y z from image → KeepsTimes entry node from image
 counting-times entry node x y z from image w moment t =
-    let block-same : (f p : ℕ) → byte image (Block f) p ≡ byte from (Block f) p = λ f p. w.size_written.outside.bytes (Block f) p refl ∙ w.bytes_written.outside.bytes (Block f) p refl ∙ w.entries_written.outside.bytes (Block f) p refl in
+    let block-same : (f p : ℕ) → byte image (Block f) p ≡ byte from (Block f) p = λ f p. w.nodes_written.outside.bytes (Block f) p refl ∙ w.sum_written.high.outside.bytes (Block f) p refl ∙ w.sum_written.low.outside.bytes (Block f) p refl ∙ w.items_written.outside.bytes (Block f) p refl in
     times-same entry node moment from image (λ p low high. block-same (file_selector node) p) (λ p low high. block-same (file_selector entry) p) t
 
 -- ---- what was written

@@ -20,15 +20,16 @@ use Rattle.spec_folder.specs.Sound.{words_of}
 use Rattle.spec_folder.specs.View.{store_of}
 use Rattle.blk_entry.specs.Keys.{stores}
 use Rattle.blk_entry.specs.Writing.{AreWords, FitsKey, IsLongPlace, IsShownNew, IsWritten, WritesEntryInProgress, loaded_new}
-use Rattle.law_state.specs.Changes.{KeepsWith, StillFinds}
+use Rattle.law_state.specs.Changes.{KeepsWith, SameCounters, StillFinds}
 use Rattle.law_state.specs.Keeping.{KeepsUncounted}
 use Rattle.law_state.proofs.Free.{then-found}
-use Rattle.blk_object.proofs.KeptEntries.{writing-keeps}
+use Rattle.blk_object.proofs.KeptEntries.{places-spare, writing-keeps}
 use Rattle.blk_object.proofs.KeptNewEntries.{written-new}
 use Rattle.blk_object.specs.Making.{IsEntryOfKept, new_entry, new_loaded, long_word, words_of_places}
 use Rattle.blk_object.specs.declared.making_places.Places.{Places}
 use Rattle.blk_object.proofs.MakingRoom.{uses-few}
 use Rattle.blk_object.proofs.MakingListed.{told-at}
+use Rattle.blk_object.proofs.MakingStored.{index-counters}
 
 -- ---- the words of an entry
 
@@ -86,6 +87,9 @@ module _ (b d : Told) (files : BlockFiles) (places : Places) (mark next : ℕ) (
         entry = written-new files (new_entry places mark next) key moment state layout unlinked b d fits words agrees here (omega (arith, few, short)) can.missing (told-at (λ (i : Image). mark ≡ this_id_of (byte i Index)) b.files from there (sym session)) follows stops written shown loads from there image now;
         valid = can.valid;
       }
+
+  pub writing-counts : ForSome b.files (λ from. ForSome d.files (SameCounters from))
+  writing-counts from there image now = index-counters from image (λ i. (passes_end (stops from there) image now).outside.bytes Index i ((places-spare (new_entry places mark next) (length key)).index i))
 
 -- the word of a bucket is that of the table
 pub bucket-is : (image : Image) (key : List ℕ) (h n next : ℕ) → h ≡ hash key → n ≡ h % 65536 → next ≡ bucket_of (byte image Index) n → next ≡ (store_of image).table (bucket_of_key key)

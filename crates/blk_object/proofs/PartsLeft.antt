@@ -12,6 +12,7 @@ use Rattle.spec_folder.specs.Chains.{Chain}
 use Rattle.spec_folder.specs.Searches.{bucket_of_key, chained_for}
 use Rattle.spec_folder.specs.View.{store_of}
 use Rattle.spec_format.specs.Hash.{hash}
+use Rattle.spec_format.specs.Headers.{counting}
 use Rattle.std.proofs.lemmas.Nat.{mod_below}
 use Rattle.law_folder.proofs.chains.Chains.{chain-is}
 use Rattle.law_folder.proofs.commands.Opening.{in-append}
@@ -61,11 +62,7 @@ pub none-left : NoPartsLeftAreAllOut
 none-left state layout keep chains unlinked key image k c leaves none =
     let same = same-left state key keep leaves none in (
       only-listed state layout keep (is_of_another key) chains unlinked image k (keeps-others state key keep leaves none),
-      record {
-        sizes = c.sizes ∙ ap (λ (items : List Item). length items) same;
-        num_entries = c.num_entries ∙ ap (λ (items : List Item). length items) same;
-        num_bytes = c.num_bytes ∙ ap (λ (items : List Item). charges_at layout (nodes_of layout items) % 2 ^ 32) same;
-      },
+      c ∙ ap (λ (items : List Item). counting (length items) (charges_at layout (nodes_of layout items))) same,
     )
 
 -- ---- one is found

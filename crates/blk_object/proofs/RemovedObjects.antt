@@ -28,6 +28,7 @@ use Rattle.blk_object.specs.Owning.{LoadsWith}
 use Rattle.blk_object.specs.Removing.{IsGoingOut, IsTakenOut, MayGoOut}
 use Rattle.blk_object.specs.Counters.{AreCountedLess, IsOneItemLess}
 use Rattle.blk_object.specs.RemovingObjects.{FindsEither, GoesAlone, IsGoneUncounted, IsRemovedWhole}
+use Rattle.blk_object.proofs.Counts.{still-counts}
 use Rattle.blk_object.proofs.FreedPlaces as freed
 use Rattle.blk_object.proofs.OwnedPlaces.{kept-load}
 use Rattle.blk_object.proofs.CounterWords.{less-counted}
@@ -35,10 +36,6 @@ use Rattle.blk_object.proofs.TakenItems as taken
 
 some-none : {A : Type 0} {x : A} → ◌≡◌ {A = Option A} (Some x) None → ⊥
 some-none e = cc
-
--- where the counters stay, they count what they did
-pub still-counts : (from image : Image) (state : State) (layout : Layout) → SameCounters from image → CountsItems from state layout → CountsItems image state layout
-still-counts from image state layout same c = record { sizes = same.sizes ∙ c.sizes; num_entries = same.num_entries ∙ c.num_entries; num_bytes = same.num_bytes ∙ c.num_bytes }
 
 module _ (state : State) (layout : Layout) (unlinked : List ℕ) (objects : List (Option Object)) (keep : Item → Bool) (item : Item) (node entry : ℕ) (before : Option ℕ) (from : Image) (k : Keeps state layout unlinked from) (p : GoesAlone state layout objects keep item node entry before) where
   abbrev its : ℕ
@@ -113,7 +110,7 @@ pub counting-either : (state after : State) (layout : Layout) (unlinked : List �
 counting-either state after layout unlinked node entry charge mid image g keeps = inr (then-found [] [] mid image keeps after (layout_removed layout node entry) unlinked g.kept)
 
 -- once it is
-pub removed-whole : (state after : State) (layout : Layout) (unlinked : List ℕ) (node entry charge : ℕ) (mid image : Image) → IsGoneUncounted state after layout unlinked node entry charge mid → AreCountedLess (charge % 2 ^ 32) mid image → IsRemovedWhole after layout unlinked node entry image
+pub removed-whole : (state after : State) (layout : Layout) (unlinked : List ℕ) (node entry charge : ℕ) (mid image : Image) → IsGoneUncounted state after layout unlinked node entry charge mid → AreCountedLess charge mid image → IsRemovedWhole after layout unlinked node entry image
 removed-whole state after layout unlinked node entry charge mid image g counted =
     less-counted state after layout (layout_removed layout node entry) unlinked charge mid image g.counters g.less g.kept counted
 
@@ -158,7 +155,7 @@ module _ (a m b : Told) (state after : State) (layout : Layout) (unlinked : List
       (λ image k. counting-either state after layout unlinked node entry charge gone-on.image image (gone gone-on.image gone-on.is) k)
       (λ image k. counting-either state after layout unlinked node entry charge gone-on.image image (gone gone-on.image gone-on.is) k))
 
-  pub counting-removed : ForSome m.files (λ at. ForSome b.files (AreCountedLess (charge % 2 ^ 32) at)) → ForSome b.files (IsRemovedWhole after layout unlinked node entry)
+  pub counting-removed : ForSome m.files (λ at. ForSome b.files (AreCountedLess charge at)) → ForSome b.files (IsRemovedWhole after layout unlinked node entry)
   counting-removed counted image is = removed-whole state after layout unlinked node entry charge gone-on.image image (gone gone-on.image gone-on.is) (counted gone-on.image gone-on.is image is)
 
   -- so it isn't silent in between

@@ -43,10 +43,12 @@ freed-session words from image r = record { crash = ap crash_of same; id = ap th
 pub counted-session : CountedLessLeavesSession
 counted-session charge from image l =
     then-session from l.written.second image
-    (then-session from l.written.first l.written.second
-    (index-words from l.written.first 8 refl (lit≤ tt) refl refl refl l.written.entries_written.outside).session
-    (index-words l.written.first l.written.second 12 refl (lit≤ tt) refl refl refl l.written.bytes_written.outside).session)
-    (index-words l.written.second image 268 refl (lit≤ tt) refl refl refl l.written.size_written.outside).session
+    (then-session from l.written.sum_written.between l.written.second
+    (then-session from l.written.first l.written.sum_written.between
+    (index-words from l.written.first 8 refl (lit≤ tt) refl refl refl l.written.items_written.outside).session
+    (index-words l.written.first l.written.sum_written.between 48 refl (lit≤ tt) refl refl refl l.written.sum_written.low.outside).session)
+    (index-words l.written.sum_written.between l.written.second 52 refl (lit≤ tt) refl refl refl l.written.sum_written.high.outside).session)
+    (index-words l.written.second image 268 refl (lit≤ tt) refl refl refl l.written.nodes_written.outside).session
 
 -- of an observable folder, in which an item went out, and then is counted no longer
 pub counted-then : (a m b : Told) (from : Image) (P : Image → Type 0) (charge : ℕ) → a.files ≡ Some from → Passes a m P → ForSome m.files (SameSession from) → ForSome m.files (λ at. ForSome b.files (AreCountedLess charge at)) → ForSome b.files (SameSession from)

@@ -52,6 +52,7 @@ use Rattle.law_state.specs.RemovalLaws.{IsRemovalDone, chains_without}
 use Rattle.law_state.proofs.GoingOut.{chain-same}
 use Rattle.law_state.proofs.Leaving.{leaves-files}
 use Rattle.law_state.proofs.Links.{next-sealed, table-sealed}
+use Rattle.law_state.proofs.Counts.{bucket-count, touch-count}
 use Rattle.blk_object.proofs.KeptLists.{listed-amid}
 use Rattle.blk_object.specs.Removing.{GoingOutIsRemoving, TakenOutItemsLeaveCounters, IsBeingUnlinked, IsTakenOut, IsYetLinked, LiesBehind, ListedItemsMayGoOut, TakenOutItemsAreRemoved}
 use Rattle.blk_object.proofs.ChainsOut.{among-front, can-go, goes-out, leaves-files as out-leaves, yet-in}
@@ -71,7 +72,7 @@ removal-counters : (from between : Image) (node : ℕ) → IsRemovalDone from no
 removal-counters from between node done =
     let writes : List ListWrite = writes_of remove node (list_of from) in
     let outside : SameOutside (touch_range writes node) from between = outside_wider (touched_by_writes writes) (touch_range writes node) from between (within_left (touched_by_writes writes) (record_range node)) done.partly.outside in
-    record { sizes = counter-same writes node from between outside 268 (omega arith); num_entries = counter-same writes node from between outside 8 (omega arith); num_bytes = counter-same writes node from between outside 12 (omega arith) }
+    touch-count writes node from between outside
 
 -- so does a word of the table
 pub table-word : (b p : ℕ) (from image : Image) → p + 4 ≤ header_length → SameOutside (one_word Index (place_of_bucket b)) from image → word image Index p ≡ word from Index p
@@ -83,14 +84,14 @@ table-word b p from image low same = same_word_outside (one_word Index (place_of
 unlinking-counters : (between image : Image) (entry : ℕ) (before : Option ℕ) → IsUnlinked between entry before image → SameCounters between image
 unlinking-counters between image entry None u =
     let b = bucket_at between entry in
-    record { sizes = table-word b 268 between image (lit≤ tt) u.keeps.outside; num_entries = table-word b 8 between image (lit≤ tt) u.keeps.outside; num_bytes = table-word b 12 between image (lit≤ tt) u.keeps.outside }
+    bucket-count b between image u.keeps.outside
 unlinking-counters between image entry (Some v) u = updates-leave between image v u.keeps.outside
 
 pub counters-left : TakenOutItemsLeaveCounters
 counters-left node entry before from image t =
     let one = removal-counters from t.between node t.unlisted in
     let other = unlinking-counters t.between image entry before t.unlinked in
-    record { sizes = other.sizes ∙ one.sizes; num_entries = other.num_entries ∙ one.num_entries; num_bytes = other.num_bytes ∙ one.num_bytes }
+    other ∙ one
 
 -- the bucket of its record is that of its key
 pub bucket-is : (layout : Layout) (node its : ℕ) (was : Loaded) (from between : Image) → load (store_of from) (rule_of layout its) its ≡ Ok was → IsRemovalDone from node between → bucket_at between was.contents ≡ bucket_of_key was.key

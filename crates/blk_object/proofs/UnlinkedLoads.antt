@@ -77,6 +77,8 @@ hidden-keeps unlinked from image only = agrees-keep none from image only.agree u
 
 pub counted-keeps : CountedLessKeepsUnlinked
 counted-keeps charge unlinked from image a s n l u =
-    hidden-keeps unlinked a.written.second image (index-words a.written.second image 268 refl (lit≤ tt) refl refl refl a.written.size_written.outside) s n l
-    (hidden-keeps unlinked a.written.first a.written.second (index-words a.written.first a.written.second 12 refl (lit≤ tt) refl refl refl a.written.bytes_written.outside) s n l
-    (hidden-keeps unlinked from a.written.first (index-words from a.written.first 8 refl (lit≤ tt) refl refl refl a.written.entries_written.outside) s n l u))
+    let sum = a.written.sum_written in
+    hidden-keeps unlinked a.written.second image (index-words a.written.second image 268 refl (lit≤ tt) refl refl refl a.written.nodes_written.outside) s n l
+    (hidden-keeps unlinked sum.between a.written.second (index-words sum.between a.written.second 52 refl (lit≤ tt) refl refl refl sum.high.outside) s n l
+    (hidden-keeps unlinked a.written.first sum.between (index-words a.written.first sum.between 48 refl (lit≤ tt) refl refl refl sum.low.outside) s n l
+    (hidden-keeps unlinked from a.written.first (index-words from a.written.first 8 refl (lit≤ tt) refl refl refl a.written.items_written.outside) s n l u)))

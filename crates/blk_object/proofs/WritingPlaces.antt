@@ -163,12 +163,12 @@ filling-finds files kept from image agreed (inr fills) = λ state layout unlinke
     filling-word files kept w from f.taken image f.same f.takes state layout unlinked (taken-unlinked files kept w from f.taken k.well_formed agreed f.takes state layout unlinked k)
 
 nothing-taken-here : (from : Image) → Takes [] from from
-nothing-taken-here from = record { kept = λ state layout unlinked k. k; session = record { crash = refl; id = refl }; counters = record { sizes = refl; num_entries = refl; num_bytes = refl }; stored = λ state layout unlinked k size w bytes among there. there }
+nothing-taken-here from = record { kept = λ state layout unlinked k. k; session = record { crash = refl; id = refl }; counters = refl; stored = λ state layout unlinked k size w bytes among there. there }
 
 -- and in the end its word is unlinked
 pub filled-unlinked : FilledPlacesAreUnlinked
 filled-unlinked files kept None from image well agreed is =
-    subst (λ (i : Image). Takes [] from i × SameCounters from i) (sym is) (nothing-taken-here from, record { sizes = refl; num_entries = refl; num_bytes = refl })
+    subst (λ (i : Image). Takes [] from i × SameCounters from i) (sym is) (nothing-taken-here from, refl)
 filled-unlinked files kept (Some w) from image well agreed filled =
     let f = filled.0 in
     let same = data-index w f.taken image f.same in

@@ -24,6 +24,7 @@ use Rattle.blk_stream.specs.Moving.{data_at_place}
 use Rattle.blk_stream.specs.Streams.{address_place, size_place}
 use Rattle.blk_stream.proofs.KeptMaps.{blocks_spared}
 use Rattle.blk_stream.proofs.Naming.{words_spare}
+use Rattle.spec_format.proofs.Counts.{same-count}
 
 -- ---- the data of a place
 
@@ -116,7 +117,7 @@ module _ (from : Image) (entry i w : ℕ) (kind : kind_of entry ≡ blocks_256) 
     index-word p = same_word_outside print from image Index p same (λ k low high. of-data.index k)
 
     pub written-counters : SameCounters from image
-    written-counters = record { sizes = index-word 268; num_entries = index-word 8; num_bytes = index-word 12 }
+    written-counters = same-count (byte image Index) (byte from Index) (index-word 4) (index-word 8) (index-word 12) (index-word 48) (index-word 52) (index-word 268)
 
     at_bytes : {a b : Option (List ℕ)} → a ≡ b → byte (λ file. a) Index ≡ byte (λ file. b) Index
     at_bytes e = ap (λ (o : Option (List ℕ)). byte (λ file. o) Index) e

@@ -1,64 +1,49 @@
 -- The counters of the index, and what one entry less is to them.
 use Rattle.std.specs.Prelude.{◌≡◌, ℕ, ◌+◌, ◌%◌, ◌^◌, ◌<◌, List, length}
-use Rattle.std.specs.List.{sum_by}
 use Rattle.spec_image.specs.Image.{Image, Index, byte}
 use Rattle.blk_model.specs.State.{State}
-use Rattle.spec_format.specs.Headers.{num_bytes_of, num_entries_of, sizes_of}
-use Rattle.law_folder.specs.IndexWrites.{IsIndexWord}
-use Rattle.spec_folder.specs.Found.{charge_of}
-use Rattle.spec_folder.specs.Layout.{Layout, order}
-use Rattle.spec_folder.specs.Tidy.{loaded_at}
+use Rattle.spec_format.specs.Headers.{num_bytes64_of, num_entries_of, sizes_of}
+use Rattle.spec_folder.specs.Layout.{Layout}
 use Rattle.blk_object.specs.declared.counters.Counters.{Counters}
+use Rattle.law_state.specs.CounterLaws.{AreCountersWritten, charged}
 use Rattle.law_state.specs.Keeping.{CountsItems, Keeps, KeepsUncounted}
 
 -- the counters of the index are these
 pub record AreIndexCounters (counters : Counters) (image : Image) : Type 0 where
   pub entries : counters.entries ≡ num_entries_of (byte image Index)
-  pub bytes : counters.bytes ≡ num_bytes_of (byte image Index)
+  pub bytes : counters.bytes ≡ num_bytes64_of (byte image Index)
   pub size : counters.size ≡ sizes_of (byte image Index) 0
 
--- the three counters of the index are written one after the other
-pub record AreCountersWritten (entries bytes size : ℕ) (from image : Image) : Type 0 where
-  pub first : Image
-  pub second : Image
-  pub entries_written : IsIndexWord 8 entries from first
-  pub bytes_written : IsIndexWord 12 bytes first second
-  pub size_written : IsIndexWord 268 size second image
-
--- as words, they are those that with one more, and with a charge more, were the old ones
+-- as numbers of their bytes, they are those that with one more, and with a charge more, were the old ones
 pub record AreCountedLess (charge : ℕ) (from image : Image) : Type 0 where
   pub entries : ℕ
   pub bytes : ℕ
   pub size : ℕ
-  pub small : (entries < 2 ^ 32) × ((bytes < 2 ^ 32) × (size < 2 ^ 32))
+  pub small : (entries < 2 ^ 32) × ((bytes < 2 ^ 64) × (size < 2 ^ 32))
   pub entries_less : (entries + 1) % 2 ^ 32 ≡ num_entries_of (byte from Index)
-  pub bytes_less : (bytes + charge) % 2 ^ 32 ≡ num_bytes_of (byte from Index)
+  pub bytes_less : (bytes + charge) % 2 ^ 64 ≡ num_bytes64_of (byte from Index)
   pub size_less : (size + 1) % 2 ^ 32 ≡ sizes_of (byte from Index) 0
   pub written : AreCountersWritten entries bytes size from image
 
--- as words, they are more by so many entries, and by a charge
+-- as numbers of their bytes, they are more by so many entries, and by a charge
 abbrev pub AreCountedMore : (entries charge : ℕ) → (from image : Image) → Type 0
 AreCountedMore entries charge from image =
-    AreCountersWritten ((num_entries_of (byte from Index) + entries) % 2 ^ 32) ((num_bytes_of (byte from Index) + charge) % 2 ^ 32) ((sizes_of (byte from Index) 0 + entries) % 2 ^ 32) from image
-
--- the charges of the listed items
-abbrev pub charges : State → Layout → ℕ
-charges state layout = sum_by charge_of (loaded_at layout (order state layout))
+    AreCountersWritten ((num_entries_of (byte from Index) + entries) % 2 ^ 32) ((num_bytes64_of (byte from Index) + charge) % 2 ^ 64) ((sizes_of (byte from Index) 0 + entries) % 2 ^ 32) from image
 
 -- a state lists one item less than another one, with this charge
 pub record IsOneItemLess (state after : State) (layout now : Layout) (charge : ℕ) : Type 0 where
   pub items : length after.uses + 1 ≡ length state.uses
-  pub bytes : charges after now + charge ≡ charges state layout
+  pub bytes : charged after now + charge ≡ charged state layout
 
 -- where the counters counted the one, and are counted less, and the other is kept but for them, it is kept and counted
 abbrev pub LessIsCounted : Type 0
 LessIsCounted = (state after : State) (layout now : Layout) (unlinked : List ℕ) (charge : ℕ) (from image : Image) → CountsItems from state layout → IsOneItemLess state after layout now charge → KeepsUncounted after now unlinked from
-    → AreCountedLess (charge % 2 ^ 32) from image → Keeps after now unlinked image
+    → AreCountedLess charge from image → Keeps after now unlinked image
 
 -- a state lists so many items more than another one, with so much more charge
 pub record AreMoreItems (state after : State) (layout now : Layout) (entries charge : ℕ) : Type 0 where
   pub items : length after.uses ≡ length state.uses + entries
-  pub bytes : charges after now ≡ charges state layout + charge
+  pub bytes : charged after now ≡ charged state layout + charge
 
 -- where the counters counted the one, and are counted more, and the other is kept but for them, it is kept and counted
 abbrev pub MoreIsCounted : Type 0

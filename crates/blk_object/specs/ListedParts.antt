@@ -29,12 +29,12 @@ use Rattle.blk_object.specs.declared.listed_parts.ListedPart.{ListedPart}
 
 -- What is read at a node.
 
--- this is what a node names, by some rule
+-- by some rule of judging, this is what is loaded at a node
 pub record LoadsAt (node : ℕ) (loaded : Loaded) (image : Image) : Type 0 where
   pub rule : Rule
   pub loads : load (store_of image) rule node ≡ Ok loaded
 
--- the number of the part of a key that a name says, if it says one
+-- the part's number in a name, where it is the name of a part of this key
 abbrev pub number_said : List ℕ → Option Name → Option ℕ
 number_said key None = None
 number_said key (Some name) = if bytes_eq name.key key then Some name.part else None

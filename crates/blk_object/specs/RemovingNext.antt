@@ -1,5 +1,5 @@
 -- What the index counts while items of an object are out, each freed and counted less before the next.
-use Rattle.std.specs.Prelude.{◌≡◌, ℕ, ◌%◌, ◌^◌, List, [], ◌∷◌, ◌++◌, Bool, Option, None, Some, false, filter, length, true}
+use Rattle.std.specs.Prelude.{◌≡◌, ℕ, List, [], ◌∷◌, ◌++◌, Bool, Option, None, Some, false, filter, length, true}
 use Rattle.spec_image.specs.Image.{Image, Index, byte}
 use Rattle.blk_model.specs.Items.{Item}
 use Rattle.blk_model.specs.Refusals.{refused}
@@ -7,7 +7,7 @@ use Rattle.blk_model.specs.Request.{Request}
 use Rattle.blk_model.specs.Room.{Group, whole, without}
 use Rattle.blk_model.specs.State.{IsValidState, Object, State, is_named, object_at}
 use Rattle.blk_model.specs.Step.{step}
-use Rattle.spec_format.specs.Headers.{num_bytes_of, num_entries_of, sizes_of}
+use Rattle.spec_format.specs.Headers.{count_of, counting}
 use Rattle.spec_folder.specs.Found.{charge_of}
 use Rattle.spec_folder.specs.Layout.{Layout, is_listed, nodes_of}
 use Rattle.spec_folder.specs.Loads.{Loaded}
@@ -21,10 +21,8 @@ use Rattle.law_state.specs.PartlyOut.{KeepsPartlyOut, keeps_but}
 use Rattle.blk_object.specs.Counters.{AreCountedLess}
 
 -- the counters of the index count the items that are still listed, and sum their charges
-pub record CountsLeft (state : State) (layout : Layout) (keep : Item → Bool) (image : Image) : Type 0 where
-  pub sizes : sizes_of (byte image Index) 0 ≡ length (filter keep state.uses)
-  pub num_entries : num_entries_of (byte image Index) ≡ length (filter keep state.uses)
-  pub num_bytes : num_bytes_of (byte image Index) ≡ charges_at layout (nodes_of layout (filter keep state.uses)) % 2 ^ 32
+abbrev pub CountsLeft : State → Layout → (Item → Bool) → Image → Type 0
+CountsLeft state layout keep image = count_of (byte image Index) ≡ counting (length (filter keep state.uses)) (charges_at layout (nodes_of layout (filter keep state.uses)))
 
 -- whatever is kept while some items are out is kept still
 abbrev pub KeepsOut : Image → Image → Type 0
@@ -37,7 +35,7 @@ KeptStatesCountAll = (state : State) (layout : Layout) (unlinked : List ℕ) (im
 -- once an item more is out and counted less, with its charge, those that are left are counted
 abbrev pub NextItemsAreCountedLess : Type 0
 NextItemsAreCountedLess = (state : State) (layout : Layout) (keep : Item → Bool) (item : Item) (was : Loaded) (from image : Image) → IsValidState state → is_listed state item ≡ true → keep item ≡ true → layout.at (layout.place item) ≡ Some was
-    → CountsLeft state layout keep from → AreCountedLess (charge_of was % 2 ^ 32) from image → CountsLeft state layout (keeps_but keep item) image
+    → CountsLeft state layout keep from → AreCountedLess (charge_of was) from image → CountsLeft state layout (keeps_but keep item) image
 
 -- and what is kept is kept still
 abbrev pub CountedLessIsStillOut : Type 0

@@ -7,9 +7,9 @@ use Rattle.blk_model.specs.Room.{items}
 use Rattle.blk_model.specs.Sizes.{most_items}
 use Rattle.blk_model.specs.State.{Object, State, IsValidState, object_at, part_at}
 use Rattle.spec_format.specs.Address.{is_address}
-use Rattle.spec_format.specs.Headers.{num_bytes_of}
+use Rattle.spec_format.specs.Headers.{num_bytes64_of, num_bytes64_place}
 use Rattle.spec_format.specs.Sealed.{RecordChecks}
-use Rattle.law_folder.specs.IndexWrites.{IsIndexWord}
+use Rattle.law_folder.specs.IndexWrites.{IsIndexLong}
 use Rattle.spec_folder.specs.Entries.{Role, part_role, stream}
 use Rattle.spec_folder.specs.Found.{row_with}
 use Rattle.spec_folder.specs.Layout.{Layout, is_listed}
@@ -19,11 +19,11 @@ use Rattle.blk_stream.specs.Loading.{stored_streams_with}
 use Rattle.blk_stream.specs.Streams.{address_word, size_word}
 use Rattle.law_state.specs.Changes.{SameCounters, SameSession}
 use Rattle.law_state.specs.CommandEnds.{after_write}
+use Rattle.law_state.specs.CounterLaws.{charged}
 use Rattle.law_state.specs.Keeping.{CountsItems, Keeps, KeepsUncounted}
 use Rattle.law_state.specs.ListLaws.{with_used}
 use Rattle.law_state.specs.ObjectLaws.{layout_after}
 use Rattle.law_state.specs.PartStates.{with_object, with_value}
-use Rattle.blk_object.specs.Counters.{charges}
 
 -- What can be written.
 
@@ -64,7 +64,7 @@ pub record HasStreamThere (entry at : ℕ) (image : Image) : Type 0 where
 -- a state lists as many items as another one, and for a charge of the other's it has another one
 pub record IsRisen (state after : State) (layout now : Layout) (less more : ℕ) : Type 0 where
   pub items : length after.uses ≡ length state.uses
-  pub bytes : charges after now + less ≡ charges state layout + more
+  pub bytes : charged after now + less ≡ charged state layout + more
 
 -- What is kept.
 
@@ -122,12 +122,12 @@ pub record IsPartWrittenUncounted (state : State) (layout : Layout) (unlinked : 
 
 -- How it is counted.
 
--- the bytes that the index counts are less by one number and more by another, as a word
+-- the bytes that the index counts are less by one number and more by another, as a number of eight bytes
 pub record IsRiseCounted (less more : ℕ) (from image : Image) : Type 0 where
   pub bytes : ℕ
-  pub small : bytes < 2 ^ 32
-  pub rise : (bytes + less) % 2 ^ 32 ≡ (num_bytes_of (byte from Index) + more) % 2 ^ 32
-  pub written : IsIndexWord 12 bytes from image
+  pub small : bytes < 2 ^ 64
+  pub rise : (bytes + less) % 2 ^ 64 ≡ (num_bytes64_of (byte from Index) + more) % 2 ^ 64
+  pub written : IsIndexLong num_bytes64_place bytes from image
 
 -- where the counters counted the one, and the other differs in a charge and is kept but for them, it is kept and counted once the rise is
 abbrev pub RisesAreCounted : Type 0

@@ -1,19 +1,20 @@
 // The counters of the index, which count the entries and their charges.
-ghost use Rattle.std.specs.Prelude.{◌≡◌, ◌≤◌, ◌+◌, ◌%◌, ◌^◌, [], None, IfOk, OnErr, OnOk};
+ghost use Rattle.std.specs.Prelude.{◌≡◌, ◌≤◌, ◌<◌, ◌+◌, ◌/◌, ◌%◌, ◌^◌, [], None, IfOk, OnErr, OnOk};
 ghost use Rattle.std.specs.Option.{ForSome};
 ghost use Rattle.spec_image.specs.Told.{Passes, Rises, Stays};
-ghost use Rattle.spec_format.specs.Headers.{HasWholeIndex};
+ghost use Rattle.spec_format.specs.Headers.{HasWholeIndex, num_bytes64_place};
 ghost use Rattle.blk_io.specs.Faults.{IfDamaged, IfDevice};
 ghost use Rattle.blk_disk.specs.Open.{IsOpen};
-ghost use Rattle.law_folder.specs.IndexWrites.{IsIndexWord};
+ghost use Rattle.law_folder.specs.IndexWrites.{IsIndexLong};
 ghost use Rattle.law_state.specs.Changes.{KeepsWith};
-ghost use Rattle.blk_object.specs.Counters.{AreCountedLess, AreCountedMore, AreIndexCounters, AreCountersWritten};
+ghost use Rattle.law_state.specs.CounterLaws.{AreCountersWritten};
+ghost use Rattle.blk_object.specs.Counters.{AreCountedLess, AreCountedMore, AreIndexCounters};
 ghost use Rattle.blk_object.specs.FailedChecks.{IsFailedCheck, ReadsTooFew};
 ghost use Rattle.blk_object.specs.RemovingNext.{KeepsOut};
 ghost use Rattle.blk_object.specs.Writing.{IsRiseCounted};
 
 use blk_disk::BlockFiles;
-use blk_index::word;
+use blk_index::{long, word};
 use blk_io::{Failed, Fault, FileId, Folder, write_words};
 use blk_record::{IndexHead, WORD_VALUES};
 
@@ -23,7 +24,7 @@ pub(crate) struct Counters {
     /// The entries.
     pub entries: u32,
     /// The sum of their charges.
-    pub bytes: u32,
+    pub bytes: u64,
     /// The nodes of the LRU list.
     pub size: u32,
 }
@@ -38,7 +39,7 @@ pub(crate) fn read_counters<F: Folder>(folder: &mut F) -> Result<Counters, Fault
     ensures device { IfDevice result (Rises (F.faults folder.old) (F.faults folder.new)) }
 {
     let entries = word(folder, IndexHead::NUM_ENTRIES)?;
-    let bytes = word(folder, IndexHead::NUM_BYTES)?;
+    let bytes = long(folder, IndexHead::NUM_BYTES64)?;
     let size = word(folder, IndexHead::SIZES)?;
     Ok(Counters {
         entries,
@@ -47,15 +48,15 @@ pub(crate) fn read_counters<F: Folder>(folder: &mut F) -> Result<Counters, Fault
     })
 }
 
-/// Writes the counters for one entry more, with its charge, by two folder calls.
+/// Writes the counters for one entry more, with its charge, by three folder calls.
 pub(crate) fn count_entry<F: Folder>(
     folder: &mut F,
     files: &BlockFiles,
     counters: &Counters,
-    charge: u32,
+    charge: u64,
 ) -> Result<(), Failed>
     requires is_open { ForSome (F.told folder.old).files (IsOpen files.now) }
-    ensures written { OnOk result (ForSome (F.told folder.old).files (λ from. ForSome (F.told folder.new).files (AreCountersWritten ((counters.now.entries + 1) % 2 ^ 32) ((counters.now.bytes + charge) % 2 ^ 32) ((counters.now.size + 1) % 2 ^ 32) from))) }
+    ensures written { OnOk result (ForSome (F.told folder.old).files (λ from. ForSome (F.told folder.new).files (AreCountersWritten ((counters.now.entries + 1) % 2 ^ 32) ((counters.now.bytes + charge) % 2 ^ 64) ((counters.now.size + 1) % 2 ^ 32) from))) }
     ensures stops { ForSome (F.told folder.old).files (λ from. Passes (F.told folder.old) (F.told folder.new) (KeepsWith [] [] from)) }
     ensures is_open { ForSome (F.told folder.new).files (IsOpen files.now) }
     ensures silent { (F.told folder.old).files ≡ None → (F.told folder.new).files ≡ None }
@@ -68,11 +69,11 @@ pub(crate) fn count_entry<F: Folder>(
     set_counters(folder, files, entries, bytes, size)
 }
 
-/// Counts one entry less, with a charge, in the counters of the index, which are words: three folder calls read them,
-/// and two write them.
+/// Counts one entry less, with a charge, in the counters of the index: three folder calls read them, and three write
+/// them.
 pub fn count_less<F: Folder>(folder: &mut F, files: &BlockFiles, charge: u64) -> Result<(), Fault>
     requires is_open { ForSome (F.told folder.old).files (IsOpen files.now) }
-    ensures counted { OnOk result (ForSome (F.told folder.old).files (λ from. ForSome (F.told folder.new).files (AreCountedLess (charge % 2 ^ 32) from))) }
+    ensures counted { OnOk result (ForSome (F.told folder.old).files (λ from. ForSome (F.told folder.new).files (AreCountedLess charge from))) }
     ensures stops { ForSome (F.told folder.old).files (λ from. Passes (F.told folder.old) (F.told folder.new) (KeepsWith [] [] from)) }
     ensures stops_out { ForSome (F.told folder.old).files (λ from. Passes (F.told folder.old) (F.told folder.new) (KeepsOut from)) }
     ensures is_open { ForSome (F.told folder.new).files (IsOpen files.now) }
@@ -84,14 +85,14 @@ pub fn count_less<F: Folder>(folder: &mut F, files: &BlockFiles, charge: u64) ->
 {
     let counters = read_counters(folder)?;
     let entries = counters.entries.wrapping_sub(1);
-    let bytes = counters.bytes.wrapping_sub((charge % WORD_VALUES) as u32);
+    let bytes = counters.bytes.wrapping_sub(charge);
     let size = counters.size.wrapping_sub(1);
     set_counters(folder, files, entries, bytes, size)?;
     Ok(())
 }
 
-/// Counts so many entries more in the counters of the index, and a charge more, as words: three folder calls read them,
-/// and two write them.
+/// Counts so many entries more in the counters of the index, and a charge more: three folder calls read them, and three
+/// write them.
 pub fn count_more<F: Folder>(
     folder: &mut F,
     files: &BlockFiles,
@@ -111,14 +112,14 @@ pub fn count_more<F: Folder>(
     let counters = read_counters(folder)?;
     let more = (entries % WORD_VALUES) as u32;
     let risen = counters.entries.wrapping_add(more);
-    let bytes = counters.bytes.wrapping_add((charge % WORD_VALUES) as u32);
+    let bytes = counters.bytes.wrapping_add(charge);
     let size = counters.size.wrapping_add(more);
     set_counters(folder, files, risen, bytes, size)?;
     Ok(())
 }
 
-/// Counts the bytes of the items less by one number and more by another, as a word: one folder call reads it, and one
-/// writes it.
+/// Counts the bytes of the items less by one number and more by another: one folder call reads their sum, and one writes
+/// it.
 pub fn count_rise<F: Folder>(
     folder: &mut F,
     files: &BlockFiles,
@@ -135,17 +136,38 @@ pub fn count_rise<F: Folder>(
     ensures later { F.faults folder.old ≤ F.faults folder.new }
     ensures device { IfDevice result (Rises (F.faults folder.old) (F.faults folder.new)) }
 {
-    let bytes = word(folder, IndexHead::NUM_BYTES)?;
-    let fewer = bytes.wrapping_sub((less % WORD_VALUES) as u32);
-    let risen = fewer.wrapping_add((more % WORD_VALUES) as u32);
+    let bytes = long(folder, IndexHead::NUM_BYTES64)?;
+    let risen = rise(bytes, less, more);
     set_bytes(folder, files, risen)?;
     Ok(())
 }
 
-// Writes the bytes that the index counts, by one folder call.
-fn set_bytes<F: Folder>(folder: &mut F, files: &BlockFiles, bytes: u32) -> Result<(), Failed>
+// What a sum is once it is less by one number and more by another, as a number of eight bytes.
+fn rise(bytes: u64, less: u64, more: u64) -> u64
+    ensures risen { (result + less) % 2 ^ 64 ≡ (bytes + more) % 2 ^ 64 }
+    ensures small { result < 2 ^ 64 }
+{
+    bytes.wrapping_sub(less).wrapping_add(more)
+}
+
+// The low word of a number of eight bytes.
+fn low_word(number: u64) -> u32
+    ensures { result ≡ number % 2 ^ 32 }
+{
+    (number % WORD_VALUES) as u32
+}
+
+// The high word of a number of eight bytes.
+fn high_word(number: u64) -> u32
+    ensures { result ≡ number / 2 ^ 32 }
+{
+    (number / WORD_VALUES) as u32
+}
+
+// Writes the bytes that the index counts, by one folder call: their two words lie side by side.
+fn set_bytes<F: Folder>(folder: &mut F, files: &BlockFiles, bytes: u64) -> Result<(), Failed>
     requires is_open { ForSome (F.told folder.old).files (IsOpen files.now) }
-    ensures written { OnOk result (ForSome (F.told folder.old).files (λ from. ForSome (F.told folder.new).files (IsIndexWord 12 bytes from))) }
+    ensures written { OnOk result (ForSome (F.told folder.old).files (λ from. ForSome (F.told folder.new).files (IsIndexLong num_bytes64_place bytes from))) }
     ensures stops { ForSome (F.told folder.old).files (λ from. Passes (F.told folder.old) (F.told folder.new) (KeepsWith [] [] from)) }
     ensures is_open { ForSome (F.told folder.new).files (IsOpen files.now) }
     ensures silent { (F.told folder.old).files ≡ None → (F.told folder.new).files ≡ None }
@@ -154,15 +176,24 @@ fn set_bytes<F: Folder>(folder: &mut F, files: &BlockFiles, bytes: u32) -> Resul
 {
     // The block files are asked for by the contract alone: what they say of the folder is known once they are named.
     let _files = files;
-    write_words(folder, FileId::Index, &[(IndexHead::NUM_BYTES, bytes)])
+    let low = low_word(bytes);
+    let high = high_word(bytes);
+    write_words(
+        folder,
+        FileId::Index,
+        &[
+            (IndexHead::NUM_BYTES64, low),
+            (IndexHead::NUM_BYTES64 + 4, high),
+        ],
+    )
 }
 
-// Writes the counters of the index, by two folder calls: the first two lie side by side.
+// Writes the counters of the index, by three folder calls: the two words of the bytes lie side by side.
 fn set_counters<F: Folder>(
     folder: &mut F,
     files: &BlockFiles,
     entries: u32,
-    bytes: u32,
+    bytes: u64,
     size: u32,
 ) -> Result<(), Failed>
     requires is_open { ForSome (F.told folder.old).files (IsOpen files.now) }
@@ -176,12 +207,15 @@ fn set_counters<F: Folder>(
 {
     // The block files are asked for by the contract alone: what they say of the folder is known once they are named.
     let _files = files;
+    let low = low_word(bytes);
+    let high = high_word(bytes);
     write_words(
         folder,
         FileId::Index,
         &[
             (IndexHead::NUM_ENTRIES, entries),
-            (IndexHead::NUM_BYTES, bytes),
+            (IndexHead::NUM_BYTES64, low),
+            (IndexHead::NUM_BYTES64 + 4, high),
             (IndexHead::SIZES, size),
         ],
     )

@@ -61,7 +61,7 @@ pub fn doom_record<F: Folder>(folder: &mut F, files: &BlockFiles, entry: Addr) -
 /// is freed: its places stay its until the last handle is closed.
 ///
 /// Its record is in its chain after the record before, or is the first; and it names this node. This takes as many
-/// folder calls as `take_out`, four for the record, and five for the counters.
+/// folder calls as `take_out`, four for the record, and six for the counters.
 pub fn doom_plain<F: Folder>(
     folder: &mut F,
     files: &BlockFiles,

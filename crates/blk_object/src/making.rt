@@ -10,7 +10,7 @@ ghost use Rattle.blk_disk.specs.Open.{IsOpen};
 ghost use Rattle.blk_disk.specs.Tables.{is_node_among, is_record_among};
 ghost use Rattle.blk_entry.specs.Writing.{FitsKey, HoldsLongKey, LiesApart};
 ghost use Rattle.blk_alloc.specs.Extending.{KeepsStanding};
-ghost use Rattle.law_state.specs.Changes.{StillFinds};
+ghost use Rattle.law_state.specs.Changes.{SameCounters, StillFinds};
 ghost use Rattle.blk_object.specs.FailedChecks.{IsFailedCheck};
 ghost use Rattle.blk_object.specs.Making.{CanBeListed, CreatesCanHaveNew, FindsUntilListed, FindsWhileMade, HasNewObjects, HasRoomForNew, HasTimes, IsEntryOfKept, IsEntryListed, KeepsTimes, new_entry, words_of_places};
 
@@ -44,7 +44,7 @@ pub struct Made {
 /// Its places are taken first, and its entry is written there, with the number of the session as its mark. Then its
 /// node comes in front of the LRU list, its record in front of its chain, and the index counts it. A failed check is
 /// one that the calls below find, an index that hasn't its length, or blocks that were given twice. A key that lies in
-/// its record takes at most 70 folder calls where no file grows.
+/// its record takes at most 71 folder calls where no file grows.
 pub fn make_entry<F: Folder>(
     folder: &mut F,
     files: &mut BlockFiles,
@@ -83,7 +83,7 @@ pub fn make_entry<F: Folder>(
     let places = take_places(folder, files, key.len() as u32)?;
     write_new(folder, files, &places, key, mark, moment)?;
     list_entry(folder, files, places.entry, places.node)?;
-    count_entry(folder, files, &counters, key.len() as u32)?;
+    count_entry(folder, files, &counters, key.len() as u64)?;
     Ok(Made {
         entry: places.entry,
         node: places.node,
@@ -104,6 +104,7 @@ fn write_new<F: Folder>(
     requires apart { LiesApart places.now.entry places.now.long_key }
     requires is_open { ForSome (F.told folder.old).files (IsOpen files.now) }
     ensures written { OnOk result (ForSome (F.told folder.old).files (λ from. ForSome (F.told folder.new).files (IsEntryOfKept places.now mark key.now from))) }
+    ensures counters { OnOk result (ForSome (F.told folder.old).files (λ from. ForSome (F.told folder.new).files (SameCounters from))) }
     ensures times { OnOk result (ForSome (F.told folder.new).files (HasTimes places.now.entry places.now.node moment)) }
     ensures stops { ForSome (F.told folder.old).files (λ from. Passes (F.told folder.old) (F.told folder.new) (StillFinds (words_of_places places.now) from)) }
     ensures is_open { ForSome (F.told folder.new).files (IsOpen files.now) }
@@ -137,6 +138,7 @@ fn list_entry<F: Folder>(
     requires node { IsTrue (is_node_among files.now node) }
     requires is_open { ForSome (F.told folder.old).files (IsOpen files.now) }
     ensures listed { OnOk result (ForSome (F.told folder.old).files (λ from. ForSome (F.told folder.new).files (IsEntryListed entry node from))) }
+    ensures counters { OnOk result (ForSome (F.told folder.old).files (λ from. CanBeListed entry node from → ForSome (F.told folder.new).files (SameCounters from))) }
     ensures times { OnOk result (ForSome (F.told folder.old).files (λ from. ForSome (F.told folder.new).files (KeepsTimes entry node from))) }
     ensures stops { ForSome (F.told folder.old).files (λ from. CanBeListed entry node from → Passes (F.told folder.old) (F.told folder.new) (FindsUntilListed entry node from)) }
     ensures is_open { ForSome (F.told folder.new).files (IsOpen files.now) }

@@ -175,7 +175,7 @@ fn take_file<F: Folder>(folder: &mut F, files: &BlockFiles, size: u32) -> Result
     ensures device { IfDevice result (Rises (F.faults folder.old) (F.faults folder.new)) }
 {
     let addr = create(folder)?;
-    // That the word is one of an address is known once it is read.
+    // Read for the proof alone, which learns from it that the word is a valid address.
     let _word = addr.word();
     resize(folder, addr, u64::from(size))?;
     Ok(addr)

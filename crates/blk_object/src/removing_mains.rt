@@ -25,7 +25,7 @@ use blk_io::{Fault, Folder};
 /// and the index counts one entry less, with its charge, in bytes. Nothing is freed: its places are nobody's then.
 ///
 /// Its record is in its chain after the record before, or is the first; and it names this node. This takes as many
-/// folder calls as `take_out`, and five for the counters.
+/// folder calls as `take_out`, and six for the counters.
 pub fn take_main<F: Folder>(
     folder: &mut F,
     files: &BlockFiles,

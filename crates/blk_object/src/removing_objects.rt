@@ -28,7 +28,7 @@ use blk_io::{Fault, Folder};
 /// given, in bytes.
 ///
 /// Its record is in its chain after the record before, or is the first; and it names this node. This takes at most 23
-/// folder calls until it is out, seven for each of its places, and five for the counters.
+/// folder calls until it is out, seven for each of its places, and six for the counters.
 pub fn remove_item<F: Folder>(
     folder: &mut F,
     files: &BlockFiles,

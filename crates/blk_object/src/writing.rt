@@ -21,11 +21,9 @@ use blk_addr::Addr;
 use blk_disk::{BlockFiles, file_of};
 use blk_entry::{read_head, record_damage};
 use blk_io::{Damage, Fault, Folder};
+use blk_model::MOST_STREAM;
 use blk_record::{EntryView, WORD_VALUES};
 use blk_stream::write;
-
-// The most bytes of a stream: as many as a cache may keep.
-const MOST_BYTES: u32 = blk_model::MOST_BYTES as u32;
 
 /// Writes bytes over a stream of a dirty object, live or doomed, or of a part of one, from an offset on, with zeros
 /// before them where it ends there; it ends with them where it is cut, and else keeps what comes after them.
@@ -119,7 +117,7 @@ fn unplaced(entry: Addr, stream: u8, size: u32, word: u32) -> Fault
     requires kind { kind_of entry ≡ blocks_256 }
     ensures { ((most_stream_bytes < size) × IsDamageAt entry (size_place stream) size result) ⊎ ((size ≤ most_stream_bytes) × IsDamageAt entry (address_place stream) word result) }
 {
-    if size > MOST_BYTES {
+    if size > MOST_STREAM {
         return record_damage(entry, EntryView::DATA_SIZE + 4 * u32::from(stream), size);
     }
     record_damage(entry, EntryView::DATA_ADDR + 4 * u32::from(stream), word)

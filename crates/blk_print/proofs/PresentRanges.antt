@@ -97,7 +97,7 @@ module _ (files : BlockFiles) (range : PresentRange) (image : Image) (agrees : A
       pub one-bytes : one-has.bytes ≡ sparse_bytes p.object range.offset range.count
       one-bytes = sym (sparse-first p.object range.offset range.count inside)
 
-  -- where they go on in the next one
+  -- a range that crosses from one part into the next
   module _ (cut : ℕ) (border : first-place + cut ≡ 1048576) (more : cut < range.count) where
     abbrev behind : ℕ
     behind = range.count - cut

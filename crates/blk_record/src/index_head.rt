@@ -1,7 +1,7 @@
 // The header of the index.
 ghost use Rattle.std.specs.Prelude.{◌≡◌, ◌<◌, ◌≤◌, ◌↔◌, length, IsSome, IfSome};
 ghost use Rattle.spec_image.specs.Bytes.{content};
-ghost use Rattle.spec_format.specs.Headers.{crash_of, create_time_of, experiment_of, filled_of, header_length, heads_of, last_file_of, magic_of, num_bytes_of, num_entries_of, operation_list_of, operation_of, pad1_of, pad2_of, pad_of, sizes_of, stats_of, table_len_of, tails_of, this_id_of, transaction_of, version_of};
+ghost use Rattle.spec_format.specs.Headers.{crash_of, create_time_of, experiment_of, filled_of, header_length, heads_of, last_file_of, magic_of, num_bytes64_of, num_bytes_of, num_entries_of, operation_list_of, operation_of, pad1_of, pad2_of, pad_of, sizes_of, stats_of, table_len_of, tails_of, this_id_of, transaction_of, version_of};
 
 use crate::words::{long, word};
 use std::marker::Model;
@@ -33,16 +33,22 @@ impl<'a> IndexHead<'a> {
     /// The magic number of a finished index.
     pub const MAGIC: u32 = 0xC103_CAC3;
 
+    /// The version that folders had first, which is read too.
+    pub const FIRST_VERSION: u32 = 0x2_0000;
+
     /// The version of the format.
-    pub const VERSION: u32 = 0x2_0000;
+    pub const VERSION: u32 = 0x3_0000;
 
     /// The number of the table's words.
     pub const BUCKETS: u32 = 65536;
 
+    /// The place of the version.
+    pub const VERSION_PLACE: u64 = 4;
+
     /// The place of the number of entries.
     pub const NUM_ENTRIES: u64 = 8;
 
-    /// The place of the number of bytes.
+    /// The place of the number of bytes in the first version; a later one has 0 there.
     pub const NUM_BYTES: u64 = 12;
 
     /// The place of the last external number that was made.
@@ -59,6 +65,9 @@ impl<'a> IndexHead<'a> {
 
     /// The place of the moment of making, which takes two words.
     pub const CREATE_TIME: u64 = 40;
+
+    /// The place of the number of bytes, which takes two words.
+    pub const NUM_BYTES64: u64 = 48;
 
     /// The place of the length of the LRU list.
     pub const SIZES: u64 = 268;
@@ -108,7 +117,7 @@ impl<'a> IndexHead<'a> {
     pub fn version(&self) -> u32
         ensures { result ≡ version_of (content self.now) }
     {
-        word(self.window, 4)
+        word(self.window, Self::VERSION_PLACE as usize)
     }
 
     /// The number of listed items.
@@ -118,7 +127,7 @@ impl<'a> IndexHead<'a> {
         word(self.window, Self::NUM_ENTRIES as usize)
     }
 
-    /// The sum of the items' charges, modulo 2^32.
+    /// The sum of the items' charges modulo 2^32 in the first version, and 0 in the later one.
     pub fn num_bytes(&self) -> u32
         ensures { result ≡ num_bytes_of (content self.now) }
     {
@@ -174,12 +183,19 @@ impl<'a> IndexHead<'a> {
         long(self.window, Self::CREATE_TIME as usize)
     }
 
-    /// One of 52 words that are not used.
+    /// The sum of the items' charges; the first version has no such field.
+    pub fn num_bytes64(&self) -> u64
+        ensures { result ≡ num_bytes64_of (content self.now) }
+    {
+        long(self.window, Self::NUM_BYTES64 as usize)
+    }
+
+    /// One of 50 words that are not used.
     pub fn pad(&self, i: usize) -> u32
-        requires { i < 52 }
+        requires { i < 50 }
         ensures { result ≡ pad_of (content self.now) i }
     {
-        word(self.window, 48 + 4 * i)
+        word(self.window, 56 + 4 * i)
     }
 
     /// One of 2 words that are not used.

@@ -3,7 +3,7 @@ ghost use Rattle.std.specs.Prelude.{◌≡◌, ℕ, ◌+◌, ◌*◌};
 ghost use Rattle.spec_image.specs.Bytes.{half_at, long_at, word_at, words_at};
 ghost use Rattle.spec_format.specs.Address.{header_size};
 ghost use Rattle.spec_format.specs.BlockFiles.{most_blocks};
-ghost use Rattle.spec_format.specs.Headers.{allocations_of, block_fields_length, block_magic, create_time_of, empty_of, header_length, heads_of, index_length, index_magic, last_file_of, max_entries_of, next_file_of, num_bytes_of, num_entries_of, operation_of, place_of_bucket, sizes_of, table_len_of, table_length, tails_of, transaction_of, updating_of, version};
+ghost use Rattle.spec_format.specs.Headers.{allocations_of, block_fields_length, block_magic, block_version, create_time_of, empty_of, first_version, header_length, heads_of, index_length, index_magic, index_version, last_file_of, max_entries_of, next_file_of, num_bytes64_of, num_bytes_of, num_entries_of, operation_of, place_of_bucket, sizes_of, table_len_of, table_length, tails_of, transaction_of, updating_of, version_of};
 ghost use Rattle.spec_format.specs.Maps.{map_place};
 ghost use Rattle.spec_format.specs.Records.{entry_in, node_in};
 ghost use Rattle.spec_format.specs.SparseIndex.{sparse_head_length};
@@ -13,9 +13,10 @@ use crate::{BlockHead, EntryView, IndexHead, NodeView, SparseHead};
 /// The numbers and places of the index's header are those of the format.
 pub fn index_heads_have_the_places_of_the_format()
     ensures lengths { (IndexHead.LEN ≡ header_length) × (IndexHead.INDEX_LEN ≡ index_length) }
-    ensures numbers { (IndexHead.MAGIC ≡ index_magic) × (IndexHead.VERSION ≡ version) × (IndexHead.BUCKETS ≡ table_length) }
-    ensures words { (f : ℕ → ℕ) → (last_file_of f ≡ word_at f IndexHead.LAST_FILE) × (table_len_of f ≡ word_at f IndexHead.TABLE_LEN) × (create_time_of f ≡ long_at f IndexHead.CREATE_TIME) }
-    ensures counters { (f : ℕ → ℕ) → (num_entries_of f ≡ word_at f IndexHead.NUM_ENTRIES) × (num_bytes_of f ≡ word_at f IndexHead.NUM_BYTES) × (sizes_of f 0 ≡ word_at f IndexHead.SIZES) }
+    ensures numbers { (IndexHead.MAGIC ≡ index_magic) × (IndexHead.BUCKETS ≡ table_length) }
+    ensures versions { (IndexHead.FIRST_VERSION ≡ first_version) × (IndexHead.VERSION ≡ index_version) }
+    ensures words { (f : ℕ → ℕ) → (version_of f ≡ word_at f IndexHead.VERSION_PLACE) × (last_file_of f ≡ word_at f IndexHead.LAST_FILE) × (table_len_of f ≡ word_at f IndexHead.TABLE_LEN) × (create_time_of f ≡ long_at f IndexHead.CREATE_TIME) }
+    ensures counters { (f : ℕ → ℕ) → (num_entries_of f ≡ word_at f IndexHead.NUM_ENTRIES) × (num_bytes_of f ≡ word_at f IndexHead.NUM_BYTES) × (num_bytes64_of f ≡ long_at f IndexHead.NUM_BYTES64) × (sizes_of f 0 ≡ word_at f IndexHead.SIZES) }
     ensures list { (f : ℕ → ℕ) → (heads_of f 0 ≡ word_at f IndexHead.HEADS) × (tails_of f 0 ≡ word_at f IndexHead.TAILS) × (transaction_of f ≡ word_at f IndexHead.TRANSACTION) × (operation_of f ≡ word_at f IndexHead.OPERATION) }
     ensures table { (b : ℕ) → place_of_bucket b ≡ IndexHead.TABLE + 4 * b }
 {}
@@ -23,7 +24,7 @@ pub fn index_heads_have_the_places_of_the_format()
 /// The numbers and places of a block file's header are those of the format.
 pub fn block_heads_have_the_places_of_the_format()
     ensures lengths { (BlockHead.LEN ≡ block_fields_length) × (BlockHead.HEADER_LEN ≡ header_size) }
-    ensures numbers { (BlockHead.MAGIC ≡ block_magic) × (BlockHead.VERSION ≡ version) × (BlockHead.MOST_BLOCKS ≡ most_blocks) }
+    ensures numbers { (BlockHead.MAGIC ≡ block_magic) × (BlockHead.VERSION ≡ block_version) × (BlockHead.MOST_BLOCKS ≡ most_blocks) }
     ensures words { (f : ℕ → ℕ) → (next_file_of f ≡ half_at f BlockHead.NEXT_FILE) × (allocations_of f ≡ word_at f BlockHead.ALLOCATIONS) × (max_entries_of f ≡ word_at f BlockHead.MAX_ENTRIES) × (updating_of f ≡ word_at f BlockHead.UPDATING) }
     ensures empty { (f : ℕ → ℕ) (i : ℕ) → empty_of f i ≡ word_at f (BlockHead.EMPTY + 4 * i) }
     ensures map { BlockHead.MAP ≡ map_place }

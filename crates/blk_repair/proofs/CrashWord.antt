@@ -1,5 +1,5 @@
 -- The steps of the parts of a repair, none of which writes the crash word.
-use Rattle.std.proofs.Common.{◌≡◌, ℕ, zero, suc, ◌+◌, ◌≤◌, Bool, true, false, ◌&&◌, ◌==◌, List, [], ◌∷◌, ◌++◌, length, Option, refl, sym, ◌∙◌, ap, subst, arith}
+use Rattle.std.proofs.Common.{◌≡◌, ℕ, zero, suc, ◌+◌, ◌/◌, ◌%◌, ◌^◌, ◌≤◌, Bool, true, false, ◌&&◌, ◌==◌, List, [], ◌∷◌, ◌++◌, length, Option, refl, sym, ◌∙◌, ap, subst, arith}
 use Rattle.std.specs.Prelude.{All, nat_le, ◌<◌, if◌then◌else◌}
 use Rattle.std.specs.Option.{unwrap_or}
 use Rattle.std.proofs.lemmas.Bool.Decides.{nat_tests}
@@ -11,7 +11,7 @@ use Rattle.spec_image.specs.Told.{Along}
 use Rattle.spec_image.proofs.Images.{bytes_of-written, same_file-true}
 use Rattle.spec_image.proofs.Splices.{content-spliced_inside}
 use Rattle.spec_format.specs.Address.{file_selector, place}
-use Rattle.spec_format.specs.Headers.{header_length, place_of_bucket, table_length}
+use Rattle.spec_format.specs.Headers.{header_length, index_version, place_of_bucket, table_length}
 use Rattle.spec_format.specs.Records.{entry_next_place, node_next_place, node_prev_place, seal_of}
 use Rattle.spec_format.specs.Sealed.{is_sealed, new_seal, placed, record_at, seal_place, seal_steps, sealed_steps, update_steps, update_words}
 use Rattle.spec_folder.specs.Completion.{remove}
@@ -30,6 +30,7 @@ use Rattle.law_recovery.specs.EndRepair.{end_writes}
 use Rattle.law_recovery.specs.ListRepair.{completed_image, dropped_nodes, end_steps, ended_image, list_repair_steps, removal_steps}
 use Rattle.blk_repair.specs.Counters.{counted_words, index_word_steps, index_words_steps, is_in_crash_word, writes_crash_word}
 use Rattle.blk_repair.specs.Seals.{seals_steps}
+use Rattle.blk_repair.proofs.CounterRuns.{all-seven}
 use Rattle.blk_repair.proofs.MapRuns.{index-same}
 
 abbrev pub IsOther : TrailStep → Type 0
@@ -214,4 +215,4 @@ spare-words (w ∷ words) image others =
 pub counted-elsewhere : (items bytes id : ℕ) → All (λ (w : ℕ × ℕ). is_in_crash_word w.0 4 ≡ false) (counted_words items bytes id)
 counted-elsewhere items bytes id =
     let O : ℕ × ℕ → Type 0 = (λ (w : ℕ × ℕ). is_in_crash_word w.0 4 ≡ false) in
-    All-cons O (268, items) ((8, items) ∷ (12, bytes) ∷ (20, id) ∷ []) refl (All-cons O (8, items) ((12, bytes) ∷ (20, id) ∷ []) refl (All-cons O (12, bytes) ((20, id) ∷ []) refl (All-cons O (20, id) [] refl (All-nil O))))
+    all-seven O (268, items) (8, items) (48, bytes % 2 ^ 32) (52, bytes / 2 ^ 32) (4, index_version) (12, 0) (20, id) refl refl refl refl refl refl refl

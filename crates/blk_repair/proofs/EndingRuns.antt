@@ -105,7 +105,7 @@ seals-break a b words entry from there next part =
     (λ i here. subst (λ (x : Image). Along (HasMendedLinksOf entry) x (seals_steps words from)) (some_inj (sym there ∙ here)) (all-sealed entry from words next.holds next.are_kept).0)
 
 -- the words of the index
-module _ (b c : Told) (items bytes id : ℕ) (small_items : items < 2 ^ 32) (small_bytes : bytes < 2 ^ 32) (small_id : id < 2 ^ 32) (entry mid : Image) (there : b.files ≡ Some mid) (whole : HasWholeIndex mid) (next : IsNextCounted entry items bytes mid) where
+module _ (b c : Told) (items bytes id : ℕ) (small_items : items < 2 ^ 32) (small_bytes : bytes < 2 ^ 64) (small_id : id < 2 ^ 32) (entry mid : Image) (there : b.files ≡ Some mid) (whole : HasWholeIndex mid) (next : IsNextCounted entry items bytes mid) where
   -- the counters are right in the end
   abbrev pub AreRight : Image → Type 0
   AreRight last = IsIndexMended entry mid last × HasIndexWords items bytes id last
@@ -117,7 +117,7 @@ module _ (b c : Told) (items bytes id : ℕ) (small_items : items < 2 ^ 32) (sma
   spare-counters = spare-words (counted_words items bytes id) mid (counted-elsewhere items bytes id)
 
   held : ForSome b.files (λ image. Along (HasMendedLinksOf entry) image (index_steps items bytes id mid))
-  held i here = subst (λ (x : Image). Along (HasMendedLinksOf entry) x (index_steps items bytes id mid)) (some_inj (sym there ∙ here)) (index-along entry mid items bytes id next.holds)
+  held i here = subst (λ (x : Image). Along (HasMendedLinksOf entry) x (index_steps items bytes id mid)) (some_inj (sym there ∙ here)) (index-along items bytes id small_items small_bytes small_id entry mid next.holds)
 
   pub index-ends : Applies b c (index_steps items bytes id mid) → EndsWithCrashWord b c (HasMendedLinksOf entry) AreRight
   index-ends made = record {
@@ -127,7 +127,7 @@ module _ (b c : Told) (items bytes id : ℕ) (small_items : items < 2 ^ 32) (sma
     applies = made;
     along = held;
     leaves = told_whole AreRight made
-        (λ i here. subst (λ (x : Image). AreRight (after (index_steps items bytes id mid) x)) (some_inj (sym there ∙ here)) (index-mended entry mid items bytes id small_items small_bytes small_id whole next, counted items bytes id mid small_items small_bytes small_id whole));
+        (λ i here. subst (λ (x : Image). AreRight (after (index_steps items bytes id mid) x)) (some_inj (sym there ∙ here)) (index-mended items bytes id small_items small_bytes small_id entry mid whole next, counted items bytes id mid small_items small_bytes small_id whole));
   }
 
   pub index-may : AppliesPrefix b c (index_steps items bytes id mid) → EndsOrBreaksOff b c (HasMendedLinksOf entry) AreRight
@@ -142,7 +142,7 @@ below n x e = omega (arith, e)
 
 -- the seals, and then the words of the index, for what was told
 module _ (scan : Scan) (words : List ℕ) (w : words ≡ scan.bare.items) (a b c : Told) (entry from : Image) (there : a.files ≡ Some from) (next : IsNextFinished scan entry from) (first : RepairBreaksOff a b (HasMendedLinksOf entry)) (items bytes id : ℕ)
-    (items-are : items ≡ length scan.kept.items % 2 ^ 32) (bytes-are : bytes ≡ scan.bytes % 2 ^ 32) (small_id : id < 2 ^ 32) (whole : ForSome b.files HasWholeIndex) (sealed : ForSome b.files (AreSealedNow entry from words)) where
+    (items-are : items ≡ length scan.kept.items % 2 ^ 32) (bytes-are : bytes ≡ scan.bytes) (small_bytes : bytes < 2 ^ 64) (small_id : id < 2 ^ 32) (whole : ForSome b.files HasWholeIndex) (sealed : ForSome b.files (AreSealedNow entry from words)) where
   next-counted : ForSome b.files (IsNextCounted entry items bytes)
   next-counted mid here = counted-told scan entry mid items bytes items-are bytes-are next.links.scanned (passes_end first.passes mid here)
 
@@ -153,10 +153,10 @@ module _ (scan : Scan) (words : List ℕ) (w : words ≡ scan.bare.items) (a b c
   rest-ends made =
       let now = still-told from there first.passes in
       ends-then (breaks-weaker first (links-mid entry))
-      (ends-weaker (index-ends b c items bytes id (below items _ items-are) (below bytes _ bytes-are) small_id entry now.0 now.1 (whole now.0 now.1) (next-counted now.0 now.1) (made now.0 now.1)) (links-mid entry) (λ last. all-done now.0 last now.1))
+      (ends-weaker (index-ends b c items bytes id (below items _ items-are) small_bytes small_id entry now.0 now.1 (whole now.0 now.1) (next-counted now.0 now.1) (made now.0 now.1)) (links-mid entry) (λ last. all-done now.0 last now.1))
 
   pub rest-may : ForSome b.files (λ mid. AppliesPrefix b c (index_steps items bytes id mid)) → EndsOrBreaksOff a c (IsMidRepair entry) (IsRepairedFor id entry)
   rest-may part =
       let now = still-told from there first.passes in
       either-then (breaks-weaker first (links-mid entry))
-      (either-weaker (index-may b c items bytes id (below items _ items-are) (below bytes _ bytes-are) small_id entry now.0 now.1 (whole now.0 now.1) (next-counted now.0 now.1) (part now.0 now.1)) (links-mid entry) (λ last. all-done now.0 last now.1))
+      (either-weaker (index-may b c items bytes id (below items _ items-are) small_bytes small_id entry now.0 now.1 (whole now.0 now.1) (next-counted now.0 now.1) (part now.0 now.1)) (links-mid entry) (λ last. all-done now.0 last now.1))

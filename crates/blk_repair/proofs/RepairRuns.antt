@@ -242,13 +242,13 @@ small-rest : (n : ℕ) → n ≤ 131072 → n % 2 ^ 32 ≡ n
 small-rest n few = omega (arith, few)
 
 -- so many items with so many bytes were told
-pub counted-told : (scan : Scan) (entry image : Image) (items bytes : ℕ) → items ≡ length scan.kept.items % 2 ^ 32 → bytes ≡ scan.bytes % 2 ^ 32 → IsScanOf entry scan → HasMendedLinksOf entry image → IsNextCounted entry items bytes image
+pub counted-told : (scan : Scan) (entry image : Image) (items bytes : ℕ) → items ≡ length scan.kept.items % 2 ^ 32 → bytes ≡ scan.bytes → IsScanOf entry scan → HasMendedLinksOf entry image → IsNextCounted entry items bytes image
 counted-told scan entry image items bytes i b told holds =
     let long : length scan.kept.items ≡ length (kept entry) = ap length told.kept_told ∙ length-map (kept entry) kept_as_told in
     record {
       holds = holds;
       items_are = i ∙ ap (λ (n : ℕ). n % 2 ^ 32) long ∙ small-rest (length (kept entry)) (kept-few entry image holds);
-      bytes_are = b ∙ ap (λ (n : ℕ). n % 2 ^ 32) told.bytes;
+      bytes_are = b ∙ told.bytes;
     }
 
 -- nothing is left
@@ -281,7 +281,7 @@ module _ (scan : Scan) (words : List ℕ) (w : words ≡ scan.bare.items) where
   seals-next entry from next = record { holds = next.links.holds; are_kept = subst (All (IsOfKept entry)) (sym w) next.links.scanned.bare.are_kept }
 
   module _ (a b : Told) (entry from : Image) (there : a.files ≡ Some from) (next : IsNextFinished scan entry from) (first : Passes a b (HasMendedLinksOf entry)) where
-    pub rest-done : (c : Told) (items bytes id : ℕ) → items ≡ length scan.kept.items % 2 ^ 32 → bytes ≡ scan.bytes % 2 ^ 32 → ForSome b.files (AreSealedNow entry from words)
+    pub rest-done : (c : Told) (items bytes id : ℕ) → items ≡ length scan.kept.items % 2 ^ 32 → bytes ≡ scan.bytes → ForSome b.files (AreSealedNow entry from words)
         → ForSome b.files (λ mid. (entry : Image) → IsNextCounted entry items bytes mid → ForSome c.files (IsIndexMended entry mid)) → ForSome c.files (HasIndexWords items bytes id) → ForSome c.files (IsRepairedFor id entry)
     rest-done c items bytes id i bs sealed index has last here =
         let now = still-told from there first in
@@ -336,7 +336,7 @@ pub files-right : (entry from : Image) (claims : Claims) (files : BlockFiles) �
 files-right entry from claims files next is mended = right-files claims files from (λ n. linked-among files from n is.agrees) is.agrees mended (claims-kept entry from claims next)
 
 -- no seals, and then the words of the index
-pub rest-clean : (scan : Scan) (entry from : Image) (a b c : Told) (words : List ℕ) (items bytes id : ℕ) → words ≡ scan.bare.items → items ≡ length scan.kept.items % 2 ^ 32 → bytes ≡ scan.bytes % 2 ^ 32 → a.files ≡ Some from → IsNextFinished scan entry from
+pub rest-clean : (scan : Scan) (entry from : Image) (a b c : Told) (words : List ℕ) (items bytes id : ℕ) → words ≡ scan.bare.items → items ≡ length scan.kept.items % 2 ^ 32 → bytes ≡ scan.bytes → a.files ≡ Some from → IsNextFinished scan entry from
     → scan.bare.items ≡ [] → Applies a b (seals_steps words from) → ForSome b.files (λ mid. Applies b c (index_steps items bytes id mid)) → Applies a c (counting_steps entry id from)
 rest-clean scan entry from a b c words items bytes id w i bs there next bare first second =
     let same : b ≡ a = told_same a b (subst (λ (ws : List ℕ). Applies a b (seals_steps ws from)) (w ∙ bare) first) in

@@ -25,7 +25,7 @@ use Rattle.law_recovery.specs.MendedLinks.{HasMendedLinks}
 use Rattle.blk_scan.specs.declared.chains.KeptChains.{KeptChains}
 use Rattle.blk_scan.specs.declared.scan.Scan.{Scan}
 use Rattle.blk_scan.specs.Scans.{AreChainsTold, IsScanOf}
-use Rattle.blk_repair.specs.Counters.{IsShortIndexWord, index_steps}
+use Rattle.blk_repair.specs.Counters.{IsShortHeader, index_steps}
 use Rattle.blk_repair.specs.Damages.{IsChainsRepairDamage, IsListRepairDamage}
 use Rattle.blk_repair.specs.Deletions.{DeletesOthers}
 use Rattle.blk_repair.specs.Maps.{Rebuilds}
@@ -63,7 +63,7 @@ pub record NeedsOnlyWords (scan : Scan) (image : Image) : Type 0 where
 
 -- the words of the index are repaired for what is kept at the entry, and for a session with this number
 abbrev pub counting_steps : Image → ℕ → Image → List TrailStep
-counting_steps entry id image = index_steps (length (kept entry)) (sum_by charge_of (kept entry) % 2 ^ 32) id image
+counting_steps entry id image = index_steps (length (kept entry)) (sum_by charge_of (kept entry)) id image
 
 -- The steps, part after part: each part's are made on what the parts before it leave.
 
@@ -124,9 +124,9 @@ pub record IsNextFinished (scan : Scan) (entry image : Image) : Type 0 where
 abbrev pub IsLinksRepairDamage : BlockFiles → Told → Damage → Type 0
 IsLinksRepairDamage files told damage = IsListRepairDamage files told damage ⊎ IsChainsRepairDamage files told damage
 
--- what is kept was sealed, or a word of the index repaired
+-- what is kept was sealed, or the header of the index read
 abbrev pub IsRestRepairDamage : BlockFiles → Told → Damage → Type 0
-IsRestRepairDamage files told damage = IsWrongSealed files told damage ⊎ IsShortIndexWord told damage
+IsRestRepairDamage files told damage = IsWrongSealed files told damage ⊎ IsShortHeader told damage
 
 -- after the links: a read of a header of a block file was too short, or it was one of the rest
 abbrev pub IsBehindRepairDamage : BlockFiles → Told → Damage → Type 0

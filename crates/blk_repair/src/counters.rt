@@ -1,27 +1,31 @@
-// The words of the index's header that repair makes right: the counters, the number of the session, and the crash word.
-ghost use Rattle.std.specs.Prelude.{◌≡◌, ◌≤◌, ℕ, None, OnOk, All};
+// The words of the index's header that repair makes right: the counters, the version, the number of the session, and the crash word.
+ghost use Rattle.std.specs.Prelude.{◌≡◌, ◌+◌, ◌%◌, ◌^◌, ◌<◌, ◌≤◌, ℕ, All, None, OnErr, OnOk, length};
 ghost use Rattle.std.specs.Option.{ForSome};
-ghost use Rattle.spec_image.specs.Image.{Image};
-ghost use Rattle.spec_image.specs.Told.{Applies, MakesPartOf, Passes, Rises};
-ghost use Rattle.spec_format.specs.Headers.{HasWholeIndex};
-ghost use Rattle.blk_io.specs.declared.folder.FileId.TheVariants as FileId;
-ghost use Rattle.blk_io.specs.Faults.{IfDamaged, IfDevice, IsShort};
-ghost use Rattle.blk_repair.specs.Counters.{HasIndexWords, IsHiddenWord, IsIndexMended, IsNextCounted, IsShortIndexWord, index_steps, index_word_steps, index_words_steps};
+ghost use Rattle.spec_image.specs.Bytes.{content, range_at, word_at};
+ghost use Rattle.spec_image.specs.Image.{Image, byte, Index as index};
+ghost use Rattle.spec_image.specs.Told.{Applies, AppliesPrefix, MakesPartOf, Passes, Rises};
+ghost use Rattle.spec_format.specs.Headers.{HasWholeIndex, header_length};
+ghost use Rattle.spec_format.specs.Sealed.{AreDifferent};
+ghost use Rattle.blk_io.specs.Faults.{IfDamaged, IfDevice};
+ghost use Rattle.blk_repair.specs.Counters.{HasIndexWords, IsIndexMended, IsNextCounted, IsShortHeader, found_word_steps, index_steps, index_words_steps};
 ghost use Rattle.blk_repair.specs.Seals.{HasMendedLinksOf};
 
-use blk_index::{set_word, word};
-use blk_io::{Fault, Folder};
-use blk_record::IndexHead;
+use blk_index::set_word;
+use blk_io::{Failed, Fault, FileId, Folder, read_exact};
+use blk_record::{IndexHead, WORD_VALUES};
+use byteorder::{ByteOrder, LittleEndian};
 
 /// Makes the counters of the index and the number of the session these, and then the crash word 1: the number of the
-/// items, twice, the sum of their charges modulo 2^32, and the number.
+/// items, twice, the sum of their charges in its two words, and the number. The version becomes the one that is made
+/// now, and the word in which the first one has the sum becomes 0.
 ///
-/// Each is read, and written where it differs. The crash word alone is written in any case, and last, so that the end
-/// of an opening is known by it. This takes at most nine folder calls. Too few bytes are corruption.
+/// The header is read by one call, and each word written where it differs. The crash word alone is written in any case,
+/// and last, so that the end of an opening is known by it. This takes at most nine folder calls. Too few bytes are
+/// corruption.
 pub fn mend_index<F: Folder>(
     folder: &mut F,
     items: u32,
-    bytes: u32,
+    bytes: u64,
     this_id: u32,
 ) -> Result<(), Fault>
     requires complete { ForSome (F.told folder.old).files HasWholeIndex }
@@ -36,58 +40,74 @@ pub fn mend_index<F: Folder>(
 
     ensures complete { ForSome (F.told folder.new).files HasWholeIndex }
 
+    // The sum has room in its two words.
+    ensures fits { bytes < 2 ^ 64 }
+
     // An observable folder reports no corruption.
-    ensures damaged { IfDamaged result (IsShortIndexWord (F.told folder.new)) }
+    ensures damaged { IfDamaged result (IsShortHeader (F.told folder.new)) }
     ensures untold { IfDamaged result (λ _. (F.told folder.old).files ≡ None) }
 
     ensures later { F.faults folder.old ≤ F.faults folder.new }
     ensures device { IfDevice result (Rises (F.faults folder.old) (F.faults folder.new)) }
 {
+    let mut head = [0u8; IndexHead::LEN];
+    read_exact(folder, FileId::Index, 0, &mut head)?;
     let words = [
         (IndexHead::SIZES, items),
         (IndexHead::NUM_ENTRIES, items),
-        (IndexHead::NUM_BYTES, bytes),
+        (IndexHead::NUM_BYTES64, (bytes % WORD_VALUES) as u32),
+        (IndexHead::NUM_BYTES64 + 4, (bytes / WORD_VALUES) as u32),
+        (IndexHead::VERSION_PLACE, IndexHead::VERSION),
+        (IndexHead::NUM_BYTES, 0),
         (IndexHead::THIS_ID, this_id),
     ];
-    set_words(folder, &words)?;
+    set_words(folder, &head, &words)?;
     set_word(folder, IndexHead::CRASH, 1)?;
     Ok(())
 }
 
-// Words of the index's header become these, each unless it is.
-fn set_words<F: Folder>(folder: &mut F, words: &[(u64, u32)]) -> Result<(), Fault>
-    requires hidden { All (λ (w : ℕ × ℕ). IsHiddenWord w.0) words.now }
+// Words of the index's header, of which these bytes were read, become these, each unless it is. No two have one place.
+fn set_words<F: Folder>(folder: &mut F, head: &[u8], words: &[(u64, u32)]) -> Result<(), Failed>
+    requires size { length head.now ≡ header_length }
+    requires read { ForSome (F.told folder.old).files (λ image. head.now ≡ range_at (byte image index) 0 header_length) }
+    requires aligned { All (λ (w : ℕ × ℕ). w.0 % 4 ≡ 0) words.now }
+    requires inside { All (λ (w : ℕ × ℕ). w.0 < header_length) words.now }
+    requires different { AreDifferent words.now }
     requires complete { ForSome (F.told folder.old).files HasWholeIndex }
     ensures steps { OnOk result (ForSome (F.told folder.old).files (λ from. Applies (F.told folder.old) (F.told folder.new) (index_words_steps words.now from))) }
     ensures prefix { MakesPartOf (F.told folder.old) (F.told folder.new) (λ from. index_words_steps words.now from) }
     ensures complete { ForSome (F.told folder.new).files HasWholeIndex }
-    ensures damaged { IfDamaged result (IsShortIndexWord (F.told folder.new)) }
-    ensures untold { IfDamaged result (λ _. (F.told folder.old).files ≡ None) }
     ensures later { F.faults folder.old ≤ F.faults folder.new }
-    ensures device { IfDevice result (Rises (F.faults folder.old) (F.faults folder.new)) }
+    ensures failed { OnErr result (Rises (F.faults folder.old) (F.faults folder.new)) }
 {
     for word in words {
-        set_where_other(folder, word.0, word.1)?;
+        let found = word_in(head, word.0);
+        set_where_other(folder, word.0, found, word.1)?;
     }
     Ok(())
 }
 
-// A word of the index's header becomes this one, unless it is.
-fn set_where_other<F: Folder>(folder: &mut F, at: u64, value: u32) -> Result<(), Fault>
-    requires hidden { IsHiddenWord at }
-    requires complete { ForSome (F.told folder.old).files HasWholeIndex }
-    ensures steps { OnOk result (ForSome (F.told folder.old).files (λ from. Applies (F.told folder.old) (F.told folder.new) (index_word_steps at value from))) }
-    ensures prefix { MakesPartOf (F.told folder.old) (F.told folder.new) (λ from. index_word_steps at value from) }
-    ensures complete { ForSome (F.told folder.new).files HasWholeIndex }
-    ensures damaged { IfDamaged result (IsShort (F.told folder.new) FileId.Index at 4) }
-    ensures untold { IfDamaged result (λ _. (F.told folder.old).files ≡ None) }
-    ensures later { F.faults folder.old ≤ F.faults folder.new }
-    ensures device { IfDevice result (Rises (F.faults folder.old) (F.faults folder.new)) }
+// The word at a place of bytes that were read.
+fn word_in(bytes: &[u8], at: u64) -> u32
+    requires { at + 4 ≤ length bytes.now }
+    ensures { result ≡ word_at (content bytes.now) at }
 {
-    let now = word(folder, at)?;
-    if now == value {
+    LittleEndian::read_u32(&bytes[at as usize..])
+}
+
+// A word of the index's header that was found becomes this one, unless it is.
+fn set_where_other<F: Folder>(folder: &mut F, at: u64, found: u32, value: u32) -> Result<(), Failed>
+    requires aligned { at % 4 ≡ 0 }
+    requires inside { at < header_length }
+    requires complete { ForSome (F.told folder.old).files HasWholeIndex }
+    ensures steps { OnOk result (Applies (F.told folder.old) (F.told folder.new) (found_word_steps at found value)) }
+    ensures prefix { AppliesPrefix (F.told folder.old) (F.told folder.new) (found_word_steps at found value) }
+    ensures complete { ForSome (F.told folder.new).files HasWholeIndex }
+    ensures later { F.faults folder.old ≤ F.faults folder.new }
+    ensures failed { OnErr result (Rises (F.faults folder.old) (F.faults folder.new)) }
+{
+    if found == value {
         return Ok(());
     }
-    set_word(folder, at, value)?;
-    Ok(())
+    set_word(folder, at, value)
 }

@@ -43,7 +43,7 @@ pub(crate) fn set_front<F: Folder>(
     ensures steps { OnOk result (ForSome (F.told folder.old).files (λ from. IsBucketWord now number from → Applies (F.told folder.old) (F.told folder.new) (bucket_steps number word from))) }
     ensures prefix { ForSome (F.told folder.old).files (λ from. IsBucketWord now number from → AppliesPrefix (F.told folder.old) (F.told folder.new) (bucket_steps number word from)) }
 
-    // On every folder this word is written at most.
+    // On any folder, observable or not, at most this word is written.
     ensures only { AppliesPrefix (F.told folder.old) (F.told folder.new) (word_step index (place_of_bucket number) word) }
 
     ensures later { F.faults folder.old ≤ F.faults folder.new }

@@ -262,7 +262,7 @@ fn mend_rest<F: Folder>(
 {
     seal_records(folder, files, scan.bare())?;
     let items = low_word(scan.items());
-    let bytes = low_word(scan.bytes());
+    let bytes = scan.bytes();
     mend_index(folder, items, bytes, this_id)
 }
 

@@ -14,10 +14,11 @@ use Rattle.law_folder.proofs.states.StoodFor.{stood-found}
 use Rattle.blk_io.specs.declared.fault.Fault.{Fault}
 use Rattle.blk_io.specs.declared.fault.Fault.TheVariants as fault
 use Rattle.blk_io.specs.Streams.{Appends, Readings, later_of}
+use Rattle.spec_run.specs.Inputs.{by_lines}
 use Rattle.spec_run.specs.Lines.{lines, whole_lines}
 use Rattle.spec_run.specs.Opening.{FailsToOpen, HoldsStill, IsUsable, Opens, open_mark}
 use Rattle.spec_run.specs.Progress.{IsWholeRun, Stops}
-use Rattle.spec_run.specs.Run.{Run, Stamped, Turn, bound_names, clock_after, closings, commands, commands_of, cut_after, refuse, run_of, state_after, text_of, turns}
+use Rattle.spec_run.specs.Run.{Run, Stamped, Turn, bound_names, clock_after, closings, commands, commands_of, cut_after, readings_in, readings_of, refuse, run_of, state_after, text_of, turns}
 use Rattle.spec_run.specs.Script.{Script, session_script}
 use Rattle.spec_run.proofs.Composing.{ended, some_after}
 use Rattle.spec_run.proofs.Openings.{begun, failed}
@@ -106,18 +107,18 @@ appends_longer old new text more all same printed = record {
 -- Runs.
 
 -- the commands of a run are those of its iterations and then its closings
-commands_are : (opened : State) (clock : Readings) (all made : List Turn) (closed : List Stamped) → all ≡ made → closed ≡ closings (bound_names (state_after opened (commands_of made))) (clock_after clock (length (commands_of made)))
+commands_are : (opened : State) (clock : Readings) (all made : List Turn) (closed : List Stamped) → all ≡ made → closed ≡ closings (bound_names (state_after opened (commands_of made))) (clock_after clock (readings_of made))
     → commands (record { opened = opened; clock = clock; turns = all }) ≡ commands_of made ++ closed
 unfolding commands
 commands_are opened clock all made closed same are =
-    ap (λ (l : List Turn). commands_of l ++ closings (bound_names (state_after opened (commands_of l))) (clock_after clock (length (commands_of l)))) same
+    ap (λ (l : List Turn). commands_of l ++ closings (bound_names (state_after opened (commands_of l))) (clock_after clock (readings_of l))) same
     ∙ ap (λ (l : List Stamped). commands_of made ++ l) (sym are)
 
 -- and begin with those of the iterations that were made
 commands_begin : (opened : State) (clock : Readings) (all made later : List Turn) → all ≡ made ++ later → (more : List Stamped) × (commands (record { opened = opened; clock = clock; turns = all }) ≡ commands_of made ++ more)
 unfolding commands
 commands_begin opened clock all made later same =
-    let closed : List Stamped = closings (bound_names (state_after opened (commands_of all))) (clock_after clock (length (commands_of all))) in (
+    let closed : List Stamped = closings (bound_names (state_after opened (commands_of all))) (clock_after clock (readings_of all)) in (
       commands_of later ++ closed,
       ap (λ (l : List Turn). commands_of l ++ closed) same ∙ ap (λ (l : List Stamped). l ++ closed) (commands_of-append made later) ∙ append_assoc (commands_of made) (commands_of later) closed,
     )
@@ -126,7 +127,7 @@ commands_begin opened clock all made later same =
 turns_first : (texts more all : List (List ℕ)) (opened : State) (clock : Readings) → all ≡ texts ++ more → (later : List Turn) × (turns (session_script 1 all) opened clock ≡ turns (session_script 1 texts) opened clock ++ later)
 turns_first texts more all opened clock same =
     let made : List Turn = turns (session_script 1 texts) opened clock in (
-      turns (session_script (1 + length texts) more) (state_after opened (commands_of made)) (clock_after clock (length (commands_of made))),
+      turns (session_script (1 + length texts) more) (state_after opened (commands_of made)) (clock_after clock (readings_of made)),
       ap (λ (l : List (List ℕ)). turns (session_script 1 l) opened clock) same ∙ (more_turns 1 texts more opened clock).all,
     )
 
@@ -172,36 +173,39 @@ module _ (from : Image) (limits : Bounds) (readings : Readings) (old : Outside) 
     clock_told : clock_first ≡ Some (later_of readings)
     clock_told = first_read ∙ ap (option_map later_of) clock
 
-    clock_made : (made : List Turn) (clock_mid : Option Readings) → clock_mid ≡ option_map (λ r. clock_after r (length (commands_of made))) clock_first → clock_mid ≡ Some (clock_after (later_of readings) (length (commands_of made)))
-    clock_made made clock_mid read = read ∙ ap (option_map (λ r. clock_after r (length (commands_of made)))) clock_told
+    clock_made : (made : List Turn) (clock_mid : Option Readings) → clock_mid ≡ option_map (λ r. clock_after r (readings_of made)) clock_first → clock_mid ≡ Some (clock_after (later_of readings) (readings_of made))
+    clock_made made clock_mid read = read ∙ ap (option_map (λ r. clock_after r (readings_of made))) clock_told
 
     -- what holds at the end of a run of which these iterations were made
-    module _ (all made : List Turn) (same : all ≡ made) (clock_mid : Option Readings) (read : clock_mid ≡ option_map (λ r. clock_after r (length (commands_of made))) clock_first) (new : Outside)
+    module _ (all made : List Turn) (same : all ≡ made) (clock_mid : Option Readings) (read : clock_mid ≡ option_map (λ r. clock_after r (readings_of made)) clock_first) (new : Outside)
         (ends : EndsRun (Ok tt) (with_more begun_far (commands_of made)) new.folder clock_mid new.clock) where
       all_commands : commands (run_with all) ≡ commands_of made ++ ends.commands
-      all_commands = commands_are opened (later_of readings) all made ends.commands same (ends.are (clock_after (later_of readings) (length (commands_of made))) (clock_made made clock_mid read))
+      all_commands = commands_are opened (later_of readings) all made ends.commands same (ends.are (clock_after (later_of readings) (readings_of made)) (clock_made made clock_mid read))
 
       pub is_ended : IsEnded (run_with all) old new
       is_ended =
-          let count : length (commands_of made) + length ends.commands ≡ length (commands (run_with all)) = sym (length-append (commands_of made) ends.commands) ∙ ap (λ (l : List Stamped). length l) (sym all_commands) in
+          let are = ends.are (clock_after (later_of readings) (readings_of made)) (clock_made made clock_mid read) in
+          let count : readings_of made + length ends.commands ≡ readings_in (run_with all) =
+          ap (λ (l : List Stamped). readings_of made + length l) are
+          ∙ ap (λ (l : List Turn). readings_of l + length (closings (bound_names (state_after opened (commands_of l))) (clock_after (later_of readings) (readings_of l)))) (sym same) in
           record {
             holds = λ image is. ends.closes.holds image is ∙ ap (λ (l : List Stamped). rest (state_after opened l)) (sym all_commands);
             ends = ends.closes.ends;
             read =
                 ends.closes.read ∙ ap (option_map (λ r. clock_after r (length ends.commands))) (clock_made made clock_mid read)
-                ∙ ap (λ (r : Readings). Some r) (clock_after-more (later_of readings) (length (commands_of made)) (length ends.commands) ∙ ap (clock_after (later_of readings)) count)
-                ∙ ap (option_map (λ r. clock_after (later_of r) (length (commands (run_with all))))) (sym clock);
+                ∙ ap (λ (r : Readings). Some r) (clock_after-more (later_of readings) (readings_of made) (length ends.commands) ∙ ap (clock_after (later_of readings)) count)
+                ∙ ap (option_map (λ r. clock_after (later_of r) (readings_in (run_with all)))) (sym clock);
           }
 
       pub is_whole : IsWholeRun from opened (commands (run_with all)) old.folder new.folder
       is_whole = subst (λ (l : List Stamped). IsWholeRun from opened l old.folder new.folder) (sym all_commands) ends.closes.whole
 
     -- the folder failed after these iterations
-    stops_behind : (all made : List Turn) → all ≡ made → (clock_mid clock_new : Option Readings) → clock_mid ≡ option_map (λ r. clock_after r (length (commands_of made))) clock_first → (new : Told)
+    stops_behind : (all made : List Turn) → all ≡ made → (clock_mid clock_new : Option Readings) → clock_mid ≡ option_map (λ r. clock_after r (readings_of made)) clock_first → (new : Told)
         → EndsRun (Err fault.Device) (with_more begun_far (commands_of made)) new clock_mid clock_new → Stops from opened (commands (run_with all)) old.folder new
     stops_behind all made same clock_mid clock_new read new ends =
         subst (λ (l : List Stamped). Stops from opened l old.folder new)
-        (sym (commands_are opened (later_of readings) all made ends.commands same (ends.are (clock_after (later_of readings) (length (commands_of made))) (clock_made made clock_mid read))))
+        (sym (commands_are opened (later_of readings) all made ends.commands same (ends.are (clock_after (later_of readings) (readings_of made)) (clock_made made clock_mid read))))
         ends.closes
 
     -- The exits of a session.
@@ -234,30 +238,30 @@ module _ (from : Image) (limits : Bounds) (readings : Readings) (old : Outside) 
             stopped = is_whole (turns (session_script 1 (lines input)) opened (later_of readings)) whole_made whole_turns mid.clock plays.part.plays.read new ends;
           }
 
-          pub exit_ok : mid.refused ≡ false → Runs status.Ok limits budget from readings input source sink old new
+          pub exit_ok : mid.refused ≡ false → Runs by_lines status.Ok limits budget from readings input source sink old new
           exit_ok none = record {
             ending = all_made;
-            run = session_run from limits readings (lines input);
+            run = session_run from limits readings (session_script 1 (lines input));
             is = refl;
-            may_end = ((plays.of input refl).0, sym whole_refused ∙ none);
+            may_end = ((plays.of input refl).0, (refl, sym whole_refused ∙ none));
             takes = takes;
             ends = ends_as_ok;
           }
 
-          pub exit_refused : mid.refused ≡ true → Runs status.Refused limits budget from readings input source sink old new
+          pub exit_refused : mid.refused ≡ true → Runs by_lines status.Refused limits budget from readings input source sink old new
           exit_refused some = record {
             ending = all_made;
-            run = session_run from limits readings (lines input);
+            run = session_run from limits readings (session_script 1 (lines input));
             is = refl;
-            may_end = ((plays.of input refl).0, sym whole_refused ∙ some);
+            may_end = ((plays.of input refl).0, (refl, sym whole_refused ∙ some));
             takes = takes;
             ends = record { printed = ends_as_ok.printed; ended = ends_as_ok.ended; stopped = ends_as_ok.stopped };
           }
 
-        pub exit_whole_device : EndsRun (Err fault.Device) (with_more begun_far (commands_of whole_made)) new.folder mid.clock new.clock → Runs status.Device limits budget from readings input source sink old new
+        pub exit_whole_device : EndsRun (Err fault.Device) (with_more begun_far (commands_of whole_made)) new.folder mid.clock new.clock → Runs by_lines status.Device limits budget from readings input source sink old new
         exit_whole_device ends = record {
           ending = all_made;
-          run = session_run from limits readings (lines input);
+          run = session_run from limits readings (session_script 1 (lines input));
           is = refl;
           may_end = tt;
           takes = takes;
@@ -280,20 +284,20 @@ module _ (from : Image) (limits : Bounds) (readings : Readings) (old : Outside) 
         taken_printed : new.written ≡ option_map (λ (w : List ℕ). w ++ text_of taken_turns) old.written
         taken_printed = unprinted_since ∙ plays.printed ∙ ap (λ (l : List Turn). option_map (λ (w : List ℕ). w ++ text_of l) old.written) (sym turns_taken)
 
-        taken_source : IsTaken budget input bytes new.left → EndsRun (Ok tt) (with_more begun_far (commands_of made)) new.folder mid.clock new.clock → Runs status.Source limits budget from readings input source sink old new
+        taken_source : IsTaken budget input bytes new.left → EndsRun (Ok tt) (with_more begun_far (commands_of made)) new.folder mid.clock new.clock → Runs by_lines status.Source limits budget from readings input source sink old new
         taken_source some ends = record {
           ending = taken bytes;
-          run = session_run from limits readings (whole_lines bytes);
+          run = session_run from limits readings (session_script 1 (whole_lines bytes));
           is = refl;
           may_end = some;
           takes = takes;
           ends = record { printed = taken_printed; ended = is_ended taken_turns made turns_taken mid.clock plays.read new ends; stopped = is_whole taken_turns made turns_taken mid.clock plays.read new ends };
         }
 
-        taken_long : IsPastBudget budget input bytes new.left → EndsRun (Ok tt) (with_more begun_far (commands_of made)) new.folder mid.clock new.clock → Runs status.TooLong limits budget from readings input source sink old new
+        taken_long : IsPastBudget budget input bytes new.left → EndsRun (Ok tt) (with_more begun_far (commands_of made)) new.folder mid.clock new.clock → Runs by_lines status.TooLong limits budget from readings input source sink old new
         taken_long some ends = record {
           ending = taken bytes;
-          run = session_run from limits readings (whole_lines bytes);
+          run = session_run from limits readings (session_script 1 (whole_lines bytes));
           is = refl;
           may_end = some;
           takes = takes;
@@ -301,10 +305,10 @@ module _ (from : Image) (limits : Bounds) (readings : Readings) (old : Outside) 
         }
 
         taken_device : (source × IsTaken budget input bytes new.left) ⊎ IsPastBudget budget input bytes new.left → EndsRun (Err fault.Device) (with_more begun_far (commands_of made)) new.folder mid.clock new.clock
-            → Runs status.Device limits budget from readings input source sink old new
+            → Runs by_lines status.Device limits budget from readings input source sink old new
         taken_device some ends = record {
           ending = taken bytes;
-          run = session_run from limits readings (whole_lines bytes);
+          run = session_run from limits readings (session_script 1 (whole_lines bytes));
           is = refl;
           may_end = some;
           takes = takes;
@@ -320,23 +324,23 @@ module _ (from : Image) (limits : Bounds) (readings : Readings) (old : Outside) 
       texts_are bytes texts made same are = subst (λ (l : List (List ℕ)). ForSome clock_first (λ r. made ≡ turns (session_script 1 l) (state_now begun_far) r)) same are
 
       pub exit_source : (plays : PlaysInput (Ok end.Failed) budget (Some input) new.left begun_far keeps notes spare start mid) → EndsRun (Ok tt) (with_more begun_far (commands_of plays.part.made)) new.folder mid.clock new.clock
-          → Runs status.Source limits budget from readings input source sink old new
+          → Runs by_lines status.Source limits budget from readings input source sink old new
       exit_source plays ends = taken_source plays.taken plays.part.made (texts_are plays.taken plays.texts plays.part.made (plays.of input refl).1 plays.part.are) plays.part.plays (plays.of input refl).0 ends
 
       pub exit_source_device : source → (plays : PlaysInput (Ok end.Failed) budget (Some input) new.left begun_far keeps notes spare start mid)
-          → EndsRun (Err fault.Device) (with_more begun_far (commands_of plays.part.made)) new.folder mid.clock new.clock → Runs status.Device limits budget from readings input source sink old new
+          → EndsRun (Err fault.Device) (with_more begun_far (commands_of plays.part.made)) new.folder mid.clock new.clock → Runs by_lines status.Device limits budget from readings input source sink old new
       exit_source_device rose plays ends = taken_device plays.taken plays.part.made (texts_are plays.taken plays.texts plays.part.made (plays.of input refl).1 plays.part.are) plays.part.plays (inl (rose, (plays.of input refl).0)) ends
 
       pub exit_long : (plays : PlaysInput (Ok end.TooLong) budget (Some input) new.left begun_far keeps notes spare start mid) → EndsRun (Ok tt) (with_more begun_far (commands_of plays.part.made)) new.folder mid.clock new.clock
-          → Runs status.TooLong limits budget from readings input source sink old new
+          → Runs by_lines status.TooLong limits budget from readings input source sink old new
       exit_long plays ends = taken_long plays.taken plays.part.made (texts_are plays.taken plays.texts plays.part.made (plays.of input refl).1 plays.part.are) plays.part.plays (plays.of input refl).0 ends
 
       pub exit_long_device : (plays : PlaysInput (Ok end.TooLong) budget (Some input) new.left begun_far keeps notes spare start mid)
-          → EndsRun (Err fault.Device) (with_more begun_far (commands_of plays.part.made)) new.folder mid.clock new.clock → Runs status.Device limits budget from readings input source sink old new
+          → EndsRun (Err fault.Device) (with_more begun_far (commands_of plays.part.made)) new.folder mid.clock new.clock → Runs by_lines status.Device limits budget from readings input source sink old new
       exit_long_device plays ends = taken_device plays.taken plays.part.made (texts_are plays.taken plays.texts plays.part.made (plays.of input refl).1 plays.part.are) plays.part.plays (inr (plays.of input refl).0) ends
 
       -- the folder failed in the lines
-      pub exit_device : PlaysInput (Err step_fault.Device) budget (Some input) new.left begun_far keeps notes spare start mid → mid.folder ≡ new.folder → Runs status.Device limits budget from readings input source sink old new
+      pub exit_device : PlaysInput (Err step_fault.Device) budget (Some input) new.left begun_far keeps notes spare start mid → mid.folder ≡ new.folder → Runs by_lines status.Device limits budget from readings input source sink old new
       unfolding state_after
       exit_device plays same =
           let made : List Turn = plays.part.made in
@@ -347,7 +351,7 @@ module _ (from : Image) (limits : Bounds) (readings : Readings) (old : Outside) 
           let more = commands_begin opened (later_of readings) all made later begin in
           record {
             ending = all_made;
-            run = session_run from limits readings (lines input);
+            run = session_run from limits readings (session_script 1 (lines input));
             is = refl;
             may_end = tt;
             takes = takes;
@@ -388,10 +392,10 @@ module _ (from : Image) (limits : Bounds) (readings : Readings) (old : Outside) 
         text_split : text_of (take (made_to.count + 1) all_turns) ≡ text_of (take made_to.count sink_made) ++ (made_to.front ++ made_to.rest)
         text_split = ap (λ (l : List Turn). text_of l) cut_same ∙ made_to.split
 
-        pub exit_sink : EndsRun (Ok tt) (with_more begun_far (commands_of (take (made_to.count + 1) sink_made))) new.folder mid.clock new.clock → Runs status.Sink limits budget from readings input source sink old new
+        pub exit_sink : EndsRun (Ok tt) (with_more begun_far (commands_of (take (made_to.count + 1) sink_made))) new.folder mid.clock new.clock → Runs by_lines status.Sink limits budget from readings input source sink old new
         exit_sink ends = record {
           ending = unprinted made_to.count;
-          run = cut_after (made_to.count + 1) (session_run from limits readings (lines input));
+          run = cut_after (made_to.count + 1) (session_run from limits readings (session_script 1 (lines input)));
           is = refl;
           may_end = within_cut;
           takes = takes;
@@ -407,10 +411,10 @@ module _ (from : Image) (limits : Bounds) (readings : Readings) (old : Outside) 
           };
         }
 
-        pub exit_sink_device : sink → EndsRun (Err fault.Device) (with_more begun_far (commands_of (take (made_to.count + 1) sink_made))) new.folder mid.clock new.clock → Runs status.Device limits budget from readings input source sink old new
+        pub exit_sink_device : sink → EndsRun (Err fault.Device) (with_more begun_far (commands_of (take (made_to.count + 1) sink_made))) new.folder mid.clock new.clock → Runs by_lines status.Device limits budget from readings input source sink old new
         exit_sink_device rose ends = record {
           ending = unprinted made_to.count;
-          run = cut_after (made_to.count + 1) (session_run from limits readings (lines input));
+          run = cut_after (made_to.count + 1) (session_run from limits readings (session_script 1 (lines input)));
           is = refl;
           may_end = (rose, within_cut);
           takes = takes;

@@ -6,9 +6,10 @@ use Rattle.spec_image.specs.Image.{Image}
 use Rattle.blk_model.specs.State.{Bounds}
 use Rattle.spec_folder.specs.Found.{found}
 use Rattle.blk_io.specs.Streams.{Readings}
+use Rattle.spec_run.specs.Inputs.{by_lines}
 use Rattle.spec_run.specs.Lines.{lines}
 use Rattle.spec_run.specs.Run.{Run, run_of, text_of}
-use Rattle.spec_run.specs.Script.{Script}
+use Rattle.spec_run.specs.Script.{Script, session_script}
 use Rattle.blk_run.specs.declared.ending.Status.{Status}
 use Rattle.blk_run.specs.declared.ending.Status.TheVariants as status
 use Rattle.blk_run.specs.Inputs.{IsPastBudget}
@@ -29,25 +30,25 @@ past budget input bytes left more within =
 
 module _ (limits : Bounds) (budget : ℕ) (from : Image) (readings : Readings) (input : List ℕ) (source sink device : Type 0) (old new : Outside) (within : length input ≤ budget)
     (no_device : device → ⊥) (no_source : source → ⊥) (no_sink : sink → ⊥) where
-  whole_ok : (ending : Ending) (run : Run) → run ≡ ended_run from limits readings input ending → MayEnd status.Ok ending budget input run new.left source sink → Printed status.Ok ending run old new → IsComplete status.Ok limits from readings input old new
-  whole_ok all_made run is may printed = printed_as run (session_run from limits readings (lines input)) old.written new.written is printed
+  whole_ok : (ending : Ending) (run : Run) → run ≡ ended_run by_lines from limits readings input ending → MayEnd by_lines status.Ok ending budget input run new.left source sink → Printed status.Ok ending run old new → IsComplete by_lines status.Ok limits from readings input old new
+  whole_ok all_made run is may printed = printed_as run (session_run from limits readings (session_script 1 (lines input))) old.written new.written is printed
   whole_ok (taken bytes) run is may printed = absurd may
   whole_ok (unprinted count) run is may printed = absurd may
 
-  whole_refused : (ending : Ending) (run : Run) → run ≡ ended_run from limits readings input ending → MayEnd status.Refused ending budget input run new.left source sink → Printed status.Refused ending run old new
-      → IsComplete status.Refused limits from readings input old new
-  whole_refused all_made run is may printed = printed_as run (session_run from limits readings (lines input)) old.written new.written is printed
+  whole_refused : (ending : Ending) (run : Run) → run ≡ ended_run by_lines from limits readings input ending → MayEnd by_lines status.Refused ending budget input run new.left source sink → Printed status.Refused ending run old new
+      → IsComplete by_lines status.Refused limits from readings input old new
+  whole_refused all_made run is may printed = printed_as run (session_run from limits readings (session_script 1 (lines input))) old.written new.written is printed
   whole_refused (taken bytes) run is may printed = absurd may
   whole_refused (unprinted count) run is may printed = absurd may
 
-  never_long : (ending : Ending) (run : Run) → MayEnd status.TooLong ending budget input run new.left source sink → ⊥
+  never_long : (ending : Ending) (run : Run) → MayEnd by_lines status.TooLong ending budget input run new.left source sink → ⊥
   never_long all_made run may = may
   never_long (taken bytes) run may = past budget input bytes new.left may within
   never_long (unprinted count) run may = may
 
   -- a session
-  pub complete : (result : Status) → (result ≡ status.Device → device) → (result ≡ status.Source → source) → (result ≡ status.Sink → sink) → Session result limits budget from readings input source sink old new
-      → IsComplete result limits from readings input old new
+  pub complete : (result : Status) → (result ≡ status.Device → device) → (result ≡ status.Source → source) → (result ≡ status.Sink → sink) → Session by_lines result limits budget from readings input source sink old new
+      → IsComplete by_lines result limits from readings input old new
   complete status.Ok on_device on_source on_sink session = whole_ok session.ending session.run session.is session.may_end session.ends.printed
   complete status.Refused on_device on_source on_sink session = whole_refused session.ending session.run session.is session.may_end session.ends.printed
   complete status.Words on_device on_source on_sink session = session

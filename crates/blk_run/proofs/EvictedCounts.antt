@@ -10,7 +10,7 @@ use Rattle.blk_model.specs.Effects.{effect, object_of, stream_of}
 use Rattle.blk_model.specs.Items.{Item, main, part}
 use Rattle.blk_model.specs.Refusals.{evicted, evicted_for, names_none, no_name, refusals, refused, room_for}
 use Rattle.blk_model.specs.Reply.{answer_of}
-use Rattle.blk_model.specs.Request.{Request, to_close, to_create, to_doom, to_doom_key, to_list, to_open, to_read, to_size, to_sparse_range, to_sparse_read, to_sparse_write, to_total, to_trim, to_write}
+use Rattle.blk_model.specs.Request.{Request, to_close, to_flush, to_create, to_doom, to_doom_key, to_list, to_open, to_read, to_size, to_sparse_range, to_sparse_read, to_sparse_write, to_total, to_trim, to_write}
 use Rattle.blk_model.specs.Room.{Group, after, full, count_of, evicted_until, fits, is_pinned, items, items_of_group, low, pinned, room, total_of, without}
 use Rattle.blk_model.specs.State.{IsValidState, State}
 use Rattle.blk_model.specs.Step.{Outcome, outcome, reply, step}
@@ -166,6 +166,7 @@ told_by state moment (to_sparse_read handle offset count) valid asked = absurd a
 told_by state moment (to_sparse_range handle offset count) valid asked = absurd asked
 told_by state moment (to_doom handle) valid asked = absurd asked
 told_by state moment (to_doom_key key) valid asked = absurd asked
+told_by state moment (to_flush handle) valid asked = absurd asked
 told_by state moment to_list valid asked = absurd asked
 told_by state moment (to_trim bytes) valid asked = absurd asked
 told_by state moment to_total valid asked = absurd asked
@@ -186,6 +187,7 @@ bytes_few (to_sparse_read handle offset count) asked moment state None = absurd 
 bytes_few (to_sparse_range handle offset count) asked moment state None = absurd asked
 bytes_few (to_doom handle) asked moment state None = absurd asked
 bytes_few (to_doom_key key) asked moment state None = absurd asked
+bytes_few (to_flush handle) asked moment state None = absurd asked
 bytes_few to_list asked moment state None = absurd asked
 bytes_few (to_trim bytes) asked moment state None = absurd asked
 bytes_few to_total asked moment state None = absurd asked

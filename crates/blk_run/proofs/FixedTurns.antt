@@ -11,7 +11,7 @@ use Rattle.blk_model.specs.declared.Command.{Command}
 use Rattle.blk_model.specs.Request.{Request, request_of}
 use Rattle.blk_model.specs.State.{State}
 use Rattle.spec_run.specs.Script.{Script, ended, until_refused, is_refused}
-use Rattle.spec_run.specs.Run.{Stamped, Turn, clock_after, commands_of, outcome_in, stamped_by, state_after, turns}
+use Rattle.spec_run.specs.Run.{clock_after, commands_of, outcome_in, readings_of, Stamped, stamped_by, state_after, Turn, turns}
 use Rattle.blk_cache.specs.declared.fault.StepFault.{StepFault}
 use Rattle.blk_cache.specs.declared.fault.StepFault.TheVariants as fault
 use Rattle.blk_run.specs.Fixed.{GoOn, PlaysUpTo}
@@ -20,7 +20,7 @@ use Rattle.blk_run.proofs.Asking.{around}
 use Rattle.blk_run.proofs.Parts.{made_then, made_then_to, made_then_stopped, made_to_only, stopped_only, stands_none}
 use Rattle.blk_run.proofs.RunLaws.{or_none}
 use Rattle.spec_run.proofs.CommandStates.{state_after-append}
-use Rattle.spec_run.proofs.Turns.{clock_after-more, commands_of-append}
+use Rattle.spec_run.proofs.Turns.{clock_after-more, commands_of-append, readings_of-append}
 use Rattle.blk_run.proofs.Printed.{printed_none}
 
 -- no iteration was made
@@ -70,7 +70,7 @@ follow_is f (Some x) r there = ap (follow f) there
 pub first_fault : (whole more : State → Readings → List Turn) (far : SoFar) (old new : Around) (keeps : State → Image → Type 0) (notes left : ℕ) (why : StepFault) (first : List Turn) → ForSome old.clock (GoOn whole more first far)
     → Plays {A = Unit {0}} (Err why) first far keeps notes left old new → PlaysPart {A = Unit {0}} (Err why) whole far keeps notes left old new
 first_fault whole more far old new keeps notes left why first goes plays =
-    let later : Readings → List Turn = λ r. more (state_now (with_more far (commands_of first))) (clock_after r (length (commands_of first))) in
+    let later : Readings → List Turn = λ r. more (state_now (with_more far (commands_of first))) (clock_after r (readings_of first)) in
     record {
       made = first ++ follow later old.clock;
       are = λ r there. sym (goes r there ∙ ap (λ (l : List Turn). first ++ l) (sym (follow_is later old.clock r there)));
@@ -82,18 +82,18 @@ module _ (whole rest : State → Readings → List Turn) (far : SoFar) (old mid 
   abbrev next : SoFar
   next = with_more far (commands_of before.made)
 
-  clock_mid : (r : Readings) → old.clock ≡ Some r → mid.clock ≡ Some (clock_after r (length (commands_of before.made)))
-  clock_mid r there = before.plays.read ∙ ap (option_map (λ r. clock_after r (length (commands_of before.made)))) there
+  clock_mid : (r : Readings) → old.clock ≡ Some r → mid.clock ≡ Some (clock_after r (readings_of before.made))
+  clock_mid r there = before.plays.read ∙ ap (option_map (λ r. clock_after r (readings_of before.made))) there
 
   joined : (second : List Turn) (more : State → Readings → List Turn) → ForSome mid.clock (GoOn rest more second next) → ForSome old.clock (GoOn whole more (before.made ++ second) far)
   joined second more goes r there =
-      let c = clock_after r (length (commands_of before.made)) in
+      let c = clock_after r (readings_of before.made) in
       let here : whole (state_now far) r ≡ before.made ++ rest (state_now next) c = before.are r there in
-      let on : rest (state_now next) c ≡ second ++ more (state_now (with_more next (commands_of second))) (clock_after c (length (commands_of second))) = goes c (clock_mid r there) in
+      let on : rest (state_now next) c ≡ second ++ more (state_now (with_more next (commands_of second))) (clock_after c (readings_of second)) = goes c (clock_mid r there) in
       let state : state_now (with_more next (commands_of second)) ≡ state_now (with_more far (commands_of (before.made ++ second))) = ap (state_after far.opened) (append_assoc far.done (commands_of before.made) (commands_of second) ∙ ap (λ (l : List Stamped). far.done ++ l) (sym (commands_of-append before.made second))) in
-      let clock : clock_after c (length (commands_of second)) ≡ clock_after r (length (commands_of (before.made ++ second))) = clock_after-more r (length (commands_of before.made)) (length (commands_of second)) ∙ ap (clock_after r) (sym (length-append (commands_of before.made) (commands_of second)) ∙ ap length (sym (commands_of-append before.made second))) in
-      here ∙ ap (λ (l : List Turn). before.made ++ l) on ∙ sym (append_assoc before.made second (more (state_now (with_more next (commands_of second))) (clock_after c (length (commands_of second)))))
-      ∙ ap (λ (l : List Turn). (before.made ++ second) ++ l) (ap (λ (s : State). more s (clock_after c (length (commands_of second)))) state ∙ ap (λ (r : Readings). more (state_now (with_more far (commands_of (before.made ++ second)))) r) clock)
+      let clock : clock_after c (readings_of second) ≡ clock_after r (readings_of (before.made ++ second)) = clock_after-more r (readings_of before.made) (readings_of second) ∙ ap (clock_after r) (sym (readings_of-append before.made second)) in
+      here ∙ ap (λ (l : List Turn). before.made ++ l) on ∙ sym (append_assoc before.made second (more (state_now (with_more next (commands_of second))) (clock_after c (readings_of second))))
+      ∙ ap (λ (l : List Turn). (before.made ++ second) ++ l) (ap (λ (s : State). more s (clock_after c (readings_of second))) state ∙ ap (λ (r : Readings). more (state_now (with_more far (commands_of (before.made ++ second)))) r) clock)
 
   -- some iterations more, and the script goes on
   pub up_to_more : (second : List Turn) (more : State → Readings → List Turn) → ForSome mid.clock (GoOn rest more second next) → AreMade second next keeps notes left mid new → PlaysUpTo whole more far keeps notes left old new
@@ -107,7 +107,7 @@ module _ (whole rest : State → Readings → List Turn) (far : SoFar) (old mid 
   pub up_to_end : (result : Result (Unit {0}) StepFault) (second : List Turn) → ForSome mid.clock (λ r. rest (state_now next) r ≡ second) → Plays result second next keeps notes left mid new → PlaysPart result whole far keeps notes left old new
   up_to_end result second are plays = record {
     made = before.made ++ second;
-    are = λ r there. sym (before.are r there ∙ ap (λ (l : List Turn). before.made ++ l) (are (clock_after r (length (commands_of before.made))) (clock_mid r there)));
+    are = λ r there. sym (before.are r there ∙ ap (λ (l : List Turn). before.made ++ l) (are (clock_after r (readings_of before.made)) (clock_mid r there)));
     plays = plays_then result far before.made second old mid new keeps_mid keeps notes_mid notes left_mid left before.plays plays;
   }
 
@@ -118,7 +118,7 @@ module _ (whole rest : State → Readings → List Turn) (far : SoFar) (old mid 
   -- some iterations of them, the last of which met a fault
   pub up_to_fault : (why : StepFault) (first : List Turn) (more : State → Readings → List Turn) → ForSome mid.clock (GoOn rest more first next) → Plays {A = Unit {0}} (Err why) first next keeps notes left mid new → PlaysPart {A = Unit {0}} (Err why) whole far keeps notes left old new
   up_to_fault why first more goes plays =
-      let later : Readings → List Turn = λ r. more (state_now (with_more next (commands_of first))) (clock_after r (length (commands_of first))) in
+      let later : Readings → List Turn = λ r. more (state_now (with_more next (commands_of first))) (clock_after r (readings_of first)) in
       up_to_end (Err why) (first ++ follow later mid.clock) (λ r there. goes r there ∙ ap (λ (l : List Turn). first ++ l) (sym (follow_is later mid.clock r there))) (plays_only why next first (follow later mid.clock) mid new keeps notes left plays)
 
 -- The iteration of a command of a fixed script.
@@ -153,7 +153,7 @@ module _ (whole : State → Readings → List Turn) (all requests : List Request
   here = with_more far (commands_of before.made)
 
   abbrev shaped : PlaysUpTo whole (turns (until_refused (request ∷ requests))) far keeps_mid notes_mid left_mid old (around told w_mid c_mid refused)
-  shaped = record { made = before.made; are = λ r there. before.are r there ∙ ap (λ (l : List Request). before.made ++ turns (until_refused l) (state_now here) (clock_after r (length (commands_of before.made)))) is; plays = before.plays }
+  shaped = record { made = before.made; are = λ r there. before.are r there ∙ ap (λ (l : List Request). before.made ++ turns (until_refused l) (state_now here) (clock_after r (readings_of before.made))) is; plays = before.plays }
 
   as_asked : (answer : Answer) (after : Bool) (asked : Asks (Ok answer) request here keeps notes left (around told w_mid c_mid false) (around now w_new c_new (refuses answer))) → after ≡ (refused || refuses answer)
       → AreMade (asked_turn here (record { moment = asked.moment; request = request }) ∷ []) here keeps notes left (around told w_mid c_mid refused) (around now w_new c_new after)

@@ -6,7 +6,7 @@ use Rattle.spec_image.specs.Image.{Image}
 use Rattle.spec_image.specs.Told.{Told}
 use Rattle.blk_io.specs.Streams.{Appends, Readings}
 use Rattle.blk_model.specs.State.{State}
-use Rattle.spec_run.specs.Run.{Turn as Turned, clock_after, commands_of, turns}
+use Rattle.spec_run.specs.Run.{clock_after, commands_of, readings_of, Turn as Turned, turns}
 use Rattle.spec_run.specs.Script.{Script, ended, says, totals_line}
 use Rattle.blk_gen.specs.declared.counting.Counts.{Counts}
 use Rattle.blk_gen.specs.declared.drawing.Turn.{Turn}
@@ -68,7 +68,7 @@ module _ (whole : Script) (count i value : ℕ) (counts : Counts) (far : SoFar) 
   left_as : (script : Script) → turns_script (count - i) i value counts ≡ script → PlaysUpTo (turns whole) (turns script) far keeps_mid notes_mid left_mid first second
   left_as script is = record {
     made = before.made;
-    are = λ r there. before.are r there ∙ ap (λ (s : Script). before.made ++ turns s (state_now (with_more far (commands_of before.made))) (clock_after r (length (commands_of before.made)))) is;
+    are = λ r there. before.are r there ∙ ap (λ (s : Script). before.made ++ turns s (state_now (with_more far (commands_of before.made))) (clock_after r (readings_of before.made))) is;
     plays = before.plays;
   }
 

@@ -9,14 +9,14 @@ use Rattle.spec_image.specs.Image.{Image}
 use Rattle.spec_image.specs.Told.{Told}
 use Rattle.blk_io.specs.Streams.{Appends, Readings}
 use Rattle.blk_model.specs.State.{State}
-use Rattle.spec_run.specs.Run.{Stamped, Turn, commands_of, text_of, refuse, state_after, clock_after}
+use Rattle.spec_run.specs.Run.{clock_after, commands_of, readings_of, refuse, Stamped, state_after, text_of, Turn}
 use Rattle.spec_run.specs.Progress.{Stops}
 use Rattle.blk_cache.specs.declared.fault.StepFault.{StepFault}
 use Rattle.blk_cache.specs.declared.fault.StepFault.TheVariants as fault
 use Rattle.blk_run.specs.Playing.{SoFar, StandsAt, Around, AreMade, AreMadeTo, AreStopped, Plays, PlaysPart, state_now, with_more}
 use Rattle.blk_run.proofs.Printed.{then_more, then_part, part_of, printed_none}
 use Rattle.spec_run.proofs.CommandStates.{state_after-append}
-use Rattle.spec_run.proofs.Turns.{commands_of-append, refuse-append, text_of-append}
+use Rattle.spec_run.proofs.Turns.{commands_of-append, readings_of-append, refuse-append, text_of-append}
 use Rattle.blk_run.proofs.RunLaws.{or_assoc, or_none, read_twice}
 
 -- a run holds so far, whatever list of the same commands is given
@@ -43,8 +43,8 @@ module _ (far : SoFar) (first second : List Turn) (old mid new : Around) (keeps_
   made_then more = record {
     stands = stands_joined far (commands_of first) (commands_of second) (commands_of (first ++ second)) keeps notes left new.folder (sym (commands_of-append first second)) more.stands;
     printed = then_more (text_of first) (text_of second) old.written mid.written new.written before.printed more.printed ∙ ap (λ (t : List ℕ). option_map (λ (w : List ℕ). w ++ t) old.written) (sym (text_of-append first second));
-    read = read_twice old.clock mid.clock new.clock (length (commands_of first)) (length (commands_of second)) before.read more.read
-        ∙ ap (λ (n : ℕ). option_map (λ r. clock_after r n) old.clock) (sym (length-append (commands_of first) (commands_of second)) ∙ ap length (sym (commands_of-append first second)));
+    read = read_twice old.clock mid.clock new.clock (readings_of first) (readings_of second) before.read more.read
+        ∙ ap (λ (n : ℕ). option_map (λ r. clock_after r n) old.clock) (sym (readings_of-append first second));
     refused = more.refused ∙ ap (λ (b : Bool). b || refuse second) before.refused ∙ or_assoc old.refused (refuse first) (refuse second) ∙ ap (λ (b : Bool). old.refused || b) (sym (refuse-append first second));
   }
 
@@ -66,8 +66,8 @@ module _ (far : SoFar) (first second : List Turn) (old mid new : Around) (keeps_
         printed = then_more (text_of first) (text_of (take more.count second) ++ more.front) old.written mid.written new.written before.printed more.printed
             ∙ ap (λ (t : List ℕ). option_map (λ (w : List ℕ). w ++ t) old.written)
             (sym (append_assoc (text_of first) (text_of (take more.count second)) more.front) ∙ ap (λ (t : List ℕ). t ++ more.front) (sym (text_of-append first (take more.count second)) ∙ ap text_of (sym short)));
-        read = read_twice old.clock mid.clock new.clock (length (commands_of first)) (length (commands_of (take (more.count + 1) second))) before.read more.read
-            ∙ ap (λ (n : ℕ). option_map (λ r. clock_after r n) old.clock) (sym (length-append (commands_of first) (commands_of (take (more.count + 1) second))) ∙ ap length cmds);
+        read = read_twice old.clock mid.clock new.clock (readings_of first) (readings_of (take (more.count + 1) second)) before.read more.read
+            ∙ ap (λ (n : ℕ). option_map (λ r. clock_after r n) old.clock) (sym (readings_of-append first (take (more.count + 1) second)) ∙ ap readings_of (sym whole));
       }
 
   -- up to one in which the folder failed
@@ -94,7 +94,7 @@ module _ (far : SoFar) (first second : List Turn) (old new : Around) (keeps : St
         rest = to.rest;
         split = ap text_of (sym whole) ∙ to.split ∙ ap (λ (l : List Turn). text_of l ++ (to.front ++ to.rest)) short;
         printed = to.printed ∙ ap (λ (l : List Turn). option_map (λ (w : List ℕ). w ++ (text_of l ++ to.front)) old.written) short;
-        read = to.read ∙ ap (λ (l : List Turn). option_map (λ r. clock_after r (length (commands_of l))) old.clock) whole;
+        read = to.read ∙ ap (λ (l : List Turn). option_map (λ r. clock_after r (readings_of l)) old.clock) whole;
       }
 
   pub stopped_only : AreStopped first far old new → AreStopped (first ++ second) far old new
@@ -108,18 +108,18 @@ module _ (far : SoFar) (first second : List Turn) (old new : Around) (keeps : St
 
 -- a part that is one part and then another
 abbrev pub IsThen : (State → Readings → List Turn) → (State → Readings → List Turn) → (State → Readings → List Turn) → Type 0
-IsThen whole one more = (state : State) (clock : Readings) → whole state clock ≡ one state clock ++ more (state_after state (commands_of (one state clock))) (clock_after clock (length (commands_of (one state clock))))
+IsThen whole one more = (state : State) (clock : Readings) → whole state clock ≡ one state clock ++ more (state_after state (commands_of (one state clock))) (clock_after clock (readings_of (one state clock)))
 
 -- the iterations of a part, which was played
 turns_are : (far : SoFar) (whole one more : State → Readings → List Turn) (first second : List Turn) (c0 c1 : Option Readings) → IsThen whole one more → ForSome c0 (λ r. first ≡ one (state_now far) r)
-    → c1 ≡ option_map (λ r. clock_after r (length (commands_of first))) c0 → ForSome c1 (λ r. second ≡ more (state_now (with_more far (commands_of first))) r) → ForSome c0 (λ r. first ++ second ≡ whole (state_now far) r)
+    → c1 ≡ option_map (λ r. clock_after r (readings_of first)) c0 → ForSome c1 (λ r. second ≡ more (state_now (with_more far (commands_of first))) r) → ForSome c0 (λ r. first ++ second ≡ whole (state_now far) r)
 turns_are far whole one more first second c0 c1 joined are read later r there =
     let here : first ≡ one (state_now far) r = are r there in
-    let next : c1 ≡ Some (clock_after r (length (commands_of first))) = read ∙ ap (option_map (λ r. clock_after r (length (commands_of first)))) there in
-    let then : second ≡ more (state_now (with_more far (commands_of first))) (clock_after r (length (commands_of first))) = later (clock_after r (length (commands_of first))) next in
+    let next : c1 ≡ Some (clock_after r (readings_of first)) = read ∙ ap (option_map (λ r. clock_after r (readings_of first))) there in
+    let then : second ≡ more (state_now (with_more far (commands_of first))) (clock_after r (readings_of first)) = later (clock_after r (readings_of first)) next in
     ap (λ (l : List Turn). l ++ second) here
     ∙ ap (λ (l : List Turn). one (state_now far) r ++ l)
-    (then ∙ ap (λ (s : State). more s (clock_after r (length (commands_of first)))) (state_after-append far.opened far.done (commands_of first)) ∙ ap (λ (l : List Turn). more (state_after (state_now far) (commands_of l)) (clock_after r (length (commands_of l)))) here)
+    (then ∙ ap (λ (s : State). more s (clock_after r (readings_of first))) (state_after-append far.opened far.done (commands_of first)) ∙ ap (λ (l : List Turn). more (state_after (state_now far) (commands_of l)) (clock_after r (readings_of l))) here)
     ∙ sym (joined (state_now far) r)
 
 plays_then : {B : Type 0} (result : Result B StepFault) (far : SoFar) (first second : List Turn) (old mid new : Around) (keeps_mid keeps : State → Image → Type 0) (notes_mid notes left_mid left : ℕ) → AreMade first far keeps_mid notes_mid left_mid old mid
@@ -160,14 +160,14 @@ rest_is f (Some x) r there = ap (rest_of f) there
 pub part_only : {A B : Type 0} (why : StepFault) (far : SoFar) (whole one more : State → Readings → List Turn) (old new : Around) (keeps : State → Image → Type 0) (notes left : ℕ) → IsThen whole one more
     → PlaysPart {A = A} (Err why) one far keeps notes left old new → PlaysPart {A = B} (Err why) whole far keeps notes left old new
 part_only {A} {B} why far whole one more old new keeps notes left joined before =
-    let follow : Readings → List Turn = λ r. more (state_after (state_now far) (commands_of before.made)) (clock_after r (length (commands_of before.made))) in
+    let follow : Readings → List Turn = λ r. more (state_after (state_now far) (commands_of before.made)) (clock_after r (readings_of before.made)) in
     let second = rest_of follow old.clock in
     record {
       made = before.made ++ second;
       are = λ r there.
           let here : before.made ≡ one (state_now far) r = before.are r there in
           ap (λ (l : List Turn). before.made ++ l) (rest_is follow old.clock r there)
-          ∙ ap (λ (l : List Turn). l ++ more (state_after (state_now far) (commands_of l)) (clock_after r (length (commands_of l)))) here
+          ∙ ap (λ (l : List Turn). l ++ more (state_after (state_now far) (commands_of l)) (clock_after r (readings_of l))) here
           ∙ sym (joined (state_now far) r);
       plays = by_fault why before.made second before.plays;
     }

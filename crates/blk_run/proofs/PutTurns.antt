@@ -14,7 +14,7 @@ use Rattle.blk_model.specs.Request.{Request, to_close, to_create, to_open, to_wr
 use Rattle.blk_model.specs.State.{State}
 use Rattle.blk_model.specs.Step.{Outcome, outcome, reply, step}
 use Rattle.blk_script.specs.Reply.{reply_text}
-use Rattle.spec_run.specs.Script.{Script, ended, is_missing, is_missing_refusal, is_refused, outcome_text, put_after, put_script, refusal_of, until_refused}
+use Rattle.spec_run.specs.Script.{ended, is_missing, is_missing_refusal, is_refused, outcome_text, put_after, put_script, refusal_of, Script, shown_where, until_refused}
 use Rattle.spec_run.specs.Run.{Stamped, Turn, clock_after, command_turn, commands_of, outcome_in, refuse, state_after, text_of, turns}
 use Rattle.blk_cache.specs.declared.fault.StepFault.{StepFault}
 use Rattle.blk_cache.specs.declared.fault.StepFault.TheVariants as fault
@@ -43,7 +43,7 @@ abbrev pub opened_by : List ℕ → ℕ → Stamped
 opened_by key moment = record { moment = moment; request = to_open 0 key }
 
 abbrev pub open_turn : SoFar → List ℕ → ℕ → Bool → Turn
-open_turn far key moment shown = command_turn (opened_by key moment) shown (outcome_in (state_now far) (opened_by key moment))
+open_turn far key moment shown = command_turn (opened_by key moment) (shown_where shown (outcome_in (state_now far) (opened_by key moment)))
 
 -- what follows it
 abbrev pub requests_of : ℕ → List ℕ → List Request

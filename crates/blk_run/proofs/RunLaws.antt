@@ -4,7 +4,7 @@ use Rattle.std.specs.Option.{option_map}
 use Rattle.blk_model.specs.State.{State}
 use Rattle.blk_io.specs.Streams.{Readings}
 use Rattle.spec_run.specs.Script.{session_script}
-use Rattle.spec_run.specs.Run.{commands_of, state_after, clock_after, turns}
+use Rattle.spec_run.specs.Run.{clock_after, commands_of, readings_of, state_after, turns}
 use Rattle.spec_run.proofs.Turns.{clock_after-more, more_turns}
 
 pub or_assoc : (a b c : Bool) → ((a || b) || c) ≡ (a || (b || c))
@@ -24,5 +24,5 @@ read_twice (Some r) c1 c2 m n first second = second ∙ ap (option_map (λ r. cl
 pub more_lines : (number : ℕ) (xs ys : List (List ℕ)) (state : State) (clock : Readings)
     → turns (session_script number (xs ++ ys)) state clock
     ≡ turns (session_script number xs) state clock
-    ++ turns (session_script (number + length xs) ys) (state_after state (commands_of (turns (session_script number xs) state clock))) (clock_after clock (length (commands_of (turns (session_script number xs) state clock))))
+    ++ turns (session_script (number + length xs) ys) (state_after state (commands_of (turns (session_script number xs) state clock))) (clock_after clock (readings_of (turns (session_script number xs) state clock)))
 more_lines number xs ys state clock = (more_turns number xs ys state clock).all

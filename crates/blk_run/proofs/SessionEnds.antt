@@ -12,6 +12,7 @@ use Rattle.blk_model.specs.Holding.{open_state}
 use Rattle.blk_model.specs.Sizes.{handle_names}
 use Rattle.blk_model.specs.State.{Bounds, State}
 use Rattle.spec_folder.specs.Found.{found}
+use Rattle.spec_run.specs.Inputs.{by_lines}
 use Rattle.spec_run.specs.Opening.{IsUsable}
 use Rattle.blk_cache.specs.declared.fault.StepFault.{StepFault}
 use Rattle.blk_cache.specs.declared.fault.StepFault.TheVariants as step_fault
@@ -63,10 +64,10 @@ module _ (from : Image) (limits : Bounds) (readings : Readings) (old : Outside) 
   EndsBy r = (next : SoFar) → StandsAt next keeps notes (2 * handle_names) mid.folder → EndsRun r next new.folder mid.clock new.clock
 
   -- all was closed
-  pub closed_runs : (r : Result InputEnd StepFault) → may_close r ≡ true → InputPlays r → EndsBy (Ok tt) → Runs (status_after r mid.refused) limits budget from readings input source sink old new
+  pub closed_runs : (r : Result InputEnd StepFault) → may_close r ≡ true → InputPlays r → EndsBy (Ok tt) → Runs by_lines (status_after r mid.refused) limits budget from readings input source sink old new
   closed_runs (Ok end.Whole) may plays ends = by_refused mid.refused refl
     where
-      by_refused : (b : Bool) → mid.refused ≡ b → Runs (if b then status.Refused else status.Ok) limits budget from readings input source sink old new
+      by_refused : (b : Bool) → mid.refused ≡ b → Runs by_lines (if b then status.Refused else status.Ok) limits budget from readings input source sink old new
       by_refused true is = exit_refused from limits readings old there clock clock_first first_read budget input source sink keeps notes (2 * handle_names) told new takes mid same_text plays (ends _ plays.part.plays.stands) is
       by_refused false is = exit_ok from limits readings old there clock clock_first first_read budget input source sink keeps notes (2 * handle_names) told new takes mid same_text plays (ends _ plays.part.plays.stands) is
   closed_runs (Ok end.Failed) may plays ends = exit_source from limits readings old there clock clock_first first_read budget input source sink keeps notes (2 * handle_names) told new takes mid same_text plays (ends _ plays.part.plays.stands)
@@ -76,7 +77,7 @@ module _ (from : Image) (limits : Bounds) (readings : Readings) (old : Outside) 
   closed_runs (Err (step_fault.Damaged damage)) may plays ends = absurd (no_true may)
 
   -- the folder failed in what is closed
-  pub unclosed_runs : (r : Result InputEnd StepFault) → may_close r ≡ true → IfFailed r source → IfSink r sink → InputPlays r → EndsBy (Err fault.Device) → Runs status.Device limits budget from readings input source sink old new
+  pub unclosed_runs : (r : Result InputEnd StepFault) → may_close r ≡ true → IfFailed r source → IfSink r sink → InputPlays r → EndsBy (Err fault.Device) → Runs by_lines status.Device limits budget from readings input source sink old new
   unclosed_runs (Ok end.Whole) may rose fell plays ends = exit_whole_device from limits readings old there clock clock_first first_read budget input source sink keeps notes (2 * handle_names) told new takes mid same_text plays (ends _ plays.part.plays.stands)
   unclosed_runs (Ok end.Failed) may rose fell plays ends = exit_source_device from limits readings old there clock clock_first first_read budget input source sink keeps notes (2 * handle_names) told new takes mid same_text rose plays (ends _ plays.part.plays.stands)
   unclosed_runs (Ok end.TooLong) may rose fell plays ends = exit_long_device from limits readings old there clock clock_first first_read budget input source sink keeps notes (2 * handle_names) told new takes mid same_text plays (ends _ plays.part.plays.stands)
@@ -85,14 +86,14 @@ module _ (from : Image) (limits : Bounds) (readings : Readings) (old : Outside) 
   unclosed_runs (Err (step_fault.Damaged damage)) may rose fell plays ends = absurd (no_true may)
 
   -- nothing is closed
-  pub stopped_runs : (r : Result InputEnd StepFault) → may_close r ≡ false → InputPlays r → mid.folder ≡ new.folder → Runs (status_after r mid.refused) limits budget from readings input source sink old new
+  pub stopped_runs : (r : Result InputEnd StepFault) → may_close r ≡ false → InputPlays r → mid.folder ≡ new.folder → Runs by_lines (status_after r mid.refused) limits budget from readings input source sink old new
   stopped_runs (Ok ended) may plays same = absurd (no_false may)
   stopped_runs (Err step_fault.Sink) may plays same = absurd (no_false may)
   stopped_runs (Err step_fault.Device) may plays same = exit_device from limits readings old there clock clock_first first_read budget input source sink keeps notes (2 * handle_names) told new takes mid same_text plays same
   stopped_runs (Err (step_fault.Damaged damage)) may plays same = absurd plays.part.plays
 
 -- a run as a session
-pub session_of_runs : (r : Status) (limits : Bounds) (budget : ℕ) (from : Image) (readings : Readings) (input : List ℕ) (source sink : Type 0) (old new : Outside) → Runs r limits budget from readings input source sink old new → Session r limits budget from readings input source sink old new
+pub session_of_runs : (r : Status) (limits : Bounds) (budget : ℕ) (from : Image) (readings : Readings) (input : List ℕ) (source sink : Type 0) (old new : Outside) → Runs by_lines r limits budget from readings input source sink old new → Session by_lines r limits budget from readings input source sink old new
 session_of_runs status.Ok limits budget from readings input source sink old new runs = runs
 session_of_runs status.Refused limits budget from readings input source sink old new runs = runs
 session_of_runs status.Source limits budget from readings input source sink old new runs = runs
@@ -101,19 +102,19 @@ session_of_runs status.TooLong limits budget from readings input source sink old
 session_of_runs status.Device limits budget from readings input source sink old new runs = inl runs
 session_of_runs status.Words limits budget from readings input source sink old new runs = none runs.ending runs.may_end
   where
-    none : (ending : Ending) → MayEnd status.Words ending budget input runs.run new.left source sink → ⊥
+    none : (ending : Ending) → MayEnd by_lines status.Words ending budget input runs.run new.left source sink → ⊥
     none all_made end = end
     none (taken bytes) end = end
     none (unprinted count) end = end
 session_of_runs status.Damaged limits budget from readings input source sink old new runs = none runs.ending runs.may_end
   where
-    none : (ending : Ending) → MayEnd status.Damaged ending budget input runs.run new.left source sink → ⊥
+    none : (ending : Ending) → MayEnd by_lines status.Damaged ending budget input runs.run new.left source sink → ⊥
     none all_made end = end
     none (taken bytes) end = end
     none (unprinted count) end = end
 session_of_runs status.Memory limits budget from readings input source sink old new runs = absurd (none runs.ending runs.may_end)
   where
-    none : (ending : Ending) → MayEnd status.Memory ending budget input runs.run new.left source sink → ⊥
+    none : (ending : Ending) → MayEnd by_lines status.Memory ending budget input runs.run new.left source sink → ⊥
     none all_made end = end
     none (taken bytes) end = end
     none (unprinted count) end = end
@@ -203,8 +204,8 @@ end_undamaged f damage far new clock_old clock_new is ends = let e : EndsRun (Er
 pub end_failed : (f : Fault) (far : SoFar) (new : Told) (clock_old clock_new : Option Readings) → f ≡ fault.Device → EndsRun (Err f) far new clock_old clock_new → EndsRun (Err fault.Device) far new clock_old clock_new
 end_failed f far new clock_old clock_new is ends = subst (λ (x : Fault). EndsRun (Err x) far new clock_old clock_new) is ends
 
-pub runs_as : (s t : Status) (limits : Bounds) (budget : ℕ) (from : Image) (readings : Readings) (input : List ℕ) (source sink : Type 0) (old new : Outside) → s ≡ t → Runs t limits budget from readings input source sink old new → Runs s limits budget from readings input source sink old new
-runs_as s t limits budget from readings input source sink old new is runs = subst (λ (x : Status). Runs x limits budget from readings input source sink old new) (sym is) runs
+pub runs_as : (s t : Status) (limits : Bounds) (budget : ℕ) (from : Image) (readings : Readings) (input : List ℕ) (source sink : Type 0) (old new : Outside) → s ≡ t → Runs by_lines t limits budget from readings input source sink old new → Runs by_lines s limits budget from readings input source sink old new
+runs_as s t limits budget from readings input source sink old new is runs = subst (λ (x : Status). Runs by_lines x limits budget from readings input source sink old new) (sym is) runs
 
 -- what was opened may be written
 pub opened_at : (files : Option Image) (middle : Told) (is_open : Image → Type 0) → (files ≡ None → middle.files ≡ None) → ((from : Image) → files ≡ Some from → ForSome middle.files is_open) → ForSome middle.files is_open

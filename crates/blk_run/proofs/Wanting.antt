@@ -10,7 +10,7 @@ use Rattle.blk_run.specs.declared.ending.Status.TheVariants as status
 use Rattle.blk_run.specs.Counting.{Counts, IsDoneOrSink}
 use Rattle.blk_run.specs.Inputs.{IsTakenUpTo}
 use Rattle.blk_run.specs.Session.{DoesNothing, LeavesUnput, Outside}
-use Rattle.blk_run.specs.Work.{Performs, Work, folder_text, input_lines, no_input, whole_input}
+use Rattle.blk_run.specs.Work.{Performs, Work, folder_text, input_by, no_input, whole_input}
 use Rattle.blk_run.proofs.Counted.{told_totals}
 
 -- nothing was taken
@@ -22,7 +22,7 @@ unput old new nothing = record { unwritten = nothing.unwritten; unprinted = noth
 
 -- no work is done when out of memory
 pub performs_nothing : (work : Work) (limits : Bounds) (device source : Type 0) (before now : ℕ) (old new : Outside) → DoesNothing old new → Performs work status.Memory limits device source before now old new
-performs_nothing input_lines limits device source before now old new nothing = record {
+performs_nothing (input_by protocol) limits device source before now old new nothing = record {
   plays = λ from there usable readings clock input left. nothing;
   complete = λ from there usable readings clock no_device no_source no_sink input left within. nothing;
   damage = λ from there damage is. nothing;

@@ -1,17 +1,17 @@
 -- A script that is played command by command.
-use Rattle.std.specs.Prelude.{ℕ, ◌≡◌, List, ◌++◌, length}
+use Rattle.std.specs.Prelude.{ℕ, ◌≡◌, List, ◌++◌}
 use Rattle.std.specs.Option.{ForSome}
 use Rattle.spec_image.specs.Image.{Image}
 use Rattle.blk_io.specs.Streams.{Readings}
 use Rattle.blk_model.specs.declared.Answer.{Answer}
 use Rattle.blk_model.specs.declared.Answer.TheVariants as answer
 use Rattle.blk_model.specs.State.{State}
-use Rattle.spec_run.specs.Run.{Turn, clock_after, commands_of}
+use Rattle.spec_run.specs.Run.{Turn, clock_after, commands_of, readings_of}
 use Rattle.blk_run.specs.Playing.{Around, AreMade, SoFar, state_now, with_more}
 
 -- the iterations of a script are these, and then those of what is left of it
 abbrev pub GoOn : (whole rest : State → Readings → List Turn) → List Turn → SoFar → Readings → Type 0
-GoOn whole rest made far clock = whole (state_now far) clock ≡ made ++ rest (state_now (with_more far (commands_of made))) (clock_after clock (length (commands_of made)))
+GoOn whole rest made far clock = whole (state_now far) clock ≡ made ++ rest (state_now (with_more far (commands_of made))) (clock_after clock (readings_of made))
 
 -- a script was played up to what is left of it
 pub record PlaysUpTo (whole rest : State → Readings → List Turn) (far : SoFar) (keeps : State → Image → Type 0) (notes left : ℕ) (old new : Around) : Type 0 where

@@ -11,7 +11,7 @@ use Rattle.blk_model.specs.Request.{Request, to_close, to_create, to_open, to_re
 use Rattle.blk_model.specs.Sizes.{most_items}
 use Rattle.blk_model.specs.State.{State}
 use Rattle.spec_run.specs.Run.{Stamped, Turn, command_turn, outcome_in, turns}
-use Rattle.spec_run.specs.Script.{Script, is_refusal, refusal_of}
+use Rattle.spec_run.specs.Script.{is_refusal, refusal_of, Script, shown_where}
 use Rattle.blk_gen.specs.declared.counting.Counts.{Counts}
 use Rattle.blk_gen.specs.Counting.{with_outcome}
 use Rattle.blk_cache.specs.declared.fault.StepFault.{StepFault}
@@ -46,7 +46,7 @@ pub record AreWithin (commands : ℕ) (counts : Counts) : Type 0 where
 
 -- a command as an iteration whose reply isn't shown
 abbrev pub hidden_turn : SoFar → Stamped → Turn
-hidden_turn far command = command_turn command false (outcome_in (state_now far) command)
+hidden_turn far command = command_turn command (shown_where false (outcome_in (state_now far) command))
 
 -- what follows some commands, by what is counted with them
 abbrev pub Following : Type 0

@@ -9,9 +9,9 @@ use Rattle.blk_io.specs.Streams.{Appends, Readings, reading_of}
 use Rattle.blk_model.specs.declared.Answer.{Answer}
 use Rattle.blk_model.specs.Reply.{answer_of}
 use Rattle.blk_model.specs.Request.{Request}
-use Rattle.spec_run.specs.Script.{is_refusal, refusal_of}
+use Rattle.spec_run.specs.Script.{is_refusal, refusal_of, shown_where}
 use Rattle.blk_model.specs.State.{State}
-use Rattle.spec_run.specs.Run.{Stamped, Turn, command_turn, outcome_in, commands_of, text_of, refuse, state_after, clock_after}
+use Rattle.spec_run.specs.Run.{Stamped, Turn, command_turn, outcome_in, commands_of, readings_of, text_of, refuse, state_after, clock_after}
 use Rattle.spec_run.specs.Lines.{Cut, with_bytes}
 use Rattle.spec_run.specs.Progress.{Progress, Stops}
 use Rattle.blk_cache.specs.declared.fault.StepFault.{StepFault}
@@ -55,7 +55,7 @@ pub record Around : Type 0 where
 pub record AreMade (made : List Turn) (far : SoFar) (keeps : State → Image → Type 0) (notes left : ℕ) (old new : Around) : Type 0 where
   pub stands : StandsAt (with_more far (commands_of made)) keeps notes left new.folder
   pub printed : new.written ≡ option_map (λ (w : List ℕ). w ++ text_of made) old.written
-  pub read : new.clock ≡ option_map (λ r. clock_after r (length (commands_of made))) old.clock
+  pub read : new.clock ≡ option_map (λ r. clock_after r (readings_of made)) old.clock
   pub refused : new.refused ≡ (old.refused || refuse made)
 
 -- up to one whose text was printed in part: its command is done too
@@ -67,7 +67,7 @@ pub record AreMadeTo (made : List Turn) (far : SoFar) (keeps : State → Image �
   pub rest : List ℕ
   pub split : text_of (take (count + 1) made) ≡ text_of (take count made) ++ (front ++ rest)
   pub printed : new.written ≡ option_map (λ (w : List ℕ). w ++ (text_of (take count made) ++ front)) old.written
-  pub read : new.clock ≡ option_map (λ r. clock_after r (length (commands_of (take (count + 1) made)))) old.clock
+  pub read : new.clock ≡ option_map (λ r. clock_after r (readings_of (take (count + 1) made))) old.clock
 
 -- up to one in which the folder failed: whatever commands follow them, a crash leaves what it may
 pub record AreStopped (made : List Turn) (far : SoFar) (old new : Around) : Type 0 where
@@ -92,7 +92,7 @@ has_refused (Err why) = false
 
 -- a command, asked at a moment and with its reply shown, as one iteration
 abbrev pub asked_turn : SoFar → Stamped → Turn
-asked_turn far command = command_turn command true (outcome_in (state_now far) command)
+asked_turn far command = command_turn command (shown_where true (outcome_in (state_now far) command))
 
 -- a command was asked at the next reading of the clock: it is an iteration, and its answer is the map's
 pub record Asks (result : Result Answer StepFault) (request : Request) (far : SoFar) (keeps : State → Image → Type 0) (notes left : ℕ) (old new : Around) : Type 0 where

@@ -12,10 +12,10 @@ use Rattle.blk_model.specs.Holding.{open_state, rest}
 use Rattle.blk_model.specs.State.{Bounds}
 use Rattle.spec_folder.specs.Found.{found}
 use Rattle.blk_io.specs.Streams.{Appends, Readings, later_of}
-use Rattle.spec_run.specs.Lines.{lines, whole_lines}
+use Rattle.spec_run.specs.Inputs.{Protocol}
 use Rattle.spec_run.specs.Progress.{IsWholeRun, Stops}
-use Rattle.spec_run.specs.Run.{Run, Stamped, clock_after, commands, cut_after, last_state, refuse, run_of, text_of}
-use Rattle.spec_run.specs.Script.{Script, session_script}
+use Rattle.spec_run.specs.Run.{Run, Stamped, clock_after, commands, cut_after, last_state, readings_in, refuse, run_of, text_of}
+use Rattle.spec_run.specs.Script.{Script}
 use Rattle.blk_cache.specs.Opening.{EndsSession}
 use Rattle.blk_run.specs.declared.ending.Status.{Status}
 use Rattle.blk_run.specs.declared.ending.Status.TheVariants as status
@@ -38,27 +38,27 @@ pub data Ending : Type 0 where
   taken : List ℕ → Ending
   unprinted : ℕ → Ending
 
--- the run of some lines over what is found in an image
-abbrev pub session_run : Image → Bounds → Readings → List (List ℕ) → Run
-session_run from limits readings texts = run_of (session_script 1 texts) (found from) limits readings
+-- the run of a script over what is found in an image
+abbrev pub session_run : Image → Bounds → Readings → Script → Run
+session_run from limits readings script = run_of script (found from) limits readings
 
--- the same, ended so: of bytes taken the whole lines alone, and up to a text that was not printed the iterations with it
-abbrev pub ended_run : Image → Bounds → Readings → List ℕ → Ending → Run
-ended_run from limits readings input all_made = session_run from limits readings (lines input)
-ended_run from limits readings input (taken bytes) = session_run from limits readings (whole_lines bytes)
-ended_run from limits readings input (unprinted count) = cut_after (count + 1) (session_run from limits readings (lines input))
+-- the run of an input, ended so: of bytes taken what they ask alone, and up to a text that was not printed the iterations with it
+abbrev pub ended_run : Protocol → Image → Bounds → Readings → List ℕ → Ending → Run
+ended_run protocol from limits readings input all_made = session_run from limits readings (protocol.whole input)
+ended_run protocol from limits readings input (taken bytes) = session_run from limits readings (protocol.taken bytes)
+ended_run protocol from limits readings input (unprinted count) = cut_after (count + 1) (session_run from limits readings (protocol.whole input))
 
 -- how the iterations may have ended, where the session ends with a status; source and sink say that the count of each rose. After each of these ends the folder may fail in the closings
-abbrev pub MayEnd : Status → Ending → ℕ → List ℕ → Run → Option (List ℕ) → (source sink : Type 0) → Type 0
-MayEnd status.Ok all_made budget input run left source sink = IsReadWhole budget input left × (refuse run.turns ≡ false)
-MayEnd status.Refused all_made budget input run left source sink = IsReadWhole budget input left × (refuse run.turns ≡ true)
-MayEnd status.Source (taken bytes) budget input run left source sink = IsTaken budget input bytes left
-MayEnd status.TooLong (taken bytes) budget input run left source sink = IsPastBudget budget input bytes left
-MayEnd status.Sink (unprinted count) budget input run left source sink = count < length run.turns
-MayEnd status.Device all_made budget input run left source sink = Unit {0}
-MayEnd status.Device (taken bytes) budget input run left source sink = (source × IsTaken budget input bytes left) ⊎ IsPastBudget budget input bytes left
-MayEnd status.Device (unprinted count) budget input run left source sink = sink × (count < length run.turns)
-MayEnd _ _ budget input run left source sink = ⊥
+abbrev pub MayEnd : Protocol → Status → Ending → ℕ → List ℕ → Run → Option (List ℕ) → (source sink : Type 0) → Type 0
+MayEnd protocol status.Ok all_made budget input run left source sink = IsReadWhole budget input left × ((protocol.breaks_off input ≡ false) × (refuse run.turns ≡ false))
+MayEnd protocol status.Refused all_made budget input run left source sink = IsReadWhole budget input left × ((protocol.breaks_off input ≡ false) × (refuse run.turns ≡ true))
+MayEnd protocol status.Source (taken bytes) budget input run left source sink = IsTaken budget input bytes left
+MayEnd protocol status.TooLong (taken bytes) budget input run left source sink = IsPastBudget budget input bytes left
+MayEnd protocol status.Sink (unprinted count) budget input run left source sink = count < length run.turns
+MayEnd protocol status.Device all_made budget input run left source sink = Unit {0}
+MayEnd protocol status.Device (taken bytes) budget input run left source sink = (source × IsTaken budget input bytes left) ⊎ IsPastBudget budget input bytes left
+MayEnd protocol status.Device (unprinted count) budget input run left source sink = sink × (count < length run.turns)
+MayEnd protocol _ _ budget input run left source sink = ⊥
 
 -- What is printed.
 
@@ -81,7 +81,7 @@ Printed _ ending run old new = new.written ≡ option_map (λ (w : List ℕ). w 
 pub record IsEnded (run : Run) (old new : Outside) : Type 0 where
   pub holds : ForSome new.folder.files (λ image. found image ≡ rest (last_state run))
   pub ends : ForSome new.folder.files EndsSession
-  pub read : new.clock ≡ option_map (λ r. clock_after (later_of r) (length (commands run))) old.clock
+  pub read : new.clock ≡ option_map (λ r. clock_after (later_of r) (readings_in run)) old.clock
 
 -- where the folder failed, it is left as a crash may leave it; else the run is whole
 abbrev pub Stopped : Status → Image → Run → Outside → Outside → Type 0
@@ -100,11 +100,11 @@ pub record EndsAs (result : Status) (ending : Ending) (from : Image) (run : Run)
   pub stopped : Stopped result from run old new
 
 -- a session whose folder was opened
-pub record Runs (result : Status) (limits : Bounds) (budget : ℕ) (from : Image) (readings : Readings) (input : List ℕ) (source sink : Type 0) (old new : Outside) : Type 0 where
+pub record Runs (protocol : Protocol) (result : Status) (limits : Bounds) (budget : ℕ) (from : Image) (readings : Readings) (input : List ℕ) (source sink : Type 0) (old new : Outside) : Type 0 where
   pub ending : Ending
   pub run : Run
-  pub is : run ≡ ended_run from limits readings input ending
-  pub may_end : MayEnd result ending budget input run new.left source sink
+  pub is : run ≡ ended_run protocol from limits readings input ending
+  pub may_end : MayEnd protocol result ending budget input run new.left source sink
   -- no more is taken than the budget and one byte
   pub takes : IsTakenUpTo (budget + 1) new.left input
   pub ends : EndsAs result ending from run old new
@@ -122,21 +122,21 @@ pub record DoesNothing (old new : Outside) : Type 0 where
   pub unprinted : new.written ≡ old.written
 
 -- a session by its status, where it began with an image that is unfinished or well formed
-abbrev pub Session : Status → Bounds → ℕ → Image → Readings → List ℕ → (source sink : Type 0) → Outside → Outside → Type 0
-Session status.Memory limits budget from readings input source sink old new = DoesNothing old new
-Session status.Words limits budget from readings input source sink old new = ⊥
-Session status.Damaged limits budget from readings input source sink old new = ⊥
-Session status.Device limits budget from readings input source sink old new = Runs status.Device limits budget from readings input source sink old new ⊎ IsUnopened limits from old new
-Session result limits budget from readings input source sink old new = Runs result limits budget from readings input source sink old new
+abbrev pub Session : Protocol → Status → Bounds → ℕ → Image → Readings → List ℕ → (source sink : Type 0) → Outside → Outside → Type 0
+Session protocol status.Memory limits budget from readings input source sink old new = DoesNothing old new
+Session protocol status.Words limits budget from readings input source sink old new = ⊥
+Session protocol status.Damaged limits budget from readings input source sink old new = ⊥
+Session protocol status.Device limits budget from readings input source sink old new = Runs protocol status.Device limits budget from readings input source sink old new ⊎ IsUnopened limits from old new
+Session protocol result limits budget from readings input source sink old new = Runs protocol result limits budget from readings input source sink old new
 
 -- Completeness.
 
 -- where nothing failed and the input is within the budget: the whole output was printed, or it was out of memory, and nothing was done
-abbrev pub IsComplete : Status → Bounds → Image → Readings → List ℕ → Outside → Outside → Type 0
-IsComplete status.Ok limits from readings input old new = new.written ≡ option_map (λ (w : List ℕ). w ++ text_of (session_run from limits readings (lines input)).turns) old.written
-IsComplete status.Refused limits from readings input old new = new.written ≡ option_map (λ (w : List ℕ). w ++ text_of (session_run from limits readings (lines input)).turns) old.written
-IsComplete status.Memory limits from readings input old new = DoesNothing old new
-IsComplete _ limits from readings input old new = ⊥
+abbrev pub IsComplete : Protocol → Status → Bounds → Image → Readings → List ℕ → Outside → Outside → Type 0
+IsComplete protocol status.Ok limits from readings input old new = new.written ≡ option_map (λ (w : List ℕ). w ++ text_of (session_run from limits readings (protocol.whole input)).turns) old.written
+IsComplete protocol status.Refused limits from readings input old new = new.written ≡ option_map (λ (w : List ℕ). w ++ text_of (session_run from limits readings (protocol.whole input)).turns) old.written
+IsComplete protocol status.Memory limits from readings input old new = DoesNothing old new
+IsComplete protocol _ limits from readings input old new = ⊥
 
 -- the same of a fixed script
 abbrev pub IsCompleteScript : Status → Script → Bounds → Image → Readings → Outside → Outside → Type 0

@@ -9,6 +9,7 @@ use Rattle.spec_image.specs.Told.{Rises}
 use Rattle.blk_io.specs.Streams.{Readings}
 use Rattle.blk_model.specs.State.{Bounds}
 use Rattle.spec_run.specs.Opening.{IsUsable}
+use Rattle.spec_run.specs.Inputs.{Protocol, by_lines}
 use Rattle.spec_run.specs.Script.{Script, count_script, doom_script, get_script, list_script, put_script, trim_script}
 use Rattle.blk_gen.specs.Generator.{gen_script}
 use Rattle.blk_inspect.specs.Texts.{inspect_text, verify_text}
@@ -27,16 +28,16 @@ use Rattle.blk_run.specs.WholeInputs.{longest_input}
 abbrev pub budget : ℕ
 budget = 2 ^ 40
 
--- what is done for a task: the lines of the input are played; a script of the whole input, which is read before the opening; or a script that leaves the input unread; or a text of what the folder holds is shown
+-- what is done for a task: what the input asks is played, by its protocol; a script of the whole input, which is read before the opening; or a script that leaves the input unread; or a text of what the folder holds is shown
 pub data Work : Type 0 where
-  input_lines : Work
+  input_by : Protocol → Work
   whole_input : (List ℕ → Script) → Work
   no_input : Script → Work
   folder_text : (Image → List ℕ) → Work
 
 -- what is done for each task
 abbrev pub work_of : Task → Work
-work_of do_session = input_lines
+work_of do_session = input_by by_lines
 work_of do_count = no_input count_script
 work_of do_list = no_input list_script
 work_of (do_get key stream) = no_input (get_script key stream)
@@ -49,14 +50,14 @@ work_of (do_generate seed turns) = no_input (gen_script seed turns)
 
 -- the work by its status, where it began with an image that is unfinished or well formed
 abbrev pub DoesWork : Work → Status → Bounds → Image → Readings → (source sink : Type 0) → Outside → Outside → Type 0
-DoesWork input_lines result limits from readings source sink old new = ForSome old.left (λ input. Session result limits budget from readings input source sink old new)
+DoesWork (input_by protocol) result limits from readings source sink old new = ForSome old.left (λ input. Session protocol result limits budget from readings input source sink old new)
 DoesWork (whole_input script) result limits from readings source sink old new = ForSome old.left (λ input. Put result script limits from readings input sink old new)
 DoesWork (no_input script) result limits from readings source sink old new = FixedScript result script limits from readings sink old new
 DoesWork (folder_text text) result limits from readings source sink old new = ShowsText result (text from) old new
 
 -- where nothing failed and the input is as long as it may be: the whole output was printed, or it was out of memory
 abbrev pub CompletesWork : Work → Status → Bounds → Image → Readings → Outside → Outside → Type 0
-CompletesWork input_lines result limits from readings old new = ForSome old.left (λ input. length input ≤ budget → IsComplete result limits from readings input old new)
+CompletesWork (input_by protocol) result limits from readings old new = ForSome old.left (λ input. length input ≤ budget → IsComplete protocol result limits from readings input old new)
 CompletesWork (whole_input script) result limits from readings old new = ForSome old.left (λ input. length input ≤ longest_input → IsCompleteScript result (script input) limits from readings (record old { left = new.left }) new)
 CompletesWork (no_input script) result limits from readings old new = IsCompleteScript result script limits from readings old new
 CompletesWork (folder_text text) result limits from readings old new = IsCompleteText result (text from) old new
@@ -70,28 +71,28 @@ ReadsOnDamage result damage before now old new = ForSome old.left (λ input. IsR
 
 -- the work on a folder of which a check fails
 abbrev pub MeetsDamage : Work → Status → Damage → (before now : ℕ) → Outside → Outside → Type 0
-MeetsDamage input_lines result damage before now old new = OnDamage result damage before now old new
+MeetsDamage (input_by protocol) result damage before now old new = OnDamage result damage before now old new
 MeetsDamage (whole_input script) result damage before now old new = ReadsOnDamage result damage before now old new
 MeetsDamage (no_input script) result damage before now old new = OnDamage result damage before now old new
 MeetsDamage (folder_text text) result damage before now old new = OnDamage result damage before now old new
 
 -- the input is longer than it may be
 abbrev pub IsInputTooLong : Work → Option (List ℕ) → Type 0
-IsInputTooLong input_lines left = ForSome left (λ input. budget < length input)
+IsInputTooLong (input_by protocol) left = ForSome left (λ input. budget < length input)
 IsInputTooLong (whole_input script) left = ForSome left (λ input. longest_input < length input)
 IsInputTooLong (no_input script) left = ⊥
 IsInputTooLong (folder_text text) left = ⊥
 
 -- how much of the input is taken: no more than it may have and one byte
 abbrev pub TakesInput : Work → (old new : Option (List ℕ)) → Type 0
-TakesInput input_lines old new = ForSome old (IsTakenUpTo (budget + 1) new)
+TakesInput (input_by protocol) old new = ForSome old (IsTakenUpTo (budget + 1) new)
 TakesInput (whole_input script) old new = ForSome old (IsTakenUpTo (longest_input + 1) new)
 TakesInput (no_input script) old new = new ≡ old
 TakesInput (folder_text text) old new = new ≡ old
 
 -- a check of the work fails: of a run, or of what is read for a text
 abbrev pub IsDamagedWork : Work → (before now : ℕ) → Outside → Outside → Type 0
-IsDamagedWork input_lines before now old new = IsDamagedRun old.folder new.folder old.written new.written before now
+IsDamagedWork (input_by protocol) before now old new = IsDamagedRun old.folder new.folder old.written new.written before now
 IsDamagedWork (whole_input script) before now old new = IsDamagedRun old.folder new.folder old.written new.written before now
 IsDamagedWork (no_input script) before now old new = IsDamagedRun old.folder new.folder old.written new.written before now
 IsDamagedWork (folder_text text) before now old new = IsFailedInReading old.folder old.written new.written before now
@@ -110,7 +111,7 @@ pub record Performs (work : Work) (result : Status) (limits : Bounds) (device so
 
 -- the work leaves the input unread
 abbrev pub IsUnread : Work → Type 0
-IsUnread input_lines = ⊥
+IsUnread (input_by protocol) = ⊥
 IsUnread (whole_input script) = ⊥
 IsUnread (no_input script) = Unit {0}
 IsUnread (folder_text text) = Unit {0}

@@ -97,7 +97,7 @@ counts kept (Err why) None same = absurd same
 counts kept (Err why) (Some reason) same = refl
 
 module _ (image : Image) (said : List Loaded) where
-  -- an answer is the outcome, where what it keeps is the next of the kept records
+  -- the answer of a verdict is the outcome of the definition: what it keeps is the next kept record
   is_outcome : (kept : List shown.Loaded) (nodes : List ℕ) (r : Result shown.Loaded reasons.Reason) (reason : Option Reason) → AreShown image (kept_after (store_of image) held_rule (with_verdict kept r) nodes) said → IsSameAnswer r reason
       → IsOutcomeOf image said r (outcome_after (length kept) reason)
   is_outcome kept nodes (Ok loaded) None shown_all same =

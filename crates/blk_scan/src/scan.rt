@@ -124,8 +124,8 @@ impl Scan {
         &self.kept_nodes
     }
 
-    /// The nodes of what is kept that have 0 as their seal, and then the records that have, both in the order of the LRU
-    /// list.
+    /// Where a seal is 0: first the nodes of what is kept that have no seal, then the records, both in the order of the
+    /// LRU list.
     pub fn bare(&self) -> &[Addr]
         ensures { result.now ≡ self.now.bare.items }
     {

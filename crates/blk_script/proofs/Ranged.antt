@@ -2,7 +2,7 @@
 use Rattle.std.proofs.Common.{ℕ, ◌<◌, ◌≤◌, List, [], ◌∷◌, arith}
 use Rattle.std.specs.List.{AllByRecursion}
 use Rattle.std.proofs.lemmas.List.Elements.{All-nil, All-cons, All-head, All-tail}
-use Rattle.blk_model.specs.Request.{Request, IsRequest, to_create, to_open, to_read, to_write, to_size, to_sparse_write, to_sparse_read, to_sparse_range, to_doom, to_doom_key, to_close, to_list, to_trim, to_total}
+use Rattle.blk_model.specs.Request.{Request, IsRequest, to_create, to_open, to_read, to_write, to_size, to_sparse_write, to_sparse_read, to_sparse_range, to_doom, to_doom_key, to_close, to_flush, to_list, to_trim, to_total}
 use Rattle.blk_model.specs.Items.{IsBytes}
 
 -- each is a byte
@@ -30,6 +30,7 @@ IsRanged (to_sparse_range handle offset count) = (handle ≤ 65535) × (offset �
 IsRanged (to_doom handle) = handle ≤ 65535
 IsRanged (to_doom_key key) = AreSmall key
 IsRanged (to_close handle) = handle ≤ 65535
+IsRanged (to_flush handle) = handle ≤ 65535
 IsRanged to_list = Unit {0}
 IsRanged (to_trim bytes) = bytes ≤ 18446744073709551615
 IsRanged to_total = Unit {0}
@@ -46,6 +47,7 @@ ranged (to_sparse_range handle offset count) is = (omega (arith, is.0), omega (a
 ranged (to_doom handle) is = omega (arith, is)
 ranged (to_doom_key key) is = small_from_bytes key is
 ranged (to_close handle) is = omega (arith, is)
+ranged (to_flush handle) is = omega (arith, is)
 ranged to_list is = tt
 ranged (to_trim bytes) is = omega (arith, is)
 ranged to_total is = tt

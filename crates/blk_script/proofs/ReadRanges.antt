@@ -11,7 +11,7 @@ use Rattle.hex.specs.declared.error.FromHexError.{FromHexError}
 use Rattle.hex.proofs.HexLemmas.{decode_of-ok}
 use Rattle.percent_encoding.specs.Percent.{percent_decode}
 use Rattle.percent_encoding.proofs.PercentLemmas.{All-percent_decode}
-use Rattle.blk_model.specs.Request.{Request, IsRequest, to_create, to_open, to_read, to_write, to_size, to_sparse_write, to_sparse_read, to_sparse_range, to_doom, to_doom_key, to_close, to_list, to_trim, to_total}
+use Rattle.blk_model.specs.Request.{Request, IsRequest, to_create, to_open, to_read, to_write, to_size, to_sparse_write, to_sparse_read, to_sparse_range, to_doom, to_doom_key, to_close, to_flush, to_list, to_trim, to_total}
 use Rattle.blk_script.specs.declared.fault.LineFault.{LineFault}
 use Rattle.blk_script.specs.declared.fault.LineFault.TheVariants as fault
 use Rattle.blk_script.specs.Fields.{◌>>=◌, is_space, line_fields, digits_say, is_number_text, number_field, data_field, decoded, longest_data, is_key_byte, are_escapes, key_field}
@@ -172,14 +172,17 @@ words_read = (
                     (
                       handle_read to_close (λ h sh. omega arith),
                       (
-                        key_read to_doom_key (λ k sk. bytes_from_small k sk),
+                        handle_read to_flush (λ h sh. omega arith),
                         (
-                          number_read to_trim (λ n sn. omega arith),
+                          key_read to_doom_key (λ k sk. bytes_from_small k sk),
                           (
-                            none_read to_list tt,
+                            number_read to_trim (λ n sn. omega arith),
                             (
-                              none_read to_total tt,
-                              tt,
+                              none_read to_list tt,
+                              (
+                                none_read to_total tt,
+                                tt,
+                              ),
                             ),
                           ),
                         ),

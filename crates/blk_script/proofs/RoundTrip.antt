@@ -16,7 +16,7 @@ use Rattle.std.specs.Str.{bytes_eq}
 use Rattle.blk_script.proofs.Ranged.{AreSmall, IsRanged, ranged}
 use Rattle.blk_script.specs.Spelling.{line_of, data_in, fields_for, number_text, key_text, data_text, is_plain_byte, key_byte_text, spaced}
 use Rattle.blk_script.specs.Line.{by_fields, reading, command_words, read_text}
-use Rattle.blk_model.specs.Request.{Request, IsRequest, to_create, to_open, to_read, to_write, to_size, to_sparse_write, to_sparse_read, to_sparse_range, to_doom, to_doom_key, to_close, to_list, to_trim, to_total}
+use Rattle.blk_model.specs.Request.{Request, IsRequest, to_create, to_open, to_read, to_write, to_size, to_sparse_write, to_sparse_read, to_sparse_range, to_doom, to_doom_key, to_close, to_flush, to_list, to_trim, to_total}
 use Rattle.std.proofs.lemmas.List.Splits.{slice_split_none, slice_split_at}
 use Rattle.blk_script.proofs.Numbers.{no_space, no_space-number, number_read}
 
@@ -203,6 +203,7 @@ fields_read (to_sparse_range handle offset count) is few = rw (number_read 65535
 fields_read (to_doom handle) is few = rw (number_read 65535 handle is (omega arith)) refl
 fields_read (to_doom_key key) is few = rw (key_read key is) refl
 fields_read (to_close handle) is few = rw (number_read 65535 handle is (omega arith)) refl
+fields_read (to_flush handle) is few = rw (number_read 65535 handle is (omega arith)) refl
 fields_read to_list is few = refl
 fields_read (to_trim bytes) is few = rw (number_read 18446744073709551615 bytes is (omega arith)) refl
 fields_read to_total is few = refl
@@ -222,6 +223,7 @@ fields_printed (to_sparse_range handle offset count) is = fields_of-spaced (code
 fields_printed (to_doom handle) is = fields_of-spaced (codes "doom") (number_text handle ∷ []) refl (no_space-number handle (let few = is in omega arith), tt)
 fields_printed (to_doom_key key) is = fields_of-spaced (codes "doomkey") (key_text key ∷ []) refl (no_space-key key is, tt)
 fields_printed (to_close handle) is = fields_of-spaced (codes "close") (number_text handle ∷ []) refl (no_space-number handle (let few = is in omega arith), tt)
+fields_printed (to_flush handle) is = fields_of-spaced (codes "flush") (number_text handle ∷ []) refl (no_space-number handle (let few = is in omega arith), tt)
 fields_printed to_list is = fields_of-spaced (codes "list") ([]) refl tt
 fields_printed (to_trim bytes) is = fields_of-spaced (codes "trim") (number_text bytes ∷ []) refl (no_space-number bytes (let few = is in omega arith), tt)
 fields_printed to_total is = fields_of-spaced (codes "total") ([]) refl tt
@@ -245,6 +247,7 @@ line_is_some (to_sparse_range handle offset count) = nonempty (codes "srange") (
 line_is_some (to_doom handle) = nonempty (codes "doom") (number_text handle ∷ []) (omega arith)
 line_is_some (to_doom_key key) = nonempty (codes "doomkey") (key_text key ∷ []) (omega arith)
 line_is_some (to_close handle) = nonempty (codes "close") (number_text handle ∷ []) (omega arith)
+line_is_some (to_flush handle) = nonempty (codes "flush") (number_text handle ∷ []) (omega arith)
 line_is_some to_list = nonempty (codes "list") ([]) (omega arith)
 line_is_some (to_trim bytes) = nonempty (codes "trim") (number_text bytes ∷ []) (omega arith)
 line_is_some to_total = nonempty (codes "total") ([]) (omega arith)

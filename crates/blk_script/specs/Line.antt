@@ -1,7 +1,7 @@
 -- What a script line says.
 use Rattle.std.specs.Prelude.{ℕ, true, false, ◌==◌, nat_lt, if◌then◌else◌, List, [], ◌∷◌, length, codes, Result, Ok, Err}
 use Rattle.std.specs.Str.{bytes_eq}
-use Rattle.blk_model.specs.Request.{Request, to_create, to_open, to_read, to_write, to_size, to_sparse_write, to_sparse_read, to_sparse_range, to_doom, to_doom_key, to_close, to_list, to_trim, to_total}
+use Rattle.blk_model.specs.Request.{Request, to_create, to_open, to_read, to_write, to_size, to_sparse_write, to_sparse_read, to_sparse_range, to_doom, to_doom_key, to_close, to_flush, to_list, to_trim, to_total}
 use Rattle.blk_script.specs.declared.fault.LineFault.{LineFault}
 use Rattle.blk_script.specs.declared.fault.LineFault.TheVariants as fault
 use Rattle.blk_script.specs.declared.words.Word.{Word}
@@ -124,6 +124,7 @@ reading word.SparseRead = three_fields (handle_and_range to_sparse_read)
 reading word.SparseRange = three_fields (handle_and_range to_sparse_range)
 reading word.Doom = one_field (handle_alone to_doom)
 reading word.Close = one_field (handle_alone to_close)
+reading word.Flush = one_field (handle_alone to_flush)
 reading word.DoomKey = one_field (key_alone to_doom_key)
 reading word.Trim = one_field (number_alone to_trim)
 reading word.List = no_fields to_list
@@ -143,6 +144,7 @@ command_words =
     ∷ (codes "srange", reading word.SparseRange)
     ∷ (codes "doom", reading word.Doom)
     ∷ (codes "close", reading word.Close)
+    ∷ (codes "flush", reading word.Flush)
     ∷ (codes "doomkey", reading word.DoomKey)
     ∷ (codes "trim", reading word.Trim)
     ∷ (codes "list", reading word.List)

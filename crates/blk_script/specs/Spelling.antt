@@ -6,7 +6,7 @@ use Rattle.hex.specs.Hex.{encode_lower}
 use Rattle.percent_encoding.specs.Percent.{percent_encode_byte}
 use Rattle.blk_script.specs.declared.print.Field.{Field}
 use Rattle.blk_script.specs.declared.print.Field.TheVariants as field
-use Rattle.blk_model.specs.Request.{Request, to_create, to_open, to_read, to_write, to_size, to_sparse_write, to_sparse_read, to_sparse_range, to_doom, to_doom_key, to_close, to_list, to_trim, to_total}
+use Rattle.blk_model.specs.Request.{Request, to_create, to_open, to_read, to_write, to_size, to_sparse_write, to_sparse_read, to_sparse_range, to_doom, to_doom_key, to_close, to_flush, to_list, to_trim, to_total}
 
 -- a number in decimal
 abbrev pub number_text : ℕ → List ℕ
@@ -60,6 +60,7 @@ fields_for (to_sparse_range handle offset count) = codes "srange" ∷ number_tex
 fields_for (to_doom handle) = codes "doom" ∷ number_text handle ∷ []
 fields_for (to_doom_key key) = codes "doomkey" ∷ key_text key ∷ []
 fields_for (to_close handle) = codes "close" ∷ number_text handle ∷ []
+fields_for (to_flush handle) = codes "flush" ∷ number_text handle ∷ []
 fields_for to_list = codes "list" ∷ []
 fields_for (to_trim bytes) = codes "trim" ∷ number_text bytes ∷ []
 fields_for to_total = codes "total" ∷ []

@@ -103,6 +103,7 @@ pub fn print_line<K: Sink>(out: &mut K, command: &Command) -> Result<(), Failed>
         Command::Doom { handle } => print_fields(out, &[Word("doom"), Number(handle.into())]),
         Command::DoomKey { key } => print_fields(out, &[Word("doomkey"), Key(key)]),
         Command::Close { handle } => print_fields(out, &[Word("close"), Number(handle.into())]),
+        Command::Flush { handle } => print_fields(out, &[Word("flush"), Number(handle.into())]),
         Command::List => print_fields(out, &[Word("list")]),
         Command::Trim { bytes } => print_fields(out, &[Word("trim"), Number(bytes)]),
         Command::Total => print_fields(out, &[Word("total")]),

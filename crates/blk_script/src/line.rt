@@ -53,6 +53,7 @@ fn read_fields<'a>(
         Word::SparseRange => readers::read_sparse_range(fields),
         Word::Doom => readers::read_doom(fields),
         Word::Close => readers::read_close(fields),
+        Word::Flush => readers::read_flush(fields),
         Word::DoomKey => readers::read_doom_key(fields, buffer),
         Word::Trim => readers::read_trim(fields),
         Word::List => readers::read_list(fields),

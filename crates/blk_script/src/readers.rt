@@ -1,6 +1,6 @@
 // What the fields after each word say.
 ghost use Rattle.std.specs.Prelude.{◌≡◌, ◌≤◌, length};
-ghost use Rattle.blk_model.specs.Request.{request_of, to_create, to_open, to_read, to_write, to_size, to_sparse_write, to_sparse_read, to_sparse_range, to_doom, to_doom_key, to_close, to_list, to_trim, to_total};
+ghost use Rattle.blk_model.specs.Request.{request_of, to_create, to_open, to_read, to_write, to_size, to_sparse_write, to_sparse_read, to_sparse_range, to_doom, to_doom_key, to_close, to_flush, to_list, to_trim, to_total};
 ghost use Rattle.blk_script.specs.Fields.{fields_left, length_left, given};
 ghost use Rattle.blk_script.specs.Line.{no_fields, one_field, two_fields, three_fields, four_fields, handle_and_key, handle_alone, key_alone, number_alone, handle_and_stream, handle_and_range, handle_and_data, stream_and_range, stream_and_data};
 
@@ -117,6 +117,14 @@ pub fn read_close<'a>(fields: Fields) -> Result<Command<'a>, LineFault>
 {
     let handle = shapes::handle_alone(fields)?;
     Ok(Command::Close { handle })
+}
+
+/// `flush H`
+pub fn read_flush<'a>(fields: Fields) -> Result<Command<'a>, LineFault>
+    ensures { given request_of result ≡ one_field (handle_alone to_flush) (fields_left fields.entry) }
+{
+    let handle = shapes::handle_alone(fields)?;
+    Ok(Command::Flush { handle })
 }
 
 /// `doomkey KEY`

@@ -28,6 +28,8 @@ pub enum Word {
     Doom,
     /// `close`
     Close,
+    /// `flush`
+    Flush,
     /// `doomkey`
     DoomKey,
     /// `trim`
@@ -39,7 +41,7 @@ pub enum Word {
 }
 
 /// Each word as it is written.
-const WORDS: [(&str, Word); 15] = [
+const WORDS: [(&str, Word); 16] = [
     ("create", Word::Create),
     ("open", Word::Open),
     ("read", Word::Read),
@@ -51,6 +53,7 @@ const WORDS: [(&str, Word); 15] = [
     ("srange", Word::SparseRange),
     ("doom", Word::Doom),
     ("close", Word::Close),
+    ("flush", Word::Flush),
     ("doomkey", Word::DoomKey),
     ("trim", Word::Trim),
     ("list", Word::List),

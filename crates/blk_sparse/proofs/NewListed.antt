@@ -57,12 +57,13 @@ use Rattle.law_state.specs.NewEntryLaws.{HasRecordInFront, IsInsertDone}
 use Rattle.law_state.specs.NewPartLaws.{IsMidPart, with_bit, with_new_part}
 use Rattle.law_state.specs.NewPartsKept.{IsMakingPart}
 use Rattle.law_state.proofs.Leaving.{leaves-files, leaves-then}
-use Rattle.law_state.proofs.NewEntries.{table-leaves, table-seals, table-word}
+use Rattle.law_state.proofs.NewEntries.{table-leaves, table-seals}
 use Rattle.law_state.proofs.NewParts as parts
 use Rattle.law_state.proofs.NewPartsKept.{making-finds, part-inserts-find}
 use Rattle.blk_object.proofs.KeptLists.{inserts-done}
 use Rattle.blk_object.proofs.KeptMarks.{come-in-front, in-front}
 use Rattle.blk_object.proofs.MakingListed.{told-at}
+use Rattle.law_state.proofs.Counts.{bucket-count, touch-count}
 use Rattle.blk_object.proofs.MakingStored.{counters-then}
 use Rattle.blk_object.proofs.MakingTaken.{told-mid}
 use Rattle.blk_sparse.specs.NewParts.{IsPartListed, IsPartToBeListed}
@@ -228,7 +229,7 @@ module _ (state : State) (objects : List (Option Object)) (layout : Layout) (unl
         (record { crash = counter-same writes l.node from between outside 32 (omega arith); id = counter-same writes l.node from between outside 20 (omega arith) }) done.partly.well_formed
 
     between-counters : SameCounters from between
-    between-counters = record { sizes = counter-same writes l.node from between outside 268 (omega arith); num_entries = counter-same writes l.node from between outside 8 (omega arith); num_bytes = counter-same writes l.node from between outside 12 (omega arith) }
+    between-counters = touch-count writes l.node from between outside
 
     between-sealed : AreSealed between l
     between-sealed = load-then (store_of from) (unchained_rule entry_normal) l.node l t.written.loads (λ nf e f.
@@ -275,7 +276,7 @@ module _ (state : State) (objects : List (Option Object)) (layout : Layout) (unl
           (load-outside (λ claim. false) (store_of from) (store_of between) same.store (rule_of layout (layout.place (main key))) (layout.place (main key)) was refl (t.kept.represents.holds.shows.each (layout.place (main key)) was t.written.at_parent) (record { node = λ c h. refl; contents = λ c h. refl; others = λ i c h. refl })))
 
       table-counters : SameCounters between image
-      table-counters = record { sizes = table-word (bucket_at between l.contents) 268 between image (lit≤ tt) front.outside; num_entries = table-word (bucket_at between l.contents) 8 between image (lit≤ tt) front.outside; num_bytes = table-word (bucket_at between l.contents) 12 between image (lit≤ tt) front.outside }
+      table-counters = bucket-count (bucket_at between l.contents) between image front.outside
 
       pub part-listed : IsPartListed state layout key n was seen l from image
       part-listed = record {

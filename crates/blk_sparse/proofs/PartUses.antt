@@ -3,7 +3,6 @@ use Rattle.std.proofs.Common.{refl, ◌≡◌, inl, inr, ℕ, ◌+◌, ◌<◌, 
 use Rattle.std.specs.Prelude.{nat_lt, if◌then◌else◌, ◌==◌}
 use Rattle.std.specs.Option.{ForSome}
 use Rattle.std.proofs.lemmas.Bool.{eqb-true, eq-eqb}
-use Rattle.spec_image.specs.Bytes.{word_at}
 use Rattle.spec_image.specs.Image.{Image, Index, byte}
 use Rattle.spec_image.specs.Told.{Applies, Passes, TellsBytes, Told}
 use Rattle.spec_image.proofs.Runs.{passes_weaker, some_inj}
@@ -22,7 +21,6 @@ use Rattle.spec_format.specs.BlockFiles.{is_among}
 use Rattle.law_folder.proofs.chains.ChainWords.{shown-fields}
 use Rattle.law_folder.proofs.states.Central.{walk-order}
 use Rattle.law_folder.proofs.states.Laid.{is_among-node}
-use Rattle.law_folder.proofs.states.Tidying.{counter-same}
 use Rattle.law_folder.proofs.walks.Loads.{load-then}
 use Rattle.law_folder.proofs.walks.Shown.{node-is}
 use Rattle.blk_disk.specs.declared.tables.BlockFiles.{BlockFiles}
@@ -37,6 +35,7 @@ use Rattle.law_state.proofs.Free.{standing-at}
 use Rattle.law_state.proofs.Touched.{leaves, touch-counts, touch-keeps}
 use Rattle.law_state.proofs.Touching.{touches-find}
 use Rattle.blk_object.specs.KeptLists.{IsAmidList}
+use Rattle.law_state.proofs.Counts.{touch-count}
 use Rattle.blk_object.proofs.KeptLists.{listed-amid, touches-done, touches-partly}
 use Rattle.blk_sparse.specs.Parts.{FindsBeforeOrAfter, IsListedAt, IsUsed}
 use Rattle.law_state.proofs.Keeping.{kept-found}
@@ -85,11 +84,9 @@ module _ (state : State) (layout : Layout) (unlinked : List ℕ) (item : Item) (
   touch-used image done = record {
     kept = touch-keeps state layout unlinked from image item l.kept l.listed done;
     counted = λ counts. (touch-counts state layout unlinked from image item (record { entries = l.kept; counters = counts }) l.listed done).counters;
-    counters = record { sizes = same-word 268 (omega arith); num_entries = same-word 8 (omega arith); num_bytes = same-word 12 (omega arith) };
+    counters = touch-count (touch_writes (layout.place item) (list_of from)) (layout.place item) from image done.touched.outside;
     session = (leaves state layout unlinked from image item l.kept l.listed done).session;
-  } where
-    same-word : (at : ℕ) → at + 3 < 288 → word_at (byte image Index) at ≡ word_at (byte from Index) at
-    same-word = counter-same (touch_writes (layout.place item) (list_of from)) (layout.place item) from image done.touched.outside
+  }
 
 -- ---- the calls
 

@@ -30,6 +30,7 @@ use Rattle.law_state.proofs.Dirtying.{set-at, set-else}
 use Rattle.law_state.proofs.Keeping.{kept-found}
 use Rattle.blk_object.specs.Counters.{AreCountedMore, AreMoreItems}
 use Rattle.blk_object.proofs.CounterWords.{more-counted}
+use Rattle.blk_object.proofs.Counts.{still-counts}
 use Rattle.blk_object.proofs.GoingNext.{then-counters}
 use Rattle.blk_object.proofs.MakingRoom.{uses-few}
 use Rattle.blk_object.proofs.MakingTaken.{session-then}
@@ -140,9 +141,6 @@ same-session state layout unlinked number object was mid image k l here live loo
     let marked-now : was.dirty ≡ this_id_of (byte image Index) = subst (λ (o : Option Loaded). IfSome o (λ x. x.dirty ≡ this_id_of (byte image Index))) lies (l.session.marked number object here live loose) in
     record { crash = l.session.crash ∙ sym k.session.crash; id = sym marked-now ∙ marked-was }
 
-same-counts : (from mid : Image) (state : State) (layout : Layout) → SameCounters from mid → CountsItems from state layout → CountsItems mid state layout
-same-counts from mid state layout same counts = record { sizes = same.sizes ∙ counts.sizes; num_entries = same.num_entries ∙ counts.num_entries; num_bytes = same.num_bytes ∙ counts.num_bytes }
-
 module _ (state : State) (layout : Layout) (unlinked : List ℕ) (number : ℕ) (object : Object) (node entry signature : ℕ) (from mid image : Image) (k : KeepsParentThen state layout unlinked number object node entry signature from mid) (loose : object.settled ≡ false)
     (kept : KeepsWith [] [] mid image) where
   counted-kept : KeepsUncounted state k.now unlinked image
@@ -153,7 +151,7 @@ module _ (state : State) (layout : Layout) (unlinked : List ℕ) (number : ℕ) 
 
   pub then-counted : (counted : State) (laid : Layout) (entries charge : ℕ) → CountsAfter counted laid state entries charge from → AreCountedMore entries charge mid image → IsCountedThen state layout unlinked number object node entry signature from image
   then-counted counted laid entries charge c more =
-      let all : Keeps state k.now unlinked image = more-counted counted state laid k.now unlinked entries charge mid image (same-counts from mid counted laid k.counters c.counts) (c.more k.now unlinked mid k.parent.kept) k.parent.kept (c.few k.now unlinked mid k.parent.kept) more in
+      let all : Keeps state k.now unlinked image = more-counted counted state laid k.now unlinked entries charge mid image (still-counts from mid counted laid k.counters c.counts) (c.more k.now unlinked mid k.parent.kept) k.parent.kept (c.few k.now unlinked mid k.parent.kept) more in
       record {
         now = k.now;
         parent = record { kept = all.entries; here = k.parent.here; live = k.parent.live; node_is = k.parent.node_is; was = k.parent.was; lies = k.parent.lies; record_is = k.parent.record_is; index = k.parent.index; role = k.parent.role; same = k.parent.same };
@@ -216,7 +214,7 @@ module _ (state : State) (layout : Layout) (number : ℕ) (object : Object) (tar
     -- what is to be counted
     pub counts-after : CountsAfter state layout written_state entries charge mid
     counts-after = record {
-      counts = same-counts from mid state layout k.counters c.kept.counters;
+      counts = still-counts from mid state layout k.counters c.kept.counters;
       more = λ now unlinked end l. subst (λ (s : State). AreMoreItems state s layout now entries charge) (sym state-is)
           (more-listed state number object (object_written object (signature_to target) offset bytes) c.is.here c.is.live c.is.live (sparse_state state number object (signature_to target) offset bytes) layout now [] unlinked from end entries charge c.is.kept
           (subst (λ (s : State). KeepsUncounted s now unlinked end) state-is l) refl c.items_more c.total_more);

@@ -113,7 +113,7 @@ used-one state item image (inr f) = record { first = item ∷ []; others = []; s
 
 module _ (state : State) (layout : Layout) (unlinked : List ℕ) (number : ℕ) (object : Object) (node entry signature : ℕ) (from : Image) (p : KeepsParent state layout unlinked number object node entry signature from) where
   pub none-used : KeepsParentUsed state layout unlinked number object node entry signature [] from from
-  none-used = record { parent = p; counted = λ c. c; counters = record { sizes = refl; num_entries = refl; num_bytes = refl }; session = record { crash = refl; id = refl } }
+  none-used = record { parent = p; counted = λ c. c; counters = refl; session = record { crash = refl; id = refl } }
 
   pub now-found : (items : List Item) → FindsUsed state items from
   now-found items = record { first = []; others = items; split = refl; finds = (p.kept.well_formed, kept-found state layout unlinked from p.kept) }

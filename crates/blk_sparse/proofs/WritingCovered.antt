@@ -146,7 +146,7 @@ none-written state layout unlinked number object node entry signature from offse
       now = layout;
       others = others-same (with_bytes_written state number object offset []) number layout;
       parent = subst (λ (s : State). KeepsParent s layout unlinked number object node entry signature from) (sym states) can.parent;
-      counters = record { sizes = refl; num_entries = refl; num_bytes = refl };
+      counters = refl;
       session = record { crash = refl; id = refl };
     })
 none-written state layout unlinked number object node entry signature from offset (b ∷ bytes) can none image same = absurd (omega (arith, none))

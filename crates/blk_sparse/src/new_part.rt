@@ -351,7 +351,7 @@ pub(crate) fn make_part<F: Folder>(
     requires most { place + length piece.now ≤ part_size }
     requires is_open { ForSome (F.told folder.old).files (IsOpen files.old) }
 
-    // Of each dirty object with such a parent, which lacks the part of this name, the state with the piece written is kept in the end, but for the counters.
+    // For each dirty object that has this parent and lacks this part: in the end the folder keeps the state with the piece written, but for the counters, which come later.
     ensures written { OnOk result (ForSome (F.told folder.old).files (λ from. ForEachLacking parent child.now name.now from (λ state layout unlinked number object node. ForSome (F.told folder.new).files (KeepsParentThen (with_piece_written state number object child.now.part place piece.now) layout unlinked number (with_piece object child.now.part place piece.now) node parent (cast_unsigned w64 child.now.signature) from)))) }
 
     // At each word the old durable contents are recovered: a dirty object isn't durable.

@@ -12,10 +12,8 @@ use blk_addr::{Addr, Kind, blocks_for, kind_for};
 use blk_disk::BlockFiles;
 use blk_entry::record_damage;
 use blk_io::Fault;
+use blk_model::MOST_STREAM;
 use blk_record::{EntryView, Record};
-
-// The most bytes of a stream: as many as a cache may keep.
-const MOST_BYTES: u32 = blk_model::MOST_BYTES as u32;
 
 // The bytes of a stream: how many there are, and where they lie, if there are any.
 #[derive(Clone, Copy)]
@@ -78,7 +76,7 @@ pub(crate) fn place_of(
     ensures damaged { IfDamaged result (IsMisplacedStreamBy files.now entry stream size word) }
     ensures never { IfDevice result ⊥ }
 {
-    if size > MOST_BYTES {
+    if size > MOST_STREAM {
         return Err(record_damage(entry, size_at(stream), size));
     }
     if size == 0 {
@@ -103,7 +101,7 @@ fn no_place(files: &BlockFiles, entry: Addr, stream: u8, word: u32) -> Result<St
     ensures damaged { IfDamaged result (IsMisplacedStreamBy files.now entry stream 0 word) }
     ensures never { IfDevice result ⊥ }
 {
-    // The block files are asked for by the contract alone: what they say of the folder is known once they are named.
+    // Only the contract needs the block files: the proof knows what they say of the folder once they are named here.
     let _files = files;
     if word != 0 {
         return Err(record_damage(entry, addr_at(stream), word));

@@ -13,9 +13,7 @@ use crate::storage::is_stored;
 use blk_audit::RecordWords;
 use blk_disk::BlockFiles;
 use blk_io::{Failed, Folder};
-
-// The most bytes of a stream: as many as a cache may keep.
-const MOST_BYTES: u32 = blk_model::MOST_BYTES as u32;
+use blk_model::MOST_STREAM;
 
 // Whether the three streams of a record are stored as their sizes ask for, and it has no fourth; one folder call for
 // each that is an external file.
@@ -55,7 +53,7 @@ fn has_stream<F: Folder>(
     ensures later { F.faults folder.old ≤ F.faults folder.new }
     ensures failed { OnErr result (Rises (F.faults folder.old) (F.faults folder.new)) }
 {
-    if size > MOST_BYTES {
+    if size > MOST_STREAM {
         return Ok(false);
     }
     is_stored(folder, files, size, word)

@@ -19,6 +19,7 @@ pub mod ExampleUnsettled
 pub mod ExampleUses
 pub mod ExampleWords
 pub mod ExampleWrites
+pub mod FirstVersion
 pub mod OneEntry
 pub mod Premises
 pub mod SmallFolder

@@ -4,7 +4,7 @@ use Rattle.spec_image.specs.Image.{Index, Block, External, Image, has_file, leng
 use Rattle.blk_model.specs.State.{Bounds}
 use Rattle.blk_model.specs.Holding.{open_state}
 use Rattle.spec_format.specs.Address.{header_size}
-use Rattle.spec_format.specs.Headers.{table_length, num_entries_of, num_bytes_of, sizes_of, bucket_of, allocations_of, empty_of, updating_of}
+use Rattle.spec_format.specs.Headers.{count_of, counting, table_length, bucket_of, allocations_of, empty_of, updating_of}
 use Rattle.spec_format.specs.NewFolder.{IsMade}
 use Rattle.spec_format.specs.BlockFiles.{linked_as, max_entries_in, most_blocks, IsWellFormed}
 use Rattle.spec_format.specs.Maps.{is_block_marked}
@@ -19,15 +19,13 @@ use Rattle.spec_folder.specs.StandsFor.{StandsFor}
 abbrev pub NothingRepresentsTheEmptyState : Type 0
 NothingRepresentsTheEmptyState = (limits : Bounds) → Represents no_view (open_state [] limits) no_layout
 
--- the index has no list, no chain and no counts
+-- the index has the version that is made now, no list, no chain and no counts
 pub record IsIndexWithoutEntries (image : Image) : Type 0 where
   pub head : (list_of image).head ≡ 0
   pub tail : (list_of image).tail ≡ 0
   pub transaction : (list_of image).transaction ≡ 0
   pub table : (bucket : ℕ) → bucket < table_length → bucket_of (byte image Index) bucket ≡ 0
-  pub sizes : sizes_of (byte image Index) 0 ≡ 0
-  pub num_entries : num_entries_of (byte image Index) ≡ 0
-  pub num_bytes : num_bytes_of (byte image Index) ≡ 0
+  pub counts : count_of (byte image Index) ≡ counting 0 0
 
 -- a block file has its header, and no block
 pub record IsFileWithoutBlocks (image : Image) (n : ℕ) : Type 0 where

@@ -1,8 +1,8 @@
 -- What the write of a word of the index does to what is shown.
-use Rattle.std.specs.Prelude.{◌≡◌, ℕ, ◌<◌, ◌%◌, false, List, [], ◌∷◌}
-use Rattle.spec_image.specs.Image.{Index, Image, word}
+use Rattle.std.specs.Prelude.{◌≡◌, ℕ, ◌+◌, ◌/◌, ◌^◌, ◌<◌, ◌%◌, false, true, List, [], ◌∷◌}
+use Rattle.spec_image.specs.Image.{Index, Image, byte, word}
 use Rattle.spec_image.specs.Footprint.{SameOutside, one_word}
-use Rattle.spec_format.specs.Headers.{header_length, place_of_bucket, zero_places, heads_place, tails_place, transaction_place, operation_place}
+use Rattle.spec_format.specs.Headers.{count_of, counted_places, header_length, index_version, place_of_bucket, version_place, zero_places, heads_place, tails_place, transaction_place, operation_place}
 use Rattle.spec_format.specs.BlockFiles.{is_among, stands_in, IsWellFormed}
 use Rattle.spec_folder.specs.ListView.{ListWrite, Head, Tail, Transaction, Operation, put}
 use Rattle.spec_folder.specs.View.{list_of, store_of, view_of}
@@ -12,6 +12,12 @@ use Rattle.spec_folder.specs.ShownChanges.{OnlyListChanges}
 pub record IsIndexWord (at x : ℕ) (from image : Image) : Type 0 where
   pub there : word image Index at ≡ x
   pub outside : SameOutside (one_word Index at) from image
+
+-- two of them side by side are a number of eight bytes, of which the low word is written first
+pub record IsIndexLong (at x : ℕ) (from image : Image) : Type 0 where
+  pub between : Image
+  pub low : IsIndexWord at (x % 2 ^ 32) from between
+  pub high : IsIndexWord (at + 4) (x / 2 ^ 32) between image
 
 -- the head of the LRU list, the tail, the transaction and the operation are each written as one write into the list
 abbrev pub IsListWord : ℕ → (ℕ → ListWrite) → Type 0
@@ -49,6 +55,14 @@ checked_words = 0 ∷ 4 ∷ 24 ∷ 28 ∷ 36 ∷ zero_places
 -- the write of another word keeps a folder well formed
 abbrev pub OtherWordsAreNotChecked : Type 0
 OtherWordsAreNotChecked = (from image : Image) (at : ℕ) → at % 4 ≡ 0 → is_among checked_words at ≡ false → SameOutside (one_word Index at) from image → IsWellFormed from → IsWellFormed image
+
+-- and so does the write of the version that is made now, whichever of the two it was
+abbrev pub VersionsMayBeRaised : Type 0
+VersionsMayBeRaised = (from image : Image) → IsIndexWord version_place index_version from image → IsWellFormed from → IsWellFormed image
+
+-- a change of the index that spares the words that say what it counts leaves that
+abbrev pub OtherBytesAreNotCounted : Type 0
+OtherBytesAreNotCounted = (from image : Image) → ((p : ℕ) → is_among counted_places p ≡ true → word image Index p ≡ word from Index p) → count_of (byte image Index) ≡ count_of (byte from Index)
 
 -- and so does the write of the word of a bucket
 abbrev pub BucketsAreNotChecked : Type 0

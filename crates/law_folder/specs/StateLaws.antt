@@ -6,8 +6,8 @@ use Rattle.std.specs.declared.option.Option.TheVariants.{Some}
 use Rattle.blk_model.specs.Items.{Item, main, part}
 use Rattle.blk_model.specs.State.{State, Object, IsValidState}
 use Rattle.blk_model.specs.Holding.{rows, rest}
-use Rattle.spec_image.specs.Image.{Image}
-use Rattle.spec_format.specs.Headers.{unfinished}
+use Rattle.spec_image.specs.Image.{Image, Index, byte}
+use Rattle.spec_format.specs.Headers.{index_version, unfinished, version_of}
 use Rattle.spec_format.specs.Claims.{Claim}
 use Rattle.spec_format.specs.BlockFiles.{IsWellFormed}
 use Rattle.spec_folder.specs.ListView.{Distinct}
@@ -54,9 +54,9 @@ FoundIsAtRest = (image : Image) (state : State) (layout : Layout) → Represents
 abbrev pub RepresentedStatesAreShown : Type 0
 RepresentedStatesAreShown = (image : Image) (state : State) (layout : Layout) (numbers : List ℕ) → Represents (view_of image) state layout → IsValidState state → AllIsOwned image state layout numbers → ShowsState (view_of image) state
 
--- and an image stands for it where it is well formed, its maps are exact, and its files, counters and seals are in order
+-- and an image stands for it where it is well formed, its index has the version that is made now, its maps are exact, and its files, counters and seals are in order
 abbrev pub RepresentedStatesAreStoodFor : Type 0
-RepresentedStatesAreStoodFor = (image : Image) (state : State) (layout : Layout) (numbers : List ℕ) → Represents (view_of image) state layout → IsValidState state → AllIsOwned image state layout numbers → IsWellFormed image
+RepresentedStatesAreStoodFor = (image : Image) (state : State) (layout : Layout) (numbers : List ℕ) → Represents (view_of image) state layout → IsValidState state → AllIsOwned image state layout numbers → IsWellFormed image → version_of (byte image Index) ≡ index_version
     → IsInOrder image (kept_by listed_rule (view_of image)) (map (λ d. d.1) (doomed_of layout numbers)) → StandsFor image state
 
 -- files, counters and seals that are in order by a layout are so for what is listed and doomed

@@ -2,7 +2,7 @@
 //
 // They lead from the bytes that a write changes to what is shown: the LRU list, what each node says, the table, the chains, the records and data.
 ghost use Rattle.law_folder.specs.BlockWrites.{WritesStayInside, UpdatesStayInside, ListChangesBegin, ListChangesAdd};
-ghost use Rattle.law_folder.specs.IndexWrites.{HeadsAreWritten, TailsAreWritten, TransactionsAreWritten, OperationsAreWritten, OtherWordsAreNotShown, BucketsAreWritten, OtherWordsAreNotChecked, BucketsAreNotChecked, IndexWordsStandApart};
+ghost use Rattle.law_folder.specs.IndexWrites.{HeadsAreWritten, TailsAreWritten, TransactionsAreWritten, OperationsAreWritten, OtherWordsAreNotShown, BucketsAreWritten, OtherWordsAreNotChecked, VersionsMayBeRaised, OtherBytesAreNotCounted, BucketsAreNotChecked, IndexWordsStandApart};
 ghost use Rattle.law_folder.specs.NodeUpdates.{NextsAreWritten, PrevsAreWritten, TimesAreNotShown, ContentsAreWritten, DirtyWordsAreWritten};
 ghost use Rattle.law_folder.specs.RecordUpdates.{ChainNextsAreWritten, FieldsAreWritten};
 
@@ -33,8 +33,8 @@ pub fn records_are_written()
     ensures fields { FieldsAreWritten }
 {}
 
-/// A word of the index that is written is a write into the LRU list, the word of a bucket, or not shown; few of them are checked, and none says what is
-/// valid.
+/// A word of the index that is written is a write into the LRU list, the word of a bucket, or not shown; few of them are checked or counted, the
+/// version may be raised, and none says what is valid.
 pub fn index_words_are_written()
     ensures head { HeadsAreWritten }
     ensures tail { TailsAreWritten }
@@ -43,6 +43,8 @@ pub fn index_words_are_written()
     ensures hidden { OtherWordsAreNotShown }
     ensures buckets { BucketsAreWritten }
     ensures checked { OtherWordsAreNotChecked }
+    ensures raised { VersionsMayBeRaised }
+    ensures counted { OtherBytesAreNotCounted }
     ensures table { BucketsAreNotChecked }
     ensures stands { IndexWordsStandApart }
 {}

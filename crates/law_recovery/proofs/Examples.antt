@@ -1,11 +1,12 @@
 -- Worked folders: a sound one, in which nothing is left to repair, and one of which a node is dropped.
-use Rattle.std.proofs.Common.{false, ◌++◌, ◌≡◌, ℕ, zero, suc, List, [], ◌∷◌, refl, ap, ◌∙◌, subst, arith, lit<}
-use Rattle.std.specs.Prelude.{map}
+use Rattle.std.proofs.Common.{false, true, ◌++◌, ◌≡◌, ℕ, zero, suc, List, [], ◌∷◌, length, refl, sym, ap, ◌∙◌, subst, arith, lit<}
+use Rattle.std.specs.Prelude.{◌==◌, map}
+use Rattle.std.specs.List.{sum_by}
 use Rattle.spec_format.specs.NewFolder.{new_index_words, new_file_words}
-use Rattle.spec_format.specs.Headers.{index_length}
+use Rattle.spec_format.specs.Headers.{first_version, index_length}
 use Rattle.spec_image.specs.Steps.{with_words}
 use Rattle.spec_image.specs.Bytes.{zeros, word_bytes}
-use Rattle.spec_image.specs.Image.{Index, Block, External, File, bytes_of}
+use Rattle.spec_image.specs.Image.{Index, Block, External, File, byte, bytes_of}
 use Rattle.spec_image.specs.Steps.{Delete, Word, applied, after}
 use Rattle.spec_image.specs.Told.{Along}
 use Rattle.spec_image.proofs.Footprints.{outside_write, outside_step}
@@ -15,13 +16,15 @@ use Rattle.blk_model.specs.Items.{IsValidHolding}
 use Rattle.spec_folder.specs.View.{view_of}
 use Rattle.spec_folder.specs.Completion.{remove}
 use Rattle.spec_folder.specs.Loads.{Loaded}
-use Rattle.spec_folder.specs.Found.{kept, found}
+use Rattle.spec_folder.specs.Found.{charge_of, kept, found}
 use Rattle.spec_folder.specs.Layout.{Represents}
 use Rattle.spec_folder.specs.StandsFor.{StandsFor}
 use Rattle.spec_folder.specs.ListImages.{IsWritable, completed_walk, operation_steps}
-use Rattle.law_folder.proofs.examples.ExampleFolders.{whole-is_kept, whole-is_sound}
+use Rattle.law_folder.proofs.examples.ExampleFolders.{whole-counts, whole-is_kept, whole-is_sound}
+use Rattle.law_folder.proofs.examples.FirstVersion.{first_folder, first-version}
 use Rattle.law_folder.proofs.examples.ExampleUses.{whole-writable}
 use Rattle.law_folder.proofs.examples.ExampleWrites.{small-zeros}
+use Rattle.spec_format.proofs.Counts.{its-version}
 use Rattle.spec_format.proofs.Finished.{whole_index}
 use Rattle.law_folder.proofs.updates.Prefixes.{AreSmall, small-take, small-words}
 use Rattle.law_folder.proofs.examples.SmallFolder.{cut_to, cut_is_well_formed, cut_is_walked, cut_is_kept}
@@ -58,7 +61,12 @@ use Rattle.law_recovery.proofs.SoundFolders.{sound-mended, mended-none}
 -- ---- a sound folder
 
 whole-mended : IsMended whole_folder
-whole-mended = sound-mended whole_folder whole-is_sound
+whole-mended = sound-mended whole_folder whole-is_sound (its-version (byte whole_folder Index) 1 3 whole-counts)
+
+-- a folder of the first version is sound, and its version is to be raised
+first-is_not_mended : IsMended first_folder → ⊥
+first-is_not_mended mended =
+    let c : true ≡ false = ap (λ (v : ℕ). v == first_version) (sym first-version ∙ its-version (byte first_folder Index) (length (kept first_folder)) (sum_by charge_of (kept first_folder)) mended.counters) in cc
 
 whole-links : HasMendedLinks whole_folder
 whole-links = whole-mended.links

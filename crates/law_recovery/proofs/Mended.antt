@@ -1,11 +1,12 @@
 -- A repaired folder stands for what it holds, opened, and is sound.
 use Rattle.std.proofs.Common.{◌≡◌, ⊎_elim, ℕ, ◌<◌, true, false, List, [], ◌∷◌, ◌++◌, Option, Some, None, refl, sym, ap, ap₂, ◌∙◌, subst}
-use Rattle.std.specs.Prelude.{map, is_some}
+use Rattle.std.specs.Prelude.{length, map, is_some}
 use Rattle.std.specs.Option.{option_map}
-use Rattle.std.specs.List.{AllByRecursion, flat_map}
+use Rattle.std.specs.List.{AllByRecursion, flat_map, sum_by}
 use Rattle.spec_folder.specs.ListView.{last_or}
 use Rattle.std.proofs.lemmas.Bool.{cases_Bool, eqb-true, eq-eqb}
-use Rattle.spec_image.specs.Image.{Image, AreBytes}
+use Rattle.spec_image.specs.Image.{Image, AreBytes, Index, byte}
+use Rattle.spec_format.proofs.Counts.{counts-as, its-version}
 use Rattle.blk_model.specs.Items.{IsValidHolding}
 use Rattle.blk_model.specs.State.{Bounds, State}
 use Rattle.blk_model.specs.Holding.{open_state}
@@ -33,7 +34,7 @@ use Rattle.law_recovery.specs.Mended.{IsMended, MendedFoldersStandFor, MendedFol
 use Rattle.law_recovery.proofs.OneOwner.{kept-claim_once}
 use Rattle.law_recovery.proofs.FoundHolding.{found-holding}
 use Rattle.spec_folder.specs.Shown.{IsShown}
-use Rattle.spec_folder.specs.Found.{kept, found, dropped, completed}
+use Rattle.spec_folder.specs.Found.{charge_of, kept, found, dropped, completed}
 use Rattle.spec_folder.specs.Layout.{Layout, order}
 use Rattle.spec_folder.specs.ListImages.{walked}
 use Rattle.law_folder.proofs.states.Bare.{no-record}
@@ -69,9 +70,7 @@ mended-in_order image mended = record {
   counted = λ n linked. subst (λ (ks : List Loaded). CountersAgree image (flat_map words_of ks) n) (sym (append-none (kept image))) (mended.files.counted n linked);
   index = record {
     tail = mended.links.rests.whole.tail_is ∙ ap (last_or 0) (sym (kept-walked image mended.links));
-    sizes = mended.counters.sizes;
-    num_entries = mended.counters.num_entries;
-    num_bytes = mended.counters.num_bytes;
+    counts = counts-as (byte image Index) (length (kept image)) (sum_by charge_of (kept image)) mended.counters;
   };
   sealed = subst (AllByRecursion (AreSealed image)) (sym (append-none (kept image))) mended.sealed;
 }
@@ -153,6 +152,7 @@ module _ (image : Image) (limits : Bounds) (mended : IsMended image) (valid : Is
   mended-stands : StandsFor image state_of
   mended-stands =
       stands-for image state_of layout_of (mended-represents image limits links_of valid) (open_valid (found image) limits valid) [] allocated-here links_of.well_formed
+      (its-version (byte image Index) (length (kept image)) (sum_by charge_of (kept image)) mended.counters)
       (subst (λ (ks : List Loaded). IsInOrder image ks []) (sym listed-same) (mended-in_order image mended))
 
 pub mended-folders : MendedFoldersStandFor

@@ -17,7 +17,7 @@ use Rattle.spec_format.specs.Sealed.{IsMidUpdate, record_at, seal_place}
 use Rattle.spec_folder.specs.ListImages.{IsWritable}
 use Rattle.law_folder.proofs.claims.Covers.{externals-covered}
 use Rattle.law_folder.proofs.claims.Files.{unlinked-go}
-use Rattle.law_folder.proofs.updates.IndexWords.{others-hidden, others-unchecked, same-shown}
+use Rattle.law_folder.proofs.updates.IndexWords.{others-hidden, others-unchecked, same-shown, versions-raised}
 use Rattle.law_folder.proofs.states.Laid.{same_claim-eq}
 use Rattle.law_folder.proofs.updates.Nodes.{times-hidden}
 use Rattle.law_folder.proofs.lists.Walked.{walks-distinct}
@@ -65,7 +65,7 @@ use Rattle.spec_folder.specs.Audit.{kept_as}
 use Rattle.law_recovery.specs.ChainRepair.{kept_records, KeepsAllWalked}
 use Rattle.spec_folder.specs.Footprint.{is_absent}
 use Rattle.law_recovery.specs.MendedLinks.{HasMendedLinks}
-use Rattle.law_recovery.specs.MendedChanges.{KeepsMendedLinks, RepairedLinksAreKept, MendedLinksGoOn, LinksAreMidRepair, MendedLinksAreMidRepair, IsUnkept, MendedLinksStayOutside, MendedLinksMayGrow, UnlinkedFilesMayBeDeleted, UnclaimedFilesMayChange, HiddenWordsMayChange, KeptNodesMayBeSealed, KeptRecordsMayBeSealed}
+use Rattle.law_recovery.specs.MendedChanges.{KeepsMendedLinks, RepairedLinksAreKept, MendedLinksGoOn, LinksAreMidRepair, MendedLinksAreMidRepair, IsUnkept, MendedLinksStayOutside, MendedLinksMayGrow, UnlinkedFilesMayBeDeleted, UnclaimedFilesMayChange, HiddenWordsMayChange, VersionsMayChange, KeptNodesMayBeSealed, KeptRecordsMayBeSealed}
 use Rattle.law_recovery.proofs.ChainRepair.{shown, given-some, kept-from, IsKeptRecord, of-test}
 use Rattle.law_folder.proofs.claims.Files.{growth-absent, words-there}
 use Rattle.law_folder.proofs.walks.Kept.{kept-nodes}
@@ -253,15 +253,22 @@ unclaimed-change from image n mended unclaimed same =
           (λ (e : same_claim claim (ExternalOf n) ≡ false). e)
           (cases_Bool (same_claim claim (ExternalOf n)))
 
-pub hidden-change : HiddenWordsMayChange
-hidden-change from image at mended aligned inside hidden unchecked same =
-    let views : view_of image ≡ view_of from = others-hidden from image at aligned inside hidden same in
-    none-touched from image mended (others-unchecked from image at aligned unchecked same mended.well_formed)
+-- a folder that is well formed and shows the same
+same-view : (from image : Image) → HasMendedLinks from → IsWellFormed image → view_of image ≡ view_of from → KeepsMendedLinks from image
+same-view from image mended well views =
+    none-touched from image mended well
     (subst (SameBut (λ claim. false) (view_of from)) (sym views) (record {
       links = record { head = refl; tail = refl; transaction = refl; checks = λ w c. refl; next = λ w c. refl; prev = λ w c. refl };
       store = (same-shown (store_of from)).store;
       table = λ b. refl;
     }))
+
+pub hidden-change : HiddenWordsMayChange
+hidden-change from image at mended aligned inside hidden unchecked same =
+    same-view from image mended (others-unchecked from image at aligned unchecked same mended.well_formed) (others-hidden from image at aligned inside hidden same)
+
+pub version-change : VersionsMayChange
+version-change from image mended is = same-view from image mended (versions-raised from image is mended.well_formed) (others-hidden from image 4 refl (omega arith) refl is.outside)
 
 -- ---- seals
 

@@ -1,5 +1,5 @@
 -- What leaves repaired files and seals as they are.
-use Rattle.std.proofs.Common.{◌%◌, ◌^◌, ◌<◌, ◌⊎◌, arith, ⊎_elim, Some, false, ◌≡◌, ℕ, ◌+◌, ◌≤◌, Bool, true, List, [], ◌∷◌, length, Option, refl, ap, sym, ◌∙◌, subst}
+use Rattle.std.proofs.Common.{◌%◌, ◌<◌, ◌⊎◌, arith, ⊎_elim, Some, false, ◌≡◌, ℕ, ◌+◌, ◌≤◌, Bool, true, List, [], ◌∷◌, length, Option, refl, ap, sym, ◌∙◌, subst}
 use Rattle.std.specs.Prelude.{nat_le, nat_lt, ◌&&◌, is_some}
 use Rattle.std.specs.Option.{unwrap_or}
 use Rattle.std.specs.List.{AllByRecursion, flat_map}
@@ -12,7 +12,8 @@ use Rattle.spec_image.specs.Footprint.{one_word, whole}
 use Rattle.spec_image.specs.Steps.{Delete, applied}
 use Rattle.spec_image.proofs.Footprints.{same_file_outside}
 use Rattle.spec_format.specs.Address.{file_selector, place, block_place}
-use Rattle.spec_format.specs.Headers.{allocations_of, empty_of, max_entries_of, next_file_of, updating_of}
+use Rattle.spec_format.proofs.Counts.{same-count}
+use Rattle.spec_format.specs.Headers.{allocations_of, counted_places, counting, empty_of, max_entries_of, next_file_of, updating_of}
 use Rattle.spec_format.specs.Records.{node_in, entry_in, node_is_sealed, entry_is_sealed}
 use Rattle.spec_format.specs.Claims.{Claim, BlockOf, ExternalOf, has_claim}
 use Rattle.spec_format.specs.BlockFiles.{linked_as, max_entries_in, next_file_in}
@@ -135,12 +136,10 @@ rebuilt-mended image each long = record {
 
 pub counters-left : OtherWordsLeaveCounters
 counters-left from image at aligned other outside keeps counters =
-    let still : (p : ℕ) → p % 4 ≡ 0 → is_among (8 ∷ 12 ∷ 268 ∷ []) p ≡ true → word_at (byte image Index) p ≡ word_at (byte from Index) p = λ p even there.
-    same_word_outside (one_word Index at) from image Index p outside (λ k low high. apart p k low high (beside p at even aligned (not-among (8 ∷ 12 ∷ 268 ∷ []) p at there other))) in
-    record {
-      sizes = still 268 refl refl ∙ counters.sizes ∙ ap length (sym keeps.kept_same);
-      num_entries = still 8 refl refl ∙ counters.num_entries ∙ ap length (sym keeps.kept_same);
-      num_bytes = still 12 refl refl ∙ counters.num_bytes ∙ ap (λ (ks : List Loaded). sum_by charge_of ks % 2 ^ 32) (sym keeps.kept_same);
-    } where
-      apart : (p k : ℕ) → p ≤ k → k < p + 4 → (p + 4 ≤ at) ⊎ (at + 4 ≤ p) → (nat_le at k && nat_lt k (at + 4)) ≡ false
-      apart p k low high away = grind (arith, nat_tests)
+    let still : (p : ℕ) → p % 4 ≡ 0 → is_among counted_places p ≡ true → word_at (byte image Index) p ≡ word_at (byte from Index) p = λ p even there.
+    same_word_outside (one_word Index at) from image Index p outside (λ k low high. apart p k low high (beside p at even aligned (not-among counted_places p at there other))) in
+    same-count (byte image Index) (byte from Index) (still 4 refl refl) (still 8 refl refl) (still 12 refl refl) (still 48 refl refl) (still 52 refl refl) (still 268 refl refl)
+    ∙ counters ∙ ap (λ (ks : List Loaded). counting (length ks) (sum_by charge_of ks)) (sym keeps.kept_same)
+  where
+    apart : (p k : ℕ) → p ≤ k → k < p + 4 → (p + 4 ≤ at) ⊎ (at + 4 ≤ p) → (nat_le at k && nat_lt k (at + 4)) ≡ false
+    apart p k low high away = grind (arith, nat_tests)

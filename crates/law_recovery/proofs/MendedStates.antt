@@ -3,6 +3,7 @@ use Rattle.std.proofs.Common.{◌≡◌, ℕ, true, List, [], ◌++◌, ◌∷�
 use Rattle.std.specs.List.{AllByRecursion, flat_map, sum_by}
 use Rattle.std.proofs.lemmas.List.{length-map}
 use Rattle.spec_image.specs.Image.{Image}
+use Rattle.spec_format.specs.Headers.{counting}
 use Rattle.blk_model.specs.Items.{IsValidHolding, item_of}
 use Rattle.blk_model.specs.State.{Bounds, State}
 use Rattle.blk_model.specs.Holding.{open_state}
@@ -57,9 +58,7 @@ module _ (image : Image) (limits : Bounds) (mended : IsMended image) (valid : Is
     only_linked = mended.only.only_linked;
     long_enough = mended.files.long_enough;
     counted = λ n linked. subst (λ (ks : List Loaded). CountersAgree image (flat_map words_of ks) n) (sym all-loaded) (mended.files.counted n linked);
-    sizes = mended.counters.sizes ∙ many;
-    num_entries = mended.counters.num_entries ∙ many;
-    num_bytes = mended.counters.num_bytes ∙ ap (λ (ks : List Loaded). sum_by charge_of ks % 2 ^ 32) (sym loaded-is);
+    counts = mended.counters ∙ ap (λ (n : ℕ). counting n (sum_by charge_of (kept image))) many ∙ ap (λ (ks : List Loaded). counting (length state.uses) (sum_by charge_of ks)) (sym loaded-is);
     sealed = sealed-at;
   }
 

@@ -2,12 +2,14 @@
 use Rattle.std.proofs.Common.{inl, inr, ◌≡◌, ◌≢◌, ◌⊎◌, ◌^◌, length, ⊎_elim, ℕ, zero, suc, ◌+◌, ◌<◌, ◌≤◌, Bool, true, false, not, List, [], ◌∷◌, ◌++◌, Option, Some, None, Ok, Err, refl, ap, sym, ◌∙◌, subst, arith}
 use Rattle.std.specs.Prelude.{◌==◌, ◌&&◌, map, is_some}
 use Rattle.std.specs.Option.{option_map_or}
-use Rattle.std.specs.List.{AllByRecursion, filter, filter_map, flat_map, cons_option, range_with_len}
+use Rattle.std.specs.List.{AllByRecursion, filter, filter_map, flat_map, cons_option, range_with_len, sum_by}
 use Rattle.std.specs.declared.result.Result.{Result}
 use Rattle.std.proofs.lemmas.Bool.{cases_Bool, and_parts, eq-eqb, eqb-true, or_left, or_right}
 use Rattle.std.proofs.lemmas.Bool.Decides.{eqb_tells}
 use Rattle.std.proofs.Math.Dec.{eqb}
-use Rattle.spec_image.specs.Image.{Image}
+use Rattle.spec_image.specs.Image.{Image, Index, byte}
+use Rattle.spec_format.specs.Headers.{index_version, version_of}
+use Rattle.spec_format.proofs.Counts.{counted-now}
 use Rattle.spec_format.specs.BlockFiles.{is_among}
 use Rattle.spec_folder.specs.ListView.{ListView, IsList, Distinct, Segment, last_or}
 use Rattle.spec_folder.specs.Completion.{completed_list}
@@ -17,7 +19,7 @@ use Rattle.spec_folder.specs.Chains.{chain, chain_from, is_of_bucket, is_reached
 use Rattle.spec_folder.specs.Loads.{Rule, held_rule, Loaded}
 use Rattle.spec_folder.specs.Reasons.{Reason}
 use Rattle.spec_folder.specs.Audit.{kept_of, judged, verdict, verdicts, verdict_on, with_verdict, tried, dropped_of, dropped_among, is_kept, kept_nodes, is_unlisted, unlisted_in, unlisted}
-use Rattle.spec_folder.specs.Found.{kept, dropped, completed}
+use Rattle.spec_folder.specs.Found.{charge_of, kept, dropped, completed}
 use Rattle.spec_folder.specs.Sound.{EndsWhole, IsSound, CountersAgree, AreSealed, words_of}
 use Rattle.spec_folder.specs.ListImages.{walked, completion_steps, HasListAtRest}
 use Rattle.spec_image.specs.Steps.{TrailStep, after}
@@ -200,17 +202,17 @@ module _ (image : Image) (sound : IsSound image) where
   links-mended : HasMendedLinks image
   links-mended = record { well_formed = sound.well_formed; rests = rests; all_kept = all-kept; chains = chains }
 
-  folder-mended : IsMended image
-  folder-mended = record {
+  folder-mended : version_of (byte image Index) ≡ index_version → IsMended image
+  folder-mended version = record {
     links = links-mended;
     files = record { maps = sound.owned.maps; counted = λ n linked. subst (λ (ks : List Loaded). CountersAgree image (flat_map words_of ks) n) (append-none (kept image)) (sound.in_order.counted n linked); long_enough = sound.in_order.long_enough };
     only = record { only_linked = sound.in_order.only_linked; only_claimed = sound.owned.only_claimed };
     sealed = subst (AllByRecursion (AreSealed image)) (append-none (kept image)) sound.in_order.sealed;
-    counters = record { sizes = sound.in_order.index.sizes; num_entries = sound.in_order.index.num_entries; num_bytes = sound.in_order.index.num_bytes };
+    counters = counted-now (byte image Index) (length (kept image)) (sum_by charge_of (kept image)) sound.in_order.index.counts version;
   }
 
 pub sound-mended : SoundFoldersAreMended
-sound-mended image sound = folder-mended image sound
+sound-mended image sound version = folder-mended image sound version
 
 -- ---- what is repaired needs no step
 

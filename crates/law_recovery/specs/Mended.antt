@@ -1,10 +1,10 @@
 -- Folders in which nothing is left to repair: they stand for what they hold, opened.
-use Rattle.std.specs.Prelude.{◌≡◌, ◌%◌, ◌^◌, ℕ, true, length, is_some}
+use Rattle.std.specs.Prelude.{◌≡◌, ℕ, true, length, is_some}
 use Rattle.std.specs.List.{AllByRecursion, flat_map, sum_by}
 use Rattle.spec_image.specs.Image.{Index, Image, AreBytes, byte}
 use Rattle.blk_model.specs.State.{Bounds}
 use Rattle.blk_model.specs.Holding.{open_state}
-use Rattle.spec_format.specs.Headers.{sizes_of, num_entries_of, num_bytes_of}
+use Rattle.spec_format.specs.Headers.{count_of, counting, index_version, version_of}
 use Rattle.spec_format.specs.BlockFiles.{linked_as}
 use Rattle.spec_folder.specs.Loads.{claims_of_loaded}
 use Rattle.spec_folder.specs.Found.{charge_of, kept, found}
@@ -29,11 +29,9 @@ pub record HasOnlyKeptFiles (image : Image) : Type 0 where
 abbrev pub AreKeptSealed : Image → Type 0
 AreKeptSealed image = AllByRecursion (AreSealed image) (kept image)
 
--- the counters of the index count what is kept
-pub record HasMendedCounters (image : Image) : Type 0 where
-  pub sizes : sizes_of (byte image Index) 0 ≡ length (kept image)
-  pub num_entries : num_entries_of (byte image Index) ≡ length (kept image)
-  pub num_bytes : num_bytes_of (byte image Index) ≡ sum_by charge_of (kept image) % 2 ^ 32
+-- the index, of the version that is made now, counts what is kept
+abbrev pub HasMendedCounters : Image → Type 0
+HasMendedCounters image = count_of (byte image Index) ≡ counting (length (kept image)) (sum_by charge_of (kept image))
 
 -- all of it, and the links
 pub record IsMended (image : Image) : Type 0 where
@@ -51,6 +49,6 @@ MendedFoldersStandFor = (image : Image) (limits : Bounds) → IsMended image →
 abbrev pub MendedFoldersAreSound : Type 0
 MendedFoldersAreSound = (image : Image) → IsMended image → AreBytes image → IsSound image
 
--- a sound folder needs no repair
+-- a sound folder whose index has the version that is made now needs no repair
 abbrev pub SoundFoldersAreMended : Type 0
-SoundFoldersAreMended = (image : Image) → IsSound image → IsMended image
+SoundFoldersAreMended = (image : Image) → IsSound image → version_of (byte image Index) ≡ index_version → IsMended image

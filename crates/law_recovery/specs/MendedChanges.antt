@@ -3,11 +3,11 @@ use Rattle.std.specs.Prelude.{◌≡◌, ◌<◌, ◌%◌, ℕ, Bool, true, fals
 use Rattle.spec_image.specs.Image.{Index, Block, External}
 use Rattle.spec_image.specs.Footprint.{SameOutside, one_word, whole}
 use Rattle.spec_image.specs.Steps.{Delete, applied}
-use Rattle.spec_format.specs.Headers.{header_length}
+use Rattle.spec_format.specs.Headers.{header_length, index_version, version_place}
 use Rattle.spec_format.specs.Claims.{ExternalOf}
 use Rattle.spec_format.specs.BlockFiles.{linked_as}
 use Rattle.spec_format.specs.Growth.{StaysWhole}
-use Rattle.law_folder.specs.IndexWrites.{shown_words, checked_words}
+use Rattle.law_folder.specs.IndexWrites.{IsIndexWord, shown_words, checked_words}
 use Rattle.law_recovery.specs.ListRepair.{HoldsTheSame}
 use Rattle.law_recovery.specs.ChainRepair.{is_kept_record}
 use Rattle.spec_image.specs.Image.{Image}
@@ -74,6 +74,10 @@ UnclaimedFilesMayChange = (from image : Image) (n : ℕ) → HasMendedLinks from
 -- and the write of a word of the index's header that is neither shown nor checked: a counter, the number of the session, the crash word
 abbrev pub HiddenWordsMayChange : Type 0
 HiddenWordsMayChange = (from image : Image) (at : ℕ) → HasMendedLinks from → at % 4 ≡ 0 → at < header_length → is_among shown_words at ≡ false → is_among checked_words at ≡ false → SameOutside (one_word Index at) from image → KeepsMendedLinks from image
+
+-- and the write of the version that is made now
+abbrev pub VersionsMayChange : Type 0
+VersionsMayChange = (from image : Image) → HasMendedLinks from → IsIndexWord version_place index_version from image → KeepsMendedLinks from image
 
 -- Seals of what is kept.
 

@@ -15,7 +15,7 @@ use Rattle.law_recovery.specs.MendedLinks.{HasMendedLinks}
 use Rattle.law_recovery.specs.MendedChanges.{KeepsMendedLinks}
 use Rattle.std.specs.Prelude.{◌≡◌}
 use Rattle.std.specs.List.{filter}
-use Rattle.spec_format.specs.Headers.{updating_of, counter_places}
+use Rattle.spec_format.specs.Headers.{updating_of, counted_places}
 use Rattle.spec_format.specs.Claims.{claims_of_all, is_in_file}
 use Rattle.spec_format.specs.Maps.{AreAllocations, EmptyAgrees}
 use Rattle.law_recovery.specs.RecordSeals.{IsSealedAt}
@@ -59,9 +59,9 @@ MendedFilesStand = (footprint : Footprint) (from image : Image) → IsBehindHead
 abbrev pub IndexWordsLeaveSeals : Type 0
 IndexWordsLeaveSeals = (from image : Image) (at : ℕ) → SameOutside (one_word Index at) from image → KeepsMendedLinks from image → AreKeptSealed from → AreKeptSealed image
 
--- any other word of the index leaves them
+-- a word of the index that says nothing of what is counted leaves that
 abbrev pub OtherWordsLeaveCounters : Type 0
-OtherWordsLeaveCounters = (from image : Image) (at : ℕ) → at % 4 ≡ 0 → is_among counter_places at ≡ false → SameOutside (one_word Index at) from image → KeepsMendedLinks from image → HasMendedCounters from → HasMendedCounters image
+OtherWordsLeaveCounters = (from image : Image) (at : ℕ) → at % 4 ≡ 0 → is_among counted_places at ≡ false → SameOutside (one_word Index at) from image → KeepsMendedLinks from image → HasMendedCounters from → HasMendedCounters image
 
 -- once the nodes and the records of what is kept are sealed, it is
 abbrev pub KeptAreSealed : Type 0

@@ -7,7 +7,7 @@ ghost use Rattle.law_recovery.specs.ListRepair.{ListsAreRepaired, CompletedLists
 ghost use Rattle.law_recovery.specs.ChainRepair.{ChainsAreRepaired, ChainsBegin, BucketsAreMended, WholeChainsNeedNoSteps, ChainRepairsEnd, KeptRecordsStay, WholeChainsStay, KeptNodesCheck, KeptRecordsCheck};
 ghost use Rattle.law_recovery.specs.LinkRepair.{LinksAreRepaired, MendedChainsAreMendedLinks, MendedLinksNeedNoSteps, LinkRepairsMayBeStopped};
 ghost use Rattle.law_recovery.specs.MendedLinks.{MendedLinksRepresent};
-ghost use Rattle.law_recovery.specs.MendedChanges.{RepairedLinksAreKept, MendedLinksGoOn, LinksAreMidRepair, MendedLinksAreMidRepair, MendedLinksStayOutside, MendedLinksMayGrow, UnlinkedFilesMayBeDeleted, UnclaimedFilesMayChange, HiddenWordsMayChange, KeptNodesMayBeSealed, KeptRecordsMayBeSealed};
+ghost use Rattle.law_recovery.specs.MendedChanges.{RepairedLinksAreKept, MendedLinksGoOn, LinksAreMidRepair, MendedLinksAreMidRepair, MendedLinksStayOutside, MendedLinksMayGrow, UnlinkedFilesMayBeDeleted, UnclaimedFilesMayChange, HiddenWordsMayChange, VersionsMayChange, KeptNodesMayBeSealed, KeptRecordsMayBeSealed};
 ghost use Rattle.law_recovery.specs.Mended.{MendedFoldersStandFor, MendedFoldersAreSound, SoundFoldersAreMended};
 ghost use Rattle.law_recovery.specs.MendedStates.{MendedFoldersHaveTheirState};
 ghost use Rattle.law_recovery.specs.MendedParts.{KeptWordsStand, KeptWordsClaim, RebuiltFilesAreMended, UnlinkedFilesLeaveTheOthers, ExternalFilesLeaveTheBlocks, MendedFilesStand, IndexWordsLeaveSeals, OtherWordsLeaveCounters, KeptAreSealed};
@@ -97,6 +97,7 @@ pub fn mended_links_stay_outside()
     ensures unlinked { UnlinkedFilesMayBeDeleted }
     ensures unclaimed { UnclaimedFilesMayChange }
     ensures words { HiddenWordsMayChange }
+    ensures version { VersionsMayChange }
 {}
 
 /// They stay so at each word at which what is kept is sealed.

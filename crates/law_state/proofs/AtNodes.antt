@@ -21,6 +21,7 @@ use Rattle.law_folder.proofs.states.Marking.{repeats-apart}
 use Rattle.law_folder.proofs.claims.Outside.{AreClear, all-clear}
 use Rattle.law_state.specs.Keeping.{KeepsUncounted}
 use Rattle.law_state.specs.RecordLaws.{RecordUpdatesChangeOnly, RecordUpdatesLeaveCounters}
+use Rattle.law_state.proofs.Counts.{count-still}
 use Rattle.law_state.proofs.Writes.{block-writes}
 
 pub updates-change : RecordUpdatesChangeOnly
@@ -30,7 +31,7 @@ pub index-word : (from image : Image) (w p : ℕ) → SameOutside (record_range 
 index-word from image w p same = same_word_outside (record_range w) from image Index p same (λ k low high. refl)
 
 pub updates-leave : RecordUpdatesLeaveCounters
-updates-leave from image w same = record { sizes = index-word from image w 268 same; num_entries = index-word from image w 8 same; num_bytes = index-word from image w 12 same }
+updates-leave from image w same = count-still from image (λ p even small there. index-word from image w p same)
 
 module _ (state : State) (layout : Layout) (unlinked : List ℕ) (from : Image) (k : KeepsUncounted state layout unlinked from) (node : ℕ) (l : Loaded) (here : layout.at node ≡ Some l) where
   -- what lies at a node is that node's

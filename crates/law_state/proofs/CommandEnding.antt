@@ -9,11 +9,11 @@ use Rattle.std.proofs.lemmas.List.{append-nil, get_or-set_other, get_or-set_same
 use Rattle.std.proofs.lemmas.List.Folds.{list_any-append}
 use Rattle.blk_model.specs.Items.{Item, PartValue, main, part}
 use Rattle.blk_model.specs.State.{IsValidState, Object, State, is_named, named_by, object_at}
-use Rattle.blk_model.specs.Effects.{closed, created, doomed, doomed_key, effect, new_object, number_of, object_of, opened, released, released_slot, sparse_after, sparse_used, sparse_written, used, used_all, used_main, used_sparse, with_name, with_slot, written}
+use Rattle.blk_model.specs.Effects.{closed, created, doomed, doomed_key, effect, flushed, new_object, number_of, object_of, opened, released, released_slot, settled_at, sparse_after, sparse_used, sparse_written, used, used_all, used_main, used_sparse, with_name, with_slot, written}
 use Rattle.blk_model.specs.Holding.{rest}
 use Rattle.blk_model.specs.ListSteps.{dooms, uses_of}
 use Rattle.blk_model.specs.Refusals.{evicted, refusals, refused}
-use Rattle.blk_model.specs.Request.{IsRequest, Request, to_create, to_open, to_read, to_write, to_size, to_sparse_write, to_sparse_read, to_sparse_range, to_doom, to_doom_key, to_close, to_list, to_trim, to_total}
+use Rattle.blk_model.specs.Request.{IsRequest, Request, to_create, to_open, to_read, to_write, to_size, to_sparse_write, to_sparse_read, to_sparse_range, to_doom, to_doom_key, to_close, to_flush, to_list, to_trim, to_total}
 use Rattle.blk_model.specs.Room.{Group, is_out, left_of, not_out, takes, without}
 use Rattle.blk_model.specs.Sparse.{covered_parts}
 use Rattle.blk_model.specs.Step.{outcome, step}
@@ -22,8 +22,8 @@ use Rattle.blk_model.proofs.States.{if_some_is, some_of}
 use Rattle.blk_model.proofs.StopRests.{rest_after}
 use Rattle.blk_model.proofs.Written.{without_names}
 use Rattle.law_folder.specs.CommandLaws.{marked, turned}
-use Rattle.law_state.specs.CommandStates.{IsAffected, IsUnsettled, MayLeave, Unsettles, amidst, in_order, with_room}
-use Rattle.law_state.specs.CommandEnds.{ClosesFreeTheName, ClosesMayLeave, ClosesOfDoomedEnd, ClosesSettle, CreatesEndOnceMade, CreatesMayLeave, DoomedWritesEnd, DoomsEndOnceDoomed, DoomsMayLeave, EmptySparseWritesEnd, GroupsGoInTurn, OnlyUsesMayBeLeft, OpensEndOnceUsed, OpensMayLeave, PassedRequestsTakeEffect, SparseWritesEnd, SparseWritesUnsettle, TrimsEndOnceOut, TrimsMayLeave, UsesEnd, WritesEndOnceWritten, WritesUnsettle, after_write}
+use Rattle.law_state.specs.CommandStates.{IsAffected, IsOpened, IsUnsettled, MayLeave, Unsettles, amidst, in_order, with_room}
+use Rattle.law_state.specs.CommandEnds.{ClosesFreeTheName, ClosesMayLeave, ClosesOfDoomedEnd, ClosesSettle, CreatesEndOnceMade, CreatesMayLeave, DoomedWritesEnd, DoomsEndOnceDoomed, DoomsMayLeave, EmptySparseWritesEnd, FlushesMayLeave, FlushesOfSettledEnd, FlushesSettle, GroupsGoInTurn, OnlyUsesMayBeLeft, OpensEndOnceUsed, OpensMayLeave, PassedRequestsTakeEffect, SparseWritesEnd, SparseWritesUnsettle, TrimsEndOnceOut, TrimsMayLeave, UsesEnd, WritesEndOnceWritten, WritesUnsettle, after_write}
 use Rattle.law_state.proofs.NotAtRest.{handles-rest, within-slots}
 use Rattle.law_state.proofs.Orders.{uses-left}
 
@@ -56,6 +56,7 @@ uses-end state moment (to_sparse_write handle offset bytes) only passes = absurd
 uses-end state moment (to_doom handle) only passes = absurd only
 uses-end state moment (to_doom_key key) only passes = absurd only
 uses-end state moment (to_close handle) only passes = absurd only
+uses-end state moment (to_flush handle) only passes = absurd only
 uses-end state moment to_list only passes = absurd only
 uses-end state moment (to_trim bytes) only passes = absurd only
 uses-end state moment to_total only passes = absurd only
@@ -73,6 +74,7 @@ only-uses-left state moment (to_sparse_write handle offset bytes) first others v
 only-uses-left state moment (to_doom handle) first others valid only passes split = absurd only
 only-uses-left state moment (to_doom_key key) first others valid only passes split = absurd only
 only-uses-left state moment (to_close handle) first others valid only passes split = absurd only
+only-uses-left state moment (to_flush handle) first others valid only passes split = absurd only
 only-uses-left state moment to_list first others valid only passes split = absurd only
 only-uses-left state moment (to_trim bytes) first others valid only passes split = absurd only
 only-uses-left state moment to_total first others valid only passes split = absurd only
@@ -220,6 +222,31 @@ pub closes-doomed : ClosesOfDoomedEnd
 closes-doomed state moment handle number object valid names here dead last =
     close-ends state valid moment handle number names object false here last ∙ ap (λ (b : Bool). with_slot number (cond b (Some (record object { settled = true })) None) (with_name handle None state)) dead
 
+-- ---- Flush
+
+module _ (state : State) (valid : IsValidState state) (moment handle number : ℕ) (object : Object) (is : IsOpened state handle number object) where
+  pub flush-passes : refused moment (to_flush handle) state ≡ None
+  unfolding refusals
+  flush-passes = rw (below state valid moment handle number is.names, is.names, is.here, is.live) refl
+
+  flush-settles : (step state moment (to_flush handle)).state ≡ marked state number object true
+  unfolding effect evicted without flushed
+  flush-settles = (passed state moment (to_flush handle) flush-passes).0
+      ∙ ap (λ (o : Option ℕ). settled_at (unwrap_or o (length state.objects)) state (object_at state (unwrap_or o (length state.objects)))) is.names
+      ∙ ap (settled_at number state) is.here
+
+pub flushes-settle : FlushesSettle
+flushes-settle state moment handle number object valid is = flush-settles state valid moment handle number object is
+
+pub flushes-of-settled : FlushesOfSettledEnd
+flushes-of-settled state moment handle number object valid is settled =
+    flushes-settle state moment handle number object valid is
+    ∙ ap (λ (b : Bool). with_slot number (Some (record object { settled = b })) state) (sym settled)
+    ∙ ap (λ (slots : List (Option Object)). record state { objects = slots }) (set-here state.objects number (Some object) is.here)
+
+pub flushes-left : FlushesMayLeave
+flushes-left state moment handle number object valid can is = after-left state moment (to_flush handle) (marked state number object true) valid can (flushes-settle state moment handle number object valid is)
+
 -- ---- Doom and DoomKey
 
 pub dooms-end : DoomsEndOnceDoomed
@@ -236,6 +263,7 @@ dooms-end state moment (to_sparse_write handle offset bytes) number object passe
 dooms-end state moment (to_sparse_read handle offset count) number object passes is here = absurd is
 dooms-end state moment (to_sparse_range handle offset count) number object passes is here = absurd is
 dooms-end state moment (to_close handle) number object passes is here = absurd is
+dooms-end state moment (to_flush handle) number object passes is here = absurd is
 dooms-end state moment (to_trim bytes) number object passes is here = absurd is
 dooms-end state moment to_list number object passes is here = absurd is
 dooms-end state moment to_total number object passes is here = absurd is

@@ -1,5 +1,5 @@
 -- The dirty word of an object, at each word and in the end.
-use Rattle.std.proofs.Common.{◌≡◌, ◌≢◌, ◌⊎◌, inl, inr, ℕ, ◌<◌, ◌%◌, ◌^◌, List, [], ◌∷◌, ◌++◌, length, refl, ap, sym, ◌∙◌, subst, Bool, true, false, Option, Some, None, ⊎_elim}
+use Rattle.std.proofs.Common.{◌≡◌, ◌≢◌, ◌⊎◌, inl, inr, ℕ, ◌<◌, List, [], ◌∷◌, ◌++◌, length, refl, ap, sym, ◌∙◌, subst, Bool, true, false, Option, Some, None, ⊎_elim}
 use Rattle.std.specs.Prelude.{◌==◌, ◌&&◌, not, IfSome}
 use Rattle.std.specs.List.{filter_map, sum_by, cons_option}
 use Rattle.std.proofs.lemmas.Bool.{cases_Bool, cases_eq, eqb-true, or_left}
@@ -12,7 +12,7 @@ use Rattle.blk_model.specs.Holding.{owner, rest}
 use Rattle.spec_format.specs.Address.{kind_of, rankings}
 use Rattle.spec_format.specs.BlockFiles.{is_among, stands_in, IsWellFormed}
 use Rattle.spec_format.specs.Claims.{Claim, claims_of, has_claim}
-use Rattle.spec_format.specs.Headers.{this_id_of}
+use Rattle.spec_format.specs.Headers.{counting, this_id_of}
 use Rattle.spec_format.specs.Records.{Entry, entry_is_sealed}
 use Rattle.spec_format.proofs.Among.{is_among-append}
 use Rattle.spec_format.proofs.Finished.{well_formed-finished}
@@ -247,9 +247,5 @@ marking-counts state layout unlinked from image number object loaded mark k lies
     let same = updates-leave from image (layout.place (main object.key)) done.marking.outside in
     record {
       entries = marked-kept state layout unlinked from image number object loaded mark k.entries lies valid done.marking is done.now done.sealed;
-      counters = record {
-        sizes = same.sizes ∙ k.counters.sizes;
-        num_entries = same.num_entries ∙ k.counters.num_entries;
-        num_bytes = same.num_bytes ∙ k.counters.num_bytes ∙ ap (λ (n : ℕ). n % 2 ^ 32) (sym (charges-same layout.at (layout.place (main object.key)) mark loaded lies.at (order state layout)));
-      };
+      counters = same ∙ k.counters ∙ ap (λ (n : ℕ). counting (length state.uses) n) (sym (charges-same layout.at (layout.place (main object.key)) mark loaded lies.at (order state layout)));
     }

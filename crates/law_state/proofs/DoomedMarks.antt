@@ -1,5 +1,5 @@
 -- The dirty word of a doomed object.
-use Rattle.std.proofs.Common.{◌≡◌, ℕ, ◌%◌, ◌^◌, List, ◌++◌, refl, ap, sym, ◌∙◌, Some}
+use Rattle.std.proofs.Common.{◌≡◌, ℕ, List, ◌++◌, length, refl, ap, sym, ◌∙◌, Some}
 use Rattle.std.specs.Prelude.{◌==◌}
 use Rattle.std.proofs.lemmas.List.Sorted.{IsPermutation-refl}
 use Rattle.spec_image.proofs.Runs.{some_inj}
@@ -7,6 +7,7 @@ use Rattle.spec_image.specs.Image.{Image}
 use Rattle.blk_model.specs.Items.{main_row}
 use Rattle.blk_model.specs.State.{State, Object, IsValidState}
 use Rattle.spec_format.specs.Claims.{claims_of, has_claim}
+use Rattle.spec_format.specs.Headers.{counting}
 use Rattle.law_folder.specs.CommandLaws.{IsPlacedAsDoomed, marked}
 use Rattle.spec_folder.specs.Found.{row_of_loaded}
 use Rattle.spec_folder.specs.Layout.{IsDoomedAt, Layout, order}
@@ -56,9 +57,5 @@ doomed-marking-counts state layout unlinked from image number object loaded mark
     let same = updates-leave from image (layout.place_of_doomed number) done.marking.outside in
     record {
       entries = doomed-marked state layout unlinked from image number object loaded mark k.entries at valid done;
-      counters = record {
-        sizes = same.sizes ∙ k.counters.sizes;
-        num_entries = same.num_entries ∙ k.counters.num_entries;
-        num_bytes = same.num_bytes ∙ k.counters.num_bytes ∙ ap (λ (n : ℕ). n % 2 ^ 32) (sym (charges-same layout.at (layout.place_of_doomed number) mark loaded at.at (order state layout)));
-      };
+      counters = same ∙ k.counters ∙ ap (λ (n : ℕ). counting (length state.uses) n) (sym (charges-same layout.at (layout.place_of_doomed number) mark loaded at.at (order state layout)));
     }

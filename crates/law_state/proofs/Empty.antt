@@ -53,5 +53,5 @@ empty-kept image limits bare crash id = record {
     sealed = λ node loaded e. absurd (cc);
     session = record { crash = crash; id = id; marked = λ number o is live unsettled. tt };
   };
-  counters = record { sizes = bare.index.sizes; num_entries = bare.index.num_entries; num_bytes = bare.index.num_bytes };
+  counters = bare.index.counts;
 }

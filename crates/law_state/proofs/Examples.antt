@@ -11,7 +11,7 @@ use Rattle.spec_image.proofs.Images.{length-after_write, word-after_same}
 use Rattle.blk_model.specs.Holding.{open_state}
 use Rattle.blk_model.specs.State.{Object}
 use Rattle.spec_format.specs.BlockFiles.{linked_as, max_entries_in, next_file_in}
-use Rattle.spec_format.specs.Headers.{crash_of, place_of_bucket, this_id_of}
+use Rattle.spec_format.specs.Headers.{count_of, counting, crash_of, place_of_bucket, this_id_of}
 use Rattle.spec_format.proofs.Finished.{whole_index}
 use Rattle.spec_folder.specs.Sound.{AreSealed, IsSound}
 use Rattle.spec_folder.specs.Emptiness.{no_layout}
@@ -24,11 +24,12 @@ use Rattle.spec_folder.specs.Tidy.{IsTidy}
 use Rattle.law_folder.proofs.examples.OneEntry as one
 use Rattle.law_folder.proofs.examples.Premises.{new_is_bare, state_is_valid}
 use Rattle.law_folder.proofs.examples.WholeFolder.{whole_folder, whole-is_well_formed, whole-is_represented}
-use Rattle.law_folder.proofs.examples.ExampleFolders.{whole-is_allocated, whole-is_in_order}
+use Rattle.law_folder.proofs.examples.ExampleFolders.{whole-counts, whole-is_allocated, whole-is_in_order}
 use Rattle.law_folder.proofs.examples.ExampleDoomed.{doomed_layout, doomed_object, doomed_state, doomed-is_valid}
 use Rattle.law_folder.proofs.examples.DoomedFolder.{doomed_folder, doomed-is_well_formed, folder-is_allocated, folder-is_represented, folder-is_in_order}
 use Rattle.law_state.specs.Keeping.{AreMarkedBy, IsInSession, Keeps}
 use Rattle.law_state.specs.KeepingLaws.{AllAreAtRest}
+use Rattle.law_state.proofs.Counts.{count-beside}
 use Rattle.law_state.proofs.Empty.{empty-kept}
 use Rattle.law_state.proofs.Keeping.{kept-sound}
 use Rattle.law_state.proofs.Opened.{opened-kept}
@@ -46,21 +47,21 @@ whole-tidy = record {
   only_linked = whole-is_in_order.only_linked;
   long_enough = whole-is_in_order.long_enough;
   counted = whole-is_in_order.counted;
-  sizes = whole-is_in_order.index.sizes;
-  num_entries = whole-is_in_order.index.num_entries;
-  num_bytes = whole-is_in_order.index.num_bytes;
+  counts = whole-counts;
   sealed = λ node l here. subst (AreSealed whole_folder) (one.at-node 0 node l here).1 whole-is_in_order.sealed.0;
 }
 
 -- and so is the other
+doomed-counts : count_of (byte doomed_folder Index) ≡ counting 0 0
+unfolding count_of doomed_folder zeros with_word spliced
+doomed-counts = refl
+
 doomed-tidy : IsTidy doomed_folder (doomed_state true) (doomed_layout 0) (0 ∷ [])
 doomed-tidy = record {
   only_linked = folder-is_in_order.only_linked;
   long_enough = folder-is_in_order.long_enough;
   counted = folder-is_in_order.counted;
-  sizes = folder-is_in_order.index.sizes;
-  num_entries = folder-is_in_order.index.num_entries;
-  num_bytes = folder-is_in_order.index.num_bytes;
+  counts = doomed-counts;
   sealed = λ node l here. subst (AreSealed doomed_folder) (one.at-node 0 node l here).1 folder-is_in_order.sealed.0;
 }
 
@@ -122,9 +123,8 @@ new_opened_is_bare = record {
     tail = beside 308 (inr (lit≤ tt)) ∙ i.tail;
     transaction = beside 328 (inr (lit≤ tt)) ∙ i.transaction;
     table = λ b below. beside (place_of_bucket b) (inr (omega arith)) ∙ i.table b below;
-    sizes = beside 268 (inr (lit≤ tt)) ∙ i.sizes;
-    num_entries = beside 8 (inl (lit≤ tt)) ∙ i.num_entries;
-    num_bytes = beside 12 (inl (lit≤ tt)) ∙ i.num_bytes;
+    counts = count-beside (numbered (new_folder 50) 7) new_opened 32 refl refl (outside_write Index 32 (word_bytes 1) (numbered (new_folder 50) 7))
+        ∙ count-beside (new_folder 50) (numbered (new_folder 50) 7) 20 refl refl (outside_write Index 20 (word_bytes 7) (new_folder 50)) ∙ i.counts;
   };
   blocks = λ n linked. let f = new_is_bare.blocks n (ap (λ (o : Option ℕ). is_some o) (sym (new-links n)) ∙ linked) in record { long_enough = f.long_enough; allocations = f.allocations; max_entries = f.max_entries; empty = f.empty; updating = f.updating; map = f.map };
   only_linked = λ n below. new_is_bare.only_linked n below ∙ ap (λ (o : Option ℕ). is_some o) (sym (new-links n));

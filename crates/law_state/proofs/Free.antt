@@ -98,5 +98,5 @@ then-found before after from image keeps state layout unlinked k = let now = kee
 pub same-counted : SameCountersCountTheSame
 same-counted state layout before after from image k now same = record {
   entries = now;
-  counters = record { sizes = same.sizes ∙ k.counters.sizes; num_entries = same.num_entries ∙ k.counters.num_entries; num_bytes = same.num_bytes ∙ k.counters.num_bytes };
+  counters = same ∙ k.counters;
 }

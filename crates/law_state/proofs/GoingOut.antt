@@ -1,5 +1,5 @@
 -- Where a folder can be written, an item whose record is alone in its chain can go out: the steps of the removal of its node, and then the word of its bucket. So the laws on items that go out speak of something.
-use Rattle.std.proofs.Common.{◌≡◌, ⊎_elim, ℕ, ◌<◌, List, [], ◌∷◌, ◌++◌, refl, ap, sym, subst, arith, lit<, Bool, Option, Some, true, false}
+use Rattle.std.proofs.Common.{◌≡◌, ⊎_elim, ℕ, ◌<◌, List, [], ◌∷◌, ◌++◌, refl, ap, sym, ◌∙◌, subst, arith, lit<, Bool, Option, Some, true, false}
 use Rattle.std.specs.Prelude.{◌&&◌, ◌==◌, filter}
 use Rattle.std.specs.Option.{option_map_or}
 use Rattle.std.proofs.lemmas.Bool.{cases_Bool, eqb-true}
@@ -38,7 +38,9 @@ use Rattle.law_state.specs.Arranging.{LeavesFiles}
 use Rattle.law_state.specs.Keeping.{KeepsUncounted}
 use Rattle.law_state.specs.PartlyOut.{IsOneMoreOut, KeepsPartlyOut, chains_but}
 use Rattle.law_state.specs.PlainRemovals.{IsRemoved}
+use Rattle.law_state.specs.Changes.{SameCounters}
 use Rattle.law_state.specs.RemovalLaws.{IsRemovalDone, IsUnlinking}
+use Rattle.law_state.proofs.Counts.{bucket-count, list-count}
 use Rattle.law_state.proofs.DoneSteps.{removal-done}
 use Rattle.law_state.proofs.Links.{table-files, table-links, table-sealed}
 
@@ -48,6 +50,12 @@ unlisted from node = after (operation_steps remove node from) from
 
 abbrev pub unchained : Image → ℕ → Image
 unchained from bucket = applied (Word Index (place_of_bucket bucket) (word_bytes 0)) from
+
+-- both leave what is counted
+pub out-counts : (from : Image) (node bucket : ℕ) → IsRemovalDone from node (unlisted from node) → SameCounters from (unchained (unlisted from node) bucket)
+out-counts from node bucket done =
+    bucket-count bucket (unlisted from node) (unchained (unlisted from node) bucket) (outside_write Index (place_of_bucket bucket) (word_bytes 0) (unlisted from node))
+    ∙ list-count (writes_of remove node (list_of from)) from (unlisted from node) done.partly.outside
 
 -- a record is alone in the chain of a bucket, and in no other
 pub record IsAloneIn (chains : ℕ → List ℕ) (bucket contents : ℕ) : Type 0 where

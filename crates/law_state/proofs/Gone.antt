@@ -1,5 +1,5 @@
 -- Nothing lies at a node any longer: its words are unlinked.
-use Rattle.std.proofs.Common.{◌≡◌, ◌≢◌, ◌⊎◌, inl, inr, ℕ, ◌%◌, ◌^◌, List, [], ◌∷◌, ◌++◌, length, map, refl, ap, sym, ◌∙◌, subst, Bool, true, false, Option, Some, None, ⊎_elim, append_assoc, get_or-set_same, ◌<◌}
+use Rattle.std.proofs.Common.{◌≡◌, ◌≢◌, ◌⊎◌, inl, inr, ℕ, List, [], ◌∷◌, ◌++◌, length, map, refl, ap, sym, ◌∙◌, subst, Bool, true, false, Option, Some, None, ⊎_elim, append_assoc, get_or-set_same, ◌<◌}
 use Rattle.blk_model.proofs.Each.{some_within}
 use Rattle.std.specs.Prelude.{◌||◌, ◌==◌, IfSome, IsSomeAnd, if◌then◌else◌}
 use Rattle.std.specs.List.{AllByRecursion, cons_option, flat_map, sum_by}
@@ -14,7 +14,7 @@ use Rattle.blk_model.specs.Items.{main}
 use Rattle.blk_model.specs.State.{State, Object, IsValidState, object_at}
 use Rattle.spec_format.specs.BlockFiles.{is_among, stands_in}
 use Rattle.spec_format.specs.Claims.{Claim, claims_of, claims_of_all, has_claim, repeats}
-use Rattle.spec_format.specs.Headers.{this_id_of}
+use Rattle.spec_format.specs.Headers.{counting, this_id_of}
 use Rattle.spec_format.proofs.Among.{is_among-append}
 use Rattle.spec_folder.specs.Found.{charge_of}
 use Rattle.spec_folder.specs.Layout.{Layout, Represents, order, rule_of}
@@ -239,5 +239,5 @@ gone-unlinked state layout unlinked image number object was names k at valid = o
 pub gone-uncounted : GoneObjectsAreNotCounted
 gone-uncounted state layout unlinked image number object was names k at valid = record {
   entries = object-gone state layout unlinked image number object was names k.entries at valid;
-  counters = record { sizes = k.counters.sizes; num_entries = k.counters.num_entries; num_bytes = k.counters.num_bytes ∙ ap (λ (n : ℕ). n % 2 ^ 32) (ap (sum_by charge_of) (sym (others-at layout.at (layout.place_of_doomed number) None (order state layout) (k.entries.represents.holds.lies.doomed_objects number object at.here at.dead).unlisted))) };
+  counters = k.counters ∙ ap (λ (n : ℕ). counting (length state.uses) n) (ap (sum_by charge_of) (sym (others-at layout.at (layout.place_of_doomed number) None (order state layout) (k.entries.represents.holds.lies.doomed_objects number object at.here at.dead).unlisted)));
 }

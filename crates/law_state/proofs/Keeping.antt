@@ -56,9 +56,7 @@ module _ (state : State) (layout : Layout) (image : Image) (k : Keeps state layo
     only_linked = k.entries.files.only_linked;
     long_enough = k.entries.files.long_enough;
     counted = λ n linked. let m = k.entries.files.mapped n linked in record { num_entries = m.allocations.counted ∙ length-filter (is_in_file n) (words_in_use [] (all_loaded state layout k.entries.numbers)); empty = m.empty; updating = m.updating };
-    sizes = k.counters.sizes;
-    num_entries = k.counters.num_entries;
-    num_bytes = k.counters.num_bytes;
+    counts = k.counters;
     sealed = k.entries.sealed;
   }
 

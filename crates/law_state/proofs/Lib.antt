@@ -39,6 +39,8 @@ pub mod Leaving
 pub mod Touched
 pub mod Claimed
 pub mod NodeChanges
+pub mod Counts
+pub mod Charges
 pub mod AtNodes
 pub mod Dirtying
 pub mod Counters

@@ -2,14 +2,14 @@
 use Rattle.std.proofs.Common.{◌≡◌, ℕ, [], None, Some, sym, subst, length, true}
 use Rattle.std.specs.Prelude.{slice_set}
 use Rattle.blk_model.specs.Effects.{created}
-use Rattle.blk_model.specs.Request.{Request, to_close, to_create, to_open, to_sparse_write, to_trim, to_write}
+use Rattle.blk_model.specs.Request.{Request, to_close, to_flush, to_create, to_open, to_sparse_write, to_trim, to_write}
 use Rattle.blk_model.specs.State.{State, live_with}
 use Rattle.blk_model.specs.Step.{step}
 use Rattle.law_folder.specs.CommandLaws.{marked}
 use Rattle.law_state.specs.CommandStates.{with_room}
 use Rattle.law_state.specs.Keeping.{Keeps}
-use Rattle.law_state.specs.NextStates.{ClosesKeepNext, ClosesOfManyKeepNext, CreatesKeepNext, DoomedWritesKeepNext, DoomsKeepNext, EmptySparseWritesKeepNext, KeepsNext, OpensKeepNext, SparseWritesKeepNext, TrimsKeepNext, UsesKeepNext, WritesKeepNext}
-use Rattle.law_state.proofs.CommandEnding.{closes-free, closes-settle, creates-end, doomed-writes-end, dooms-end, empty-sparse-writes-end, opens-end, sparse-writes-end, trims-end, uses-end, writes-end}
+use Rattle.law_state.specs.NextStates.{ClosesKeepNext, ClosesOfManyKeepNext, CreatesKeepNext, DoomedWritesKeepNext, DoomsKeepNext, EmptySparseWritesKeepNext, FlushesKeepNext, KeepsNext, OpensKeepNext, SparseWritesKeepNext, TrimsKeepNext, UsesKeepNext, WritesKeepNext}
+use Rattle.law_state.proofs.CommandEnding.{closes-free, closes-settle, creates-end, doomed-writes-end, dooms-end, empty-sparse-writes-end, flushes-settle, opens-end, sparse-writes-end, trims-end, uses-end, writes-end}
 use Rattle.law_state.proofs.Stages.{ends-kept}
 
 -- where a request ends with the very state
@@ -48,6 +48,9 @@ closes-of-many-next state moment handle number valid can names several layout un
 pub closes-next : ClosesKeepNext
 closes-next state moment handle number object valid can is layout unlinked image k =
     ends-kept state (marked state number object true) moment (to_close handle) (slice_set state.names handle None) layout unlinked image valid can (closes-settle state moment handle number object valid is) k
+
+pub flushes-next : FlushesKeepNext
+flushes-next state moment handle number object valid is = just-next state _ moment (to_flush handle) (flushes-settle state moment handle number object valid is)
 
 pub dooms-next : DoomsKeepNext
 dooms-next state moment request number object passes is here = just-next state _ moment request (dooms-end state moment request number object passes is here)

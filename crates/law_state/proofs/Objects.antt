@@ -64,7 +64,7 @@ handles-change state layout unlinked image names k valid = record {
 pub handles-uncounted : HandlesAreNotCounted
 handles-uncounted state layout unlinked image names k valid = record {
   entries = handles-change state layout unlinked image names k.entries valid;
-  counters = record { sizes = k.counters.sizes; num_entries = k.counters.num_entries; num_bytes = k.counters.num_bytes };
+  counters = k.counters;
 }
 
 -- ---- at each word

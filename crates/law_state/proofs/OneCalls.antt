@@ -6,7 +6,7 @@ use Rattle.blk_model.specs.Holding.{rest}
 use Rattle.blk_model.specs.Items.{Item, main}
 use Rattle.blk_model.specs.ListSteps.{dooms, uses_of}
 use Rattle.blk_model.specs.Refusals.{evicted, refusals, refused}
-use Rattle.blk_model.specs.Request.{to_close, to_open, to_read}
+use Rattle.blk_model.specs.Request.{to_close, to_flush, to_open, to_read}
 use Rattle.blk_model.specs.Room.{without}
 use Rattle.blk_model.specs.State.{IsValidState, Object, State, object_at}
 use Rattle.blk_model.proofs.Steps.{none_comes, step_valid}
@@ -19,15 +19,15 @@ use Rattle.law_state.specs.Changes.{Finds}
 use Rattle.law_state.specs.CommandStates.{in_order, with_room}
 use Rattle.law_state.specs.GoneLaws.{layout_without}
 use Rattle.law_state.specs.Keeping.{Keeps}
-use Rattle.law_state.specs.OneCallLaws.{ClosesEndByMark, ClosesMayStop, ClosesOfDoomedUnlink, DoomedReadsEnd, Names, OpensEndByTouch, ReadsEndByTouch, ReadsMayStop, UnsettlingMarksMayStop}
+use Rattle.law_state.specs.OneCallLaws.{ClosesEndByMark, ClosesMayStop, ClosesOfDoomedUnlink, DoomedReadsEnd, FlushesEndByMark, FlushesMayStop, Names, OpensEndByTouch, ReadsEndByTouch, ReadsMayStop, UnsettlingMarksMayStop}
 use Rattle.law_state.proofs.CommandEnding.{closes-doomed, uses-end}
 use Rattle.law_state.proofs.Gone.{gone-uncounted}
 use Rattle.law_state.proofs.MarkedStates.{marked-valid}
-use Rattle.law_state.proofs.NextStates.{closes-next, opens-next, uses-next}
+use Rattle.law_state.proofs.NextStates.{closes-next, flushes-next, opens-next, uses-next}
 use Rattle.law_state.proofs.Dirtying.{marking-counts, marking-finds}
 use Rattle.law_state.proofs.Touched.{touch-counts}
 use Rattle.law_state.proofs.Unsettling.{room-valid}
-use Rattle.law_state.proofs.WordStops.{settling-stops, unsettling-stops, uses-stop}
+use Rattle.law_state.proofs.WordStops.{cleaning-stops, settling-stops, unsettling-stops, uses-stop}
 
 -- ---- Open
 
@@ -86,6 +86,19 @@ closes-of-doomed-unlink state layout unlinked image moment handle number object 
     let ends = closes-doomed state moment handle number object k.entries.valid names at.here at.dead last in
     subst (λ (m : State). Keeps m (layout_without layout (layout.place_of_doomed number)) (words_of was ++ unlinked) image) (sym ends)
     (gone-uncounted state layout unlinked image number object was (slice_set state.names handle None) k at (subst IsValidState ends (step_valid state moment (to_close handle) k.entries.valid can)))
+
+-- ---- Flush
+
+pub flushes-stop-by-mark : FlushesMayStop
+flushes-stop-by-mark state layout unlinked from image moment handle number object loaded k can is at marking =
+    cleaning-stops state moment handle number object image k.valid can is
+    (marking-finds state layout unlinked from image number object loaded 0 k (record { here = is.here; live = is.live; at = at }) (marked-valid state number object true k.valid is.here is.live (λ e. absurd (let c : true ≡ false = e in cc))) marking)
+
+pub flushes-end-by-mark : FlushesEndByMark
+flushes-end-by-mark state layout unlinked from image moment handle number object loaded k is at done =
+    flushes-next state moment handle number object k.entries.valid is _ unlinked image
+    (marking-counts state layout unlinked from image number object loaded 0 k (record { here = is.here; live = is.live; at = at }) (marked-valid state number object true k.entries.valid is.here is.live (λ e. absurd (let c : true ≡ false = e in cc)))
+    (λ e. absurd (let c : true ≡ false = e in cc)) done)
 
 -- ---- an object becomes dirty
 

@@ -20,9 +20,10 @@ use Rattle.law_folder.proofs.claims.Outside.{AreClear, clear-at, represents-outs
 use Rattle.law_folder.proofs.states.Standing.{claimed-exactly, no-repeats}
 use Rattle.law_state.specs.Keeping.{AreFiles, all_loaded, all_nodes, words_in_use}
 use Rattle.law_state.specs.KeepingLaws.{OpenedFoldersKeepTheirState}
+use Rattle.law_state.proofs.Counts.{count-beside}
 use Rattle.law_state.proofs.Free.{sealed-same, standing-at}
 use Rattle.law_state.proofs.Headers.{files-same}
-use Rattle.law_state.proofs.Writes.{other-word, word-agrees, word-formed, word-headers}
+use Rattle.law_state.proofs.Writes.{word-agrees, word-formed, word-headers}
 
 -- the files of a folder in order are those of the words in use
 module _ (image : Image) (state : State) (layout : Layout) (numbers : List ℕ) (r : Represents (view_of image) state layout) (a : AllIsOwned image state layout numbers) (tidy : IsTidy image state layout numbers) where
@@ -65,7 +66,7 @@ opened-kept from between image state layout numbers valid well r a tidy id crash
         sealed-same (λ claim. false) from image agree l (standing-at from state layout r node l here) clear.node clear.contents (tidy.sealed node l here);
     session = session;
   };
-  counters = record { sizes = still 268 refl refl refl ∙ tidy.sizes; num_entries = still 8 refl refl refl ∙ tidy.num_entries; num_bytes = still 12 refl refl refl ∙ tidy.num_bytes };
+  counters = count-beside between image 32 refl refl crash ∙ count-beside from between 20 refl refl id ∙ tidy.counts;
 } where
   agree : AgreeBut (λ claim. false) from image
   agree = agreement-goes_on (λ claim. false) from between image (word-agrees from between 20 refl (lit≤ tt) refl refl id) (word-agrees between image 32 refl (lit≤ tt) refl refl crash)
@@ -75,6 +76,3 @@ opened-kept from between image state layout numbers valid well r a tidy id crash
 
   formed : IsWellFormed between → IsWellFormed image
   formed = word-formed between image 32 refl (lit≤ tt) refl refl crash
-
-  still : (p : ℕ) → p % 4 ≡ 0 → (p == 20) ≡ false → (p == 32) ≡ false → word image Index p ≡ word from Index p
-  still p even one other = other-word between image 32 refl (lit≤ tt) refl refl crash p even other ∙ other-word from between 20 refl (lit≤ tt) refl refl id p even one

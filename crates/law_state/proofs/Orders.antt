@@ -15,7 +15,7 @@ use Rattle.blk_model.specs.Step.{step}
 use Rattle.blk_model.specs.Stops.{StopOutcome, pick, picked}
 use Rattle.blk_model.proofs.Chosen.{settled_chooses}
 use Rattle.blk_model.proofs.EvictedFirst.{StaysOrNobody, after-first, each-stays, each_same, evictions-stop, left_nobody, long, settled_left}
-use Rattle.blk_model.proofs.Leads.{is_close, step_leads}
+use Rattle.blk_model.proofs.Leads.{may_settle, step_leads}
 use Rattle.blk_model.proofs.StopRests.{picked_before}
 use Rattle.law_folder.proofs.claims.Owner.{filter_map-same}
 use Rattle.law_state.specs.CommandStates.{MayLeave, in_order, with_room}
@@ -42,7 +42,7 @@ rest-order uses state = filter_map-same (settled_row (in_order uses state)) (set
 pub orders-left : OrdersMayBeLeft
 unfolding pick
 orders-left state moment request first others valid is count within =
-    let closes = is_close request in
+    let closes = may_settle request in
     let after = (step state moment request).state in
     let list = after_steps (take count (later_steps state request others)) (without first state).uses in
     record {

@@ -36,7 +36,7 @@ use Rattle.law_state.specs.Arranging.{LeavesFiles}
 use Rattle.law_state.specs.Changes.{ChangesOnly}
 use Rattle.law_state.proofs.AtNodes.{updates-change}
 
--- an update leaves its record sealed
+-- after an update the record has its right seal
 updated-sealed : (from image : Image) (w : ℕ) (changes : List (ℕ × ℕ)) → AreBytes image → kind_of w ≡ blocks_256 → AreChanges (seal_place w) changes → IsUpdated from w changes image → entry_is_sealed (entry_at image w) ≡ true
 unfolding entry_is_sealed entry_body entry_in record_at
 updated-sealed from image w changes bytes kind are done =

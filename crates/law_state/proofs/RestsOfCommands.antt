@@ -1,5 +1,5 @@
 -- The rest of a command isn't refused, evicts the others, has the later steps and ends alike.
-use Rattle.std.proofs.Common.{◌≡◌, ℕ, ◌+◌, ◌-◌, ◌/◌, Bool, true, false, not, ◌&&◌, ◌||◌, cond, List, [], ◌∷◌, ◌++◌, Some, None, is_some, refl, ap, sym, ◌∙◌, subst, arith, set, length, map, ◌⊎◌, inl, inr, ⊎_elim}
+use Rattle.std.proofs.Common.{◌≡◌, ℕ, ◌+◌, ◌-◌, Bool, true, false, not, ◌&&◌, ◌||◌, cond, List, [], ◌∷◌, ◌++◌, Some, None, is_some, refl, ap, sym, ◌∙◌, subst, arith, set, length, map, ◌⊎◌, inl, inr, ⊎_elim}
 use Rattle.std.specs.List.{list_any, sum_by, AllByRecursion}
 use Rattle.std.specs.Option.{option_and_then, unwrap_or}
 use Rattle.std.specs.Bool.{nat_le, nat_lt}
@@ -7,11 +7,11 @@ use Rattle.std.specs.Str.{bytes_eq}
 use Rattle.std.specs.Prelude.{◌==◌}
 use Rattle.std.proofs.lemmas.Bool.{cases_Bool, or_parts, or_left, or_right, and_parts, not-false}
 use Rattle.blk_model.specs.declared.Refusal.{Refusal}
-use Rattle.blk_model.specs.Sizes.{stream_share}
+use Rattle.blk_model.specs.Sizes.{longest_stream}
 use Rattle.blk_model.specs.Items.{Item, main, part, PartValue, same_item, signature_of, is_sparse, Shape}
 use Rattle.blk_model.specs.Charge.{part_charge}
 use Rattle.blk_model.specs.State.{Object, State, Bounds, IsValidState, IsObject, object_at, live_with}
-use Rattle.blk_model.specs.Request.{Request, to_create, to_open, to_read, to_write, to_size, to_sparse_write, to_sparse_read, to_sparse_range, to_doom, to_doom_key, to_close, to_list, to_trim, to_total}
+use Rattle.blk_model.specs.Request.{Request, to_create, to_open, to_read, to_write, to_size, to_sparse_write, to_sparse_read, to_sparse_range, to_doom, to_doom_key, to_close, to_flush, to_list, to_trim, to_total}
 use Rattle.blk_model.specs.Room.{Group, whole, single, after, room, is_out, is_pinned, left_of, of_slot, charge, own_charge, item_count, total, items, without}
 use Rattle.blk_model.specs.Sparse.{covered_parts, parts_after}
 use Rattle.blk_model.specs.Refusals.{refused, refusals, first_refusal, evicted, evicted_for, is_full, room_for, covered, names_none, has_one_stream}
@@ -213,7 +213,7 @@ module _ (state : State) (valid : IsValidState state) (moment : ℕ) (group : Gr
       let h = handled [] loose handle p.0 in
       let r = room-rest request others (write-alike handle stream offset cut bytes h) p.1.1.1.1.0 is.groups in
       record {
-        passes = all-pass (refusals moment request left) (h.bound-left, (p.1.0, (ap (λ (l : Bounds). nat_lt (l.max_bytes / stream_share) (offset + length bytes)) (limits-left state group groups) ∙ p.1.1.0, (ap (λ (o : Object). is_sparse o.shape && nat_lt 0 stream) h.object-left ∙ p.1.1.1.0, (has-room request others r, tt)))));
+        passes = all-pass (refusals moment request left) (h.bound-left, (p.1.0, (ap (λ (l : Bounds). nat_lt (longest_stream l.max_bytes) (offset + length bytes)) (limits-left state group groups) ∙ p.1.1.0, (ap (λ (o : Object). is_sparse o.shape && nat_lt 0 stream) h.object-left ∙ p.1.1.1.0, (has-room request others r, tt)))));
         goes = evicts request others r;
         uses = ap (λ (o : Object). cond o.live (main o.key ∷ []) []) h.object-left;
         doomed = refl;
@@ -300,6 +300,7 @@ module _ (state : State) (valid : IsValidState state) (moment : ℕ) (group : Gr
   rest-behind (to_doom handle) others is = absurd (no-group group (groups ++ others) is.groups)
   rest-behind (to_doom_key key) others is = absurd (no-group group (groups ++ others) is.groups)
   rest-behind (to_close handle) others is = absurd (no-group group (groups ++ others) is.groups)
+  rest-behind (to_flush handle) others is = absurd (no-group group (groups ++ others) is.groups)
   rest-behind to_list others is = absurd (no-group group (groups ++ others) is.groups)
   rest-behind (to_trim bytes) others is = trim-rest bytes others is
   rest-behind to_total others is = absurd (no-group group (groups ++ others) is.groups)

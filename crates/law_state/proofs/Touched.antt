@@ -1,5 +1,5 @@
 -- Once an item is touched, the state with it in front is kept.
-use Rattle.std.proofs.Common.{◌≡◌, ℕ, ◌+◌, ◌%◌, ◌^◌, List, [], ◌∷◌, ◌++◌, length, sym, ◌∙◌, ap, subst, true, ◌<◌, arith, append_assoc, length-append}
+use Rattle.std.proofs.Common.{◌≡◌, ℕ, ◌+◌, List, [], ◌∷◌, ◌++◌, length, sym, ◌∙◌, ap, ap₂, subst, true, ◌<◌, arith, append_assoc, length-append}
 use Rattle.std.specs.Prelude.{Option}
 use Rattle.std.specs.List.{flat_map, filter_map, sum_by}
 use Rattle.std.specs.List.Sorted.{IsPermutation}
@@ -11,6 +11,7 @@ use Rattle.blk_model.specs.State.{State, IsValidState}
 use Rattle.spec_image.specs.Bytes.{word_at}
 use Rattle.spec_image.specs.Image.{Image, Index, byte}
 use Rattle.spec_format.specs.BlockFiles.{is_among}
+use Rattle.spec_format.specs.Headers.{counting}
 use Rattle.spec_folder.specs.ListView.{Distinct, IsAtRest, IsList, after_writes}
 use Rattle.spec_folder.specs.ListPlans.{touch_writes}
 use Rattle.spec_folder.specs.Layout.{Layout, Represents, is_listed, nodes_of, order}
@@ -30,6 +31,7 @@ use Rattle.law_state.specs.Arranging.{IsArranged, LeavesFiles}
 use Rattle.law_state.specs.Keeping.{AreMarkedBy, KeepsUncounted, all_loaded, all_nodes, words_in_use}
 use Rattle.law_state.specs.ListLaws.{IsTouchDone, TouchesKeepTheState, TouchesKeepTheCounters, with_used}
 use Rattle.law_state.proofs.Arranging.{rearranged}
+use Rattle.law_state.proofs.Counts.{touch-count}
 use Rattle.law_state.proofs.Headers.{stand-same}
 use Rattle.law_state.proofs.Leaving.{leaves-files}
 
@@ -143,12 +145,9 @@ touch-keeps state layout unlinked from image item k there done = touched-kept st
 pub touch-counts : TouchesKeepTheCounters
 touch-counts state layout unlinked from image item keeps there done = record {
   entries = touched-kept state layout unlinked from image item keeps.entries there done;
-  counters = record {
-    sizes = counter _ _ _ _ _ _ keeps.entries there done 268 (omega arith) ∙ keeps.counters.sizes ∙ sym (uses-long _ _ _ _ _ _ keeps.entries there done);
-    num_entries = counter _ _ _ _ _ _ keeps.entries there done 8 (omega arith) ∙ keeps.counters.num_entries ∙ sym (uses-long _ _ _ _ _ _ keeps.entries there done);
-    num_bytes = counter _ _ _ _ _ _ keeps.entries there done 12 (omega arith) ∙ keeps.counters.num_bytes ∙ ap (λ (n : ℕ). n % 2 ^ 32)
-        (ap (λ (ns : List ℕ). sum_by charge_of (loaded_at layout ns)) (old-order _ _ _ _ _ _ keeps.entries there done)
-        ∙ sym (moved-same (λ (ns : List ℕ). sum_by charge_of (loaded_at layout ns)) (sums-add charge_of layout.at) _ _ _)
-        ∙ ap (λ (ns : List ℕ). sum_by charge_of (loaded_at layout ns)) (sym (new-order _ _ _ _ _ _ keeps.entries there done)));
-  };
+  counters = touch-count (touch_writes (layout.place item) (list_of from)) (layout.place item) from image done.touched.outside ∙ keeps.counters
+      ∙ ap₂ counting (sym (uses-long _ _ _ _ _ _ keeps.entries there done))
+      (ap (λ (ns : List ℕ). sum_by charge_of (loaded_at layout ns)) (old-order _ _ _ _ _ _ keeps.entries there done)
+      ∙ sym (moved-same (λ (ns : List ℕ). sum_by charge_of (loaded_at layout ns)) (sums-add charge_of layout.at) _ _ _)
+      ∙ ap (λ (ns : List ℕ). sum_by charge_of (loaded_at layout ns)) (sym (new-order _ _ _ _ _ _ keeps.entries there done)));
 }

@@ -10,7 +10,7 @@ use Rattle.blk_model.specs.Items.{Item}
 use Rattle.blk_model.specs.State.{IsValidState, Object, State, object_at}
 use Rattle.blk_model.specs.Holding.{owner, rest, row_of}
 use Rattle.blk_model.specs.Refusals.{covered, evicted}
-use Rattle.blk_model.specs.Request.{Request, to_create, to_open, to_read, to_write, to_size, to_sparse_write, to_sparse_read, to_sparse_range, to_doom, to_doom_key, to_close, to_list, to_trim, to_total}
+use Rattle.blk_model.specs.Request.{Request, to_create, to_open, to_read, to_write, to_size, to_sparse_write, to_sparse_read, to_sparse_range, to_doom, to_doom_key, to_close, to_flush, to_list, to_trim, to_total}
 use Rattle.blk_model.specs.Room.{without}
 use Rattle.blk_model.specs.Step.{step}
 use Rattle.blk_model.specs.Stops.{differ, is_live, is_live_and_settled, is_safe, is_turned, pick, picked, picked_by}
@@ -39,6 +39,7 @@ room-valid state moment (to_sparse_range handle offset count) valid = valid
 room-valid state moment (to_doom handle) valid = valid
 room-valid state moment (to_doom_key key) valid = valid
 room-valid state moment (to_close handle) valid = valid
+room-valid state moment (to_flush handle) valid = valid
 room-valid state moment to_list valid = valid
 room-valid state moment to_total valid = valid
 

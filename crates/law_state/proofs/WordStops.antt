@@ -10,7 +10,7 @@ use Rattle.blk_model.specs.Items.{Item, Row, main, part}
 use Rattle.blk_model.specs.State.{State}
 use Rattle.blk_model.specs.Effects.{doomed, used, used_all}
 use Rattle.blk_model.specs.Holding.{rest}
-use Rattle.blk_model.specs.Request.{Request, to_close}
+use Rattle.blk_model.specs.Request.{Request, to_close, to_flush}
 use Rattle.blk_model.specs.Room.{whole, without}
 use Rattle.blk_model.proofs.EvictedFirst.{evictions-stop}
 use Rattle.blk_model.proofs.StopRests.{rest_before}
@@ -33,8 +33,8 @@ use Rattle.law_folder.proofs.lists.Walks.{walk_list}
 use Rattle.law_state.specs.Changes.{Finds}
 use Rattle.law_state.specs.Commands.{MayStop}
 use Rattle.law_state.specs.CommandStates.{MayLeave, amidst, in_order, with_room}
-use Rattle.law_state.specs.WordStops.{DoomedPartsFindTheSame, DoomsFindEither, DoomsMayStop, GroupsMayStop, OutIsDoomed, SettlingMayStop, UnsettledUsesMayStop, UnsettlingMayStop, UsesMayStop, WholeGroupsMayStop}
-use Rattle.law_state.proofs.CommandEnding.{closes-left, dooms-left, groups-turn}
+use Rattle.law_state.specs.WordStops.{CleaningMayStop, DoomedPartsFindTheSame, DoomsFindEither, DoomsMayStop, GroupsMayStop, OutIsDoomed, SettlingMayStop, UnsettledUsesMayStop, UnsettlingMayStop, UsesMayStop, WholeGroupsMayStop}
+use Rattle.law_state.proofs.CommandEnding.{closes-left, dooms-left, flushes-left, groups-turn}
 use Rattle.law_state.proofs.GroupsGone.{whole-groups-go}
 use Rattle.law_state.proofs.NotAtRest.{own-uses}
 use Rattle.law_state.proofs.Orders.{left-stops, room-left, uses-go-on, uses-left}
@@ -80,6 +80,10 @@ unsettling-stops state moment request number object image valid is finds =
 pub settling-stops : SettlingMayStop
 settling-stops state moment handle number object image valid can is finds =
     either-stops state moment (to_close handle) (rest state) (rest (marked state number object true)) image (rest_before state moment (to_close handle) valid) (closes-left state moment handle number object valid can is) finds
+
+pub cleaning-stops : CleaningMayStop
+cleaning-stops state moment handle number object image valid can is finds =
+    either-stops state moment (to_flush handle) (rest state) (rest (marked state number object true)) image (rest_before state moment (to_flush handle) valid) (flushes-left state moment handle number object valid can is) finds
 
 -- ---- removals
 

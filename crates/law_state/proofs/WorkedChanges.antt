@@ -41,13 +41,13 @@ use Rattle.law_state.specs.Arranging.{LeavesFiles}
 use Rattle.law_state.specs.Changes.{ChangesOnly, Finds}
 use Rattle.law_state.specs.Commands.{MayStop}
 use Rattle.law_state.specs.CommandStates.{KeepsOtherKeys, amidst, with_room}
-use Rattle.law_state.specs.Keeping.{KeepsUncounted}
+use Rattle.law_state.specs.Keeping.{CountsItems, KeepsUncounted}
 use Rattle.law_state.specs.ListLaws.{IsTouchDone}
 use Rattle.law_state.specs.ObjectLaws.{IsItemNow, IsObjectNow, layout_after}
 use Rattle.law_state.proofs.ChangedStates.{main-changed}
 use Rattle.law_state.proofs.DoneSteps.{touch-done}
 use Rattle.law_state.proofs.Free.{standing-at}
-use Rattle.law_state.proofs.AtNodes.{free-but}
+use Rattle.law_state.proofs.AtNodes.{free-but, updates-leave}
 use Rattle.law_state.proofs.Allocating.{used-stand}
 use Rattle.law_state.proofs.Writes.{block-writes}
 use Rattle.law_folder.proofs.states.Marking.{repeats-apart}
@@ -202,6 +202,10 @@ cut-outside : SameOutside (record_range (records 2)) open_folder cut_folder
 cut-outside = rewritten-outside open_folder (records 2) b_fields open-writable open-entry refl (emptied_words 0) (are-changes (records 2) b-kind 0) (before-seal (records 2) b-kind 0)
 
 -- it is a change inside of what is the node's, so meanwhile the old durable contents are recovered
+-- what is counted is as it was
+pub cut-counted : CountsItems cut_folder unsettled unsettled_layout
+cut-counted = updates-leave open_folder cut_folder (records 2) cut-outside ∙ unsettled-keeps.counters
+
 cut-inside : IsInsideNode (has_claim (claims_of (records 2))) (view_of open_folder) (view_of cut_folder) unsettled_layout (nodes 2) open_b
 cut-inside = updates-are-inside open_state unsettled_layout [] open_folder cut_folder (nodes 2) open_b b_fields cut_fields open-keeps open-here cut-written.0 open-entry cut-written.1 refl refl
 

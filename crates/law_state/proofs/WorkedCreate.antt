@@ -1,10 +1,10 @@
 -- In the worked folder the doomed object is closed, and made anew by a Create, in the blocks of its record and its node that are unlinked then.
 use Rattle.std.proofs.Common.{◌≡◌, ℕ, ◌+◌, ◌<◌, ◌≤◌, ◌^◌, List, [], ◌∷◌, ◌++◌, length, refl, ap, sym, ◌∙◌, subst, arith, lit<, lit≤, Bool, true, false, None, Some}
-use Rattle.std.specs.Prelude.{◌||◌, map}
+use Rattle.std.specs.Prelude.{◌%◌, ◌/◌, ◌||◌, map}
 use Rattle.std.proofs.lemmas.Nat.{mod_below}
 use Rattle.spec_image.specs.Bytes.{spliced, word_bytes, zeros}
 use Rattle.spec_image.specs.Footprint.{SameOutside, one_word}
-use Rattle.spec_image.specs.Image.{Block, Image, Index, length_of}
+use Rattle.spec_image.specs.Image.{AreBytes, Block, Image, Index, length_of}
 use Rattle.spec_image.specs.Steps.{Word, after, applied, with_word}
 use Rattle.spec_image.proofs.Footprints.{outside_write}
 use Rattle.spec_image.proofs.Images.{length-after_write, word-after_same}
@@ -37,7 +37,7 @@ use Rattle.law_folder.proofs.states.Central.{walk-order}
 use Rattle.law_folder.proofs.updates.IndexWords.{buckets-unchecked, buckets-written}
 use Rattle.law_folder.proofs.updates.NodeRecords.{are_bytes-word}
 use Rattle.law_state.specs.Commands.{MayStop}
-use Rattle.law_state.specs.CounterLaws.{counted_bytes}
+use Rattle.law_state.specs.CounterLaws.{AreCountersWritten, charged}
 use Rattle.law_state.specs.CreateStops.{IsCreating}
 use Rattle.law_state.specs.CommandStates.{with_room}
 use Rattle.law_state.specs.GoneLaws.{layout_without}
@@ -196,6 +196,49 @@ with_index_word at x from = applied (Word Index at (word_bytes x)) from
 pub index-word-is : (from : Image) (at x : ℕ) → length_of from Index ≡ 262512 → at + 4 ≤ 262512 → x < 2 ^ 32 → IsIndexWord at x from (with_index_word at x from)
 index-word-is from at x long fits small = record { there = word-after_same from Index at x small (omega (arith, long, fits)); outside = outside_write Index at (word_bytes x) from }
 
+-- the counters are written
+module _ (items sum : ℕ) (from : Image) where
+  abbrev with_items : Image
+  with_items = with_index_word 8 items from
+
+  abbrev with_low : Image
+  with_low = with_index_word 48 (sum % 2 ^ 32) with_items
+
+  abbrev with_sum : Image
+  with_sum = with_index_word 52 (sum / 2 ^ 32) with_low
+
+  abbrev pub with_counters : Image
+  with_counters = with_index_word 268 items with_sum
+
+  module _ (long : length_of from Index ≡ 262512) where
+    items-long : length_of with_items Index ≡ 262512
+    items-long = length-after_write from Index Index 8 (word_bytes items) ∙ long
+
+    low-long : length_of with_low Index ≡ 262512
+    low-long = length-after_write with_items Index Index 48 (word_bytes (sum % 2 ^ 32)) ∙ items-long
+
+    sum-long : length_of with_sum Index ≡ 262512
+    sum-long = length-after_write with_low Index Index 52 (word_bytes (sum / 2 ^ 32)) ∙ low-long
+
+    pub counters-long : length_of with_counters Index ≡ 262512
+    counters-long = length-after_write with_sum Index Index 268 (word_bytes items) ∙ sum-long
+
+    pub counters-are : items < 2 ^ 32 → sum < 2 ^ 64 → AreCountersWritten items sum items from with_counters
+    counters-are few small = record {
+      first = with_items;
+      second = with_sum;
+      items_written = index-word-is from 8 items long (lit≤ tt) few;
+      sum_written = record {
+        between = with_low;
+        low = index-word-is with_items 48 (sum % 2 ^ 32) items-long (lit≤ tt) (mod_below sum (2 ^ 32) (lit< tt));
+        high = index-word-is with_low 52 (sum / 2 ^ 32) low-long (lit≤ tt) (omega (arith, small));
+      };
+      nodes_written = index-word-is with_sum 268 items sum-long (lit≤ tt) few;
+    }
+
+  pub counters-bytes : AreBytes from → AreBytes with_counters
+  counters-bytes small = are_bytes-word Index 268 items with_sum (are_bytes-word Index 52 (sum / 2 ^ 32) with_low (are_bytes-word Index 48 (sum % 2 ^ 32) with_items (are_bytes-word Index 8 items from small)))
+
 abbrev linked_folder : Image
 linked_folder = with_index_word (place_of_bucket 0xA0E1) (records 3) listed_folder
 
@@ -225,7 +268,7 @@ linked = record {
 link_stops : MayStop closed 100 (to_create 5 twin) linked_folder
 link_stops = links-stop closed 100 5 twin closed_layout (0xA0010005 ∷ []) fresh entry_folder listed_folder linked_folder creating inserted linked
 
--- the three counters
+-- the counters
 abbrev pub made : State
 made = (step closed 100 (to_create 5 twin)).state
 
@@ -234,37 +277,29 @@ unfolding computing
 four-items = lit< tt
 
 abbrev bytes_of_items : ℕ
-bytes_of_items = counted_bytes made (with_new closed_layout twin fresh)
+bytes_of_items = charged made (with_new closed_layout twin fresh)
 
-abbrev counted_items : Image
-counted_items = with_index_word 8 (length made.uses) linked_folder
-
-abbrev counted_sum : Image
-counted_sum = with_index_word 12 bytes_of_items counted_items
+bytes-small : bytes_of_items < 2 ^ 64
+unfolding computing put
+bytes-small = lit< tt
 
 abbrev pub made_folder : Image
-made_folder = with_index_word 268 (length made.uses) counted_sum
+made_folder = with_counters (length made.uses) bytes_of_items linked_folder
 
 linked-long : length_of linked_folder Index ≡ 262512
 linked-long = length-after_write listed_folder Index Index (place_of_bucket 0xA0E1) (word_bytes (records 3)) ∙ listed-long
 
-items-long : length_of counted_items Index ≡ 262512
-items-long = length-after_write linked_folder Index Index 8 (word_bytes (length made.uses)) ∙ linked-long
-
-sum-long : length_of counted_sum Index ≡ 262512
-sum-long = length-after_write counted_items Index Index 12 (word_bytes bytes_of_items) ∙ items-long
-
 -- so the Create ends with the new object
 pub created : Keeps made (with_new closed_layout twin fresh) (0xA0010005 ∷ []) made_folder
-created = creates-counted closed 100 5 twin closed_layout (0xA0010005 ∷ []) fresh entry_folder listed_folder linked_folder counted_items counted_sum made_folder creating inserted linked
-    (index-word-is linked_folder 8 (length made.uses) linked-long (lit≤ tt) four-items) (index-word-is counted_items 12 bytes_of_items items-long (lit≤ tt) (mod_below _ (2 ^ 32) (lit< tt))) (index-word-is counted_sum 268 (length made.uses) sum-long (lit≤ tt) four-items)
+created = creates-counted closed closed 100 5 twin closed_layout closed_layout (0xA0010005 ∷ []) fresh entry_folder listed_folder linked_folder made_folder creating entry-counted.counters inserted linked
+    (counters-are (length made.uses) bytes_of_items linked_folder linked-long four-items bytes-small)
 
 -- the folder can be written still
 made-long : length_of made_folder Index ≡ 262512
-made-long = length-after_write counted_sum Index Index 268 (word_bytes (length made.uses)) ∙ sum-long
+made-long = counters-long (length made.uses) bytes_of_items linked_folder linked-long
 
 pub made-writable : IsWritable made_folder
 made-writable = record {
-  bytes = are_bytes-word Index 268 (length made.uses) counted_sum (are_bytes-word Index 12 bytes_of_items counted_items (are_bytes-word Index 8 (length made.uses) linked_folder (are_bytes-word Index (place_of_bucket 0xA0E1) (records 3) listed_folder listed-writable.bytes)));
+  bytes = counters-bytes (length made.uses) bytes_of_items linked_folder (are_bytes-word Index (place_of_bucket 0xA0E1) (records 3) listed_folder listed-writable.bytes);
   has_header = subst (λ (n : ℕ). header_length ≤ n) (sym made-long) (lit≤ tt);
 }

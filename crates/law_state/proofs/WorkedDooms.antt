@@ -33,15 +33,16 @@ use Rattle.law_folder.proofs.states.Tidying.{counter-same}
 use Rattle.law_state.specs.Arranging.{LeavesFiles}
 use Rattle.law_state.specs.DoomLaws.{CanBeDoomed, IsUnchained, layout_doomed}
 use Rattle.law_state.specs.HeldPartlyOut.{IsHeldOut}
-use Rattle.law_state.specs.Keeping.{Keeps, KeepsUncounted}
+use Rattle.law_state.specs.Keeping.{CountsItems, Keeps, KeepsUncounted}
 use Rattle.law_state.specs.ListLaws.{IsTouchDone}
 use Rattle.law_state.specs.PartlyOut.{IsOneMoreOut, KeepsPartlyOut, chains_but, keeps_but}
 use Rattle.law_state.specs.RemovalLaws.{IsRemovalDone, IsUnlinking}
 use Rattle.law_state.specs.WholeRemovals.{IsWholeUnchained, layout_doomed_whole, words_of_parts}
+use Rattle.law_state.proofs.AtNodes.{updates-leave}
 use Rattle.law_state.proofs.DoomedWhole.{held-whole-dooms-end}
 use Rattle.law_state.proofs.DoneSteps.{touch-done}
 use Rattle.law_state.proofs.DoomSteps.{IsDoomedRecord, doomed-record, loads-unlisted, with_doomed}
-use Rattle.law_state.proofs.GoingOut.{goes-out, out-leaves, out-links, out-of-chain, out-of-list, ready-out, unchained, unlisted}
+use Rattle.law_state.proofs.GoingOut.{goes-out, out-counts, out-leaves, out-links, out-of-chain, out-of-list, ready-out, unchained, unlisted}
 use Rattle.law_state.proofs.HeldPartlyOut.{held-out-dooms-end}
 use Rattle.law_state.proofs.LaidOut.{IsClaimant, claimant, each-item, each-word, looked}
 use Rattle.law_state.proofs.Leaving.{leaves-then}
@@ -134,6 +135,10 @@ b-doomed = doomed-record without_b (nodes 2) the_plain b-ready b-loads (once the
 
 abbrev pub doomed_b : Image
 doomed_b = with_doomed without_b the_plain
+
+-- what is counted is as it was
+pub b-counted : CountsItems doomed_b both worked_layout
+b-counted = updates-leave without_b doomed_b (records 2) b-doomed.outside ∙ out-counts both_folder (nodes 2) 0xA0E1 b-unlisted ∙ both-keeps.counters
 
 abbrev pub but_b : Item → Bool
 but_b = keeps_but (λ item. true) (main (codes "b"))

@@ -1,10 +1,7 @@
 -- In the worked folder commands come to their ends, once the counters of the index are written: a Doom, a Trim, a Write to a live and to a doomed object, a SparseWrite of some bytes and of none, and a Close of one handle of two.
-use Rattle.std.proofs.Common.{◌≡◌, ℕ, ◌<◌, ◌^◌, List, [], ◌∷◌, ◌++◌, length, refl, sym, subst, arith, lit<, lit≤, None, Some, true, codes}
-use Rattle.std.proofs.lemmas.Nat.{mod_below}
-use Rattle.spec_image.specs.Image.{Image, Index, length_of}
-use Rattle.spec_image.specs.Bytes.{word_bytes}
+use Rattle.std.proofs.Common.{◌≡◌, ℕ, ◌<◌, ◌^◌, List, [], ◌∷◌, ◌++◌, length, refl, sym, ◌∙◌, subst, arith, lit<, lit≤, None, Some, true, codes}
+use Rattle.spec_image.specs.Image.{Image}
 use Rattle.spec_image.specs.Steps.{after}
-use Rattle.spec_image.proofs.Images.{length-after_write}
 use Rattle.blk_model.specs.Effects.{doomed, sparse_after, used, used_all, with_slot}
 use Rattle.blk_model.specs.Items.{main, part}
 use Rattle.blk_model.specs.Request.{to_close, to_doom, to_open, to_read, to_sparse_write, to_trim, to_write}
@@ -21,53 +18,45 @@ use Rattle.spec_folder.specs.Sound.{words_of}
 use Rattle.law_state.specs.BoundLaws.{HaveFewAllocations}
 use Rattle.law_state.specs.CommandEnds.{IsNamedBy, after_write}
 use Rattle.law_state.specs.CommandStates.{amidst, in_order, with_room}
-use Rattle.law_state.specs.CounterLaws.{counted_bytes}
+use Rattle.law_state.specs.CounterLaws.{charged}
 use Rattle.law_state.specs.DoomLaws.{layout_doomed}
-use Rattle.law_state.specs.Keeping.{Keeps, KeepsUncounted}
+use Rattle.law_state.specs.Keeping.{CountsItems, Keeps, KeepsUncounted}
 use Rattle.law_state.specs.ListLaws.{IsTouchDone, with_used}
 use Rattle.law_state.specs.NewPartLaws.{with_bit_of}
 use Rattle.law_state.specs.OneCallLaws.{Names}
 use Rattle.law_state.specs.ObjectLaws.{layout_after}
 use Rattle.law_state.specs.RemovalLaws.{layout_removed}
+use Rattle.law_state.proofs.AtNodes.{updates-leave}
 use Rattle.law_state.proofs.Bounds.{leave-room}
+use Rattle.law_state.proofs.Charges.{charges-small}
 use Rattle.law_state.proofs.Counters.{counters-count}
 use Rattle.law_state.proofs.DoneSteps.{touch-done}
+use Rattle.law_state.proofs.GoingOut.{out-counts}
 use Rattle.law_state.proofs.NewParts.{noted-changes}
 use Rattle.law_state.proofs.NextStates.{closes-of-many-next, doomed-writes-next, dooms-next, empty-sparse-writes-next, sparse-writes-next, trims-next, writes-next}
 use Rattle.law_state.proofs.OneCalls.{doomed-reads-end, opens-end-by-touch}
 use Rattle.law_state.proofs.Touched.{touch-counts}
 use Rattle.law_state.proofs.WorkedChanges as changes
-use Rattle.law_state.proofs.WorkedCreate.{index-word-is, with_index_word}
+use Rattle.law_state.proofs.WorkedCreate.{counters-are, with_counters}
 use Rattle.law_state.proofs.WorkedCut as dead
-use Rattle.law_state.proofs.WorkedDooms.{b_is_doomed, both, both-keeps, both-writable, both_folder, doomed_b}
+use Rattle.law_state.proofs.WorkedDooms.{b-counted, b_is_doomed, both, both-keeps, both-writable, both_folder, doomed_b}
 use Rattle.law_state.proofs.WorkedKept.{worked-keeps, worked_folder}
+use Rattle.law_state.proofs.WorkedMarks as marks
 use Rattle.law_state.proofs.WorkedMarks.{unsettled_layout}
 use Rattle.law_state.proofs.WorkedParts.{dirty-writable, dirty_folder, dirty_layout, unsettled, unsettled-keeps, unsettled_object}
-use Rattle.law_state.proofs.WorkedRecord.{emptied, emptied_folder}
-use Rattle.law_state.proofs.WorkedRemovals.{b_is_evicted, without_b}
+use Rattle.law_state.proofs.WorkedRecord.{emptied, emptied-are, emptied-outside, emptied_folder}
+use Rattle.law_state.proofs.WorkedRemovals.{b-unlisted, b_is_evicted, without_b}
 use Rattle.law_state.proofs.WorkedState.{doomed_object, nodes, parent_index, plain_object, records, sparse_object, the_parent, the_plain, worked, worked-lies, worked_layout}
 
--- ---- what is kept is counted once the three counters are written
+-- ---- what is kept is counted once the counters are written
 
-module _ (state : State) (layout : Layout) (unlinked : List ℕ) (from : Image) (k : KeepsUncounted state layout unlinked from) (few : length state.uses < 2 ^ 32) where
-  abbrev with_items : Image
-  with_items = with_index_word 8 (length state.uses) from
-
-  abbrev with_bytes : Image
-  with_bytes = with_index_word 12 (counted_bytes state layout) with_items
-
+module _ (state : State) (layout : Layout) (from : Image) where
   abbrev pub counted_folder : Image
-  counted_folder = with_index_word 268 (length state.uses) with_bytes
+  counted_folder = with_counters (length state.uses) (charged state layout) from
 
-  long : length_of from Index ≡ 262512
-  long = whole_index from k.well_formed
-
-  pub counted : Keeps state layout unlinked counted_folder
-  counted = counters-count state layout unlinked from with_items with_bytes counted_folder k
-      (index-word-is from 8 (length state.uses) long (lit≤ tt) few)
-      (index-word-is with_items 12 (counted_bytes state layout) (let l = length-after_write from Index Index 8 (word_bytes (length state.uses)) in omega (arith, l, long)) (lit≤ tt) (mod_below _ (2 ^ 32) (lit< tt)))
-      (index-word-is with_bytes 268 (length state.uses)
-      (let l = length-after_write from Index Index 8 (word_bytes (length state.uses)) in let m = length-after_write with_items Index Index 12 (word_bytes (counted_bytes state layout)) in omega (arith, l, m, long)) (lit≤ tt) few)
+  pub counted : (before : State) (was : Layout) (unlinked : List ℕ) → KeepsUncounted state layout unlinked from → CountsItems from before was → length state.uses < 2 ^ 32 → Keeps state layout unlinked counted_folder
+  counted before was unlinked k counts few =
+      counters-count state before layout was unlinked from counted_folder k counts (counters-are (length state.uses) (charged state layout) from (whole_index from k.well_formed) few (charges-small state layout unlinked from k))
 
 -- ---- Doom
 
@@ -82,8 +71,9 @@ doom-few : length (doomed 0 both (Some plain_object)).uses < 2 ^ 32
 unfolding computing
 doom-few = lit< tt
 
-doom_ends : Keeps (step both 100 (to_doom 6)).state (layout_doomed worked_layout 0 (nodes 2) the_plain) [] (counted_folder (doomed 0 both (Some plain_object)) (layout_doomed worked_layout 0 (nodes 2) the_plain) [] doomed_b doom-kept doom-few)
-doom_ends = dooms-next both 100 (to_doom 6) 0 plain_object (unfold computing in refl) (unfold computing in refl) refl (layout_doomed worked_layout 0 (nodes 2) the_plain) [] _ (counted (doomed 0 both (Some plain_object)) (layout_doomed worked_layout 0 (nodes 2) the_plain) [] doomed_b doom-kept doom-few)
+doom_ends : Keeps (step both 100 (to_doom 6)).state (layout_doomed worked_layout 0 (nodes 2) the_plain) [] (counted_folder (doomed 0 both (Some plain_object)) (layout_doomed worked_layout 0 (nodes 2) the_plain) doomed_b)
+doom_ends = dooms-next both 100 (to_doom 6) 0 plain_object (unfold computing in refl) (unfold computing in refl) refl (layout_doomed worked_layout 0 (nodes 2) the_plain) [] _
+    (counted (doomed 0 both (Some plain_object)) (layout_doomed worked_layout 0 (nodes 2) the_plain) doomed_b both worked_layout [] doom-kept b-counted doom-few)
 
 -- ---- Trim, where `b` is too much
 
@@ -102,11 +92,11 @@ unfolding computing
 room-left = refl
 
 abbrev left_folder : Image
-left_folder = counted_folder left (layout_removed worked_layout (nodes 2) (records 2)) (words_of the_plain ++ []) without_b left-kept (lit< tt)
+left_folder = counted_folder left (layout_removed worked_layout (nodes 2) (records 2)) without_b
 
 trim_ends : Keeps (step worked 100 (to_trim (total left))).state (layout_removed worked_layout (nodes 2) (records 2)) (words_of the_plain ++ []) left_folder
 trim_ends = trims-next worked 100 (total left) (layout_removed worked_layout (nodes 2) (records 2)) (words_of the_plain ++ []) left_folder
-    (subst (λ (m : State). Keeps m (layout_removed worked_layout (nodes 2) (records 2)) (words_of the_plain ++ []) left_folder) (sym room-left) (counted left (layout_removed worked_layout (nodes 2) (records 2)) (words_of the_plain ++ []) without_b left-kept (lit< tt)))
+    (subst (λ (m : State). Keeps m (layout_removed worked_layout (nodes 2) (records 2)) (words_of the_plain ++ []) left_folder) (sym room-left) (counted left (layout_removed worked_layout (nodes 2) (records 2)) without_b worked worked_layout (words_of the_plain ++ []) left-kept (out-counts worked_folder (nodes 2) 0xA0E1 b-unlisted ∙ worked-keeps.counters) (lit< tt)))
 
 -- ---- Write, with a cut
 
@@ -122,11 +112,11 @@ abbrev write_layout : Layout
 write_layout = layout_after unsettled_layout (nodes 2) changes.cut_b
 
 abbrev write_folder : Image
-write_folder = counted_folder changes.cut write_layout (0xA0010004 ∷ []) changes.cut_folder changes.cut_is_kept (lit< tt)
+write_folder = counted_folder changes.cut write_layout changes.cut_folder
 
 write_ends : Keeps (step changes.open_state 100 (to_write 6 0 0 true [])).state write_layout (0xA0010004 ∷ []) write_folder
 write_ends = writes-next changes.open_state 100 6 0 0 true [] 0 changes.open_object write_names write_layout (0xA0010004 ∷ []) write_folder
-    (subst (λ (m : State). Keeps m write_layout (0xA0010004 ∷ []) write_folder) write-is (counted changes.cut write_layout (0xA0010004 ∷ []) changes.cut_folder changes.cut_is_kept (lit< tt)))
+    (subst (λ (m : State). Keeps m write_layout (0xA0010004 ∷ []) write_folder) write-is (counted changes.cut write_layout changes.cut_folder marks.unsettled unsettled_layout (0xA0010004 ∷ []) changes.cut_is_kept changes.cut-counted (lit< tt)))
 
 -- of the doomed object
 
@@ -138,11 +128,11 @@ abbrev dead_layout : Layout
 dead_layout = layout_after worked_layout (nodes 3) emptied
 
 abbrev dead_folder : Image
-dead_folder = counted_folder dead.cut dead_layout (0xA0010005 ∷ []) (emptied_folder 2) dead.cut_is_kept (lit< tt)
+dead_folder = counted_folder dead.cut dead_layout (emptied_folder 2)
 
 doomed_write_ends : Keeps (step worked 100 (to_write 5 0 0 true [])).state dead_layout (0xA0010005 ∷ []) dead_folder
 doomed_write_ends = doomed-writes-next worked 100 5 0 0 true [] 2 doomed_object (unfold computing in refl) (unfold computing in refl) (unfold computing in refl) refl dead_layout (0xA0010005 ∷ []) dead_folder
-    (subst (λ (m : State). Keeps m dead_layout (0xA0010005 ∷ []) dead_folder) doomed-write-is (counted dead.cut dead_layout (0xA0010005 ∷ []) (emptied_folder 2) dead.cut_is_kept (lit< tt)))
+    (subst (λ (m : State). Keeps m dead_layout (0xA0010005 ∷ []) dead_folder) doomed-write-is (counted dead.cut dead_layout (emptied_folder 2) worked worked_layout (0xA0010005 ∷ []) dead.cut_is_kept (updates-leave worked_folder (emptied_folder 2) (records 3) (emptied-outside 2 emptied-are.1) ∙ worked-keeps.counters) (lit< tt)))
 
 -- ---- SparseWrite: the bytes that are there are written again, and the part is used
 

@@ -36,7 +36,7 @@ use Rattle.law_state.proofs.WorkedState.{all_four, chain_of, index_head, nodes, 
 
 -- three items, and the sum of their charges; session 7 is open; the list goes from the part over its parent to `b`, and each of them is alone in its chain
 abbrev pub index_words : List (ℕ × ℕ)
-index_words = new_index_words 50 ++ (8, 3) ∷ (12, 8466) ∷ (20, 7) ∷ (32, 1) ∷ (268, 3) ∷ (288, 0x90000001) ∷ (308, 0x90000002) ∷ (12064, 0xA0010001) ∷ (165108, 0xA0010002) ∷ (171896, 0xA0010000) ∷ []
+index_words = new_index_words 50 ++ (8, 3) ∷ (48, 8466) ∷ (20, 7) ∷ (32, 1) ∷ (268, 3) ∷ (288, 0x90000001) ∷ (308, 0x90000002) ∷ (12064, 0xA0010001) ∷ (165108, 0xA0010002) ∷ (171896, 0xA0010000) ∷ []
 
 -- four nodes
 abbrev pub nodes_words : List (ℕ × ℕ)
@@ -251,7 +251,7 @@ index-there ws later p value is small room beside =
     ∙ word-there p value (with_words ws (zeros index_length)) small (let long : length (with_words ws (zeros index_length)) ≡ index_length = length-with_words ws (zeros index_length) ∙ length-zeros index_length in omega arith)
 
 abbrev counters : List (ℕ × ℕ)
-counters = new_index_words 50 ++ (8, 3) ∷ (12, 8466) ∷ (20, 7) ∷ (32, 1) ∷ (268, 3) ∷ []
+counters = new_index_words 50 ++ (8, 3) ∷ (48, 8466) ∷ (20, 7) ∷ (32, 1) ∷ (268, 3) ∷ []
 
 abbrev buckets : List (ℕ × ℕ)
 buckets = (12064, 0xA0010001) ∷ (165108, 0xA0010002) ∷ (171896, 0xA0010000) ∷ []
@@ -298,7 +298,7 @@ other-bucket b not_parent not_part not_plain = words_beside (place_of_bucket b) 
   apart x other = ⊎_elim (λ (below : b < x). inl (omega arith)) (λ (from : x ≤ b). let n : b ≢ x = λ e. (let c : true ≡ false = sym (eq-eqb b x e) ∙ other in cc) in inr (omega arith)) (cases_lt b x)
 
   beside : Neighbours (place_of_bucket b) index_words
-  beside = (low 4 (lit≤ tt), (low 28 (lit≤ tt), (low 40 (lit≤ tt), (low 44 (lit≤ tt), (low 0 (lit≤ tt), (low 8 (lit≤ tt), (low 12 (lit≤ tt), (low 20 (lit≤ tt), (low 32 (lit≤ tt), (low 268 (lit≤ tt), (low 288 (lit≤ tt), (low 308 (lit≤ tt), (apart 0xB6C not_part, (apart 0xA0E1 not_plain, (apart 0xA782 not_parent, tt)))))))))))))))
+  beside = (low 4 (lit≤ tt), (low 28 (lit≤ tt), (low 40 (lit≤ tt), (low 44 (lit≤ tt), (low 0 (lit≤ tt), (low 8 (lit≤ tt), (low 48 (lit≤ tt), (low 20 (lit≤ tt), (low 32 (lit≤ tt), (low 268 (lit≤ tt), (low 288 (lit≤ tt), (low 308 (lit≤ tt), (apart 0xB6C not_part, (apart 0xA0E1 not_plain, (apart 0xA782 not_parent, tt)))))))))))))))
 
 -- a bucket has one record, which has no next
 record IsAlone (bucket w : ℕ) : Type 0 where

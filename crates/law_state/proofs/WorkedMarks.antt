@@ -1,10 +1,10 @@
--- In the worked folder `b` is opened, made dirty by a Write, and made clean by its Close; and the doomed object is made clean.
+-- In the worked folder `b` is opened, made dirty by a Write, and made clean by its Close, or by a Flush; and the doomed object is made clean.
 use Rattle.std.proofs.Common.{◌≡◌, [], refl, sym, ◌∙◌, subst, arith, lit<, Bool, Some, true, false, codes}
 use Rattle.std.specs.Prelude.{◌||◌}
 use Rattle.spec_image.specs.Image.{Image, Index, byte}
 use Rattle.spec_image.specs.Steps.{after}
 use Rattle.spec_image.proofs.Runs.{until_last}
-use Rattle.blk_model.specs.Request.{to_close, to_open, to_write}
+use Rattle.blk_model.specs.Request.{to_close, to_flush, to_open, to_write}
 use Rattle.blk_model.specs.State.{IsValidState, Object, State}
 use Rattle.blk_model.specs.Step.{step}
 use Rattle.blk_model.proofs.Computing.{computing}
@@ -21,7 +21,7 @@ use Rattle.law_folder.specs.CommandLaws.{IsPlacedAsDoomed, IsPlacedAsLive, dirti
 use Rattle.law_folder.proofs.lists.WordTurns.{touches-go_on}
 use Rattle.law_folder.proofs.states.Tidying.{counter-same}
 use Rattle.law_state.specs.Commands.{MayStop}
-use Rattle.law_state.specs.CommandStates.{IsLastHandle, Unsettles, with_room}
+use Rattle.law_state.specs.CommandStates.{IsLastHandle, IsOpened, Unsettles, with_room}
 use Rattle.law_state.specs.CommandEnds.{IsNamedBy}
 use Rattle.law_state.specs.Keeping.{Keeps, KeepsUncounted}
 use Rattle.law_state.specs.ObjectLaws.{layout_after}
@@ -32,7 +32,7 @@ use Rattle.law_state.proofs.DoomedMarks.{doomed-marking-counts}
 use Rattle.law_state.proofs.Free.{standing-at}
 use Rattle.law_state.proofs.MarkedStates.{marked-valid}
 use Rattle.law_state.proofs.MarkSteps.{marked_at, marks-done, marks-writable}
-use Rattle.law_state.proofs.OneCalls.{closes-end-by-mark, closes-stop-by-mark, opens-end-by-touch, unsettling-stops-by-mark}
+use Rattle.law_state.proofs.OneCalls.{closes-end-by-mark, closes-stop-by-mark, flushes-end-by-mark, flushes-stop-by-mark, opens-end-by-touch, unsettling-stops-by-mark}
 use Rattle.law_state.proofs.WorkedKept.{worked-id, worked-keeps, worked_folder}
 use Rattle.law_state.proofs.WorkedRemovals.{touched_b, worked-writable}
 use Rattle.law_state.proofs.WorkedState.{doomed_object, nodes, plain_object, settled-valid, the_doomed, the_plain, worked, worked-valid, worked_layout}
@@ -124,6 +124,18 @@ close_stops = closes-stop-by-mark unsettled unsettled_layout [] (marked_at opene
 
 closed-keeps : Keeps (step unsettled 100 (to_close 6)).state (dirtied unsettled_layout (nodes 2) (record the_plain { dirty = 7 }) 0) [] (marked_at (marked_at opened_folder (nodes 2) 7) (nodes 2) 0)
 closed-keeps = closes-end-by-mark unsettled unsettled_layout [] (marked_at opened_folder (nodes 2) 7) (marked_at (marked_at opened_folder (nodes 2) 7) (nodes 2) 0) 100 6 0 unsettled_object (record the_plain { dirty = 7 }) unsettled-keeps (omega arith) last_of_b unsettled-placed b_is_cleared
+
+-- ---- and so does a Flush, by the same words
+
+opened_by : IsOpened unsettled 6 0 unsettled_object
+unfolding computing
+opened_by = record { names = refl; here = refl; live = refl }
+
+flush_stops : MayStop unsettled 100 (to_flush 6) (marked_at (marked_at opened_folder (nodes 2) 7) (nodes 2) 0)
+flush_stops = flushes-stop-by-mark unsettled unsettled_layout [] (marked_at opened_folder (nodes 2) 7) (marked_at (marked_at opened_folder (nodes 2) 7) (nodes 2) 0) 100 6 0 unsettled_object (record the_plain { dirty = 7 }) unsettled-keeps.entries (omega arith) opened_by unsettled-placed b_is_cleared.marking
+
+flushed-keeps : Keeps (step unsettled 100 (to_flush 6)).state (dirtied unsettled_layout (nodes 2) (record the_plain { dirty = 7 }) 0) [] (marked_at (marked_at opened_folder (nodes 2) 7) (nodes 2) 0)
+flushed-keeps = flushes-end-by-mark unsettled unsettled_layout [] (marked_at opened_folder (nodes 2) 7) (marked_at (marked_at opened_folder (nodes 2) 7) (nodes 2) 0) 100 6 0 unsettled_object (record the_plain { dirty = 7 }) unsettled-keeps opened_by unsettled-placed b_is_cleared
 
 -- ---- the doomed object is clean
 

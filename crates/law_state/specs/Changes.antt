@@ -9,7 +9,7 @@ use Rattle.spec_format.specs.Growth.{HaveGrown}
 use Rattle.spec_format.specs.Maps.{AreAllocations, EmptyAgrees}
 use Rattle.spec_format.specs.BlockFiles.{is_among, linked_as, max_entries_in, stands_in, IsWellFormed}
 use Rattle.spec_format.specs.Claims.{Claim, ExternalOf, claims_of_all, has_claim, same_claim}
-use Rattle.spec_format.specs.Headers.{crash_of, num_bytes_of, num_entries_of, sizes_of, this_id_of, updating_of}
+use Rattle.spec_format.specs.Headers.{count_of, crash_of, this_id_of, updating_of}
 use Rattle.spec_folder.specs.Found.{found}
 use Rattle.spec_folder.specs.Footprint.{AgreeBut}
 use Rattle.spec_folder.specs.Layout.{Layout}
@@ -42,11 +42,9 @@ pub record SameSession (from image : Image) : Type 0 where
   pub crash : crash_of (byte image Index) ≡ crash_of (byte from Index)
   pub id : this_id_of (byte image Index) ≡ this_id_of (byte from Index)
 
--- the counters of the index are as before
-pub record SameCounters (from image : Image) : Type 0 where
-  pub sizes : sizes_of (byte image Index) 0 ≡ sizes_of (byte from Index) 0
-  pub num_entries : num_entries_of (byte image Index) ≡ num_entries_of (byte from Index)
-  pub num_bytes : num_bytes_of (byte image Index) ≡ num_bytes_of (byte from Index)
+-- the index counts as before
+abbrev pub SameCounters : Image → Image → Type 0
+SameCounters from image = count_of (byte image Index) ≡ count_of (byte from Index)
 
 -- nothing but some blocks and external files changes of what is shown, and nothing of headers, lengths and the session
 pub record ChangesOnly (touched : Claim → Bool) (from image : Image) : Type 0 where

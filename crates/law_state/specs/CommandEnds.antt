@@ -6,11 +6,11 @@ use Rattle.blk_model.specs.Effects.{created, doomed, effect, sparse_after, strea
 use Rattle.blk_model.specs.Holding.{rest}
 use Rattle.blk_model.specs.ListSteps.{uses_of}
 use Rattle.blk_model.specs.Refusals.{evicted, refused}
-use Rattle.blk_model.specs.Request.{IsRequest, Request, to_close, to_create, to_open, to_read, to_sparse_range, to_sparse_read, to_sparse_write, to_trim, to_write}
+use Rattle.blk_model.specs.Request.{IsRequest, Request, to_close, to_flush, to_create, to_open, to_read, to_sparse_range, to_sparse_read, to_sparse_write, to_trim, to_write}
 use Rattle.blk_model.specs.Room.{Group, single, whole, without}
 use Rattle.blk_model.specs.Step.{reply, step}
 use Rattle.law_folder.specs.CommandLaws.{marked, turned}
-use Rattle.law_state.specs.CommandStates.{IsAffected, IsDoomOf, IsLastHandle, MayLeave, Unsettles, amidst, in_order, with_names, with_room}
+use Rattle.law_state.specs.CommandStates.{IsAffected, IsDoomOf, IsLastHandle, IsOpened, MayLeave, Unsettles, amidst, in_order, with_names, with_room}
 
 -- Every command.
 
@@ -141,6 +141,20 @@ ClosesMayLeave = (state : State) (moment handle number : ℕ) (object : Object) 
 abbrev pub ClosesOfDoomedEnd : Type 0
 ClosesOfDoomedEnd = (state : State) (moment handle number : ℕ) (object : Object) → IsValidState state → named_by state handle ≡ Some number → object_at state number ≡ Some object → object.live ≡ false → is_named (with_name handle None state) number ≡ false
     → (step state moment (to_close handle)).state ≡ with_names (slice_set state.names handle None) (with_slot number None state)
+
+-- Flush.
+
+-- a Flush of a live object makes it clean, and changes nothing else
+abbrev pub FlushesSettle : Type 0
+FlushesSettle = (state : State) (moment handle number : ℕ) (object : Object) → IsValidState state → IsOpened state handle number object → (step state moment (to_flush handle)).state ≡ marked state number object true
+
+-- one of an object that is clean changes nothing
+abbrev pub FlushesOfSettledEnd : Type 0
+FlushesOfSettledEnd = (state : State) (moment handle number : ℕ) (object : Object) → IsValidState state → IsOpened state handle number object → object.settled ≡ true → (step state moment (to_flush handle)).state ≡ state
+
+-- a crash in it may leave the durable contents with the object clean
+abbrev pub FlushesMayLeave : Type 0
+FlushesMayLeave = (state : State) (moment handle number : ℕ) (object : Object) → IsValidState state → IsRequest (to_flush handle) → IsOpened state handle number object → MayLeave state moment (to_flush handle) (rest (marked state number object true))
 
 -- Doom and DoomKey.
 

@@ -54,6 +54,12 @@ pub record Unsettles (state : State) (moment : ℕ) (request : Request) (number 
   pub unsettled : IsUnsettled after object.key
   pub others : (other : ℕ) → other ≢ number → object_at (step state moment request).state other ≡ object_at (with_room state moment request) other
 
+-- a handle names this live object
+pub record IsOpened (state : State) (handle number : ℕ) (object : Object) : Type 0 where
+  pub names : named_by state handle ≡ Some number
+  pub here : object_at state number ≡ Some object
+  pub live : object.live ≡ true
+
 -- a handle is the last one of a live object
 pub record IsLastHandle (state : State) (handle number : ℕ) (object : Object) : Type 0 where
   pub names : named_by state handle ≡ Some number

@@ -1,26 +1,38 @@
 -- The counters of the index, which a command writes last.
-use Rattle.std.specs.Prelude.{◌≡◌, ℕ, ◌%◌, ◌^◌, List, [], length, true}
+use Rattle.std.specs.Prelude.{◌≡◌, ℕ, ◌^◌, ◌<◌, List, [], length, true}
 use Rattle.std.specs.List.{sum_by}
 use Rattle.blk_model.specs.State.{State}
 use Rattle.spec_image.specs.Image.{Image}
 use Rattle.spec_format.specs.BlockFiles.{is_among}
-use Rattle.spec_format.specs.Headers.{counter_places}
+use Rattle.spec_format.specs.Headers.{counter_places, num_bytes64_place, num_entries_place, sizes_place}
 use Rattle.spec_folder.specs.Found.{charge_of}
 use Rattle.spec_folder.specs.Layout.{Layout, order}
 use Rattle.spec_folder.specs.Tidy.{loaded_at}
-use Rattle.law_folder.specs.IndexWrites.{IsIndexWord}
+use Rattle.law_folder.specs.IndexWrites.{IsIndexLong, IsIndexWord}
 use Rattle.law_state.specs.Changes.{KeepsWith}
-use Rattle.law_state.specs.Keeping.{Keeps, KeepsUncounted}
+use Rattle.law_state.specs.Keeping.{CountsItems, Keeps, KeepsUncounted}
 
 -- a counter that is written, whatever it is then, keeps each state that was kept
 abbrev pub CountersMayBeWritten : Type 0
 CountersMayBeWritten = (from image : Image) (at x : ℕ) → is_among counter_places at ≡ true → IsIndexWord at x from image → KeepsWith [] [] from image
 
--- the sum of the charges of the items, as the index has it
-abbrev pub counted_bytes : State → Layout → ℕ
-counted_bytes state layout = sum_by charge_of (loaded_at layout (order state layout)) % 2 ^ 32
+-- the sum of the charges of the items
+abbrev pub charged : State → Layout → ℕ
+charged state layout = sum_by charge_of (loaded_at layout (order state layout))
 
--- once all three are written in their order, and are what is to be counted, the state is kept and counted
+-- it is a number of eight bytes: there are at most 131072 nodes, and what lies at each has a key and three streams that are short enough
+abbrev pub ChargesAreSmall : Type 0
+ChargesAreSmall = (state : State) (layout : Layout) (unlinked : List ℕ) (image : Image) → KeepsUncounted state layout unlinked image → charged state layout < 2 ^ 64
+
+-- the counters are written in their order: the number of the items, the two words of the sum, and the number of the nodes
+pub record AreCountersWritten (items sum nodes : ℕ) (from image : Image) : Type 0 where
+  pub first : Image
+  pub second : Image
+  pub items_written : IsIndexWord num_entries_place items from first
+  pub sum_written : IsIndexLong num_bytes64_place sum first second
+  pub nodes_written : IsIndexWord sizes_place nodes second image
+
+-- once all four are, and are what is to be counted, the state is kept and counted, where the version was the one that is made now and the word of the first one's sum 0
 abbrev pub WrittenCountersCount : Type 0
-WrittenCountersCount = (state : State) (layout : Layout) (unlinked : List ℕ) (from first second image : Image) → KeepsUncounted state layout unlinked from
-    → IsIndexWord 8 (length state.uses) from first → IsIndexWord 12 (counted_bytes state layout) first second → IsIndexWord 268 (length state.uses) second image → Keeps state layout unlinked image
+WrittenCountersCount = (state before : State) (layout was : Layout) (unlinked : List ℕ) (from image : Image) → KeepsUncounted state layout unlinked from → CountsItems from before was
+    → AreCountersWritten (length state.uses) (charged state layout) (length state.uses) from image → Keeps state layout unlinked image

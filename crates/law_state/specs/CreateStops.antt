@@ -1,7 +1,6 @@
 -- A Create, once all that it evicts is out and its entry is written: where it may crash, and what is kept in the end.
 use Rattle.std.specs.Prelude.{◌≡◌, ◌++◌, ℕ, List, None, length}
 use Rattle.spec_image.specs.Image.{Image}
-use Rattle.law_folder.specs.IndexWrites.{IsIndexWord}
 use Rattle.blk_model.specs.Refusals.{refused}
 use Rattle.blk_model.specs.Request.{IsRequest, to_create}
 use Rattle.blk_model.specs.State.{IsValidState, State}
@@ -16,8 +15,8 @@ use Rattle.spec_folder.specs.Sound.{words_of}
 use Rattle.spec_folder.specs.View.{list_of}
 use Rattle.law_state.specs.Commands.{MayStop}
 use Rattle.law_state.specs.CommandStates.{with_room}
-use Rattle.law_state.specs.CounterLaws.{counted_bytes}
-use Rattle.law_state.specs.Keeping.{Keeps, KeepsUncounted}
+use Rattle.law_state.specs.CounterLaws.{AreCountersWritten, charged}
+use Rattle.law_state.specs.Keeping.{CountsItems, Keeps, KeepsUncounted}
 use Rattle.law_state.specs.NewEntryLaws.{IsInsertDone, HasRecordInFront, IsNewEntryOf}
 
 -- a Create that isn't refused, of a state that is valid, in a folder that keeps what it doesn't evict, with the words of its entry unlinked, and the entry is written
@@ -38,11 +37,9 @@ abbrev pub LinksMayStop : Type 0
 LinksMayStop = (state : State) (moment handle : ℕ) (key : List ℕ) (layout : Layout) (unlinked : List ℕ) (loaded : Loaded) (from between image : Image) → IsCreating state moment handle key layout unlinked loaded from
     → IsInsertDone from loaded.node between → HasRecordInFront between loaded.contents image → MayStop state moment (to_create handle key) image
 
--- once the three counters are written too, the state after it is kept
+-- once the counters are written too, where they counted a state before, the state after it is kept
 abbrev pub CreatesEndOnceCounted : Type 0
-CreatesEndOnceCounted = (state : State) (moment handle : ℕ) (key : List ℕ) (layout : Layout) (unlinked : List ℕ) (loaded : Loaded) (from between linked first second image : Image) → IsCreating state moment handle key layout unlinked loaded from
-    → IsInsertDone from loaded.node between → HasRecordInFront between loaded.contents linked
-    → IsIndexWord 8 (length (step state moment (to_create handle key)).state.uses) linked first
-    → IsIndexWord 12 (counted_bytes (step state moment (to_create handle key)).state (with_new layout key loaded)) first second
-    → IsIndexWord 268 (length (step state moment (to_create handle key)).state.uses) second image
+CreatesEndOnceCounted = (state before : State) (moment handle : ℕ) (key : List ℕ) (layout was : Layout) (unlinked : List ℕ) (loaded : Loaded) (from between linked image : Image) → IsCreating state moment handle key layout unlinked loaded from
+    → CountsItems from before was → IsInsertDone from loaded.node between → HasRecordInFront between loaded.contents linked
+    → AreCountersWritten (length (step state moment (to_create handle key)).state.uses) (charged (step state moment (to_create handle key)).state (with_new layout key loaded)) (length (step state moment (to_create handle key)).state.uses) linked image
     → Keeps (step state moment (to_create handle key)).state (with_new layout key loaded) unlinked image

@@ -7,7 +7,7 @@ use Rattle.blk_model.specs.State.{State, Object, IsValidState, object_at}
 use Rattle.spec_image.specs.Image.{Index, Block, External, Image, byte, has_file}
 use Rattle.spec_format.specs.BlockFiles.{linked_as, stands_in, IsWellFormed}
 use Rattle.spec_format.specs.Claims.{Claim, ExternalOf, claims_of_all, has_claim, is_in_file, repeats}
-use Rattle.spec_format.specs.Headers.{crash_of, num_bytes_of, num_entries_of, sizes_of, this_id_of, updating_of}
+use Rattle.spec_format.specs.Headers.{count_of, counting, crash_of, this_id_of, updating_of}
 use Rattle.spec_format.specs.Maps.{AreAllocations, EmptyAgrees}
 use Rattle.spec_folder.specs.ListView.{Distinct}
 use Rattle.spec_folder.specs.View.{view_of}
@@ -67,11 +67,9 @@ pub record AreUnlinked (image : Image) (layout : Layout) (unlinked : List ℕ) :
 abbrev pub AllAreSealed : Image → Layout → Type 0
 AllAreSealed image layout = (node : ℕ) (loaded : Loaded) → layout.at node ≡ Some loaded → AreSealed image loaded
 
--- the counters of the index count the listed items, and sum their charges
-pub record CountsItems (image : Image) (state : State) (layout : Layout) : Type 0 where
-  pub sizes : sizes_of (byte image Index) 0 ≡ length state.uses
-  pub num_entries : num_entries_of (byte image Index) ≡ length state.uses
-  pub num_bytes : num_bytes_of (byte image Index) ≡ sum_by charge_of (loaded_at layout (order state layout)) % 2 ^ 32
+-- the index, of the version that is made now, counts the listed items, and sums their charges
+abbrev pub CountsItems : Image → State → Layout → Type 0
+CountsItems image state layout = count_of (byte image Index) ≡ counting (length state.uses) (sum_by charge_of (loaded_at layout (order state layout)))
 
 -- the dirty word of each live object that is dirty is this number
 abbrev pub AreMarkedBy : ℕ → State → Layout → Type 0

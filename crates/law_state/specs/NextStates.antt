@@ -6,12 +6,12 @@ use Rattle.blk_model.specs.State.{IsValidState, Object, State, is_named, named_b
 use Rattle.blk_model.specs.Effects.{created, doomed, sparse_after, used, used_all, with_name, with_slot}
 use Rattle.blk_model.specs.ListSteps.{uses_of}
 use Rattle.blk_model.specs.Refusals.{refused}
-use Rattle.blk_model.specs.Request.{IsRequest, Request, to_close, to_create, to_open, to_sparse_write, to_trim, to_write}
+use Rattle.blk_model.specs.Request.{IsRequest, Request, to_close, to_flush, to_create, to_open, to_sparse_write, to_trim, to_write}
 use Rattle.blk_model.specs.Step.{step}
 use Rattle.spec_folder.specs.Layout.{Layout}
 use Rattle.law_folder.specs.CommandLaws.{marked}
 use Rattle.law_state.specs.CommandEnds.{IsNamedBy, OnlyUses, after_write}
-use Rattle.law_state.specs.CommandStates.{IsDoomOf, IsLastHandle, amidst, in_order, with_room}
+use Rattle.law_state.specs.CommandStates.{IsDoomOf, IsLastHandle, IsOpened, amidst, in_order, with_room}
 use Rattle.law_state.specs.Keeping.{Keeps}
 
 -- where a state is kept, by any layout with any words unlinked, the state after a request is kept by it
@@ -59,6 +59,10 @@ ClosesOfManyKeepNext = (state : State) (moment handle number : ℕ) → IsValidS
 -- one of the last handle of a live object, once that is clean
 abbrev pub ClosesKeepNext : Type 0
 ClosesKeepNext = (state : State) (moment handle number : ℕ) (object : Object) → IsValidState state → IsRequest (to_close handle) → IsLastHandle state handle number object → KeepsNext (marked state number object true) state moment (to_close handle)
+
+-- a Flush of a live object, once that is clean
+abbrev pub FlushesKeepNext : Type 0
+FlushesKeepNext = (state : State) (moment handle number : ℕ) (object : Object) → IsValidState state → IsOpened state handle number object → KeepsNext (marked state number object true) state moment (to_flush handle)
 
 -- a Doom and a DoomKey, once the object is doomed
 abbrev pub DoomsKeepNext : Type 0

@@ -1,17 +1,17 @@
--- Commands of one call, from the moments of that call: Open, Read and Close; and the call by which a request makes its object dirty.
+-- Commands of one call, from the moments of that call: Open, Read, Close and Flush; and the call by which a request makes its object dirty.
 use Rattle.std.specs.Prelude.{◌≡◌, ◌++◌, ◌==◌, ℕ, List, None, Some, false, true}
 use Rattle.spec_image.specs.Image.{Image}
 use Rattle.blk_model.specs.Effects.{with_name}
 use Rattle.blk_model.specs.Items.{main}
 use Rattle.blk_model.specs.Refusals.{refused}
-use Rattle.blk_model.specs.Request.{IsRequest, Request, to_close, to_open, to_read}
+use Rattle.blk_model.specs.Request.{IsRequest, Request, to_close, to_flush, to_open, to_read}
 use Rattle.blk_model.specs.State.{IsValidState, Object, State, is_named, named_by, object_at}
 use Rattle.blk_model.specs.Step.{step}
 use Rattle.law_folder.specs.CommandLaws.{IsPlacedAsDoomed, dirtied}
 use Rattle.spec_folder.specs.Layout.{Layout}
 use Rattle.spec_folder.specs.Loads.{Loaded}
 use Rattle.spec_folder.specs.Sound.{words_of}
-use Rattle.law_state.specs.CommandStates.{IsLastHandle, Unsettles, with_room}
+use Rattle.law_state.specs.CommandStates.{IsLastHandle, IsOpened, Unsettles, with_room}
 use Rattle.law_state.specs.Commands.{MayStop}
 use Rattle.law_state.specs.GoneLaws.{layout_without}
 use Rattle.law_state.specs.Keeping.{Keeps, KeepsUncounted}
@@ -66,6 +66,18 @@ ClosesOfDoomedUnlink =
     → Keeps state layout unlinked image → IsRequest (to_close handle) → named_by state handle ≡ Some number
     → is_named (with_name handle None state) number ≡ false
     → IsPlacedAsDoomed state layout number object was → Keeps (step state moment (to_close handle)).state (layout_without layout (layout.place_of_doomed number)) (words_of was ++ unlinked) image
+
+-- Flush.
+
+-- while the dirty word of its object becomes 0 it may crash
+abbrev pub FlushesMayStop : Type 0
+FlushesMayStop = (state : State) (layout : Layout) (unlinked : List ℕ) (from image : Image) (moment handle number : ℕ) (object : Object) (loaded : Loaded) → KeepsUncounted state layout unlinked from → IsRequest (to_flush handle) → IsOpened state handle number object
+    → layout.at (layout.place (main object.key)) ≡ Some loaded → IsMarking from (layout.place (main object.key)) 0 image → MayStop state moment (to_flush handle) image
+
+-- and once it is 0 the state after it is kept
+abbrev pub FlushesEndByMark : Type 0
+FlushesEndByMark = (state : State) (layout : Layout) (unlinked : List ℕ) (from image : Image) (moment handle number : ℕ) (object : Object) (loaded : Loaded) → Keeps state layout unlinked from → IsOpened state handle number object
+    → layout.at (layout.place (main object.key)) ≡ Some loaded → IsMarked from (layout.place (main object.key)) 0 image → Keeps (step state moment (to_flush handle)).state (dirtied layout (layout.place (main object.key)) loaded 0) unlinked image
 
 -- An object becomes dirty.
 

@@ -9,7 +9,7 @@ use Rattle.blk_model.specs.Effects.{doomed, used_all}
 use Rattle.blk_model.specs.Holding.{rest}
 use Rattle.blk_model.specs.ListSteps.{dooms, uses_of}
 use Rattle.blk_model.specs.Refusals.{refused}
-use Rattle.blk_model.specs.Request.{IsRequest, Request, to_close}
+use Rattle.blk_model.specs.Request.{IsRequest, Request, to_close, to_flush}
 use Rattle.blk_model.specs.Room.{Group, single, whole, without}
 use Rattle.spec_folder.specs.Completion.{remove}
 use Rattle.spec_folder.specs.Layout.{HoldsExcept, Layout, is_listed, nodes_of}
@@ -21,7 +21,7 @@ use Rattle.spec_folder.specs.View.{list_of, store_of}
 use Rattle.law_folder.specs.CommandLaws.{marked}
 use Rattle.law_state.specs.Changes.{Finds}
 use Rattle.law_state.specs.Commands.{MayStop}
-use Rattle.law_state.specs.CommandStates.{IsDoomOf, IsLastHandle, IsUnsettled, KeepsOtherKeys, Unsettles, amidst, in_order, with_room}
+use Rattle.law_state.specs.CommandStates.{IsDoomOf, IsLastHandle, IsOpened, IsUnsettled, KeepsOtherKeys, Unsettles, amidst, in_order, with_room}
 use Rattle.law_state.specs.Keeping.{KeepsUncounted}
 
 -- Uses.
@@ -49,10 +49,15 @@ abbrev pub UnsettlingMayStop : Type 0
 UnsettlingMayStop = (state : State) (moment : ℕ) (request : Request) (number : ℕ) (object : Object) (image : Image) → IsValidState state → Unsettles state moment request number object
     → Finds (rest (with_room state moment request)) image ⊎ Finds (rest (marked (with_room state moment request) number object false)) image → MayStop state moment request image
 
--- and a Close while it makes it clean
+-- so may a Close while it makes it clean
 abbrev pub SettlingMayStop : Type 0
 SettlingMayStop = (state : State) (moment handle number : ℕ) (object : Object) (image : Image) → IsValidState state → IsRequest (to_close handle) → IsLastHandle state handle number object
     → Finds (rest state) image ⊎ Finds (rest (marked state number object true)) image → MayStop state moment (to_close handle) image
+
+-- and a Flush
+abbrev pub CleaningMayStop : Type 0
+CleaningMayStop = (state : State) (moment handle number : ℕ) (object : Object) (image : Image) → IsValidState state → IsRequest (to_flush handle) → IsOpened state handle number object
+    → Finds (rest state) image ⊎ Finds (rest (marked state number object true)) image → MayStop state moment (to_flush handle) image
 
 -- Removals.
 

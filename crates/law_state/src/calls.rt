@@ -4,7 +4,7 @@ ghost use Rattle.law_state.specs.AllocationLaws.{AllocatedBlocksAreAdded, FreedB
 ghost use Rattle.law_state.specs.Arranging.{KeptInAnyOrder, StatesAreRearranged};
 ghost use Rattle.law_state.specs.BoundLaws.{KeptAllocationsAreFew, KeptAllocationsLeaveRoom};
 ghost use Rattle.law_state.specs.ChangedStates.{UnheldObjectsGoWhole, UnheldObjectsGoWithTheirParts, ObjectsChangeTheirMainItem};
-ghost use Rattle.law_state.specs.CounterLaws.{CountersMayBeWritten, WrittenCountersCount};
+ghost use Rattle.law_state.specs.CounterLaws.{ChargesAreSmall, CountersMayBeWritten, WrittenCountersCount};
 ghost use Rattle.law_state.specs.DoneLaws.{TouchStepsAreDone, InsertStepsAreDone, RemovalStepsAreDone};
 ghost use Rattle.law_state.specs.DoomLaws.{DoomedObjectsAreKept, DoomedObjectsAreOneLess};
 ghost use Rattle.law_state.specs.ExternalLaws.{MakingFilesFindsTheSame, MadeFilesAreAdded, DeletingFilesFindsTheSame, DeletedFilesAreRemoved};
@@ -49,9 +49,10 @@ pub fn doomed_objects_are_marked()
     ensures counted { DoomedMarkingKeepsTheCounters }
 {}
 
-/// Each counter of the index may be written, and once the three are, the state is counted.
+/// Each counter of the index may be written, and once all are, the state is counted; the sum of the charges is a number of eight bytes.
 pub fn counters_are_written()
     ensures each { CountersMayBeWritten }
+    ensures small { ChargesAreSmall }
     ensures counted { WrittenCountersCount }
 {}
 

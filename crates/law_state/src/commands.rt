@@ -1,11 +1,11 @@
 //! What a crash in a command may leave, and how commands end: laws, each the contract of a function with an empty body.
-ghost use Rattle.law_state.specs.CommandEnds.{PassedRequestsTakeEffect, GroupsGoInTurn, WholeGroupsGoAsDoomed, PartsGoAlone, MarkedStatesAreValid, UsesEnd, OnlyUsesMayBeLeft, OpensEndOnceUsed, OpensMayLeave, CreatesEndOnceMade, CreatesMayLeave, WritesUnsettle, WritesEndOnceWritten, DoomedWritesEnd, SparseWritesUnsettle, SparseWritesEnd, EmptySparseWritesEnd, ClosesFreeTheName, ClosesSettle, ClosesMayLeave, ClosesOfDoomedEnd, DoomsEndOnceDoomed, DoomsMayLeave, TrimsEndOnceOut, TrimsMayLeave};
+ghost use Rattle.law_state.specs.CommandEnds.{PassedRequestsTakeEffect, GroupsGoInTurn, WholeGroupsGoAsDoomed, PartsGoAlone, MarkedStatesAreValid, UsesEnd, OnlyUsesMayBeLeft, OpensEndOnceUsed, OpensMayLeave, CreatesEndOnceMade, CreatesMayLeave, WritesUnsettle, WritesEndOnceWritten, DoomedWritesEnd, SparseWritesUnsettle, SparseWritesEnd, EmptySparseWritesEnd, ClosesFreeTheName, ClosesSettle, ClosesMayLeave, ClosesOfDoomedEnd, FlushesSettle, FlushesMayLeave, FlushesOfSettledEnd, DoomsEndOnceDoomed, DoomsMayLeave, TrimsEndOnceOut, TrimsMayLeave};
 ghost use Rattle.law_state.specs.Keeping.{KeepsSome};
 ghost use Rattle.law_state.specs.PartStates.{PartsChangeAlone, NewPartsKeepValid, PartsAreLeftOut};
 ghost use Rattle.law_state.specs.StageLaws.{StagesGoOn, StagesMayStop, WhatIsFoundMayStop, CallsFollow, EndsAreKept, EffectsAreDone, NotesEndSteps};
-ghost use Rattle.law_state.specs.WordStops.{UsesMayStop, UnsettledUsesMayStop, UnsettlingMayStop, SettlingMayStop, DoomsFindEither, OutIsDoomed, DoomedPartsFindTheSame, DoomsMayStop, PartsFindEither, PartOutIsGone, GroupsMayStop, WholeGroupsMayStop};
-ghost use Rattle.law_state.specs.NextStates.{UsesKeepNext, OpensKeepNext, CreatesKeepNext, WritesKeepNext, DoomedWritesKeepNext, SparseWritesKeepNext, EmptySparseWritesKeepNext, ClosesOfManyKeepNext, ClosesKeepNext, DoomsKeepNext, TrimsKeepNext};
-ghost use Rattle.law_state.specs.OneCallLaws.{OpensEndByTouch, ReadsMayStop, ReadsEndByTouch, DoomedReadsEnd, ClosesMayStop, ClosesEndByMark, ClosesOfDoomedUnlink, UnsettlingMarksMayStop};
+ghost use Rattle.law_state.specs.WordStops.{UsesMayStop, UnsettledUsesMayStop, UnsettlingMayStop, SettlingMayStop, CleaningMayStop, DoomsFindEither, OutIsDoomed, DoomedPartsFindTheSame, DoomsMayStop, PartsFindEither, PartOutIsGone, GroupsMayStop, WholeGroupsMayStop};
+ghost use Rattle.law_state.specs.NextStates.{UsesKeepNext, OpensKeepNext, CreatesKeepNext, WritesKeepNext, DoomedWritesKeepNext, SparseWritesKeepNext, EmptySparseWritesKeepNext, ClosesOfManyKeepNext, ClosesKeepNext, FlushesKeepNext, DoomsKeepNext, TrimsKeepNext};
+ghost use Rattle.law_state.specs.OneCallLaws.{OpensEndByTouch, ReadsMayStop, ReadsEndByTouch, DoomedReadsEnd, ClosesMayStop, ClosesEndByMark, ClosesOfDoomedUnlink, FlushesMayStop, FlushesEndByMark, UnsettlingMarksMayStop};
 ghost use Rattle.law_state.specs.PlainRemovals.{PlainGroupsGo, LonePartsGo, UnheldDoomsEnd, HeldDoomsEnd, PartGoneIsWithout, RemovingFindsDoomed, DoomedObjectsAreRemoved, RemovingFindsPartGone, LonePartsAreRemoved};
 ghost use Rattle.law_state.specs.WholeRemovals.{WholeObjectsAreRemoved, UnheldWholeDoomsEnd, WholeObjectsAreDoomed, HeldWholeDoomsEnd, WholeGroupsGo};
 ghost use Rattle.law_state.specs.PartlyOut.{UnheldOutDoomsEnd, OutGroupsAreGone};
@@ -86,12 +86,15 @@ pub fn parts_change_alone()
 {}
 
 /// A Close frees its name; of the last handle it makes a live object clean, whose durable contents a crash may leave, and ends
-/// without a doomed one.
+/// without a doomed one. A Flush makes a live object clean likewise, and frees no name.
 pub fn closes_settle()
     ensures several { ClosesFreeTheName }
     ensures ends { ClosesSettle }
     ensures leaves { ClosesMayLeave }
     ensures doomed { ClosesOfDoomedEnd }
+    ensures flushes { FlushesSettle }
+    ensures flushes_leave { FlushesMayLeave }
+    ensures none { FlushesOfSettledEnd }
 {}
 
 /// A Doom and a DoomKey end with the object doomed, and a crash may leave the durable contents then.
@@ -122,6 +125,7 @@ pub fn uses_may_be_stopped()
     ensures unsettled_uses { UnsettledUsesMayStop }
     ensures unsettles { UnsettlingMayStop }
     ensures settles { SettlingMayStop }
+    ensures cleans { CleaningMayStop }
 {}
 
 /// At each word of the removal of an object's main item the old durable contents are recovered, or those with it doomed, and these from then on; a part that goes alone is found, or not, likewise. So a Doom may crash, and a request while a
@@ -148,11 +152,12 @@ pub fn commands_keep_the_next_state()
     ensures empty_sparse_writes { EmptySparseWritesKeepNext }
     ensures closes_of_many { ClosesOfManyKeepNext }
     ensures closes { ClosesKeepNext }
+    ensures flushes { FlushesKeepNext }
     ensures dooms { DoomsKeepNext }
     ensures trims { TrimsKeepNext }
 {}
 
-/// Open, Read and Close from the moments of their calls: where each may crash, and what is kept in the end. So is a request while it makes its object dirty.
+/// Open, Read, Close and Flush from the moments of their calls: where each may crash, and what is kept in the end. So is a request while it makes its object dirty.
 pub fn commands_of_one_call()
     ensures opens_end { OpensEndByTouch }
     ensures reads_stop { ReadsMayStop }
@@ -161,6 +166,8 @@ pub fn commands_of_one_call()
     ensures closes_stop { ClosesMayStop }
     ensures closes_end { ClosesEndByMark }
     ensures doomed_closes { ClosesOfDoomedUnlink }
+    ensures flushes_stop { FlushesMayStop }
+    ensures flushes_end { FlushesEndByMark }
     ensures unsettling_stops { UnsettlingMarksMayStop }
 {}
 

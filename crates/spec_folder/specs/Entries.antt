@@ -10,7 +10,7 @@ use Rattle.spec_format.specs.Records.{parent, child}
 use Rattle.spec_format.specs.Names.{Name, longest_name, read_name}
 use Rattle.spec_format.specs.SparseIndex.{ParentIndex, read_parent_index, PartIndex, read_part_index}
 use Rattle.spec_folder.specs.View.{StoreView, RecordFields, data_size_of, address_of}
-use Rattle.blk_model.specs.Sizes.{longest_key, part_size, part_block_size, part_blocks}
+use Rattle.blk_model.specs.Sizes.{longest_key, most_stream, part_size, part_block_size, part_blocks}
 
 -- what the flags and the streams of a record make it: a plain entry, the parent of an index, or a part with its name and index
 pub data Role : Type 0 where
@@ -24,7 +24,7 @@ longest_key_with fields = if fields.flags == child then longest_name else longes
 
 -- the most bytes of a stream
 abbrev pub most_stream_bytes : ℕ
-most_stream_bytes = 2147483647
+most_stream_bytes = most_stream
 
 -- the length of the key is right, and so is the number of blocks of the record's address
 unfoldable pub is_key_length : ℕ → RecordFields → Bool

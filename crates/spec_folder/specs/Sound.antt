@@ -1,10 +1,10 @@
 -- An image in which nothing is to be repaired.
-use Rattle.std.specs.Prelude.{◌≡◌, ℕ, ◌%◌, ◌^◌, ◌<◌, ◌≤◌, ◌⊎◌, List, [], ◌∷◌, ◌++◌, length, map, true, false, not, ◌==◌, is_some}
+use Rattle.std.specs.Prelude.{◌≡◌, ℕ, ◌^◌, ◌<◌, ◌≤◌, ◌⊎◌, List, [], ◌∷◌, ◌++◌, length, map, true, false, not, ◌==◌, is_some}
 use Rattle.std.specs.List.{sum_by, count_by, flat_map, filter, AllByRecursion}
 use Rattle.std.specs.declared.option.Option.TheVariants.{Some}
 use Rattle.spec_image.specs.Image.{Index, Block, External, Image, has_file, length_of, byte}
 use Rattle.spec_format.specs.Address.{block_place}
-use Rattle.spec_format.specs.Headers.{table_length, num_entries_of, num_bytes_of, sizes_of, allocations_of, updating_of}
+use Rattle.spec_format.specs.Headers.{CountsAs, count_of, table_length, allocations_of, updating_of}
 use Rattle.spec_format.specs.Records.{node_is_sealed, entry_is_sealed}
 use Rattle.spec_format.specs.Claims.{Claim, BlockOf, ExternalOf, has_claim, is_in_file, repeats}
 use Rattle.spec_format.specs.BlockFiles.{linked_as, max_entries_in, most_blocks, IsWellFormed}
@@ -67,12 +67,10 @@ pub record AreSealed (image : Image) (loaded : Loaded) : Type 0 where
   pub node : node_is_sealed (node_at image loaded.node) ≡ true
   pub entry : entry_is_sealed (entry_at image loaded.contents) ≡ true
 
--- the tail and the counters of the index agree with what is listed
+-- the tail and what the index counts agree with what is listed
 pub record IsIndexCounted (image : Image) (listed : List Loaded) : Type 0 where
   pub tail : (view_of image).list.tail ≡ last_or 0 (map (λ loaded. loaded.node) listed)
-  pub sizes : sizes_of (byte image Index) 0 ≡ length listed
-  pub num_entries : num_entries_of (byte image Index) ≡ length listed
-  pub num_bytes : num_bytes_of (byte image Index) ≡ sum_by charge_of listed % 2 ^ 32
+  pub counts : CountsAs (length listed) (sum_by charge_of listed) (count_of (byte image Index))
 
 -- files, counters, seals and the words of the index agree with what is listed, and with what is kept beside the list
 pub record IsInOrder (image : Image) (listed doomed : List Loaded) : Type 0 where

@@ -7,8 +7,8 @@ use Rattle.std.specs.declared.result.Result.TheVariants.{Ok}
 use Rattle.blk_model.specs.Items.{main_row, item_of}
 use Rattle.blk_model.specs.State.{Object, State, IsValidState, object_at}
 use Rattle.blk_model.specs.Holding as model
-use Rattle.spec_image.specs.Image.{External, Image, has_file}
-use Rattle.spec_format.specs.Headers.{table_length}
+use Rattle.spec_image.specs.Image.{External, Image, Index, byte, has_file}
+use Rattle.spec_format.specs.Headers.{index_version, table_length, version_of}
 use Rattle.spec_format.specs.Records as records
 use Rattle.spec_format.specs.Claims.{Claim, BlockOf, ExternalOf, has_claim}
 use Rattle.spec_format.specs.BlockFiles.{is_among, linked_as, most_blocks, IsWellFormed}
@@ -53,6 +53,8 @@ pub record ShowsState (view : View) (state : State) : Type 0 where
 -- an image stands for a state
 pub record StandsFor (image : Image) (state : State) : Type 0 where
   pub well_formed : IsWellFormed image
+  -- its index has the version that is made now
+  pub version : version_of (byte image Index) ≡ index_version
   pub shows : ShowsState (view_of image) state
   pub doomed : List (ℕ × Loaded)
   pub are_doomed : AreDoomed (view_of image) state doomed

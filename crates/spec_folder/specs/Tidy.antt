@@ -1,12 +1,12 @@
 -- Files, counters and seals in order, told by a layout, and what leaves files as they are.
-use Rattle.std.specs.Prelude.{◌≡◌, ℕ, ◌%◌, ◌^◌, ◌<◌, List, ◌++◌, length, map, is_some, true, false}
+use Rattle.std.specs.Prelude.{◌≡◌, ℕ, ◌<◌, List, ◌++◌, length, map, is_some, true, false}
 use Rattle.std.specs.List.{filter_map, flat_map, sum_by}
 use Rattle.std.specs.declared.option.Option.TheVariants.{Some}
 use Rattle.spec_image.specs.Image.{File, Image, Index, Block, External, byte, has_file}
 use Rattle.spec_image.specs.Footprint.{Footprint}
 use Rattle.spec_format.specs.Address.{header_size}
 use Rattle.spec_format.specs.BlockFiles.{IsWellFormed, linked_as, most_blocks}
-use Rattle.spec_format.specs.Headers.{num_entries_of, num_bytes_of, sizes_of}
+use Rattle.spec_format.specs.Headers.{count_of, counting}
 use Rattle.spec_format.specs.Maps.{is_block_marked}
 use Rattle.blk_model.specs.State.{State, IsValidState}
 use Rattle.spec_folder.specs.View.{view_of}
@@ -30,9 +30,7 @@ pub record IsTidy (image : Image) (state : State) (layout : Layout) (numbers : L
   pub long_enough : AreLongEnough image
   pub counted : (n : ℕ) → is_some (linked_as image n) ≡ true
       → CountersAgree image (flat_map words_of (loaded_at layout (order state layout ++ doomed_nodes layout numbers))) n
-  pub sizes : sizes_of (byte image Index) 0 ≡ length state.uses
-  pub num_entries : num_entries_of (byte image Index) ≡ length state.uses
-  pub num_bytes : num_bytes_of (byte image Index) ≡ sum_by charge_of (loaded_at layout (order state layout)) % 2 ^ 32
+  pub counts : count_of (byte image Index) ≡ counting (length state.uses) (sum_by charge_of (loaded_at layout (order state layout)))
   pub sealed : (node : ℕ) (loaded : Loaded) → layout.at node ≡ Some loaded → AreSealed image loaded
 
 -- an image has a state by a layout, in which these are the numbers of the doomed objects: it is well formed and represents the state, its maps and

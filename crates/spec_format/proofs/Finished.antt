@@ -4,7 +4,7 @@ use Rattle.std.specs.Prelude.{IsTrue, ◌==◌, ◌||◌, not, nat_lt, is_some, 
 use Rattle.std.proofs.lemmas.Bool.{eqb-true}
 use Rattle.spec_image.specs.Image.{Index, File, Image, byte, length_of}
 use Rattle.spec_image.specs.Checks.{Damage, first_of, check_found}
-use Rattle.spec_format.specs.Headers.{head_checks, magic_of, index_magic, index_length, unfinished}
+use Rattle.spec_format.specs.Headers.{head_checks, is_index_version, magic_of, index_magic, index_length, unfinished, version_of}
 use Rattle.spec_format.specs.BlockFiles.{IsWellFormed, WellFormedIsFinished, WellFormedHasWholeIndex}
 use Rattle.spec_format.proofs.HeaderLemmas.{unfinished_agrees}
 
@@ -22,6 +22,15 @@ well_formed-finished image well =
     let magic = passed Index 0 _ (magic_of (byte image Index) == index_magic) _ well in
     let long = passed Index index_length _ (length_of image Index == index_length) _ magic.1 in
     finished (image Index) (magic_of (byte image Index)) (eqb-true _ _ long.0) (eqb-true _ _ magic.0)
+
+-- and its version is one that is read
+pub well_formed-version : (image : Image) → IsWellFormed image → is_index_version (version_of (byte image Index)) ≡ true
+unfolding head_checks
+well_formed-version image well =
+    let magic = passed Index 0 _ (magic_of (byte image Index) == index_magic) _ well in
+    let long = passed Index index_length _ (length_of image Index == index_length) _ magic.1 in
+    let version = passed Index 4 _ (is_index_version (version_of (byte image Index))) _ long.1 in
+    version.0
 
 -- a test that fails is not passed
 clash : (b : Bool) → b ≡ false → IsTrue b → ⊥

@@ -20,6 +20,10 @@ whole_index : first_of (head_checks (header 0xC103CAC3 0x20000 0 65536 0) 262512
 unfolding header head_checks
 whole_index = refl
 
+new_version : first_of (head_checks (header 0xC103CAC3 0x30000 0 65536 0) 262512) ≡ None
+unfolding header head_checks
+new_version = refl
+
 no_table_length : first_of (head_checks (header 0xC103CAC3 0x20000 0 0 0) 262512) ≡ None
 unfolding header head_checks
 no_table_length = refl
@@ -39,6 +43,10 @@ huge_index = refl
 other_version : first_of (head_checks (header 0xC103CAC3 0x20001 0 65536 0) 262512) ≡ damage 4 0x20001
 unfolding header damage head_checks
 other_version = refl
+
+later_version : first_of (head_checks (header 0xC103CAC3 0x40000 0 65536 0) 262512) ≡ damage 4 0x40000
+unfolding header damage head_checks
+later_version = refl
 
 some_stats : first_of (head_checks (header 0xC103CAC3 0x20000 0x90000000 65536 0) 262512) ≡ damage 24 0x90000000
 unfolding header damage head_checks

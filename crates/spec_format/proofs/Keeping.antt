@@ -9,7 +9,7 @@ use Rattle.spec_image.specs.Image.{Block, Image, byte, length_of}
 use Rattle.spec_image.specs.Checks as checks
 use Rattle.spec_image.specs.Checks.{first_of, check_found}
 use Rattle.spec_format.specs.Address.{block_size}
-use Rattle.spec_format.specs.Headers.{block_magic, version, magic_of, version_of, this_file_of, next_file_of, entry_size_of, max_entries_of}
+use Rattle.spec_format.specs.Headers.{block_magic, block_version, magic_of, version_of, this_file_of, next_file_of, entry_size_of, max_entries_of}
 use Rattle.spec_format.specs.BlockFiles.{next_file_in, max_entries_in, files_along, linked, linked_up_to, is_among, is_link, is_block_count, file_checks, checks_along, checks_of_kind, first_block_damage}
 use Rattle.spec_format.proofs.Among.{is_among_more}
 use Rattle.spec_image.proofs.FirstChecks.{append_none, all_none, passed}
@@ -35,7 +35,7 @@ none_both xs ys one other = append_none xs ys one ∙ other
 pub record Passed (kind : ℕ) (met : List ℕ) (left n : ℕ) (f : ℕ → ℕ) (size : ℕ) : Type 0 where
   pub whole : nat_le 8192 size ≡ true
   pub magic : (magic_of f == block_magic) ≡ true
-  pub is_version : (version_of f == version) ≡ true
+  pub is_version : (version_of f == block_version) ≡ true
   pub this_file : (this_file_of f == n) ≡ true
   pub link : is_link met left (next_file_of f) ≡ true
   pub entry_size : (entry_size_of f == block_size kind) ≡ true
@@ -48,7 +48,7 @@ checks_hold kind met left n f size none =
     record {
       whole = passed (Block n) 8192 (size % 2 ^ 32) (nat_le 8192 size) (each 0);
       magic = passed (Block n) 0 (word_at f 0) (magic_of f == block_magic) (each 1);
-      is_version = passed (Block n) 4 (word_at f 4) (version_of f == version) (each 2);
+      is_version = passed (Block n) 4 (word_at f 4) (version_of f == block_version) (each 2);
       this_file = passed (Block n) 8 (word_at f 8) (this_file_of f == n) (each 3);
       link = passed (Block n) 8 (word_at f 8) (is_link met left (next_file_of f)) (each 4);
       entry_size = passed (Block n) 12 (word_at f 12) (entry_size_of f == block_size kind) (each 5);
@@ -86,7 +86,7 @@ kept_file a b m kind met met2 left left2 keeps link none =
     (record {
       whole = longer_whole (length_of a (Block m)) (length_of b (Block m)) keeps.longer old.whole;
       magic = ap (λ (w : ℕ). w == block_magic) keeps.magic ∙ old.magic;
-      is_version = ap (λ (w : ℕ). w == version) keeps.is_version ∙ old.is_version;
+      is_version = ap (λ (w : ℕ). w == block_version) keeps.is_version ∙ old.is_version;
       this_file = ap (λ (w : ℕ). w == m) keeps.this_file ∙ old.this_file;
       link = link;
       entry_size = ap (λ (w : ℕ). w == block_size kind) keeps.entry_size ∙ old.entry_size;

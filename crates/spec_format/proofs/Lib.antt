@@ -3,7 +3,9 @@ pub mod AddressExamples
 pub mod StorageExamples
 pub mod ClaimsExamples
 pub mod HeaderExamples
+pub mod CountExamples
 pub mod HeaderLemmas
+pub mod Counts
 pub mod Finished
 pub mod Bodies
 pub mod HashExamples

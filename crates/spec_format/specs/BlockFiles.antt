@@ -6,7 +6,7 @@ use Rattle.std.specs.declared.option.Option.{Option}
 use Rattle.spec_image.specs.Image.{Index, Block, External, Image, has_file, length_of, byte}
 use Rattle.spec_image.specs.Checks.{Damage, first_of, check_word, check_length}
 use Rattle.spec_format.specs.Address.{rankings, blocks_256, blocks_1k, blocks_4k, block_size, header_size}
-use Rattle.spec_format.specs.Headers.{HasWholeIndex, IsUnfinished, block_magic, blocks_place, entry_size_of, entry_size_place, head_checks, list_checks, magic_of, magic_place, max_entries_of, next_file_of, this_file_of, this_file_place, version, version_of, version_place}
+use Rattle.spec_format.specs.Headers.{HasWholeIndex, IsUnfinished, block_magic, block_version, blocks_place, entry_size_of, entry_size_place, head_checks, list_checks, magic_of, magic_place, max_entries_of, next_file_of, this_file_of, this_file_place, version_of, version_place}
 use Rattle.spec_format.specs.Standing.{stands, stands_as_blocks}
 
 -- the most files of one kind
@@ -92,7 +92,7 @@ unfoldable pub file_checks : ℕ → List ℕ → ℕ → ℕ → (ℕ → ℕ) 
 file_checks kind met left n f length =
     check_length (Block n) header_size length (nat_le header_size length)
     ∷ check_word (Block n) f magic_place (magic_of f == block_magic)
-    ∷ check_word (Block n) f version_place (version_of f == version)
+    ∷ check_word (Block n) f version_place (version_of f == block_version)
     ∷ check_word (Block n) f this_file_place (this_file_of f == n)
     ∷ check_word (Block n) f this_file_place (is_link met left (next_file_of f))
     ∷ check_word (Block n) f entry_size_place (entry_size_of f == block_size kind)

@@ -1,6 +1,6 @@
 -- The headers of the index and of the block files: each field by its place, and the checks of the index.
 -- A field is read from a content, a function that gives the byte at each place: of a file, or of a window of bytes.
-use Rattle.std.specs.Prelude.{ℕ, ◌+◌, ◌*◌, ◌<◌, ◌≡◌, ◌⊎◌, ◌↔◌, List, [], ◌∷◌, ◌++◌, map, Bool, not, ◌||◌, ◌&&◌, ◌==◌, nat_le, nat_lt, IsTrue, IsNone}
+use Rattle.std.specs.Prelude.{ℕ, ◌+◌, ◌*◌, ◌%◌, ◌^◌, ◌<◌, ◌≡◌, ◌⊎◌, ◌↔◌, List, [], ◌∷◌, ◌++◌, map, Bool, not, ◌||◌, ◌&&◌, ◌==◌, nat_le, nat_lt, IsTrue, IsNone, true}
 use Rattle.std.specs.declared.option.Option.{Option}
 use Rattle.spec_image.specs.Bytes.{half_at, word_at, long_at}
 use Rattle.spec_image.specs.Image.{Index, Image, has_file, length_of, byte}
@@ -30,9 +30,21 @@ index_magic = 0xC103CAC3
 abbrev pub block_magic : ℕ
 block_magic = 0xC104CAC3
 
--- the version of both headers
-abbrev pub version : ℕ
-version = 0x20000
+-- the version of a block file's header
+abbrev pub block_version : ℕ
+block_version = 0x20000
+
+-- the version of the index that folders had first; it is raised at the next opening
+abbrev pub first_version : ℕ
+first_version = 0x20000
+
+-- the version of the index that is made now
+abbrev pub index_version : ℕ
+index_version = 0x30000
+
+-- the versions of the index that are read
+abbrev pub is_index_version : ℕ → Bool
+is_index_version version = (version == first_version) || (version == index_version)
 
 -- Both headers begin alike.
 
@@ -52,26 +64,38 @@ version_of f = word_at f version_place
 
 -- The header of the index.
 
--- the places of the counters: of the items, of their bytes, and of the nodes of the LRU list
+-- the places of the counters: of the items, of their bytes as the first version has them and as the one that is made now does, in two words, and of the nodes of the LRU list
 abbrev pub num_entries_place : ℕ
 num_entries_place = 8
 
 abbrev pub num_bytes_place : ℕ
 num_bytes_place = 12
 
+abbrev pub num_bytes64_place : ℕ
+num_bytes64_place = 48
+
 abbrev pub sizes_place : ℕ
 sizes_place = 268
 
+-- those that a command writes
 abbrev pub counter_places : List ℕ
-counter_places = num_entries_place ∷ num_bytes_place ∷ sizes_place ∷ []
+counter_places = num_entries_place ∷ num_bytes64_place ∷ (num_bytes64_place + 4) ∷ sizes_place ∷ []
+
+-- and those of all words that say how an index counts
+abbrev pub counted_places : List ℕ
+counted_places = version_place ∷ num_bytes_place ∷ counter_places
 
 -- the number of listed items
 abbrev pub num_entries_of : (ℕ → ℕ) → ℕ
 num_entries_of f = word_at f num_entries_place
 
--- the sum of their charges, modulo 2 ^ 32
+-- the sum of their charges modulo 2 ^ 32, in the first version; 0 in the one that is made now
 abbrev pub num_bytes_of : (ℕ → ℕ) → ℕ
 num_bytes_of f = word_at f num_bytes_place
+
+-- the sum of their charges, in the version that is made now; the first one has no such field
+abbrev pub num_bytes64_of : (ℕ → ℕ) → ℕ
+num_bytes64_of f = long_at f num_bytes64_place
 
 -- the last external number that was made
 abbrev pub last_file_of : (ℕ → ℕ) → ℕ
@@ -101,9 +125,9 @@ experiment_of f = word_at f 36
 abbrev pub create_time_of : (ℕ → ℕ) → ℕ
 create_time_of f = long_at f 40
 
--- word i of 52 that are not read
+-- word i of 50 that are not read
 abbrev pub pad_of : (ℕ → ℕ) → ℕ → ℕ
-pad_of f i = word_at f (48 + 4 * i)
+pad_of f i = word_at f (56 + 4 * i)
 
 -- word i of 2 that are not read
 abbrev pub pad1_of : (ℕ → ℕ) → ℕ → ℕ
@@ -153,6 +177,31 @@ operation_list_of f = word_at f 336
 -- word i of 7 that are not read
 abbrev pub pad2_of : (ℕ → ℕ) → ℕ → ℕ
 pad2_of f i = word_at f (340 + 4 * i)
+
+-- What an index counts.
+
+-- the version, the numbers of items and of nodes, and the sum of the charges at both of its places
+pub record Count : Type 0 where
+  pub version : ℕ
+  pub entries : ℕ
+  pub bytes : ℕ
+  pub bytes64 : ℕ
+  pub nodes : ℕ
+
+-- what an index counts, by its words
+unfoldable pub count_of : (ℕ → ℕ) → Count
+count_of f = record { version = version_of f; entries = num_entries_of f; bytes = num_bytes_of f; bytes64 = num_bytes64_of f; nodes = sizes_of f 0 }
+
+-- so the version that is made now counts so many items with a sum of charges
+abbrev pub counting : (items sum : ℕ) → Count
+counting items sum = record { version = index_version; entries = items; bytes = 0; bytes64 = sum; nodes = items }
+
+-- so many items with a sum of charges are counted, as the version has it: the first one has the sum modulo 2 ^ 32 at its old place, the one that is made now has it whole, and 0 there
+pub record CountsAs (items sum : ℕ) (count : Count) : Type 0 where
+  pub entries : count.entries ≡ items
+  pub nodes : count.nodes ≡ items
+  pub first : (count.version == first_version) ≡ true → count.bytes ≡ sum % 2 ^ 32
+  pub now : (count.version == index_version) ≡ true → (count.bytes ≡ 0) × (count.bytes64 ≡ sum)
 
 -- the place of bucket b in the table
 abbrev pub place_of_bucket : ℕ → ℕ
@@ -245,7 +294,7 @@ unfoldable pub head_checks : (ℕ → ℕ) → ℕ → List (Option Damage)
 head_checks f length =
     check_word Index f magic_place (magic_of f == index_magic)
     ∷ check_length Index index_length length (length == index_length)
-    ∷ check_word Index f version_place (version_of f == version)
+    ∷ check_word Index f version_place (is_index_version (version_of f))
     ∷ check_word Index f 24 (stats_of f == 0)
     ∷ check_word Index f 28 ((table_len_of f == 0) || (table_len_of f == table_length))
     ∷ check_word Index f 36 (experiment_of f == 0)

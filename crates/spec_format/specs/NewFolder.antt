@@ -5,11 +5,11 @@ use Rattle.spec_image.specs.Image.{File, Index, Block, Image}
 use Rattle.spec_image.specs.Steps.{with_words}
 use Rattle.spec_image.specs.Order.{IsBefore}
 use Rattle.spec_format.specs.Address.{block_size, header_size}
-use Rattle.spec_format.specs.Headers.{table_length, index_length, index_magic, block_magic, version}
+use Rattle.spec_format.specs.Headers.{table_length, index_length, index_magic, block_magic, block_version, index_version}
 
 -- the words of a new index that aren't 0, but for its magic word, each with its place: version, table_len, create_time
 abbrev pub words_before_magic : ℕ → List (ℕ × ℕ)
-words_before_magic moment = (4, version) ∷ (28, table_length) ∷ (40, moment % 2 ^ 32) ∷ (44, moment / 2 ^ 32) ∷ []
+words_before_magic moment = (4, index_version) ∷ (28, table_length) ∷ (40, moment % 2 ^ 32) ∷ (44, moment / 2 ^ 32) ∷ []
 
 -- all of them: the magic word is written last
 abbrev pub new_index_words : ℕ → List (ℕ × ℕ)
@@ -17,7 +17,7 @@ new_index_words moment = words_before_magic moment ++ (0, index_magic) ∷ []
 
 -- those of a new block file: magic, version, this_file and entry_size
 abbrev pub new_file_words : ℕ → List (ℕ × ℕ)
-new_file_words n = (0, block_magic) ∷ (4, version) ∷ (8, n) ∷ (12, block_size (suc n)) ∷ []
+new_file_words n = (0, block_magic) ∷ (4, block_version) ∷ (8, n) ∷ (12, block_size (suc n)) ∷ []
 
 -- a new block file: its header alone
 abbrev pub new_block_file : ℕ → List ℕ

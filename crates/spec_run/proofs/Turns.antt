@@ -1,11 +1,12 @@
 -- Iterations after iterations.
-use Rattle.std.proofs.Common.{ℕ, ◌+◌, ◌≡◌, List, [], ◌∷◌, ◌++◌, length, take, Result, Ok, Err, refl, sym, ◌∙◌, ap, arith, append_assoc}
+use Rattle.std.proofs.Common.{ℕ, ◌+◌, ◌≡◌, List, [], ◌∷◌, ◌++◌, length, take, cond, Result, Ok, Err, refl, sym, ◌∙◌, ap, arith, append_assoc}
 use Rattle.std.proofs.Math.Seq.{take-append_seam}
 use Rattle.std.proofs.lemmas.List.{append-nil, drop-drop, length-append}
 use Rattle.std.proofs.lemmas.List.Concat.{flat_map-append}
 use Rattle.std.proofs.lemmas.List.Elements.{filter_map-append}
 use Rattle.std.proofs.lemmas.List.Folds.{list_any-append}
-use Rattle.std.specs.Prelude.{◌||◌}
+use Rattle.std.proofs.lemmas.List.Sums.{sum_by-append, sum_by-cons}
+use Rattle.std.specs.Prelude.{◌||◌, true}
 use Rattle.blk_model.specs.Holding.{open_state}
 use Rattle.blk_model.specs.Request.{Request}
 use Rattle.blk_model.specs.State.{State}
@@ -13,14 +14,17 @@ use Rattle.blk_io.specs.Streams.{Readings, later_of}
 use Rattle.blk_script.specs.declared.fault.LineFault.{LineFault}
 use Rattle.blk_script.specs.Line.{read_text}
 use Rattle.blk_script.specs.Reply.{line_fault_text}
-use Rattle.spec_run.specs.Script.{Script, ended, errs, says, asks, session_script, line_script}
-use Rattle.spec_run.specs.Run.{Stamped, Turn, error_turn, text_turn, command_turn, stamped_by, outcome_in, state_then, turns, commands_of, state_after, clock_after, text_of, refuse, bound_names, closings, commands}
+use Rattle.spec_run.specs.Script.{Script, ended, errs, says, turns_away, asks, session_script, shown_where, line_script}
+use Rattle.spec_run.specs.Run.{Stamped, Turn, away_turn, error_turn, text_turn, command_turn, stamped_by, outcome_in, state_then, turns, commands_of, readings_of, state_after, clock_after, text_of, refuse, bound_names, closings, commands}
 use Rattle.spec_run.specs.Playing.{IsPlayed}
-use Rattle.spec_run.specs.Laws.{LinesArePlayedInTurn, NothingIsPlayed, CommandsArePlayed, ErrorsArePlayed, TextsArePlayed, PlayingGoesOn, PlayedRunsAreCut, PlayedRunsAreWhole, PlayedCommandsComeFirst, AskedCommandsAreNext}
+use Rattle.spec_run.specs.Laws.{LinesArePlayedInTurn, NothingIsPlayed, CommandsArePlayed, ErrorsArePlayed, TextsArePlayed, PlayingGoesOn, PlayedRunsAreCut, PlayedRunsAreWhole, PlayedCommandsComeFirst, AskedCommandsAreNext, LinesReadForCommands, RefusalsOutsideArePlayed}
 use Rattle.spec_run.proofs.CommandStates.{state_after-append}
 
 pub commands_of-append : (xs ys : List Turn) → commands_of (xs ++ ys) ≡ commands_of xs ++ commands_of ys
 commands_of-append xs ys = filter_map-append (λ turn. turn.command) xs ys
+
+pub readings_of-append : (xs ys : List Turn) → readings_of (xs ++ ys) ≡ readings_of xs + readings_of ys
+readings_of-append xs ys = sum_by-append (λ (turn : Turn). cond turn.reads 1 0) xs ys
 
 pub text_of-append : (xs ys : List Turn) → text_of (xs ++ ys) ≡ text_of xs ++ text_of ys
 text_of-append xs ys = flat_map-append (λ turn. turn.text) xs ys
@@ -37,9 +41,9 @@ played_then script state clock made left now readings more last state_last clock
   all = first.all ∙ ap (λ (l : List Turn). made ++ l) second.all ∙ sym (append_assoc made more (turns last state_last clock_last));
   state_is = second.state_is ∙ ap (λ (s : State). state_after s (commands_of more)) first.state_is
       ∙ sym (state_after-append state (commands_of made) (commands_of more)) ∙ ap (state_after state) (sym (commands_of-append made more));
-  clock_is = second.clock_is ∙ ap (λ (c : Readings). clock_after c (length (commands_of more))) first.clock_is
-      ∙ clock_after-more clock (length (commands_of made)) (length (commands_of more))
-      ∙ ap (clock_after clock) (sym (length-append (commands_of made) (commands_of more)) ∙ ap length (sym (commands_of-append made more)));
+  clock_is = second.clock_is ∙ ap (λ (c : Readings). clock_after c (readings_of more)) first.clock_is
+      ∙ clock_after-more clock (readings_of made) (readings_of more)
+      ∙ ap (clock_after clock) (sym (readings_of-append made more));
 }
 
 pub played_none : NothingIsPlayed
@@ -47,7 +51,7 @@ unfolding state_after
 played_none script state clock = record { all = refl; state_is = refl; clock_is = refl }
 
 one_command : (request : Request) (shown : _) (next : _) (now : State) (readings : Readings)
-    → IsPlayed (asks request shown next) now readings (command_turn (stamped_by readings request) (shown (outcome_in now (stamped_by readings request))) (outcome_in now (stamped_by readings request)) ∷ [])
+    → IsPlayed (asks request shown next) now readings (command_turn (stamped_by readings request) (shown (outcome_in now (stamped_by readings request))) ∷ [])
     (next (outcome_in now (stamped_by readings request))) (state_then now (stamped_by readings request)) (later_of readings)
 unfolding turns state_after
 one_command request shown next now readings = record { all = refl; state_is = refl; clock_is = refl }
@@ -56,16 +60,24 @@ pub played_command : CommandsArePlayed
 played_command script state clock made request shown next now readings before =
     let command = stamped_by readings request in
     let outcome = outcome_in now command in
-    played_then script state clock made (asks request shown next) now readings (command_turn command (shown outcome) outcome ∷ []) (next outcome) (state_then now command) (later_of readings)
+    played_then script state clock made (asks request shown next) now readings (command_turn command (shown outcome) ∷ []) (next outcome) (state_then now command) (later_of readings)
     before (one_command request shown next now readings)
 
-one_error : (number : ℕ) (why : LineFault) (next : Script) (now : State) (readings : Readings) → IsPlayed (errs number why next) now readings (error_turn (line_fault_text number why) ∷ []) next now readings
+one_error : (text : List ℕ) (next : Script) (now : State) (readings : Readings) → IsPlayed (errs text next) now readings (error_turn text ∷ []) next now readings
 unfolding turns state_after
-one_error number why next now readings = record { all = refl; state_is = refl; clock_is = refl }
+one_error text next now readings = record { all = refl; state_is = refl; clock_is = refl }
 
 pub played_error : ErrorsArePlayed
-played_error script state clock made number why next now readings before =
-    played_then script state clock made (errs number why next) now readings (error_turn (line_fault_text number why) ∷ []) next now readings before (one_error number why next now readings)
+played_error script state clock made text next now readings before =
+    played_then script state clock made (errs text next) now readings (error_turn text ∷ []) next now readings before (one_error text next now readings)
+
+one_away : (text : List ℕ) (next : Script) (now : State) (readings : Readings) → IsPlayed (turns_away text next) now readings (away_turn text ∷ []) next now (later_of readings)
+unfolding turns state_after
+one_away text next now readings = record { all = refl; state_is = refl; clock_is = refl }
+
+pub played_away : RefusalsOutsideArePlayed
+played_away script state clock made text next now readings before =
+    played_then script state clock made (turns_away text next) now readings (away_turn text ∷ []) next now (later_of readings) before (one_away text next now readings)
 
 one_text : (text : State → List ℕ) (next : Script) (now : State) (readings : Readings) → IsPlayed (says text next) now readings (text_turn (text now) ∷ []) next now readings
 unfolding turns state_after
@@ -80,7 +92,7 @@ played_text script state clock made text next now readings before =
 -- where lines are played to their end, what follows them is left
 played_line : (number : ℕ) (read : Result Request LineFault) (following : Script) (state : State) (clock : Readings)
     → IsPlayed (line_script number read following) state clock (turns (line_script number read ended) state clock) following
-    (state_after state (commands_of (turns (line_script number read ended) state clock))) (clock_after clock (length (commands_of (turns (line_script number read ended) state clock))))
+    (state_after state (commands_of (turns (line_script number read ended) state clock))) (clock_after clock (readings_of (turns (line_script number read ended) state clock)))
 unfolding turns state_after
 played_line number (Err why) following state clock = record { all = refl; state_is = refl; clock_is = refl }
 played_line number (Ok request) following state clock = record { all = refl; state_is = refl; clock_is = refl }
@@ -89,7 +101,7 @@ played_line number (Ok request) following state clock = record { all = refl; sta
 line_first : (number : ℕ) (read : Result Request LineFault) (following : Script) (state : State) (clock : Readings)
     → turns (line_script number read following) state clock
     ≡ turns (line_script number read ended) state clock
-    ++ turns following (state_after state (commands_of (turns (line_script number read ended) state clock))) (clock_after clock (length (commands_of (turns (line_script number read ended) state clock))))
+    ++ turns following (state_after state (commands_of (turns (line_script number read ended) state clock))) (clock_after clock (readings_of (turns (line_script number read ended) state clock)))
 line_first number read following state clock = (played_line number read following state clock).all
 
 pub more_turns : LinesArePlayedInTurn
@@ -101,18 +113,18 @@ more_turns number (x ∷ texts) more state clock =
     let read = read_text x in
     let one = turns (line_script number read ended) state clock in
     let now = state_after state (commands_of one) in
-    let readings = clock_after clock (length (commands_of one)) in
+    let readings = clock_after clock (readings_of one) in
     let tail = turns (session_script (number + 1) texts) now readings in
     let first = played_line number read (session_script (number + 1) (texts ++ more)) state clock in
     let second = more_turns (number + 1) texts more now readings in
     let last = state_after now (commands_of tail) in
-    let clock_last = clock_after readings (length (commands_of tail)) in
+    let clock_last = clock_after readings (readings_of tail) in
     let both = played_then (session_script number ((x ∷ texts) ++ more)) state clock one (session_script (number + 1) (texts ++ more)) now readings tail (session_script (number + 1 + length texts) more) last clock_last first second in
     let whole : turns (session_script number (x ∷ texts)) state clock ≡ one ++ tail = line_first number read (session_script (number + 1) texts) state clock in
     let numbers : number + 1 + length texts ≡ number + length (x ∷ texts) = omega arith in
     let made : List Turn = turns (session_script number (x ∷ texts)) state clock in
     let state_same : last ≡ state_after state (commands_of made) = both.state_is ∙ ap (λ (l : List Turn). state_after state (commands_of l)) (sym whole) in
-    let clock_same : clock_last ≡ clock_after clock (length (commands_of made)) = both.clock_is ∙ ap (λ (l : List Turn). clock_after clock (length (commands_of l))) (sym whole) in
+    let clock_same : clock_last ≡ clock_after clock (readings_of made) = both.clock_is ∙ ap (λ (l : List Turn). clock_after clock (readings_of l)) (sym whole) in
     record {
       all = both.all
           ∙ ap (λ (l : List Turn). l ++ turns (session_script (number + 1 + length texts) more) last clock_last) (sym whole)
@@ -126,12 +138,12 @@ more_turns number (x ∷ texts) more state clock =
 
 -- Runs.
 
-cut_same : (opened : State) (clock : Readings) (all made : List Turn) (now : State) (readings : Readings) → all ≡ made → now ≡ state_after opened (commands_of made) → readings ≡ clock_after clock (length (commands_of made))
+cut_same : (opened : State) (clock : Readings) (all made : List Turn) (now : State) (readings : Readings) → all ≡ made → now ≡ state_after opened (commands_of made) → readings ≡ clock_after clock (readings_of made)
     → commands (record { opened = opened; clock = clock; turns = all }) ≡ commands_of made ++ closings (bound_names now) readings
 unfolding commands
 cut_same opened clock all made now readings same state_is clock_is =
-    ap (λ (l : List Turn). commands_of l ++ closings (bound_names (state_after opened (commands_of l))) (clock_after clock (length (commands_of l)))) same
-    ∙ ap (λ (s : State). commands_of made ++ closings (bound_names s) (clock_after clock (length (commands_of made)))) (sym state_is)
+    ap (λ (l : List Turn). commands_of l ++ closings (bound_names (state_after opened (commands_of l))) (clock_after clock (readings_of l))) same
+    ∙ ap (λ (s : State). commands_of made ++ closings (bound_names s) (clock_after clock (readings_of made))) (sym state_is)
     ∙ ap (λ (c : Readings). commands_of made ++ closings (bound_names now) c) (sym clock_is)
 
 pub run_cut : PlayedRunsAreCut
@@ -154,7 +166,7 @@ commands_first script found limits readings made left now readings_now played =
     let opened = open_state found limits in
     let all : List Turn = turns script opened (later_of readings) in
     let later : List Turn = turns left now readings_now in
-    let closed : List Stamped = closings (bound_names (state_after opened (commands_of all))) (clock_after (later_of readings) (length (commands_of all))) in (
+    let closed : List Stamped = closings (bound_names (state_after opened (commands_of all))) (clock_after (later_of readings) (readings_of all)) in (
       commands_of later ++ closed,
       ap (λ (l : List Turn). commands_of l ++ closed) played.all ∙ ap (λ (l : List Stamped). l ++ closed) (commands_of-append made later) ∙ append_assoc (commands_of made) (commands_of later) closed,
     )
@@ -163,7 +175,27 @@ pub asked_next : AskedCommandsAreNext
 asked_next script found limits readings made request shown next now readings_now played =
     let command = stamped_by readings_now request in
     let outcome = outcome_in now command in
-    let turn = command_turn command (shown outcome) outcome in
+    let turn = command_turn command (shown outcome) in
     let after = played_command script (open_state found limits) (later_of readings) made request shown next now readings_now played in
     let rest = commands_first script found limits readings (made ++ turn ∷ []) (next outcome) outcome.state (later_of readings_now) after in
     (rest.0, rest.1 ∙ ap (λ (l : List Stamped). l ++ rest.0) (commands_of-append made (turn ∷ [])) ∙ append_assoc (commands_of made) (command ∷ []) rest.0)
+
+-- a line reads the clock where it is a command
+line_reads : (number : ℕ) (read : Result Request LineFault) (following : Script) (state : State) (clock : Readings)
+    → ((s : State) (c : Readings) → readings_of (turns following s c) ≡ length (commands_of (turns following s c)))
+    → readings_of (turns (line_script number read following) state clock) ≡ length (commands_of (turns (line_script number read following) state clock))
+unfolding turns
+line_reads number (Err why) following state clock later =
+    let here = later state clock in
+    let first = sum_by-cons (λ (turn : Turn). cond turn.reads 1 0) (error_turn (line_fault_text number why)) (turns following state clock) in
+    omega (arith, here, first)
+line_reads number (Ok request) following state clock later =
+    let command = stamped_by clock request in
+    let here = later (state_then state command) (later_of clock) in
+    let first = sum_by-cons (λ (turn : Turn). cond turn.reads 1 0) (command_turn command (shown_where true (outcome_in state command))) (turns following (state_then state command) (later_of clock)) in
+    omega (arith, here, first)
+
+pub lines_read : LinesReadForCommands
+unfolding session_script turns
+lines_read number [] state clock = refl
+lines_read number (x ∷ texts) state clock = line_reads number (read_text x) (session_script (number + 1) texts) state clock (lines_read (number + 1) texts)

@@ -15,13 +15,11 @@ use Rattle.blk_model.specs.ListSteps.{list_after, list_steps}
 use Rattle.blk_model.specs.Step.{Outcome}
 use Rattle.blk_model.specs.Stops.{is_safe}
 use Rattle.blk_io.specs.Streams.{Readings, later_of}
-use Rattle.blk_script.specs.declared.fault.LineFault.{LineFault}
-use Rattle.blk_script.specs.Reply.{line_fault_text}
 use Rattle.law_state.specs.Commands.{IsNoted, IsStepped, note_number}
 use Rattle.spec_folder.specs.Found.{found}
 use Rattle.spec_run.specs.Lines.{Cut, with_bytes, lines, whole_lines}
-use Rattle.spec_run.specs.Script.{Script, ended, errs, says, asks, session_script}
-use Rattle.spec_run.specs.Run.{Stamped, Turn, error_turn, text_turn, command_turn, stamped_by, outcome_in, state_then, state_after, clock_after, turns, commands_of, bound_names, closings, run_of, cut_after, commands, command_after, state_at}
+use Rattle.spec_run.specs.Script.{Script, Shown, ended, errs, says, turns_away, asks, session_script}
+use Rattle.spec_run.specs.Run.{Stamped, Turn, error_turn, text_turn, away_turn, command_turn, stamped_by, outcome_in, state_then, state_after, clock_after, turns, commands_of, readings_of, bound_names, closings, run_of, cut_after, commands, command_after, state_at}
 use Rattle.spec_run.specs.Moments.{IsStopped}
 use Rattle.spec_run.specs.Opening.{IsUsable, HoldsStill, Opens, FailsToOpen, has_opened}
 use Rattle.spec_run.specs.Progress.{Progress, Stops, IsWholeRun, AreNoted}
@@ -80,7 +78,7 @@ RunsEnd = (from : Image) (opened : State) (commands : List Stamped) (old mid new
 abbrev pub LinesArePlayedInTurn : Type 0
 LinesArePlayedInTurn = (number : ℕ) (texts more : List (List ℕ)) (state : State) (clock : Readings)
     → IsPlayed (session_script number (texts ++ more)) state clock (turns (session_script number texts) state clock) (session_script (number + length texts) more)
-    (state_after state (commands_of (turns (session_script number texts) state clock))) (clock_after clock (length (commands_of (turns (session_script number texts) state clock))))
+    (state_after state (commands_of (turns (session_script number texts) state clock))) (clock_after clock (readings_of (turns (session_script number texts) state clock)))
 
 -- nothing is played at first
 abbrev pub NothingIsPlayed : Type 0
@@ -88,15 +86,20 @@ NothingIsPlayed = (script : Script) (state : State) (clock : Readings) → IsPla
 
 -- a command is played: its iteration is made, and what follows its outcome is left
 abbrev pub CommandsArePlayed : Type 0
-CommandsArePlayed = (script : Script) (state : State) (clock : Readings) (made : List Turn) (request : Request) (shown : Outcome → Bool) (next : Outcome → Script) (now : State) (readings : Readings)
+CommandsArePlayed = (script : Script) (state : State) (clock : Readings) (made : List Turn) (request : Request) (shown : Outcome → Shown) (next : Outcome → Script) (now : State) (readings : Readings)
     → IsPlayed script state clock made (asks request shown next) now readings
-    → IsPlayed script state clock (made ++ command_turn (stamped_by readings request) (shown (outcome_in now (stamped_by readings request))) (outcome_in now (stamped_by readings request)) ∷ [])
+    → IsPlayed script state clock (made ++ command_turn (stamped_by readings request) (shown (outcome_in now (stamped_by readings request))) ∷ [])
     (next (outcome_in now (stamped_by readings request))) (state_then now (stamped_by readings request)) (later_of readings)
 
--- a line that is no command is played
+-- what is no command is played
 abbrev pub ErrorsArePlayed : Type 0
-ErrorsArePlayed = (script : Script) (state : State) (clock : Readings) (made : List Turn) (number : ℕ) (why : LineFault) (next : Script) (now : State) (readings : Readings)
-    → IsPlayed script state clock made (errs number why next) now readings → IsPlayed script state clock (made ++ error_turn (line_fault_text number why) ∷ []) next now readings
+ErrorsArePlayed = (script : Script) (state : State) (clock : Readings) (made : List Turn) (text : List ℕ) (next : Script) (now : State) (readings : Readings)
+    → IsPlayed script state clock made (errs text next) now readings → IsPlayed script state clock (made ++ error_turn text ∷ []) next now readings
+
+-- what is turned away is played: it takes a reading
+abbrev pub RefusalsOutsideArePlayed : Type 0
+RefusalsOutsideArePlayed = (script : Script) (state : State) (clock : Readings) (made : List Turn) (text : List ℕ) (next : Script) (now : State) (readings : Readings)
+    → IsPlayed script state clock made (turns_away text next) now readings → IsPlayed script state clock (made ++ away_turn text ∷ []) next now (later_of readings)
 
 -- a text of the state is played
 abbrev pub TextsArePlayed : Type 0
@@ -128,9 +131,14 @@ PlayedCommandsComeFirst = (script : Script) (found : List Row) (limits : Bounds)
 
 -- and a command that is asked next is the next
 abbrev pub AskedCommandsAreNext : Type 0
-AskedCommandsAreNext = (script : Script) (found : List Row) (limits : Bounds) (readings : Readings) (made : List Turn) (request : Request) (shown : Outcome → Bool) (next : Outcome → Script) (now : State) (readings_now : Readings)
+AskedCommandsAreNext = (script : Script) (found : List Row) (limits : Bounds) (readings : Readings) (made : List Turn) (request : Request) (shown : Outcome → Shown) (next : Outcome → Script) (now : State) (readings_now : Readings)
     → IsPlayed script (open_state found limits) (later_of readings) made (asks request shown next) now readings_now
     → (more : List Stamped) × (commands (run_of script found limits readings) ≡ commands_of made ++ stamped_by readings_now request ∷ more)
+
+-- the lines of a session read the clock for their commands alone
+abbrev pub LinesReadForCommands : Type 0
+LinesReadForCommands = (number : ℕ) (texts : List (List ℕ)) (state : State) (clock : Readings)
+    → readings_of (turns (session_script number texts) state clock) ≡ length (commands_of (turns (session_script number texts) state clock))
 
 -- a session makes fewer commands than its input has bytes: each has a line that isn't empty
 abbrev pub CommandsAreFew : Type 0

@@ -1,5 +1,6 @@
 pub mod Lines
 pub mod Script
+pub mod Inputs
 pub mod Run
 pub mod Opening
 pub mod Moments

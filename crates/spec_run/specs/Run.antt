@@ -1,6 +1,6 @@
 -- The run of a script over the map model.
-use Rattle.std.specs.Prelude.{ℕ, ◌+◌, Bool, false, true, ◌&&◌, if◌then◌else◌, List, [], ◌∷◌, ◌++◌, length, take, drop}
-use Rattle.std.specs.List.{filter_map, flat_map, list_any}
+use Rattle.std.specs.Prelude.{ℕ, ◌+◌, Bool, false, true, List, [], ◌∷◌, ◌++◌, length, take, drop}
+use Rattle.std.specs.List.{count_by, filter_map, flat_map, list_any}
 use Rattle.std.specs.declared.option.Option.{Option}
 use Rattle.std.specs.declared.option.Option.TheVariants.{None, Some}
 use Rattle.blk_model.specs.Items.{Row}
@@ -9,8 +9,7 @@ use Rattle.blk_model.specs.Holding.{open_state}
 use Rattle.blk_model.specs.Request.{Request, to_close}
 use Rattle.blk_model.specs.Step.{Outcome, step}
 use Rattle.blk_io.specs.Streams.{Readings, reading_of, later_of}
-use Rattle.blk_script.specs.Reply.{line_fault_text}
-use Rattle.spec_run.specs.Script.{Script, ended, errs, says, asks, is_refused, outcome_text}
+use Rattle.spec_run.specs.Script.{Script, Shown, ended, errs, says, turns_away, asks}
 
 -- a command, with the clock's reading before it
 pub record Stamped : Type 0 where
@@ -25,45 +24,51 @@ outcome_in state command = step state command.moment command.request
 abbrev pub state_then : State → Stamped → State
 state_then state command = (outcome_in state command).state
 
--- an iteration of a run: the command, where it is one; what is printed; and whether that is a refusal or a fault
+-- an iteration of a run: the command, where it is one; whether the clock was read before it; what is printed; and whether that is a refusal or a fault
 pub record Turn : Type 0 where
   pub command : Option Stamped
+  pub reads : Bool
   pub text : List ℕ
   pub refuses : Bool
 
--- the iteration of a line that is no command
+-- the iteration of what is no command
 abbrev pub error_turn : List ℕ → Turn
-error_turn text = record { command = None; text = text; refuses = true }
+error_turn text = record { command = None; reads = false; text = text; refuses = true }
 
 -- the iteration of a text of the state
 abbrev pub text_turn : List ℕ → Turn
-text_turn text = record { command = None; text = text; refuses = false }
+text_turn text = record { command = None; reads = false; text = text; refuses = false }
 
--- the iteration of a command, whose reply is shown or not: a refusal that isn't shown doesn't count
-abbrev pub command_turn : Stamped → Bool → Outcome → Turn
-command_turn command shown outcome = record {
-  command = Some command;
-  text = if shown then outcome_text outcome else [];
-  refuses = shown && is_refused outcome;
-}
+-- the iteration of what is turned away: it is none of the cache's commands
+abbrev pub away_turn : List ℕ → Turn
+away_turn text = record { command = None; reads = true; text = text; refuses = true }
+
+-- the iteration of a command, with what is shown of it
+abbrev pub command_turn : Stamped → Shown → Turn
+command_turn command shown = record { command = Some command; reads = true; text = shown.text; refuses = shown.refuses }
 
 -- a command at the next reading
 abbrev pub stamped_by : Readings → Request → Stamped
 stamped_by clock request = record { moment = reading_of clock; request = request }
 
--- the iterations of a script from a state on, with the readings to come: each command at the next reading
+-- the iterations of a script from a state on, with the readings to come: each command, and what is turned away, at the next reading
 unfoldable pub turns : Script → State → Readings → List Turn
 turns ended state clock = []
-turns (errs number why script) state clock = error_turn (line_fault_text number why) ∷ turns script state clock
+turns (errs text script) state clock = error_turn text ∷ turns script state clock
 turns (says text script) state clock = text_turn (text state) ∷ turns script state clock
+turns (turns_away text script) state clock = away_turn text ∷ turns script state (later_of clock)
 turns (asks request shown script) state clock =
     let command = stamped_by clock request in
     let outcome = outcome_in state command in
-    command_turn command (shown outcome) outcome ∷ turns (script outcome) outcome.state (later_of clock)
+    command_turn command (shown outcome) ∷ turns (script outcome) outcome.state (later_of clock)
 
 -- the commands of iterations
 abbrev pub commands_of : List Turn → List Stamped
 commands_of turns = filter_map (λ turn. turn.command) turns
+
+-- how often the clock was read for iterations
+abbrev pub readings_of : List Turn → ℕ
+readings_of turns = count_by (λ turn. turn.reads) turns
 
 -- what iterations print
 abbrev pub text_of : List Turn → List ℕ
@@ -78,7 +83,7 @@ unfoldable pub state_after : State → List Stamped → State
 state_after state [] = state
 state_after state (command ∷ commands) = state_after (state_then state command) commands
 
--- the readings to come after so many commands
+-- the readings to come after so many
 abbrev pub clock_after : Readings → ℕ → Readings
 clock_after clock count = record { ahead = drop count clock.ahead; last = clock.last }
 
@@ -117,11 +122,17 @@ run_of script found limits readings =
 abbrev pub cut_after : ℕ → Run → Run
 cut_after count run = record { opened = run.opened; clock = run.clock; turns = take count run.turns }
 
+-- its closings
+abbrev pub closings_of : Run → List Stamped
+closings_of run = closings (bound_names (state_after run.opened (commands_of run.turns))) (clock_after run.clock (readings_of run.turns))
+
 -- its commands, the closings last
 unfoldable pub commands : Run → List Stamped
-commands run =
-    let asked = commands_of run.turns in
-    asked ++ closings (bound_names (state_after run.opened asked)) (clock_after run.clock (length asked))
+commands run = commands_of run.turns ++ closings_of run
+
+-- how often the clock is read in it: for its iterations, and before each closing
+abbrev pub readings_in : Run → ℕ
+readings_in run = readings_of run.turns + length (closings_of run)
 
 -- the state after all of them
 abbrev pub last_state : Run → State

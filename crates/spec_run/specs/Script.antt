@@ -1,5 +1,5 @@
 -- What is asked of a cache, one thing after another, and what is printed of it.
-use Rattle.std.specs.Prelude.{ℕ, ◌+◌, ◌-◌, ◌^◌, Bool, true, false, not, if◌then◌else◌, List, [], ◌∷◌, ◌++◌, codes, Result, Ok, Err}
+use Rattle.std.specs.Prelude.{ℕ, ◌+◌, ◌-◌, ◌^◌, Bool, true, false, not, ◌&&◌, if◌then◌else◌, List, [], ◌∷◌, ◌++◌, codes, Result, Ok, Err}
 use Rattle.std.specs.declared.option.Option.{Option}
 use Rattle.std.specs.declared.option.Option.TheVariants.{None, Some}
 use Rattle.blk_model.specs.declared.Answer.{Answer}
@@ -13,17 +13,23 @@ use Rattle.blk_model.specs.Reply.{answer_of}
 use Rattle.blk_model.specs.Step.{Outcome}
 use Rattle.blk_script.specs.declared.fault.LineFault.{LineFault}
 use Rattle.blk_script.specs.Line.{read_text}
-use Rattle.blk_script.specs.Reply.{evicted_text, reply_text}
+use Rattle.blk_script.specs.Reply.{evicted_text, line_fault_text, reply_text}
 use Rattle.blk_script.specs.Spelling.{number_text}
 
 -- Scripts.
 
--- nothing more; a line that is no command, with its number; a text of the state; or a command, with whether its reply is shown and what follows, by its outcome
+-- what is printed of a command, and whether that counts as a refusal
+pub record Shown : Type 0 where
+  pub text : List ℕ
+  pub refuses : Bool
+
+-- nothing more; a text of what is no command; a text of the state; a text of what is turned away: the clock is read as before a command, and the cache is asked nothing; or a command, with what is shown of it and what follows, by its outcome
 pub data Script : Type 0 where
   ended : Script
-  errs : ℕ → LineFault → Script → Script
+  errs : List ℕ → Script → Script
   says : (State → List ℕ) → Script → Script
-  asks : Request → (Outcome → Bool) → (Outcome → Script) → Script
+  turns_away : List ℕ → Script → Script
+  asks : Request → (Outcome → Shown) → (Outcome → Script) → Script
 
 -- why an answer is a refusal, where it is one
 abbrev pub refusal_of : Answer → Option Refusal
@@ -52,12 +58,16 @@ is_missing outcome = is_missing_refusal (refusal_of (answer_of outcome.reply))
 abbrev pub outcome_text : Outcome → List ℕ
 outcome_text outcome = evicted_text outcome.groups ++ reply_text outcome.reply
 
+-- all of it is shown where a test passes, and nothing else: a refusal that isn't shown doesn't count
+abbrev pub shown_where : Bool → Outcome → Shown
+shown_where test outcome = record { text = if test then outcome_text outcome else []; refuses = test && is_refused outcome }
+
 -- The script of a session.
 
 -- one line, and what follows it in any case
 abbrev pub line_script : ℕ → Result Request LineFault → Script → Script
-line_script number (Err why) following = errs number why following
-line_script number (Ok request) following = asks request (λ outcome. true) (λ outcome. following)
+line_script number (Err why) following = errs (line_fault_text number why) following
+line_script number (Ok request) following = asks request (shown_where true) (λ outcome. following)
 
 -- the lines of a session, counted from a number: each is a command or none, and no line ends it
 unfoldable pub session_script : ℕ → List (List ℕ) → Script
@@ -69,7 +79,7 @@ session_script number (text ∷ texts) = line_script number (read_text text) (se
 -- commands up to the first that is refused, each with its reply
 unfoldable pub until_refused : List Request → Script
 until_refused [] = ended
-until_refused (request ∷ requests) = asks request (λ outcome. true) (λ outcome. if is_refused outcome then ended else until_refused requests)
+until_refused (request ∷ requests) = asks request (shown_where true) (λ outcome. if is_refused outcome then ended else until_refused requests)
 
 -- the listing
 abbrev pub list_script : Script
@@ -94,7 +104,7 @@ put_after opened key requests = if is_missing opened then until_refused (to_crea
 -- the whole input is written to a stream of the entry with a key, which is made where it is missing; that it was missing isn't shown
 abbrev pub put_script : List ℕ → ℕ → List ℕ → Script
 put_script key stream bytes =
-    asks (to_open 0 key) (λ opened. not (is_missing opened)) (λ opened. put_after opened key (to_write 0 stream 0 true bytes ∷ to_close 0 ∷ []))
+    asks (to_open 0 key) (λ opened. shown_where (not (is_missing opened)) opened) (λ opened. put_after opened key (to_write 0 stream 0 true bytes ∷ to_close 0 ∷ []))
 
 -- so many items, with so many bytes, on a line
 abbrev pub totals_line : (item_count byte_count : ℕ) → List ℕ

@@ -4,7 +4,7 @@
 //! which a run composes, each the contract of a function with an empty body.
 #![tactic(auto)]
 
-ghost use Rattle.spec_run.specs.Laws.{AskedCommandsAreNext, BoundNamesAreFew, ClosesFreeTheirName, CommandsAreFew, CommandsArePlayed, ErrorsArePlayed, LeastNamesAreClosedFirst, LinesArePlayedInTurn, LinesGoOn, NoneIsClosedWhereNoneIsBound, NoteNumbersAreExact, NotedCommandsFollow, NothingIsPlayed, PlayedCommandsComeFirst, PlayedRunsAreCut, PlayedRunsAreWhole, PlayingGoesOn, RestsAreFound, RunsBegin, RunsEnd, RunsGoOn, RunsGoOnInTurn, RunsMayStopBetween, RunsMayStopInACommand, RunsMayStopInTheOpening, SettledEntriesAreFound, TextsArePlayed, WholeLinesComeFirst};
+ghost use Rattle.spec_run.specs.Laws.{AskedCommandsAreNext, BoundNamesAreFew, ClosesFreeTheirName, CommandsAreFew, CommandsArePlayed, ErrorsArePlayed, LeastNamesAreClosedFirst, LinesArePlayedInTurn, LinesGoOn, LinesReadForCommands, NoneIsClosedWhereNoneIsBound, NoteNumbersAreExact, NotedCommandsFollow, NothingIsPlayed, PlayedCommandsComeFirst, PlayedRunsAreCut, PlayedRunsAreWhole, PlayingGoesOn, RefusalsOutsideArePlayed, RestsAreFound, RunsBegin, RunsEnd, RunsGoOn, RunsGoOnInTurn, RunsMayStopBetween, RunsMayStopInACommand, RunsMayStopInTheOpening, SettledEntriesAreFound, TextsArePlayed, WholeLinesComeFirst};
 
 /// A run begins with an opening. Where the opening failed a crash in any run may leave what it left.
 pub fn runs_begin()
@@ -34,9 +34,11 @@ pub fn scripts_are_played()
     ensures nothing { NothingIsPlayed }
     ensures command { CommandsArePlayed }
     ensures error { ErrorsArePlayed }
+    ensures away { RefusalsOutsideArePlayed }
     ensures text { TextsArePlayed }
     ensures go_on { PlayingGoesOn }
     ensures lines { LinesArePlayedInTurn }
+    ensures reads { LinesReadForCommands }
     ensures cut { PlayedRunsAreCut }
     ensures whole { PlayedRunsAreWhole }
     ensures first { PlayedCommandsComeFirst }

@@ -10,7 +10,7 @@ use test_folders::folders::{Change, audited};
 use test_folders::found::found;
 use test_folders::many::{ENTRIES, Sort, many};
 use test_folders::mended::changed;
-use test_folders::stopped::STOPPED;
+use test_folders::stopped::{PUT_BACK, STOPPED};
 use test_folders::stopping::{Mem, again};
 
 const LIMITS: Limits = Limits {
@@ -142,7 +142,7 @@ fn steps_of(alloc: Global, changes: &[Change]) -> Result<Option<u64>, Fail> {
 
 #[test]
 fn an_opening_may_be_stopped_and_the_next_one_too(rt: HostRuntime) -> Result<(), Fail> {
-    for changes in [STOPPED[0], STOPPED[2]] {
+    for changes in [STOPPED[0], STOPPED[2], PUT_BACK[3]] {
         let steps = steps_of(rt.alloc(), changes)?;
         assert!(rt; steps.is_some());
     }

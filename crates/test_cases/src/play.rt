@@ -104,6 +104,9 @@ impl Play {
                     &[*value],
                 )?;
             }
+            ("put", [place, value]) => {
+                put_words(&mut self.f, FileId::Index, u64::from(*place), &[*value])?;
+            }
             ("limits", [bytes, items]) => match limits(u64::from(*bytes), *items) {
                 Some(given) => self.limits = given,
                 None => return Err(Wrong {}),

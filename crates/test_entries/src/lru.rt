@@ -34,12 +34,12 @@ fn stopping(inner: MemFolder, steps: u64) -> Silent {
     SilentFolder::new(StopFolder::new(inner, steps))
 }
 
-// The folder with what was written, where so many more steps pass.
+// The folder with what was written so far, where the next so many steps last.
 fn again(f: Silent, steps: u64) -> Silent {
     stopping(f.into_inner().into_inner(), steps)
 }
 
-// Such a folder, which is opaque.
+// A folder with a file of nodes, none of them used; it isn't observable, so no contract tells what it holds.
 fn folder(alloc: Global) -> Result<Silent, Failed> {
     let mut f = stopping(MemFolder::without_trail(alloc), u64::MAX);
     put_all(&mut f, [1024, 0, 0, 0])?;

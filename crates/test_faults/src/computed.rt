@@ -94,7 +94,8 @@ fn is_checked(file: FileId, place: u64) -> bool {
     match file {
         FileId::Index => {
             let word = place.wrapping_sub(place % 4);
-            place < TABLE && ![HEAD, TAIL, TRANSACTION, OPERATION].contains(&word)
+            let is_counter = [8, 12, 48, 52, 268].contains(&word);
+            place < TABLE && !is_counter && ![HEAD, TAIL, TRANSACTION, OPERATION].contains(&word)
         }
         FileId::Block(_) => place < COUNTERS,
         FileId::External(_) => false,

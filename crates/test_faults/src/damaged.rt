@@ -8,7 +8,7 @@ use std::alloc::Global;
 use std::test::Fail;
 use test_folders::folders::Change::{Gone, Index, Length, Word};
 use test_folders::folders::{
-    ADDRS, Change, Entry, Mem, NEXT, OPERATION, PREV, SIZES, TRANSACTION, add, change_all,
+    ADDRS, Change, DIRTY, Entry, Mem, NEXT, OPERATION, PREV, SIZES, TRANSACTION, add, change_all,
     give_blocks,
 };
 
@@ -27,12 +27,16 @@ const THREE: [(u32, &[u8]); 3] = [(C, b"cccc"), (B, b"bb"), (A, b"a")];
 // A block that nobody owns.
 const BLOCK: u32 = 0xA001_0008;
 
+// The first version of the index.
+const FIRST: u32 = 0x2_0000;
+
 // Changes to a folder of these entries, what a verification prints, and how a count ends with what it prints.
 type Case = (&'static [Change], &'static str, Status, &'static str);
 
 // As it is; a record whose next is itself; a node with a wrong prev; two records that use one block; block files of which the first
-// record alone is there; an operation whose node is beyond the file; another magic word; and a block file that isn't there.
-const CASES: [Case; 8] = [
+// record alone is there; an operation whose node is beyond the file; another magic word; and a block file that isn't there; a later
+// version; and of the first version an open session with a removal in flight, and one with a dirty node.
+const CASES: [Case; 11] = [
     (
         &[],
         "kept 3\nitems 3 bytes 7\n",
@@ -86,6 +90,42 @@ const CASES: [Case; 8] = [
         Status::Damaged,
         "damaged data_2 8192 00000000\n",
     ),
+    (
+        &[Index(4, 0x4_0000)],
+        "",
+        Status::Damaged,
+        "damaged index 4 00040000\n",
+    ),
+    (
+        &[
+            Index(4, FIRST),
+            Index(32, 1),
+            Index(TRANSACTION, NODE_OF_B),
+            Index(OPERATION, 2),
+        ],
+        "kept 2\ndropped a0010001 16 Unlisted\nitems 2 bytes 5\n",
+        Status::Ok,
+        "items 2 bytes 5\n",
+    ),
+    (
+        &[Index(4, FIRST), Index(32, 1), Word(NODE_OF_B, DIRTY, 1)],
+        "kept 2\ndropped 90000001 6 Dirty\nitems 2 bytes 5\n",
+        Status::Ok,
+        "items 2 bytes 5\n",
+    ),
+];
+
+// Words of the index in whose place the opening puts the version, the sum and 0: the first version with its sum, and with any words;
+// and the version that is made now with any words.
+const RAISED: [&[Change]; 3] = [
+    &[Index(4, FIRST), Index(12, 7)],
+    &[
+        Index(4, FIRST),
+        Index(12, 0xFFFF_FFFF),
+        Index(48, 7),
+        Index(52, 7),
+    ],
+    &[Index(12, 1), Index(48, 0xFFFF_FFFF), Index(52, 1)],
 ];
 
 // A folder of some entries with short keys and no streams, with some changes. It keeps its write trace.
@@ -147,6 +187,26 @@ fn hostile_folders_are_verified_and_counted(rt: HostRuntime) -> Result<(), Fail>
         assert!(rt; counted, "{i}");
         let (again, _) = is_counted(rt.alloc(), f, *status, line)?;
         assert!(rt; again, "{i}, again");
+    }
+    Ok(())
+}
+
+// The words of the index that say its version, and the sum at both of its places.
+fn summed(f: &mut Mem) -> Result<[u32; 4], Fail> {
+    let mut words = [0; 4];
+    for (slot, place) in words.iter_mut().zip([4, 12, 48, 52]) {
+        *slot = read_word(f, FileId::Index, place)?;
+    }
+    Ok(words)
+}
+
+#[test]
+fn an_opening_raises_the_index(rt: HostRuntime) -> Result<(), Fail> {
+    for changes in RAISED.iter() {
+        let f = folder(rt.alloc(), &THREE, changes)?;
+        let (counted, mut f) = is_counted(rt.alloc(), f, Status::Ok, "items 3 bytes 7\n")?;
+        assert!(rt; counted);
+        assert_eq!(rt; summed(&mut f)?, [0x3_0000, 0, 7, 0]);
     }
     Ok(())
 }

@@ -57,7 +57,8 @@ const MAKING: [Command<'static>; 8] = [
 ];
 
 // Each of the commands. There is no space for an item more.
-const COMMANDS: [Command<'static>; 16] = [
+const COMMANDS: [Command<'static>; 18] = [
+    Command::Flush { handle: 1 },
     Command::Open {
         handle: 4,
         key: b"c",
@@ -103,6 +104,7 @@ const COMMANDS: [Command<'static>; 16] = [
     Command::DoomKey { key: b"c" },
     Command::Doom { handle: 1 },
     Command::Trim { bytes: 0 },
+    Command::Flush { handle: 0 },
     Command::Close { handle: 0 },
     Command::Close { handle: 1 },
     Command::Close { handle: 3 },

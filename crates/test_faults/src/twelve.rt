@@ -6,12 +6,13 @@ use test_folders::replies::{is_row, replies_in};
 pub(crate) const BEFORE: &[u8] =
     b"create 0 x\nwrite 0 0 0 78\nwrite 0 1 8255 78\nclose 0\ndoomkey x\n";
 
-// Makes a plain and a sparse entry, uses and changes the first, dooms the second and evicts the first.
+// Makes a plain and a sparse entry, of which the second stays open and is flushed, uses and changes the first, dooms the second and evicts
+// the first.
 pub(crate) const TWELVE: Pieces<'static> = &[
     (b"create 0 a\nwrite 0 0 0 ", 4500),
     (b"\nclose 0\ncreate 1 b\nswrite 1 1024 ", 4000),
     (
-        b"\nclose 1\nopen 2 a\nread 2 0 4498 9\nwrite 2 0 4500 ",
+        b"\nflush 1\nopen 2 a\nread 2 0 4498 9\nwrite 2 0 4500 ",
         2000,
     ),
     (b"\nclose 2\ndoomkey b\ntrim 0\n", 0),

@@ -116,6 +116,7 @@ fn each_check_of_a_header_names_its_word(rt: HostRuntime) -> Result<(), Fail> {
     let cases = [
         (0, 0xC103_CAC3),
         (4, 0x20001),
+        (4, 0x30000),
         (8, 0x0004_0005),
         (8, 0x0001_0006),
         (8, 0x0003_0006),

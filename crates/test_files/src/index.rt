@@ -67,7 +67,13 @@ fn look_with(
 fn each_check_of_the_index_names_its_word(rt: HostRuntime) {
     let cases = [
         (0, 0xC104_CAC3),
+        (4, 0),
+        (4, 0x1_0000),
         (4, 0x2_0001),
+        (4, 0x2_FFFF),
+        (4, 0x3_0001),
+        (4, 0x4_0000),
+        (4, 0xFFFF_FFFF),
         (24, 1),
         (28, 65535),
         (36, 2),
@@ -90,6 +96,13 @@ fn each_check_of_the_index_names_its_word(rt: HostRuntime) {
         let found = [Ok(Start::Finished), Err(damage(at, word))];
         assert_eq!(rt; look_with(&mut f, at, word), Ok(found), "{at}");
     }
+}
+
+#[test]
+fn an_index_of_the_first_version_is_finished(rt: HostRuntime) {
+    let mut f = SilentFolder::new(MemFolder::new(rt.alloc()));
+    let found = [Ok(Start::Finished), Ok(Start::Finished)];
+    assert_eq!(rt; look_with(&mut f, 4, 0x2_0000), Ok(found));
 }
 
 // The faults of reading a bucket, three buckets and the whole index where its last byte is missing, and of reading a word

@@ -10,6 +10,18 @@ use crate::worked::{
 };
 use blk_io::FileId;
 
+// The first version of the index.
+const FIRST: u32 = 0x2_0000;
+
+/// Changes after which the index has its first version: its word alone; any words where that has its sum, and where the one that is made
+/// now has a half of it, and both.
+pub const PUT_BACK: [&[Change]; 4] = [
+    &[Index(4, FIRST)],
+    &[Index(4, FIRST), Index(12, 7)],
+    &[Index(4, FIRST), Index(12, 7), Index(52, 7)],
+    &[Index(4, FIRST), Index(12, 7), Index(48, 7), Index(52, 7)],
+];
+
 /// Changes for which eleven of the twelve are dropped, each for a reason of its own. What is changed has no seal then.
 pub const MOST_REASONS: [Change; 21] = [
     Word(N[0], DIRTY, 1),
@@ -39,8 +51,9 @@ pub const MOST_REASONS: [Change; 21] = [
 /// in flight, a record that doesn't check and a dirty parent; a record in two chains, and a node that isn't sealed; blocks that
 /// are used twice, in and out of a chain; an insertion in flight into a list without a head; an operation that doesn't count, a
 /// loop in a chain and one in the list; a file of records that is too short; files that nothing names; external files that are
-/// gone or too short, and another tail; and almost all reasons.
-pub const STOPPED: [&[Change]; 10] = [
+/// gone or too short, and another tail; the first version of the index, with any words where the sums of both are, an open session, a
+/// removal in flight and a dirty node; and almost all reasons.
+pub const STOPPED: [&[Change]; 11] = [
     &[
         Index(TRANSACTION, N[1]),
         Index(OPERATION, 2),
@@ -88,6 +101,17 @@ pub const STOPPED: [&[Change]; 10] = [
         Length(FileId::External(1), 19999),
         Gone(FileId::External(2)),
         Index(TAIL, N[3]),
+    ],
+    &[
+        Index(4, FIRST),
+        Index(12, 7),
+        Index(48, 7),
+        Index(52, 7),
+        Index(32, 1),
+        Index(TRANSACTION, N[1]),
+        Index(OPERATION, 2),
+        Word(N[6], DIRTY, 1),
+        Word(N[6], NODE_SEAL, 0),
     ],
     &MOST_REASONS,
 ];

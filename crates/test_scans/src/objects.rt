@@ -90,7 +90,7 @@ fn words(f: &mut Mem, file: FileId, at: [u64; 4]) -> Result<[u32; 4], Fault> {
 
 // What the index counts, the entries and the bytes and the nodes, and the front of the LRU list.
 fn counted(f: &mut Mem) -> Result<[u32; 4], Fault> {
-    words(f, FileId::Index, [8, 12, 268, HEAD])
+    words(f, FileId::Index, [8, 48, 268, HEAD])
 }
 
 #[test]
@@ -122,7 +122,7 @@ fn long_keys_lie_in_blocks_and_files(rt: HostRuntime) -> Result<(), Fail> {
     let wanted = [0xB102_0000, 0x8000_0001, 0x9000_0000, 0x9000_0001];
     assert_eq!(rt; long, Ok(wanted));
     assert_eq!(rt; f.length(FileId::External(1)), Ok(Some(20001)));
-    assert_eq!(rt; removed(&mut f, &key), Ok(Some(38)));
+    assert_eq!(rt; removed(&mut f, &key), Ok(Some(39)));
     assert_eq!(rt; f.length(FileId::External(1)), Ok(None));
     Ok(())
 }

@@ -12,7 +12,7 @@ use test_folders::folders::{OPERATION, TRANSACTION, change_all};
 const OF_NONE: [(Part, &str); 7] = [
     (
         Part::Index,
-        "magic c103cac3\nversion 00020000\nnum_entries 00000000\nnum_bytes 00000000\nlast_file 00000000\nthis_id 00000001\nstats 00000000\ntable_len 00010000\ncrash 00000000\nexperiment 00000000\nsize 00000000\nhead 00000000\ntail 00000000\ntransaction 00000000\noperation 00000000\n",
+        "magic c103cac3\nversion 00030000\nnum_entries 00000000\nnum_bytes 00000000\nlast_file 00000000\nthis_id 00000001\nstats 00000000\ntable_len 00010000\ncrash 00000000\nexperiment 00000000\nsize 00000000\nhead 00000000\ntail 00000000\ntransaction 00000000\noperation 00000000\n",
     ),
     (
         Part::File(3),

@@ -14,7 +14,7 @@ use test_folders::folders::{
 };
 use test_folders::found::found;
 use test_folders::mended::{changed, mend};
-use test_folders::stopped::STOPPED;
+use test_folders::stopped::{PUT_BACK, STOPPED};
 use test_folders::stopping::{Mem, again, empty};
 use test_folders::worked::{IEV, NAB};
 
@@ -135,6 +135,35 @@ fn repair_may_be_stopped_at_each_word(rt: HostRuntime) -> Result<(), Fail> {
             let steps = steps_of(rt.alloc(), sealed, changes, MOST_STEPS)?;
             assert!(rt; steps.is_some(), "{sealed}, {i}");
         }
+    }
+    Ok(())
+}
+
+// The words of the index that say its version, and the sum of the charges at both of its places.
+fn summed(f: &mut Mem) -> Result<[u32; 4], Fault> {
+    let mut words = [0; 4];
+    for (slot, place) in words.iter_mut().zip([4, 12, 48, 52]) {
+        *slot = read_word(f, FileId::Index, place)?;
+    }
+    Ok(words)
+}
+
+// Whether a repaired folder that is put back so to the first version has the words that it had, once it is repaired again.
+fn is_raised(alloc: Global, changes: &[Change]) -> Result<bool, Fail> {
+    let mut f = changed(alloc, true, &[], u64::MAX)?;
+    let before = summed(&mut f)?;
+    let mut f = changed(alloc, true, changes, u64::MAX)?;
+    mend(alloc, &mut f)?;
+    Ok(before == summed(&mut f)?)
+}
+
+// Written are the number of the session and the crash word, the version, and each word of a sum that isn't right.
+#[test]
+fn an_index_of_the_first_version_is_raised_by_few_words(rt: HostRuntime) -> Result<(), Fail> {
+    for (changes, words) in PUT_BACK.iter().zip([3, 4, 5, 6]) {
+        assert!(rt; is_raised(rt.alloc(), changes)?);
+        let steps = steps_of(rt.alloc(), true, changes, MOST_STEPS)?;
+        assert_eq!(rt; steps, Some(words));
     }
     Ok(())
 }

@@ -3,14 +3,19 @@ use blk_model::limits;
 
 #[test]
 fn limits_are_refused_outside_their_bounds(rt: HostRuntime) {
-    for (max_bytes, max_items) in [(0, 1), (1, 0), (1, 131073), (2147483648, 1)] {
+    for (max_bytes, max_items) in [(0, 1), (1, 0), (1, 131073), (1099511627777, 1)] {
         assert!(rt; limits(max_bytes, max_items).is_none());
     }
 }
 
 #[test]
 fn limits_keep_their_numbers(rt: HostRuntime) {
-    for (max_bytes, max_items) in [(83886080, 65536), (1, 1), (2147483647, 131072)] {
+    for (max_bytes, max_items) in [
+        (83886080, 65536),
+        (1, 1),
+        (2147483648, 1),
+        (1099511627776, 131072),
+    ] {
         let numbers = numbers_of(max_bytes, max_items);
         assert_eq!(rt; numbers, Some((max_bytes, max_items)));
     }

@@ -2,12 +2,13 @@
 use blk_record::{BlockHead, IndexHead};
 use std::test::Fail;
 
-// The first fields of an index: its magic and version, 2 items of 300 bytes, external number 7,
-// session 5, no stats, the table's length, an open session, no experiment, a moment.
-const INDEX_START: [u8; 48] = [
-    0xC3, 0xCA, 0x03, 0xC1, 0x00, 0x00, 0x02, 0x00, 0x02, 0x00, 0x00, 0x00, 0x2C, 0x01, 0x00, 0x00,
+// The first fields of an index: its magic and version, 2 items, 300 at the place of the first version's sum, external number 7,
+// session 5, no stats, the table's length, an open session, no experiment, a moment, a sum of eight bytes.
+const INDEX_START: [u8; 56] = [
+    0xC3, 0xCA, 0x03, 0xC1, 0x00, 0x00, 0x03, 0x00, 0x02, 0x00, 0x00, 0x00, 0x2C, 0x01, 0x00, 0x00,
     0x07, 0x00, 0x00, 0x00, 0x05, 0x00, 0x00, 0x00, 0x00, 0x00, 0x00, 0x00, 0x00, 0x00, 0x01, 0x00,
     0x01, 0x00, 0x00, 0x00, 0x00, 0x00, 0x00, 0x00, 0x08, 0x07, 0x06, 0x05, 0x04, 0x03, 0x02, 0x01,
+    0xFE, 0xFF, 0xFF, 0x7F, 0x01, 0x00, 0x00, 0x00,
 ];
 
 // The header of data_1, whose next file is data_4: 3 allocations in 1024 blocks of 256 bytes.
@@ -32,8 +33,8 @@ fn put(bytes: &mut [u8], part: &[u8]) {
     }
 }
 
-// The first ten words of an index, and its moment.
-fn front_of(head: &IndexHead<'_>) -> ([u32; 10], u64) {
+// The first ten words of an index, its moment and its sum.
+fn front_of(head: &IndexHead<'_>) -> ([u32; 10], [u64; 2]) {
     let words = [
         head.magic(),
         head.version(),
@@ -46,7 +47,7 @@ fn front_of(head: &IndexHead<'_>) -> ([u32; 10], u64) {
         head.crash(),
         head.experiment(),
     ];
-    (words, head.create_time())
+    (words, [head.create_time(), head.num_bytes64()])
 }
 
 #[test]
@@ -54,8 +55,9 @@ fn an_index_header_is_read(rt: HostRuntime) -> Result<(), Fail> {
     let mut bytes = [0; 368];
     put(&mut bytes, &INDEX_START);
     let head = IndexHead::over(&bytes).ok_or("too short")?;
-    let words = [0xC103CAC3, 0x20000, 2, 300, 7, 5, 0, 65536, 1, 0];
-    assert_eq!(rt; front_of(&head), (words, 0x0102030405060708));
+    let words = [0xC103CAC3, 0x30000, 2, 300, 7, 5, 0, 65536, 1, 0];
+    let longs = [0x0102030405060708, 0x17FFFFFFE];
+    assert_eq!(rt; front_of(&head), (words, longs));
     Ok(())
 }
 
@@ -63,7 +65,7 @@ fn an_index_header_is_read(rt: HostRuntime) -> Result<(), Fail> {
 fn unused_of(head: &IndexHead<'_>) -> [u32; 7] {
     [
         head.pad(0),
-        head.pad(51),
+        head.pad(49),
         head.pad1(0),
         head.pad1(1),
         head.filled(),
@@ -92,7 +94,7 @@ fn the_lists_of_an_index_are_read(rt: HostRuntime) -> Result<(), Fail> {
     let mut bytes = [0; 368];
     number_words(&mut bytes, 0);
     let head = IndexHead::over(&bytes).ok_or("too short")?;
-    assert_eq!(rt; unused_of(&head), [48, 252, 256, 260, 264, 340, 364]);
+    assert_eq!(rt; unused_of(&head), [56, 252, 256, 260, 264, 340, 364]);
     let lists = [268, 284, 288, 304, 308, 324, 328, 332, 336];
     assert_eq!(rt; lists_of(&head), lists);
     Ok(())

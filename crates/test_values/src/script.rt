@@ -31,7 +31,18 @@ fn six_faulty_lines(rt: HostRuntime) {
 
 #[test]
 fn lines_without_a_word(rt: HostRuntime) {
-    for line in [" ", "  ", " list", "List", "lists", "lis", "create1 a", "-"] {
+    for line in [
+        " ",
+        "  ",
+        " list",
+        "List",
+        "lists",
+        "lis",
+        "create1 a",
+        "-",
+        "FLUSH 0",
+        "flushh 0",
+    ] {
         says(&rt, line, Err(LineFault::UnknownWord));
     }
 }
@@ -45,6 +56,8 @@ fn lines_with_another_number_of_fields(rt: HostRuntime) {
         "trim 1 ",
         "doom",
         "close 1 2",
+        "flush",
+        "flush 0 1",
         "doomkey",
         "open 65535",
         "create 0 a b",
@@ -79,6 +92,11 @@ fn lines_with_a_wrong_number(rt: HostRuntime) {
         "trim 99999999999999999999999999999999",
         "trim 0x1",
         "trim ",
+        "flush x",
+        "flush -1",
+        "flush 00",
+        "flush 65536",
+        "flush ",
         "cut 0 256 0 6",
         "write x 0 0 6",
     ] {
@@ -264,6 +282,7 @@ fn commands_with_numbers_are_printed(rt: HostRuntime) {
         (Command::Size { handle, stream: 2 }, "size 1 2\n"),
         (Command::Doom { handle }, "doom 1\n"),
         (Command::Close { handle }, "close 1\n"),
+        (Command::Flush { handle }, "flush 1\n"),
         (Command::Trim { bytes: 0 }, "trim 0\n"),
         (Command::List, "list\n"),
         (Command::Total, "total\n"),
@@ -349,6 +368,7 @@ fn refusals_are_printed(rt: HostRuntime) {
         (Refusal::Full, "refused 11 Full\n"),
         (Refusal::Memory, "refused 12 Memory\n"),
         (Refusal::BadKey, "refused 13 BadKey\n"),
+        (Refusal::NoHandle, "refused 14 NoHandle\n"),
     ] {
         replies(&rt, rt.alloc(), Answer::Refused(why), want);
     }

@@ -15,7 +15,8 @@ use Rattle.spec_format.specs.Storage.{kind_for, blocks_for, entry_blocks, is_sto
 use Rattle.spec_format.specs.Standing.{stands, stands_as_blocks}
 use Rattle.spec_format.specs.Records.{entry_doomed, node_checks, node_is_sealed, entry_checks, entry_is_sealed, node_in, node_body, entry_in, entry_body}
 use Rattle.spec_format.specs.Claims.{BlockOf, ExternalOf, has_claim, is_in_file}
-use Rattle.spec_format.specs.Headers.{unfinished, head_checks, list_checks, index_length, bucket_of, empty_of}
+use Rattle.spec_format.specs.Headers.{count_of, counting, unfinished, head_checks, list_checks, index_length, bucket_of, empty_of}
+use Rattle.spec_format.proofs.Counts.{counts-as, its-version}
 use Rattle.spec_format.specs.BlockFiles.{next_file_in, max_entries_in, files_along, linked, linked_up_to, kind_among, is_link, is_block_count, file_checks, checks_along, checks_of_kind, linked_as, is_among, IsWellFormed}
 use Rattle.spec_format.specs.Maps.{is_block_marked_at, is_block_marked, are_free, has_run, longest_run, groups_with, EmptyAgrees}
 use Rattle.spec_folder.specs.ListView.{IsList}
@@ -226,9 +227,13 @@ folder-counted (suc (suc (suc zero))) small = record { num_entries = refl; empty
 folder-counted (suc (suc (suc (suc n)))) small = absurd (omega arith)
 
 -- those of the index have not
+folder-counts : count_of (byte doomed_folder Index) ≡ counting 0 0
+unfolding count_of doomed_folder zeros with_word spliced
+folder-counts = refl
+
 folder-index : IsIndexCounted doomed_folder []
 unfolding list_of doomed_folder zeros with_word spliced
-folder-index = record { tail = refl; sizes = refl; num_entries = refl; num_bytes = refl }
+folder-index = record { tail = refl; counts = counts-as (byte doomed_folder Index) 0 0 folder-counts }
 
 folder-sealed : AreSealed doomed_folder (one.loaded 0)
 unfolding doomed_folder zeros with_word spliced file_selector kind_of first_block place block_place block_size node_is_sealed node_in node_body entry_is_sealed entry_in entry_body words_at hash mixed of_bytes of_four
@@ -253,7 +258,7 @@ keeps-the_object = folder-keeps_doomed.each.0
 
 -- the folder stands for the state of the doomed object
 pub doomed-stands : StandsFor doomed_folder (doomed_state true)
-doomed-stands = stands-for doomed_folder (doomed_state true) (doomed_layout 0) folder-is_represented (doomed-is_valid true) (0 ∷ []) folder-is_allocated doomed-is_well_formed
+doomed-stands = stands-for doomed_folder (doomed_state true) (doomed_layout 0) folder-is_represented (doomed-is_valid true) (0 ∷ []) folder-is_allocated doomed-is_well_formed (its-version (byte doomed_folder Index) 0 0 folder-counts)
     (subst (λ (ls : List Loaded). IsInOrder doomed_folder ls (one.loaded 0 ∷ [])) (sym none-listed) folder-is_in_order)
 
 -- and it holds nothing

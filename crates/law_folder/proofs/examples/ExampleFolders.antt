@@ -6,7 +6,9 @@ use Rattle.std.specs.List.{flat_map, filter}
 use Rattle.std.proofs.lemmas.Bool.{ltb-true}
 use Rattle.std.proofs.lemmas.Bool.Decides.{nat_tests}
 use Rattle.spec_image.specs.Bytes.{spliced, words_at, zeros}
-use Rattle.spec_image.specs.Image.{Block, External, has_file, length_of}
+use Rattle.spec_image.specs.Image.{Block, External, Index, byte, has_file, length_of}
+use Rattle.spec_format.specs.Headers.{count_of, counting}
+use Rattle.spec_format.proofs.Counts.{counts-as, its-version}
 use Rattle.spec_image.specs.Steps.{with_word}
 use Rattle.blk_model.specs.State.{Object, Bounds, object_at}
 use Rattle.blk_model.specs.Holding.{open_state}
@@ -128,9 +130,14 @@ whole-counted (suc (suc zero)) small = record { num_entries = refl; empty = whol
 whole-counted (suc (suc (suc zero))) small = record { num_entries = refl; empty = whole-empty 3 small; updating = refl }
 whole-counted (suc (suc (suc (suc n)))) small = absurd (omega arith)
 
-pub whole-index : IsIndexCounted whole_folder (one.loaded 0 ∷ [])
+-- one item of three bytes
+pub whole-counts : count_of (byte whole_folder Index) ≡ counting 1 3
+unfolding count_of whole_folder zeros with_word spliced
+whole-counts = refl
+
+whole-index : IsIndexCounted whole_folder (one.loaded 0 ∷ [])
 unfolding list_of whole_folder zeros with_word spliced
-whole-index = record { tail = refl; sizes = refl; num_entries = refl; num_bytes = refl }
+whole-index = record { tail = refl; counts = counts-as (byte whole_folder Index) 1 3 whole-counts }
 
 pub whole-sealed : AreSealed whole_folder (one.loaded 0)
 unfolding whole_folder zeros with_word spliced file_selector kind_of first_block place block_place block_size node_is_sealed node_in node_body entry_is_sealed entry_in entry_body words_at hash mixed of_bytes of_four
@@ -187,7 +194,7 @@ whole-is_shown = shows-state whole_folder (one.state true) (one.layout 0) whole-
 
 -- it stands for it
 pub whole-stands : StandsFor whole_folder (one.state true)
-whole-stands = stands-for whole_folder (one.state true) (one.layout 0) whole-is_represented (state_is_valid true) [] whole-is_allocated whole-is_well_formed
+whole-stands = stands-for whole_folder (one.state true) (one.layout 0) whole-is_represented (state_is_valid true) [] whole-is_allocated whole-is_well_formed (its-version (byte whole_folder Index) 1 3 whole-counts)
     (subst (λ (ls : List Loaded). IsInOrder whole_folder ls []) (sym kept-listed) whole-is_in_order)
 
 whole-is_owned : AreOwned whole_folder (claims_of_loaded (one.loaded 0 ∷ []))

@@ -200,7 +200,7 @@ second-is_created_at = creates-moments (view 0) with_second (state true) (layout
 abbrev pub both : State
 both = created 1 (codes "b") (state true)
 
--- where both lie
+-- the layout of both entries
 abbrev pub both_layout : Layout
 both_layout = with_new (layout 0) (codes "b") second
 

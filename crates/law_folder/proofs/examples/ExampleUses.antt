@@ -55,7 +55,7 @@ use Rattle.law_folder.proofs.states.Charges.{items-charged, listed-charges, list
 use Rattle.law_folder.proofs.commands.Created.{written-stay, before-insert, at-each-write, at-end, after-link, at-the-step}
 use Rattle.law_folder.proofs.commands.Creating.{as-item, changed}
 use Rattle.law_folder.proofs.states.Empty.{empty-valid}
-use Rattle.law_folder.proofs.examples.ExampleFolders.{some_limits, new-is_empty, new-is_represented, whole-is_allocated, whole-is_in_order, whole-sealed, whole-index, whole-only, whole-long, whole-stands}
+use Rattle.law_folder.proofs.examples.ExampleFolders.{some_limits, new-is_empty, new-is_represented, whole-is_allocated, whole-is_in_order, whole-sealed, whole-counts, whole-only, whole-long, whole-stands}
 use Rattle.law_folder.proofs.examples.ExampleGrowth.{grown_folder, have-grown}
 use Rattle.law_folder.proofs.examples.ExampleItems.{with_second, second, second_node, second-is_written, both, both_layout, both_view, both-are_represented, both-are_valid, open-is_not_refused, create-is_not_refused}
 use Rattle.law_folder.proofs.claims.Files.{growth-absent, headers-change, unlinked-go}
@@ -202,9 +202,7 @@ whole-tidy = record {
   only_linked = whole-only;
   long_enough = whole-long;
   counted = λ n is. whole-is_in_order.counted n is;
-  sizes = whole-index.sizes;
-  num_entries = whole-index.num_entries;
-  num_bytes = whole-index.num_bytes;
+  counts = whole-counts;
   sealed = λ w l here. subst (AreSealed whole_folder) (one.at-node 0 w l here).1 whole-sealed;
 }
 
@@ -222,7 +220,7 @@ whole-stands_by_state = states-stand whole_folder (one.state true) (one.layout 0
 
 whole-small : (file : File) → AreSmall (bytes_of whole_folder file)
 unfolding whole_folder
-whole-small Index = small-words (new_index_words 50 ++ (8, 1) ∷ (12, 3) ∷ (268, 1) ∷ (288, 0x90000000) ∷ (308, 0x90000000) ∷ (171896, 0xA0010000) ∷ []) (zeros index_length) (small-zeros index_length)
+whole-small Index = small-words (new_index_words 50 ++ (8, 1) ∷ (48, 3) ∷ (268, 1) ∷ (288, 0x90000000) ∷ (308, 0x90000000) ∷ (171896, 0xA0010000) ∷ []) (zeros index_length) (small-zeros index_length)
 whole-small (Block zero) = small-words (new_file_words 0 ++ (16, 1) ∷ (20, 1024) ∷ (32, 1) ∷ (36, 255) ∷ (80, 1) ∷ (8208, 0x90000000) ∷ (8212, 0x90000000) ∷ (8216, 0xA0010000) ∷ (8224, 0xfe7f2cf2) ∷ []) (zeros 45056) (small-zeros 45056)
 whole-small (Block (suc zero)) = small-words (new_file_words 1 ++ (16, 2) ∷ (20, 1024) ∷ (28, 1) ∷ (36, 255) ∷ (80, 3) ∷ (8192, 0x115EA782) ∷ (8200, 0x90000000) ∷ (8224, 1) ∷ (8232, 2) ∷ (8248, 0xA0010001) ∷ (8284, 0x2c6f24c8) ∷ (8288, 97) ∷ (8448, 0x7A7A) ∷ []) (zeros 270336) (small-zeros 270336)
 whole-small (Block (suc (suc zero))) = small-words (new_file_words 2) (zeros 8192) (small-zeros 8192)

@@ -31,7 +31,7 @@ use Rattle.law_folder.proofs.states.Standing.{found-at_rest}
 
 -- the index counts one item and three bytes, has node 0 as head and tail, and the record in the bucket of `a`
 abbrev pub whole_index : List ℕ
-whole_index = with_words (new_index_words 50 ++ (8, 1) ∷ (12, 3) ∷ (268, 1) ∷ (288, 0x90000000) ∷ (308, 0x90000000) ∷ (171896, 0xA0010000) ∷ []) (zeros index_length)
+whole_index = with_words (new_index_words 50 ++ (8, 1) ∷ (48, 3) ∷ (268, 1) ∷ (288, 0x90000000) ∷ (308, 0x90000000) ∷ (171896, 0xA0010000) ∷ []) (zeros index_length)
 
 -- data_0 has 1024 nodes, of which node 0 is marked: one group has three free, and 255 have four; the node is sealed
 abbrev pub whole_nodes : List ℕ
@@ -74,7 +74,7 @@ unfolding list_of whole_folder zeros with_word spliced
 whole-idle = refl
 
 abbrev index_words : List (ℕ × ℕ)
-index_words = new_index_words 50 ++ (8, 1) ∷ (12, 3) ∷ (268, 1) ∷ (288, 0x90000000) ∷ (308, 0x90000000) ∷ (171896, 0xA0010000) ∷ []
+index_words = new_index_words 50 ++ (8, 1) ∷ (48, 3) ∷ (268, 1) ∷ (288, 0x90000000) ∷ (308, 0x90000000) ∷ (171896, 0xA0010000) ∷ []
 
 -- no other bucket has a record
 other-bucket : (b : ℕ) → (b == one.bucket) ≡ false → bucket_of (byte whole_folder Index) b ≡ 0
@@ -97,7 +97,7 @@ other-bucket b apart = words_beside (place_of_bucket b) index_words (zeros index
             (
               suffix 8 (lit≤ tt),
               (
-                suffix 12 (lit≤ tt),
+                suffix 48 (lit≤ tt),
                 (
                   suffix 268 (lit≤ tt),
                   (

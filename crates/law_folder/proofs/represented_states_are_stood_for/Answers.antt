@@ -7,7 +7,7 @@ pub returns : goal.returns
 returns c = record {
   shown = λ image state layout numbers r valid a. shows-state image state layout r valid numbers a;
   in_order = tidy-ordered;
-  stands = λ image state layout numbers r valid a well in_order. stands-for image state layout r valid numbers a well in_order;
+  stands = λ image state layout numbers r valid a well version in_order. stands-for image state layout r valid numbers a well version in_order;
   tidy = tidy-stands;
   found = stood-found;
 }

@@ -5,7 +5,8 @@ use Rattle.blk_model.specs.Items.{Row}
 use Rattle.spec_format.specs.Headers.{unfinished}
 use Rattle.blk_model.specs.State.{Bounds}
 use Rattle.blk_model.specs.Holding.{open_state}
-use Rattle.spec_image.specs.Image.{Image}
+use Rattle.spec_image.specs.Image.{Image, Index, byte}
+use Rattle.spec_format.proofs.Counts.{counts-as, its-version}
 use Rattle.spec_format.specs.Address.{is_address, is_initialized, block_place}
 use Rattle.spec_format.specs.Standing.{stands}
 use Rattle.spec_format.specs.Claims.{has_claim, repeats}
@@ -106,7 +107,7 @@ module _ (image : Image) (bare : HasNoEntries image) where
     long_enough = λ n kind linked. let f : IsFileWithoutBlocks image n = bare.blocks n (rw linked refl) in rw f.max_entries (omega (arith, f.long_enough));
     counted = λ n linked. let f : IsFileWithoutBlocks image n = bare.blocks n linked in
         record { num_entries = f.allocations; empty = λ i small. f.empty i small ∙ sym (no-groups n i f.max_entries); updating = f.updating };
-    index = record { tail = bare.index.tail; sizes = bare.index.sizes; num_entries = bare.index.num_entries; num_bytes = bare.index.num_bytes };
+    index = record { tail = bare.index.tail; counts = counts-as (byte image Index) 0 0 bare.index.counts };
     sealed = tt;
   }
 
@@ -132,7 +133,7 @@ module _ (image : Image) (bare : HasNoEntries image) where
   }
 
   pub bare-stands : (limits : Bounds) → StandsFor image (open_state [] limits)
-  bare-stands limits = stands-for image (open_state [] limits) no_layout (represents-empty limits) (empty-valid limits) [] (allocated limits) bare.well_formed
+  bare-stands limits = stands-for image (open_state [] limits) no_layout (represents-empty limits) (empty-valid limits) [] (allocated limits) bare.well_formed (its-version (byte image Index) 0 0 bare.index.counts)
       (subst (λ (ls : List Loaded). IsInOrder image ls []) (sym (kept-none listed_rule)) in-order)
 
 pub bare-found : FoldersWithoutEntriesHoldNothing

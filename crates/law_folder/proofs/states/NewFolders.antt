@@ -1,5 +1,5 @@
 -- A new folder is bare.
-use Rattle.std.proofs.Common.{◌≡◌, ◌⊎◌, inl, inr, ⊎_elim, ℕ, zero, suc, ◌+◌, ◌*◌, ◌/◌, ◌%◌, ◌<◌, ◌≤◌, List, [], ◌∷◌, length, Option, None, Some, refl, sym, ◌∙◌, ap, subst, arith, lit≤}
+use Rattle.std.proofs.Common.{◌≡◌, ◌⊎◌, inl, inr, ⊎_elim, ℕ, zero, suc, ◌+◌, ◌*◌, ◌/◌, ◌%◌, ◌^◌, ◌<◌, ◌≤◌, List, [], ◌∷◌, length, Option, None, Some, refl, sym, ◌∙◌, ap, subst, arith, lit≤, lit<}
 use Rattle.std.specs.Prelude.{if◌then◌else◌, nat_lt, unwrap_or, is_some, ◌==◌}
 use Rattle.std.proofs.lemmas.Bool.{cases_lt, lt-ltb, le-ltb, ltb-true}
 use Rattle.std.proofs.lemmas.Bool.Decides.{nat_tests}
@@ -9,9 +9,10 @@ use Rattle.spec_image.specs.Image.{File, Index, Block, External, Image, bytes_of
 use Rattle.spec_image.specs.Steps.{with_word, with_words}
 use Rattle.spec_image.specs.Order.{IsBefore}
 use Rattle.spec_image.proofs.Splices.{length-zeros, content-zeros, content-spliced_outside}
-use Rattle.spec_image.proofs.Words.{word-beside, word-zeros, length-with_words}
+use Rattle.spec_image.proofs.Words.{word-beside, word-there, word-zeros, length-with_words}
 use Rattle.spec_format.specs.Address.{block_size, header_size}
-use Rattle.spec_format.specs.Headers.{head_checks, list_checks, index_length, place_of_bucket}
+use Rattle.spec_format.specs.Headers.{count_of, counting, head_checks, list_checks, index_length, index_magic, index_version, place_of_bucket, table_length}
+use Rattle.spec_format.proofs.Counts.{count-is}
 use Rattle.spec_format.specs.BlockFiles.{next_file_in, max_entries_in, files_along, linked, linked_as, kind_among, is_link, is_block_count, file_checks, checks_along, checks_of_kind, linked_up_to, IsWellFormed}
 use Rattle.spec_folder.specs.View.{list_of}
 use Rattle.spec_format.specs.NewFolder.{new_index_words, new_file_words, IsMade}
@@ -50,6 +51,21 @@ index-zero moment place beside = words_beside place (new_index_words moment) (ze
 index-later : (moment place : ℕ) → 48 ≤ place → word_at (byte (new_folder moment) Index) place ≡ 0
 index-later moment place later = index-zero moment place (inr (omega arith), (inr (omega arith), (inr (omega arith), (inr (omega arith), (inr (omega arith), tt)))))
 
+-- its version is the one that is made now
+index-version : (moment : ℕ) → word_at (byte (new_folder moment) Index) 4 ≡ index_version
+unfolding new_folder
+index-version moment =
+    words_beside 4 ((28, table_length) ∷ (40, moment % 2 ^ 32) ∷ (44, moment / 2 ^ 32) ∷ (0, index_magic) ∷ []) (with_word 4 index_version (zeros index_length)) (inl (lit≤ tt), (inl (lit≤ tt), (inl (lit≤ tt), (inr (lit≤ tt), tt))))
+    ∙ word-there 4 index_version (zeros index_length) (lit< tt) (let long : length (zeros index_length) ≡ index_length = length-zeros index_length in omega arith)
+
+index-counts : (moment : ℕ) → count_of (byte (new_folder moment) Index) ≡ counting 0 0
+index-counts moment =
+    count-is (byte (new_folder moment) Index) 0 0 (index-version moment)
+    (index-zero moment 8 (inr (lit≤ tt), (inl (lit≤ tt), (inl (lit≤ tt), (inl (lit≤ tt), (inr (lit≤ tt), tt))))))
+    (index-zero moment 12 (inr (lit≤ tt), (inl (lit≤ tt), (inl (lit≤ tt), (inl (lit≤ tt), (inr (lit≤ tt), tt))))))
+    (λ i. index-later moment 48 (lit≤ tt) i + 4294967296 * index-later moment 52 (lit≤ tt) i)
+    (index-later moment 268 (lit≤ tt))
+
 bare-index : (moment : ℕ) → IsIndexWithoutEntries (new_folder moment)
 unfolding list_of
 bare-index moment = record {
@@ -57,9 +73,7 @@ bare-index moment = record {
   tail = index-later moment 308 (lit≤ tt);
   transaction = index-later moment 328 (lit≤ tt);
   table = λ b below. index-later moment (place_of_bucket b) (omega arith);
-  sizes = index-later moment 268 (lit≤ tt);
-  num_entries = index-zero moment 8 (inr (lit≤ tt), (inl (lit≤ tt), (inl (lit≤ tt), (inl (lit≤ tt), (inr (lit≤ tt), tt)))));
-  num_bytes = index-zero moment 12 (inr (lit≤ tt), (inl (lit≤ tt), (inl (lit≤ tt), (inl (lit≤ tt), (inr (lit≤ tt), tt)))));
+  counts = index-counts moment;
 }
 
 -- the block files

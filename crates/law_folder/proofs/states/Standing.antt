@@ -11,7 +11,8 @@ use Rattle.spec_folder.specs.ListView.{ListView, IsList, Distinct, Segment, last
 use Rattle.spec_folder.specs.Walk.{walk}
 use Rattle.blk_model.specs.Items.{Item, item_of}
 use Rattle.blk_model.specs.State.{State, Object, IsValidState, object_at}
-use Rattle.spec_image.specs.Image.{Image}
+use Rattle.spec_image.specs.Image.{Image, Index, byte}
+use Rattle.spec_format.specs.Headers.{index_version, version_of}
 use Rattle.spec_format.specs.BlockFiles.{is_among, IsWellFormed}
 use Rattle.spec_format.specs.Claims.{Claim, BlockOf, ExternalOf, has_claim, claims_of, repeats}
 use Rattle.spec_folder.specs.View.{View, RecordFields, view_of}
@@ -230,8 +231,8 @@ module _ (image : Image) (m : State) (y : Layout) (r : Represents (view_of image
     marks = rw (kept-at image m y r valid) (marks-of (order m y) (λ w h. h));
   }
 
-  pub stands-for : IsWellFormed image → IsInOrder image (kept_by listed_rule (view_of image)) (map (λ (d : ℕ × Loaded). d.1) (doomed_of y numbers)) → StandsFor image m
-  stands-for well in_order = record { well_formed = well; shows = shows-state; doomed = doomed_of y numbers; are_doomed = are-doomed; owned = are-owned; in_order = in_order }
+  pub stands-for : IsWellFormed image → version_of (byte image Index) ≡ index_version → IsInOrder image (kept_by listed_rule (view_of image)) (map (λ (d : ℕ × Loaded). d.1) (doomed_of y numbers)) → StandsFor image m
+  stands-for well version in_order = record { well_formed = well; version = version; shows = shows-state; doomed = doomed_of y numbers; are_doomed = are-doomed; owned = are-owned; in_order = in_order }
 
 -- a finished folder that represents a state holds the durable contents
 pub found-at_rest : FoundIsAtRest

@@ -1,16 +1,19 @@
 -- Files, counters and seals that are in order by a layout are so for what is listed and doomed.
 use Rattle.std.proofs.Common.{◌≡◌, ℕ, List, [], ◌∷◌, ◌++◌, length, map, refl, sym, ◌∙◌, ap, subst, true, Option, Some, None}
 use Rattle.std.specs.Prelude.{◌==◌}
-use Rattle.std.specs.List.{cons_option, flat_map, AllByRecursion}
+use Rattle.std.specs.List.{cons_option, flat_map, sum_by, AllByRecursion}
 use Rattle.std.proofs.lemmas.List.{length-map}
 use Rattle.std.proofs.lemmas.List.Elements.{filter_map-append}
 use Rattle.std.proofs.lemmas.Bool.{eq-eqb, or_left, or_right}
-use Rattle.spec_image.specs.Image.{Image}
+use Rattle.spec_image.specs.Image.{Image, Index, byte}
+use Rattle.spec_format.specs.Headers.{CountsAs, count_of}
+use Rattle.spec_format.proofs.Counts.{counts-as, its-version}
 use Rattle.spec_format.specs.BlockFiles.{is_among}
 use Rattle.blk_model.specs.State.{State, IsValidState}
 use Rattle.spec_folder.specs.ListView.{last_or}
 use Rattle.spec_folder.specs.View.{view_of, store_of}
 use Rattle.spec_folder.specs.Loads.{Loaded, listed_rule}
+use Rattle.spec_folder.specs.Found.{charge_of}
 use Rattle.spec_folder.specs.Audit.{kept_by}
 use Rattle.spec_folder.specs.Layout.{Layout, Represents, IsPlacedAt, order, rule_of}
 use Rattle.spec_folder.specs.Sound.{AreSealed, CountersAgree, IsInOrder, words_of}
@@ -59,9 +62,7 @@ module _ (image : Image) (m : State) (y : Layout) (numbers : List ℕ) (rep : Re
     counted = λ n linked. subst (λ (ls : List Loaded). CountersAgree image (flat_map words_of ls) n) both (tidy.counted n linked);
     index = record {
       tail = rep.list.tail_is ∙ ap (last_or 0) (sym (nodes-are (order m y) (λ w h. h)));
-      sizes = tidy.sizes ∙ sym long;
-      num_entries = tidy.num_entries ∙ sym long;
-      num_bytes = tidy.num_bytes;
+      counts = subst (λ (n : ℕ). CountsAs n (sum_by charge_of (loaded_at y (order m y))) (count_of (byte image Index))) (sym long) (counts-as (byte image Index) (length m.uses) (sum_by charge_of (loaded_at y (order m y))) tidy.counts);
     };
     sealed = subst (λ (ls : List Loaded). AllByRecursion (AreSealed image) ls) both (sealed-all (order m y ++ doomed_nodes y numbers));
   }
@@ -73,4 +74,5 @@ pub tidy-ordered : TidyIsInOrder
 tidy-ordered image state layout numbers rep valid tidy = ordered image state layout numbers rep valid tidy
 
 pub tidy-stands : TidyStatesAreStoodFor
-tidy-stands image state layout numbers rep valid allocated well tidy = stands-for image state layout rep valid numbers allocated well (ordered image state layout numbers rep valid tidy)
+tidy-stands image state layout numbers rep valid allocated well tidy = stands-for image state layout rep valid numbers allocated well
+    (its-version (byte image Index) (length state.uses) (sum_by charge_of (loaded_at layout (order state layout))) tidy.counts) (ordered image state layout numbers rep valid tidy)

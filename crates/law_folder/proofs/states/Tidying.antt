@@ -13,6 +13,8 @@ use Rattle.spec_format.specs.Claims.{is_in_file}
 use Rattle.spec_format.specs.BlockFiles.{is_among, linked_as, IsWellFormed}
 use Rattle.spec_format.specs.Records.{entry_is_sealed, entry_in}
 use Rattle.spec_format.specs.Sealed.{record_range}
+use Rattle.spec_format.specs.Headers.{counting}
+use Rattle.spec_format.proofs.Counts.{same-count}
 use Rattle.spec_format.proofs.SpareHeaders.{SparesHeaders, other_file}
 use Rattle.spec_image.proofs.Runs.{some_inj}
 use Rattle.spec_folder.specs.Layout.{Represents, rule_of}
@@ -175,9 +177,8 @@ module _ (from image : Image) (state after : State) (layout : Layout) (numbers :
         = ap (λ (ns : List ℕ). count_by (is_in_file n) (flat_map words_of (loaded_at layout ns))) old-all ∙ sym moved ∙ ap (λ (ns : List ℕ). count_by (is_in_file n) (flat_map words_of (loaded_at layout ns))) (sym new-all) in
         let still = counted-same F from image spares sizes same n (flat_map words_of (loaded_at layout (order state layout ++ doomed_nodes layout numbers))) (few-blocks from n well was) c in
         record { num_entries = still.num_entries ∙ counts; empty = still.empty; updating = still.updating };
-    sizes = counters 268 (omega arith) ∙ t.sizes ∙ sym uses-long;
-    num_entries = counters 8 (omega arith) ∙ t.num_entries ∙ sym uses-long;
-    num_bytes = counters 12 (omega arith) ∙ t.num_bytes ∙ ap (λ (n : ℕ). n % 2 ^ 32)
-        (ap (λ (ns : List ℕ). sum_by charge_of (loaded_at layout ns)) old-order ∙ sym (moved-same (λ (ns : List ℕ). sum_by charge_of (loaded_at layout ns)) (sums-add charge_of layout.at) prefix x suffix) ∙ ap (λ (ns : List ℕ). sum_by charge_of (loaded_at layout ns)) (sym new-order));
+    counts = same-count (byte image Index) (byte from Index) (counters 4 (omega arith)) (counters 8 (omega arith)) (counters 12 (omega arith)) (counters 48 (omega arith)) (counters 52 (omega arith)) (counters 268 (omega arith))
+        ∙ t.counts ∙ ap (λ (n : ℕ). counting n (sum_by charge_of (loaded_at layout (order state layout)))) (sym uses-long)
+        ∙ ap (counting (length after.uses)) (ap (λ (ns : List ℕ). sum_by charge_of (loaded_at layout ns)) old-order ∙ sym (moved-same (λ (ns : List ℕ). sum_by charge_of (loaded_at layout ns)) (sums-add charge_of layout.at) prefix x suffix) ∙ ap (λ (ns : List ℕ). sum_by charge_of (loaded_at layout ns)) (sym new-order));
     sealed = λ w loaded here. seals w loaded here (t.sealed w loaded here);
   }

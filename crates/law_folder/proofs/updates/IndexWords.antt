@@ -1,8 +1,8 @@
 -- What a word of the index shows.
-use Rattle.std.proofs.Common.{◌≡◌, ◌≢◌, ◌⊎◌, inl, inr, ⊎_elim, ℕ, ◌+◌, ◌*◌, ◌%◌, ◌<◌, ◌≤◌, true, false, List, [], ◌∷◌, map, Option, refl, sym, ◌∙◌, ap, subst, arith, lit≤}
+use Rattle.std.proofs.Common.{◌≡◌, ◌≢◌, ◌⊎◌, inl, inr, ⊎_elim, ℕ, ◌+◌, ◌*◌, ◌%◌, ◌<◌, ◌≤◌, Bool, true, false, List, [], ◌∷◌, map, Option, refl, sym, ◌∙◌, ap, subst, arith, lit≤}
 use Rattle.std.specs.Prelude.{◌==◌, ◌&&◌, ◌||◌, ◌^◌, nat_le, nat_lt, unwrap_or}
 use Rattle.std.specs.List.{AllByRecursion}
-use Rattle.std.proofs.lemmas.Bool.{cases_lt}
+use Rattle.std.proofs.lemmas.Bool.{cases_lt, or_right}
 use Rattle.std.proofs.lemmas.Bool.Decides.{nat_tests, eqb_tells}
 use Rattle.std.proofs.Math.Dec.{eqb}
 use Rattle.spec_image.specs.Bytes.{content, word_at}
@@ -10,17 +10,19 @@ use Rattle.spec_image.specs.Checks.{first_of, check_found, check_word}
 use Rattle.spec_image.specs.Image.{Index, Block, External, File, Image, byte, length_of, word}
 use Rattle.spec_image.specs.Footprint.{SameOutside, one_word}
 use Rattle.spec_image.proofs.Footprints.{same_file_outside, same_word_outside}
-use Rattle.spec_format.specs.Headers.{head_checks, list_checks, zero_places, index_magic, version, index_length, table_length, place_of_bucket}
+use Rattle.spec_format.specs.Headers.{head_checks, list_checks, zero_places, index_magic, index_version, is_index_version, index_length, version_of, table_length, place_of_bucket}
+use Rattle.spec_format.proofs.Counts.{same-count}
+use Rattle.spec_format.proofs.Finished.{well_formed-version}
 use Rattle.spec_format.specs.Standing.{stands, stands_as_blocks}
 use Rattle.spec_format.specs.BlockFiles.{is_among, linked, next_file_in, max_entries_in, stands_in, IsWellFormed}
 use Rattle.spec_folder.specs.ListView.{ListView, put}
 use Rattle.spec_folder.specs.View.{StoreView, list_of, checks_at, next_at, prev_at, store_of, node_fields_at, fields_at, follow_at, key_place_at, stored_at}
 use Rattle.spec_folder.specs.ShownChanges.{ShowsTheSame}
-use Rattle.law_folder.specs.IndexWrites.{shown_words, checked_words, HeadsAreWritten, TailsAreWritten, TransactionsAreWritten, OperationsAreWritten, OtherWordsAreNotShown, BucketsAreWritten, OtherWordsAreNotChecked, BucketsAreNotChecked, IndexWordsStandApart}
+use Rattle.law_folder.specs.IndexWrites.{shown_words, checked_words, HeadsAreWritten, TailsAreWritten, TransactionsAreWritten, OperationsAreWritten, OtherWordsAreNotShown, BucketsAreWritten, OtherWordsAreNotChecked, VersionsMayBeRaised, OtherBytesAreNotCounted, BucketsAreNotChecked, IndexWordsStandApart}
 use Rattle.law_folder.proofs.updates.WellFormed.{well_formed_still}
 
 -- an image with another index
-with_index : Image → Option (List ℕ) → Image
+unfoldable pub with_index : Image → Option (List ℕ) → Image
 with_index image bytes Index = bytes
 with_index image bytes (Block n) = image (Block n)
 with_index image bytes (External n) = image (External n)
@@ -29,11 +31,11 @@ with_index image bytes (External n) = image (External n)
 abbrev words_in : ListView → (ℕ → ℕ) → ListView
 words_in list f = record list { head = word_at f 288; tail = word_at f 308; transaction = word_at f 328; operation = word_at f 332 }
 
-list-indexed : (image : Image) (bytes : Option (List ℕ)) → list_of (with_index image bytes) ≡ words_in (list_of image) (content (unwrap_or bytes []))
+pub list-indexed : (image : Image) (bytes : Option (List ℕ)) → list_of (with_index image bytes) ≡ words_in (list_of image) (content (unwrap_or bytes []))
 unfolding with_index list_of checks_at next_at prev_at stands stands_as_blocks linked next_file_in max_entries_in
 list-indexed image bytes = refl
 
-stock-indexed : (image : Image) (bytes : Option (List ℕ)) → store_of (with_index image bytes) ≡ record (store_of image) { table = λ b. word_at (content (unwrap_or bytes [])) (368 + 4 * b) }
+pub stock-indexed : (image : Image) (bytes : Option (List ℕ)) → store_of (with_index image bytes) ≡ record (store_of image) { table = λ b. word_at (content (unwrap_or bytes [])) (368 + 4 * b) }
 unfolding with_index store_of node_fields_at fields_at follow_at key_place_at stored_at stands stands_as_blocks linked next_file_in max_entries_in
 stock-indexed image bytes = refl
 
@@ -152,25 +154,33 @@ same-zeros : (f g : ℕ → ℕ) (places : List ℕ) → AllByRecursion (λ p. w
 same-zeros f g [] same = refl
 same-zeros f g (p ∷ places) same = λ i. check_found Index p (same.0 i) (same.0 i == 0) ∷ same-zeros f g places same.1 i
 
-same-heads : (f g : ℕ → ℕ) (m n : ℕ) → m ≡ n → AllByRecursion (λ p. word_at f p ≡ word_at g p) (0 ∷ 4 ∷ 24 ∷ 28 ∷ 36 ∷ []) → head_checks f m ≡ head_checks g n
+-- the version is the same, or each of the two is read
+abbrev SameVersionCheck : (ℕ → ℕ) → (ℕ → ℕ) → Type 0
+SameVersionCheck f g = check_word Index f 4 (is_index_version (version_of f)) ≡ check_word Index g 4 (is_index_version (version_of g))
+
+same-heads : (f g : ℕ → ℕ) (m n : ℕ) → m ≡ n → SameVersionCheck f g → AllByRecursion (λ p. word_at f p ≡ word_at g p) (0 ∷ 24 ∷ 28 ∷ 36 ∷ []) → head_checks f m ≡ head_checks g n
 unfolding head_checks
-same-heads f g m n size (a, (b, (c, (d, (e, rest))))) = λ i.
+same-heads f g m n size b (a, (c, (d, (e, rest)))) = λ i.
     check_found Index 0 (a i) (a i == index_magic)
     ∷ check_found Index index_length (size i % 2 ^ 32) (size i == index_length)
-    ∷ check_found Index 4 (b i) (b i == version)
+    ∷ b i
     ∷ check_found Index 24 (c i) (c i == 0)
     ∷ check_found Index 28 (d i) ((d i == 0) || (d i == table_length))
     ∷ check_found Index 36 (e i) (e i == 0)
     ∷ []
 
--- a folder in which the words that a check reads are the same
-checked-still : (from image : Image) (at : ℕ) → SameOutside (one_word Index at) from image
-    → ((p : ℕ) → p % 4 ≡ 0 → p + 4 ≤ 368 → is_among checked_words p ≡ true → word image Index p ≡ word from Index p) → IsWellFormed from → IsWellFormed image
+-- the words that a check reads, but for the version
+abbrev other_checked : List ℕ
+other_checked = 0 ∷ 24 ∷ 28 ∷ 36 ∷ zero_places
+
+-- a folder in which they are the same, and the check of the version gives the same
+checked-still : (from image : Image) (at : ℕ) → SameOutside (one_word Index at) from image → SameVersionCheck (byte image Index) (byte from Index)
+    → ((p : ℕ) → p % 4 ≡ 0 → p + 4 ≤ 368 → is_among other_checked p ≡ true → word image Index p ≡ word from Index p) → IsWellFormed from → IsWellFormed image
 unfolding list_checks
-checked-still from image at same s =
+checked-still from image at same version s =
     well_formed_still (one_word Index at) from image (record { bytes = λ m i small. refl }) (λ m. refl) same
-    (ap first_of (same-heads (byte image Index) (byte from Index) (length_of image Index) (length_of from Index) (same.lengths Index refl)
-    (s 0 refl (lit≤ tt) refl, (s 4 refl (lit≤ tt) refl, (s 24 refl (lit≤ tt) refl, (s 28 refl (lit≤ tt) refl, (s 36 refl (lit≤ tt) refl, tt)))))))
+    (ap first_of (same-heads (byte image Index) (byte from Index) (length_of image Index) (length_of from Index) (same.lengths Index refl) version
+    (s 0 refl (lit≤ tt) refl, (s 24 refl (lit≤ tt) refl, (s 28 refl (lit≤ tt) refl, (s 36 refl (lit≤ tt) refl, tt))))))
     (ap first_of (same-zeros (byte image Index) (byte from Index) zero_places (
       s 272 refl (lit≤ tt) refl,
       (
@@ -209,13 +219,38 @@ checked-still from image at same s =
       ),
     )))
 
+-- a version that is the same is checked the same
+version-still : (f g : ℕ → ℕ) → word_at f 4 ≡ word_at g 4 → SameVersionCheck f g
+version-still f g same = ap (λ (v : ℕ). check_found Index 4 v (is_index_version v)) same
+
+-- each other checked word is checked
+checked-other : (p : ℕ) → is_among other_checked p ≡ true → is_among checked_words p ≡ true
+checked-other p there = go (0 == p) there where
+  go : (b : Bool) → (b || is_among (24 ∷ 28 ∷ 36 ∷ zero_places) p) ≡ true → (b || ((4 == p) || is_among (24 ∷ 28 ∷ 36 ∷ zero_places) p)) ≡ true
+  go true e = refl
+  go false e = or_right (4 == p) (is_among (24 ∷ 28 ∷ 36 ∷ zero_places) p) e
+
 pub others-unchecked : OtherWordsAreNotChecked
 others-unchecked from image at aligned lacks same =
-    checked-still from image at same (λ p even inside there. word-still from image at same p (beside p at even aligned (not-among checked_words p at there lacks)))
+    let still : (p : ℕ) → p % 4 ≡ 0 → is_among checked_words p ≡ true → word image Index p ≡ word from Index p = λ p even there. word-still from image at same p (beside p at even aligned (not-among checked_words p at there lacks)) in
+    checked-still from image at same (version-still (byte image Index) (byte from Index) (still 4 refl refl)) (λ p even inside there. still p even (checked-other p there))
+
+-- a version that is read, and the one that is made now
+raised : (f g : ℕ → ℕ) → word_at f 4 ≡ index_version → is_index_version (version_of g) ≡ true → SameVersionCheck f g
+raised f g is read = ap (λ (v : ℕ). check_found Index 4 v (is_index_version v)) is ∙ ap (check_found Index 4 (version_of g)) (sym read)
+
+pub versions-raised : VersionsMayBeRaised
+versions-raised from image is well =
+    checked-still from image 4 is.outside (raised (byte image Index) (byte from Index) is.there (well_formed-version from well))
+    (λ p even inside there. word-still from image 4 is.outside p (beside p 4 even refl (not-among other_checked p 4 there refl))) well
+
+pub others-uncounted : OtherBytesAreNotCounted
+others-uncounted from image same = same-count (byte image Index) (byte from Index) (same 4 refl) (same 8 refl) (same 12 refl) (same 48 refl) (same 52 refl) (same 268 refl)
 
 pub buckets-unchecked : BucketsAreNotChecked
 buckets-unchecked from image bucket same =
-    checked-still from image (place_of_bucket bucket) same (λ p even inside there. word-still from image (place_of_bucket bucket) same p (inl (omega (arith, inside))))
+    let still : (p : ℕ) → p + 4 ≤ 368 → word image Index p ≡ word from Index p = λ p inside. word-still from image (place_of_bucket bucket) same p (inl (omega (arith, inside))) in
+    checked-still from image (place_of_bucket bucket) same (version-still (byte image Index) (byte from Index) (still 4 (lit≤ tt))) (λ p even inside there. still p inside)
 
 pub index-stands : IndexWordsStandApart
 index-stands from image at same u = stands-still from image at same u

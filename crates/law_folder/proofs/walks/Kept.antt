@@ -41,7 +41,7 @@ same_claim-both (BlockOf f b) (ExternalOf n) = refl
 same_claim-both (ExternalOf m) (BlockOf f b) = refl
 same_claim-both (ExternalOf m) (ExternalOf n) = eqb-both m n
 
--- used blocks that meet none of some are met by none of them
+-- blocks that don't overlap those of one list: the first of them doesn't, nor do the others
 overlap-cons : (c : Claim) (xs ys : List Claim) → overlap (c ∷ xs) ys ≡ false → (has_claim ys c ≡ false) × (overlap xs ys ≡ false)
 unfolding overlap has_claim
 overlap-cons c xs [] e = (refl, refl)

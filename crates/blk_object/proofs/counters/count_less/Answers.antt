@@ -1,9 +1,8 @@
-use Rattle.std.proofs.Common.{sym, subst, ap, ◌∙◌, ◌%◌}
-use Rattle.std.specs.Prelude.{◌^◌}
+use Rattle.std.proofs.Common.{sym, subst, ap, ◌∙◌}
 use Rattle.std.specs.Option.{ForSome}
 use Rattle.spec_image.specs.Told.{Told}
 use Rattle.blk_disk.specs.Open.{IsOpen}
-use Rattle.blk_object.proofs.CounterWords.{below-word, counted-less}
+use Rattle.blk_object.proofs.CounterWords.{counted-less}
 use Rattle.blk_object.proofs.DamageChecks.{handed}
 use Rattle.blk_object.specs.FailedChecks.{FailsShort}
 use Rattle.blk_object.proofs.counters.count_less.Goals as goal
@@ -16,7 +15,7 @@ set_counters-requires g c = record { is_open = subst (λ (t : Told). ForSome t.f
 
 pub returns-clause-counted : goal.returns-clause-counted
 returns-clause-counted g c from there image is =
-    counted-less c.in_ok-counters.counters (c.args.charge % 2 ^ 32) from image (c.in_ok-counters.ensures.read from there) (g.met.F.Folder.are_bytes c.args.folder.now from there) (below-word c.args.charge)
+    counted-less c.in_ok-counters.counters c.args.charge from image (c.in_ok-counters.ensures.read from there) (g.met.F.Folder.are_bytes c.args.folder.now from there) c.ranges.charge.fits
     (c.in_ok-set_counters.ensures.written from (ap (λ (t : Told). t.files) c.in_ok-counters.ensures.stays ∙ there) image is)
 
 pub returns-in_err-counters-clause-damaged : goal.returns-in_err-counters-clause-damaged

@@ -14,10 +14,10 @@ set_bytes-requires g c = record { is_open = subst (λ (t : Told). ForSome t.file
 
 pub returns-clause-counted : goal.returns-clause-counted
 returns-clause-counted g c from there image is =
-    rise-counted c.in_ok-bytes.bytes c.args.less c.args.more from image (g.met.F.Folder.are_bytes c.args.folder.now from there) (c.in_ok-bytes.ensures.word from there)
+    rise-counted c.in_ok-bytes.bytes c.rise-risen.result c.args.less c.args.more from image (c.in_ok-bytes.ensures.number from there) c.rise-risen.ensures.small c.rise-risen.ensures.risen
     (c.in_ok-set_bytes.ensures.written from (ap (λ (t : Told). t.files) c.in_ok-bytes.ensures.stays ∙ there) image is)
 
 pub returns-in_err-bytes-clause-damaged : goal.returns-in_err-bytes-clause-damaged
 returns-in_err-bytes-clause-damaged g c =
-    handed c.word.result c.from_residual.result c.in_err-bytes.field-0.0 _ c.args.files.now (g.F.Folder.told c.word.new.f)
-    (λ damage short. moved c.args.files.now (g.F.Folder.told c.args.folder.now) (g.F.Folder.told c.word.new.f) damage c.word.ensures.stays (short-checked c.args.files.now (g.F.Folder.told c.args.folder.now) _ _ _ damage short)) c.in_err-bytes.was c.from_residual.ensures.1 c.word.ensures.short
+    handed c.long.result c.from_residual.result c.in_err-bytes.field-0.0 _ c.args.files.now (g.F.Folder.told c.long.new.folder)
+    (λ damage short. moved c.args.files.now (g.F.Folder.told c.args.folder.now) (g.F.Folder.told c.long.new.folder) damage c.long.ensures.stays (short-checked c.args.files.now (g.F.Folder.told c.args.folder.now) _ _ _ damage short)) c.in_err-bytes.was c.from_residual.ensures.1 c.long.ensures.short

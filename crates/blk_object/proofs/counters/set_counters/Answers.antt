@@ -1,16 +1,19 @@
 use Rattle.std.proofs.lemmas.Result.{on_ok_weaker}
 use Rattle.blk_object.proofs.CountsOut.{counters-stop-out}
 use Rattle.blk_object.proofs.CounterWords.{counters-open, counters-set, counters-stop}
+use Rattle.blk_object.proofs.Counts.{high-small, low-small}
 use Rattle.blk_object.proofs.counters.set_counters.Goals as goal
 
 pub returns-clause-written : goal.returns-clause-written
-returns-clause-written g c = on_ok_weaker c.write_words.result (λ steps. counters-set c.args.files.now (g.F.Folder.told c.args.folder.now) (g.F.Folder.told c.write_words.new.folder) c.args.entries c.args.bytes c.args.size c.requires.is_open c.ranges.entries.fits c.ranges.bytes.fits c.ranges.size.fits steps) c.write_words.ensures.steps
+returns-clause-written g c =
+    on_ok_weaker c.write_words.result
+    (λ steps. counters-set c.args.files.now (g.F.Folder.told c.args.folder.now) (g.F.Folder.told c.write_words.new.folder) c.args.entries c.low_word-low.result c.high_word-high.result c.args.size c.requires.is_open c.ranges.entries.fits (low-small c.args.bytes c.low_word-low.result c.low_word-low.ensures) (high-small c.args.bytes c.high_word-high.result c.ranges.bytes.fits c.high_word-high.ensures) c.ranges.size.fits c.args.bytes c.low_word-low.ensures c.high_word-high.ensures steps) c.write_words.ensures.steps
 
 pub returns-clause-stops : goal.returns-clause-stops
-returns-clause-stops g c = counters-stop c.args.files.now (g.F.Folder.told c.args.folder.now) (g.F.Folder.told c.write_words.new.folder) c.args.entries c.args.bytes c.args.size c.requires.is_open c.ranges.entries.fits c.ranges.bytes.fits c.ranges.size.fits c.write_words.ensures.prefix
+returns-clause-stops g c = counters-stop c.args.files.now (g.F.Folder.told c.args.folder.now) (g.F.Folder.told c.write_words.new.folder) c.args.entries c.low_word-low.result c.high_word-high.result c.args.size c.requires.is_open c.ranges.entries.fits (low-small c.args.bytes c.low_word-low.result c.low_word-low.ensures) (high-small c.args.bytes c.high_word-high.result c.ranges.bytes.fits c.high_word-high.ensures) c.ranges.size.fits c.write_words.ensures.prefix
 
 pub returns-clause-is_open : goal.returns-clause-is_open
-returns-clause-is_open g c = counters-open c.args.files.now (g.F.Folder.told c.args.folder.now) (g.F.Folder.told c.write_words.new.folder) c.args.entries c.args.bytes c.args.size c.requires.is_open c.ranges.entries.fits c.ranges.bytes.fits c.ranges.size.fits c.write_words.ensures.prefix
+returns-clause-is_open g c = counters-open c.args.files.now (g.F.Folder.told c.args.folder.now) (g.F.Folder.told c.write_words.new.folder) c.args.entries c.low_word-low.result c.high_word-high.result c.args.size c.requires.is_open c.ranges.entries.fits (low-small c.args.bytes c.low_word-low.result c.low_word-low.ensures) (high-small c.args.bytes c.high_word-high.result c.ranges.bytes.fits c.high_word-high.ensures) c.ranges.size.fits c.write_words.ensures.prefix
 
 pub returns-clause-stops_out : goal.returns-clause-stops_out
-returns-clause-stops_out g c = counters-stop-out c.args.files.now (g.F.Folder.told c.args.folder.now) (g.F.Folder.told c.write_words.new.folder) c.args.entries c.args.bytes c.args.size c.requires.is_open c.ranges.entries.fits c.ranges.bytes.fits c.ranges.size.fits c.write_words.ensures.prefix
+returns-clause-stops_out g c = counters-stop-out c.args.files.now (g.F.Folder.told c.args.folder.now) (g.F.Folder.told c.write_words.new.folder) c.args.entries c.low_word-low.result c.high_word-high.result c.args.size c.requires.is_open c.ranges.entries.fits (low-small c.args.bytes c.low_word-low.result c.low_word-low.ensures) (high-small c.args.bytes c.high_word-high.result c.ranges.bytes.fits c.high_word-high.ensures) c.ranges.size.fits c.write_words.ensures.prefix

@@ -3,7 +3,7 @@ use Rattle.std.proofs.lemmas.Result.{on_ok_weaker}
 use Rattle.blk_io.proofs.Carried.{carried, if_damaged_weaker}
 use Rattle.spec_folder.specs.Completion.{insert}
 use Rattle.spec_folder.specs.ListImages.{operation_steps}
-use Rattle.blk_object.proofs.MakingListed.{can-insert, inserting-finds, listing-finds, listing-listed, part-tells, record-parts}
+use Rattle.blk_object.proofs.MakingListed.{can-insert, inserting-finds, listing-counts, listing-finds, listing-listed, part-tells, record-parts}
 use Rattle.blk_object.proofs.MakingTimes.{listing-times, node-kind}
 use Rattle.blk_object.proofs.DamageChecks.{checked-where-stays, handed, insert-checked, short-checked}
 use Rattle.blk_object.proofs.making.list_entry.Goals as goal
@@ -26,6 +26,12 @@ pub returns-clause-listed : goal.returns-clause-listed
 returns-clause-listed g c =
     on_ok_weaker c.link_front.result
     (λ linked. listing-listed (g.F.Folder.told c.args.folder.now) (g.F.Folder.told c.insert_front.new.f) c.args.files.now c.args.entry c.args.node c.insert_front.ensures.stops (g.met.F.Folder.are_bytes c.args.folder.now) c.requires.is_open c.in_ok-insert_front.ensures.steps (g.F.Folder.told c.link_front.new.f) linked)
+    c.link_front.ensures.linked
+
+pub returns-clause-counters : goal.returns-clause-counters
+returns-clause-counters g c =
+    on_ok_weaker c.link_front.result
+    (λ linked. listing-counts (g.F.Folder.told c.args.folder.now) (g.F.Folder.told c.insert_front.new.f) c.args.files.now c.args.entry c.args.node c.insert_front.ensures.stops (g.met.F.Folder.are_bytes c.args.folder.now) c.requires.is_open c.in_ok-insert_front.ensures.steps (g.F.Folder.told c.link_front.new.f) linked)
     c.link_front.ensures.linked
 
 pub returns-clause-stops : goal.returns-clause-stops

@@ -77,7 +77,7 @@ returns-clause-stands g c = (
 pub returns-clause-made : goal.returns-clause-made
 returns-clause-made g c =
     subst (λ (t : Told). ForSome t.files (λ from. this_id_of (byte from Index) ≡ c.args.mark → ForSome (g.F.Folder.told c.count_entry.new.folder).files (HasNewObjects c.args.key.now (record { entry = c.in_ok-places.places.entry; node = c.in_ok-places.places.node }) from))) c.in_ok-counters.ensures.stays
-    (object-made (g.F.Folder.told c.read_counters.new.folder) (g.F.Folder.told c.take_places.new.folder) c.args.key.now c.args.mark c.take_places.ensures.stops c.in_ok-places.places c.in_ok-places.ensures.taken (g.F.Folder.told c.write_new.new.folder) c.write_new.ensures.stops c.in_ok-write_new.ensures.written (g.F.Folder.told c.list_entry.new.folder) c.list_entry.ensures.stops c.in_ok-list_entry.ensures.listed (g.F.Folder.told c.count_entry.new.folder) c.count_entry.ensures.stops c.in_ok-counters.counters
+    (object-made (g.F.Folder.told c.read_counters.new.folder) (g.F.Folder.told c.take_places.new.folder) c.args.key.now c.args.mark c.take_places.ensures.stops c.in_ok-places.places c.in_ok-places.ensures.taken (g.F.Folder.told c.write_new.new.folder) c.write_new.ensures.stops c.in_ok-write_new.ensures.written (g.F.Folder.told c.list_entry.new.folder) c.list_entry.ensures.stops c.in_ok-list_entry.ensures.listed (g.F.Folder.told c.count_entry.new.folder) c.count_entry.ensures.stops c.in_ok-write_new.ensures.counters c.in_ok-list_entry.ensures.counters c.in_ok-counters.counters
     (subst (λ (t : Told). ForSome t.files (AreIndexCounters c.in_ok-counters.counters)) (sym c.in_ok-counters.ensures.stays) c.in_ok-counters.ensures.read) _ refl c.in_ok-count_entry.ensures.written (record { entry = c.in_ok-places.places.entry; node = c.in_ok-places.places.node }) refl refl)
 
 pub returns-clause-times : goal.returns-clause-times

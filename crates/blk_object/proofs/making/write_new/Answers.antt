@@ -5,11 +5,11 @@ use Rattle.spec_folder.specs.Searches.{bucket_of_key}
 use Rattle.spec_folder.specs.View.{store_of}
 use Rattle.spec_image.specs.Told.{Passes, Told}
 use Rattle.blk_disk.specs.Open.{IsOpen}
-use Rattle.law_state.specs.Changes.{StillFinds}
+use Rattle.law_state.specs.Changes.{SameCounters, StillFinds}
 use Rattle.std.proofs.lemmas.Result.{on_ok_weaker}
 use Rattle.blk_object.specs.Making.{IsEntryOfKept, words_of_places, new_entry}
 use Rattle.blk_object.proofs.MakingTaken.{nothing-finds}
-use Rattle.blk_object.proofs.MakingWritten.{bucket-is, entry-written, fits-next, on-ok-three, writing-finds}
+use Rattle.blk_object.proofs.MakingWritten.{bucket-is, entry-written, fits-next, on-ok-three, writing-counts, writing-finds}
 use Rattle.blk_object.proofs.MakingTimes.{written-times}
 use Rattle.blk_object.proofs.DamageChecks.{handed, moved, short-checked}
 use Rattle.blk_io.proofs.Carried.{if_damaged_weaker}
@@ -51,6 +51,16 @@ returns-clause-written g c =
     (subst (λ (t : Told). ForSome t.files (λ (i : Image). c.in_ok-next.next ≡ (store_of i).table (bucket_of_key c.args.key.now))) (sym c.in_ok-next.ensures.stays) (λ from there. bucket-is from c.args.key.now c.super_fast_hash-hash.result _ c.in_ok-next.next c.super_fast_hash-hash.ensures refl (c.in_ok-next.ensures.word from there)))
     written shown (loads refl)))
     c.write_entry.ensures.written c.write_entry.ensures.shown c.write_entry.ensures.loads
+
+pub returns-clause-counters : goal.returns-clause-counters
+returns-clause-counters g c =
+    let d : Told = g.F.Folder.told c.write_entry.new.f in
+    on_ok_weaker c.write_entry.result
+    (λ written.
+    subst (λ (t : Told). ForSome t.files (λ from. ForSome d.files (SameCounters from))) c.in_ok-next.ensures.stays
+    (writing-counts (g.F.Folder.told c.bucket.new.f) d c.args.files.now c.args.places.now c.args.mark c.in_ok-next.next c.args.key.now (fits-next c.args.files.now c.args.places.now c.args.mark c.in_ok-next.next c.args.key.now c.requires.fits) c.write_entry.ensures.words
+    (λ from there. (subst (λ (t : Told). ForSome t.files (IsOpen c.args.files.now)) (sym c.in_ok-next.ensures.stays) c.requires.is_open from there).agrees) c.write_entry.ensures.stops))
+    c.write_entry.ensures.written
 
 pub returns-clause-times : goal.returns-clause-times
 returns-clause-times g c =

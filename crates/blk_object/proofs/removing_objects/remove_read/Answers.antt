@@ -30,7 +30,7 @@ pub returns-clause-session : goal.returns-clause-session
 returns-clause-session g c =
     on_ok_weaker c.count_less.result
     (λ counted from there by state layout unlinked objects keep item k p.
-    counted-then (g.F.Folder.told c.args.folder.now) (g.F.Folder.told c.take_read.new.folder) (g.F.Folder.told c.count_less.new.folder) from (FindsEither state (without_items state objects keep)) (c.args.owned.now.charge % 2 ^ 32) there (c.in_ok-take_read.ensures.stops from there by state layout unlinked objects keep item k p)
+    counted-then (g.F.Folder.told c.args.folder.now) (g.F.Folder.told c.take_read.new.folder) (g.F.Folder.told c.count_less.new.folder) from (FindsEither state (without_items state objects keep)) c.args.owned.now.charge there (c.in_ok-take_read.ensures.stops from there by state layout unlinked objects keep item k p)
     (λ image is. (c.in_ok-take_read.ensures.out from there by state layout (λ (other : Item). true) layout.chains unlinked item (kept-begin state layout unlinked from k.entries) (behind-next state layout item p.was c.args.node c.args.found.now.entry c.args.found.now.before p.lies p.node_is p.entry_is) image is).session)
     counted)
     c.count_less.ensures.counted

@@ -20,15 +20,15 @@ returns-clause-mended g c =
     on_ok-both c.mend_index.result
     (λ mended words from there entry next.
     rest-done c.args.scan.now c.bare.result.now c.bare.ensures (g.F.Folder.told c.args.folder.now) (g.F.Folder.told c.seal_records.new.folder) entry from there next
-    (c.seal_records.ensures.stops from there entry (seals-next c.args.scan.now c.bare.result.now c.bare.ensures entry from next)) (g.F.Folder.told c.mend_index.new.folder) c.low_word-items.result c.low_word-bytes.result c.args.this_id
-    (c.low_word-items.ensures ∙ ap (λ (n : ℕ). n % 2 ^ 32) c.items.ensures) (c.low_word-bytes.ensures ∙ ap (λ (n : ℕ). n % 2 ^ 32) c.bytes.ensures)
+    (c.seal_records.ensures.stops from there entry (seals-next c.args.scan.now c.bare.result.now c.bare.ensures entry from next)) (g.F.Folder.told c.mend_index.new.folder) c.low_word-items.result c.bytes-bytes.result c.args.this_id
+    (c.low_word-items.ensures ∙ ap (λ (n : ℕ). n % 2 ^ 32) c.items.ensures) c.bytes-bytes.ensures
     (c.in_ok-seal_records.ensures.sealed from there entry (seals-next c.args.scan.now c.bare.result.now c.bare.ensures entry from next)) mended words) c.mend_index.ensures.mended c.mend_index.ensures.words
 
 pub returns-clause-stops : goal.returns-clause-stops
 returns-clause-stops g c from there entry next =
     rest-may c.args.scan.now c.bare.result.now c.bare.ensures (g.F.Folder.told c.args.folder.now) (g.F.Folder.told c.seal_records.new.folder) (g.F.Folder.told c.mend_index.new.folder) entry from there next
     (seals-break (g.F.Folder.told c.args.folder.now) (g.F.Folder.told c.seal_records.new.folder) c.bare.result.now entry from there (seals-next c.args.scan.now c.bare.result.now c.bare.ensures entry from next) c.seal_records.ensures.prefix.made)
-    c.low_word-items.result c.low_word-bytes.result c.args.this_id (c.low_word-items.ensures ∙ ap (λ (n : ℕ). n % 2 ^ 32) c.items.ensures) (c.low_word-bytes.ensures ∙ ap (λ (n : ℕ). n % 2 ^ 32) c.bytes.ensures) c.ranges.this_id.fits
+    c.low_word-items.result c.bytes-bytes.result c.args.this_id (c.low_word-items.ensures ∙ ap (λ (n : ℕ). n % 2 ^ 32) c.items.ensures) c.bytes-bytes.ensures c.mend_index.ensures.fits c.ranges.this_id.fits
     (λ mid here. (c.seal_records.ensures.is_open mid here).whole_index) (c.in_ok-seal_records.ensures.sealed from there entry (seals-next c.args.scan.now c.bare.result.now c.bare.ensures entry from next)) c.mend_index.ensures.prefix.made
 
 pub returns-clause-last : goal.returns-clause-last
@@ -37,12 +37,12 @@ returns-clause-last g c =
     (λ made from there entry next.
     rest-ends c.args.scan.now c.bare.result.now c.bare.ensures (g.F.Folder.told c.args.folder.now) (g.F.Folder.told c.seal_records.new.folder) (g.F.Folder.told c.mend_index.new.folder) entry from there next
     (seals-break (g.F.Folder.told c.args.folder.now) (g.F.Folder.told c.seal_records.new.folder) c.bare.result.now entry from there (seals-next c.args.scan.now c.bare.result.now c.bare.ensures entry from next) c.seal_records.ensures.prefix.made)
-    c.low_word-items.result c.low_word-bytes.result c.args.this_id (c.low_word-items.ensures ∙ ap (λ (n : ℕ). n % 2 ^ 32) c.items.ensures) (c.low_word-bytes.ensures ∙ ap (λ (n : ℕ). n % 2 ^ 32) c.bytes.ensures) c.ranges.this_id.fits
+    c.low_word-items.result c.bytes-bytes.result c.args.this_id (c.low_word-items.ensures ∙ ap (λ (n : ℕ). n % 2 ^ 32) c.items.ensures) c.bytes-bytes.ensures c.mend_index.ensures.fits c.ranges.this_id.fits
     (λ mid here. (c.seal_records.ensures.is_open mid here).whole_index) (c.in_ok-seal_records.ensures.sealed from there entry (seals-next c.args.scan.now c.bare.result.now c.bare.ensures entry from next)) made) c.mend_index.ensures.steps
 
 pub returns-clause-is_open : goal.returns-clause-is_open
 returns-clause-is_open g c =
-    stays-open c.args.files.now (g.F.Folder.told c.seal_records.new.folder) (g.F.Folder.told c.mend_index.new.folder) (index_steps c.low_word-items.result c.low_word-bytes.result c.args.this_id) (index-open c.args.files.now c.low_word-items.result c.low_word-bytes.result c.args.this_id)
+    stays-open c.args.files.now (g.F.Folder.told c.seal_records.new.folder) (g.F.Folder.told c.mend_index.new.folder) (index_steps c.low_word-items.result c.bytes-bytes.result c.args.this_id) (index-open c.args.files.now c.low_word-items.result c.bytes-bytes.result c.args.this_id)
     c.seal_records.ensures.is_open c.mend_index.ensures.prefix.made c.mend_index.ensures.prefix.silent
 
 pub returns-clause-untold : goal.returns-clause-untold
@@ -56,12 +56,12 @@ pub returns-clause-clean : goal.returns-clause-clean
 returns-clause-clean g c =
     on_ok_weaker c.mend_index.result
     (λ made from there entry next needs.
-    rest-clean c.args.scan.now entry from (g.F.Folder.told c.args.folder.now) (g.F.Folder.told c.seal_records.new.folder) (g.F.Folder.told c.mend_index.new.folder) c.bare.result.now c.low_word-items.result c.low_word-bytes.result c.args.this_id c.bare.ensures
-    (c.low_word-items.ensures ∙ ap (λ (n : ℕ). n % 2 ^ 32) c.items.ensures) (c.low_word-bytes.ensures ∙ ap (λ (n : ℕ). n % 2 ^ 32) c.bytes.ensures) there next needs.bare (c.in_ok-seal_records.ensures.steps from there) made) c.mend_index.ensures.steps
+    rest-clean c.args.scan.now entry from (g.F.Folder.told c.args.folder.now) (g.F.Folder.told c.seal_records.new.folder) (g.F.Folder.told c.mend_index.new.folder) c.bare.result.now c.low_word-items.result c.bytes-bytes.result c.args.this_id c.bare.ensures
+    (c.low_word-items.ensures ∙ ap (λ (n : ℕ). n % 2 ^ 32) c.items.ensures) c.bytes-bytes.ensures there next needs.bare (c.in_ok-seal_records.ensures.steps from there) made) c.mend_index.ensures.steps
 
 pub returns-clause-steps : goal.returns-clause-steps
 returns-clause-steps g c =
     on_ok_weaker c.mend_index.result
     (λ made from there entry next.
-    rest-made c.args.scan.now entry from (g.F.Folder.told c.mend_index.new.folder) c.bare.result.now c.low_word-items.result c.low_word-bytes.result c.args.this_id c.bare.ensures
-    (c.low_word-items.ensures ∙ ap (λ (n : ℕ). n % 2 ^ 32) c.items.ensures) (c.low_word-bytes.ensures ∙ ap (λ (n : ℕ). n % 2 ^ 32) c.bytes.ensures) there next (c.in_ok-seal_records.ensures.steps from there) made) c.mend_index.ensures.steps
+    rest-made c.args.scan.now entry from (g.F.Folder.told c.mend_index.new.folder) c.bare.result.now c.low_word-items.result c.bytes-bytes.result c.args.this_id c.bare.ensures
+    (c.low_word-items.ensures ∙ ap (λ (n : ℕ). n % 2 ^ 32) c.items.ensures) c.bytes-bytes.ensures there next (c.in_ok-seal_records.ensures.steps from there) made) c.mend_index.ensures.steps

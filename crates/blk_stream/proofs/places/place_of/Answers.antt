@@ -3,10 +3,10 @@ use Rattle.spec_image.proofs.Runs.{some_inj}
 use Rattle.blk_stream.proofs.StreamPlaces.{may_both, may_parts, not_stored_by, stored_by_is, stored_some}
 use Rattle.blk_stream.proofs.places.place_of.Goals as goal
 
-pub returns-then-size-gt-MOST_BYTES-clause-right : goal.returns-then-size-gt-MOST_BYTES-clause-right
-returns-then-size-gt-MOST_BYTES-clause-right c may =
+pub returns-then-size-gt-MOST_STREAM-clause-right : goal.returns-then-size-gt-MOST_STREAM-clause-right
+returns-then-size-gt-MOST_STREAM-clause-right c may =
     let p = may_parts c.args.files.now c.args.size c.args.word may in
-    absurd (omega (arith, p.0, c.if-size-gt-MOST_BYTES.true))
+    absurd (omega (arith, p.0, c.if-size-gt-MOST_STREAM.true))
 
 pub returns-in-None-clause-right : goal.returns-in-None-clause-right
 returns-in-None-clause-right c may =
@@ -15,7 +15,7 @@ returns-in-None-clause-right c may =
 
 pub returns-in-Some-clause-keeps : goal.returns-in-Some-clause-keeps
 returns-in-Some-clause-keeps c =
-    may_both c.args.files.now c.args.size c.args.word (omega (arith, c.if-size-gt-MOST_BYTES.false))
+    may_both c.args.files.now c.args.size c.args.word (omega (arith, c.if-size-gt-MOST_STREAM.false))
     (stored_by_is c.args.files.now c.args.size c.args.word c.in-Some.addr (sym c.in-Some.is ∙ c.storage.ensures)).1
 
 pub returns-in-Some-clause-stored : goal.returns-in-Some-clause-stored

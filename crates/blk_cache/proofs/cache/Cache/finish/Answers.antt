@@ -7,8 +7,10 @@ pub returns-clause-ended : goal.returns-clause-ended
 returns-clause-ended g c =
     on_ok_weaker c.set_word.result
     (λ made from there state k image here.
+    let ends = ends-sound c.args.self state from image k c.requires.free (passes_end (c.set_word.ensures.outside from there) image here) (g.met.F.Folder.are_bytes c.set_word.new.f image here) in
     record {
-      sound = ends-sound c.args.self state from image k c.requires.free (passes_end (c.set_word.ensures.outside from there) image here) (g.met.F.Folder.are_bytes c.set_word.new.f image here);
+      sound = ends.0;
+      version = ends.1;
       closed = crash-cleared (λ i is. let open_now = c.requires.is_open i is in open_now.whole_index) made image here;
     }) c.set_word.ensures.steps
 

@@ -3,7 +3,7 @@ use Rattle.std.specs.Option.{ForSome}
 use Rattle.spec_image.specs.Told.{Told}
 use Rattle.blk_disk.specs.Open.{IsOpen}
 use Rattle.std.specs.Prelude.{IfOk, OnOk}
-use Rattle.blk_model.specs.Request.{request_of, to_close, to_doom, to_doom_key, to_list, to_open, to_read, to_size, to_sparse_range, to_sparse_read, to_total}
+use Rattle.blk_model.specs.Request.{request_of, to_close, to_doom, to_doom_key, to_flush, to_list, to_open, to_read, to_size, to_sparse_range, to_sparse_read, to_total}
 use Rattle.blk_model.specs.declared.Command.{Command}
 use Rattle.law_state.specs.Commands.{Does, MayStopAtEach}
 use Rattle.law_state.proofs.Stopping.{nothing-stops}
@@ -46,6 +46,18 @@ returns-in-Close-clause-says g c = subst (λ (cmd : Command). OnOk c.close.resul
 pub returns-in-Close-clause-front : goal.returns-in-Close-clause-front
 returns-in-Close-clause-front g c = subst (λ (cmd : Command). SaysPrefix c.args.self.now (g.F.Folder.told c.args.folder.now) c.args.moment (request_of cmd) (g.K.Sink.written c.args.out.now) (g.K.Sink.written c.args.out.now)) (sym c.in-Close.is)
     (prefix-nothing c.args.self.now (g.F.Folder.told c.args.folder.now) c.args.moment (to_close c.in-Close.handle) tt c.args.failed.now (g.K.Sink.written c.args.out.now))
+
+pub returns-in-Flush-clause-stops : goal.returns-in-Flush-clause-stops
+returns-in-Flush-clause-stops g c = subst (λ (cmd : Command). MayStopAtEach (KeepsState c.args.self.now) (g.F.Folder.told c.args.folder.now) (g.F.Folder.told c.flush.new.folder) c.args.moment (request_of cmd)) (sym c.in-Flush.is) (c.flush.ensures.stops c.args.moment)
+
+pub returns-in-Flush-clause-says : goal.returns-in-Flush-clause-says
+returns-in-Flush-clause-says g c = subst (λ (cmd : Command). OnOk c.flush.result (SaysEvicted c.args.self.now (g.F.Folder.told c.args.folder.now) c.args.moment (request_of cmd) c.args.failed.now c.args.failed.now (g.K.Sink.written c.args.out.now) (g.K.Sink.written c.args.out.now))) (sym c.in-Flush.is)
+    (on-ok c.flush.result (SaysEvicted c.args.self.now (g.F.Folder.told c.args.folder.now) c.args.moment (to_flush c.in-Flush.handle) c.args.failed.now c.args.failed.now (g.K.Sink.written c.args.out.now) (g.K.Sink.written c.args.out.now))
+    (says-nothing c.args.self.now (g.F.Folder.told c.args.folder.now) c.args.moment (to_flush c.in-Flush.handle) tt c.args.failed.now (g.K.Sink.written c.args.out.now)))
+
+pub returns-in-Flush-clause-front : goal.returns-in-Flush-clause-front
+returns-in-Flush-clause-front g c = subst (λ (cmd : Command). SaysPrefix c.args.self.now (g.F.Folder.told c.args.folder.now) c.args.moment (request_of cmd) (g.K.Sink.written c.args.out.now) (g.K.Sink.written c.args.out.now)) (sym c.in-Flush.is)
+    (prefix-nothing c.args.self.now (g.F.Folder.told c.args.folder.now) c.args.moment (to_flush c.in-Flush.handle) tt c.args.failed.now (g.K.Sink.written c.args.out.now))
 
 pub returns-in-Total-clause-does : goal.returns-in-Total-clause-does
 returns-in-Total-clause-does g c = subst (λ (cmd : Command). Does (KeepsState c.args.self.now) (KeepsState c.args.self.now) (g.F.Folder.told c.args.folder.now) (g.F.Folder.told c.args.folder.now) c.args.moment (request_of cmd) c.total.result) (sym c.in-Total.is) (c.total.ensures.does (g.F.Folder.told c.args.folder.now) c.args.moment)

@@ -1,0 +1,58 @@
+// The command Flush.
+ghost use Rattle.std.specs.Prelude.{◌≡◌, ◌≤◌, ℕ, IfOk, IfSome, None, Ok};
+ghost use Rattle.std.specs.Option.{ForSome};
+ghost use Rattle.spec_image.specs.Told.{Rises, Stays};
+ghost use Rattle.blk_io.specs.Faults.{IfDamaged, IfDevice};
+ghost use Rattle.blk_model.specs.Request.{to_flush};
+ghost use Rattle.blk_model.specs.declared.Answer.TheVariants as answer;
+ghost use Rattle.blk_disk.specs.Open.{IsOpen};
+ghost use Rattle.law_state.specs.Commands.{Does, MayStopAtEach};
+ghost use Rattle.blk_object.specs.FailedChecks.{IsFailedCheck};
+ghost use Rattle.blk_cache.specs.CacheKeeping.{KeepsState};
+ghost use Rattle.blk_cache.specs.CommandClauses.{IsRefused, KeepsAny};
+ghost use Rattle.blk_cache.specs.Dooming.{doom_refusal};
+
+use crate::cache::Cache;
+use blk_io::{Fault, Folder};
+use blk_model::{Answer, Refusal};
+
+impl Cache {
+    /// Settles the object that a handle names: where it is dirty its dirty word becomes 0. That is last of all, since
+    /// each command has written all else of the object and its parts.
+    ///
+    /// It is refused with `BadHandle` where the name is free, or 4096 or more, and `Doomed` where its object is doomed.
+    /// One that settles takes three folder calls, and any other none. After a fault nothing is promised of the cache but
+    /// that it can be dropped.
+    pub(crate) fn flush<F: Folder>(&mut self, folder: &mut F, handle: u16) -> Result<Answer, Fault>
+        requires is_open { ForSome (F.told folder.old).files (IsOpen self.old.files) }
+        ensures does { (moment : ℕ) → IfOk result (λ answer. Does (KeepsState self.old) (KeepsState self.new) (F.told folder.old) (F.told folder.new) moment (to_flush handle) answer) }
+        ensures stops { (moment : ℕ) → MayStopAtEach (KeepsState self.old) (F.told folder.old) (F.told folder.new) moment (to_flush handle) }
+
+        // What the name is bound to is refused on every folder, and a refusal does nothing.
+        ensures refuses { IfSome (doom_refusal self.old.handles handle) (λ why. result ≡ Ok (answer.Refused why)) }
+        ensures quiet { IfOk result (λ answer. IsRefused answer → Stays (F.told folder.old) (F.told folder.new)) }
+        ensures unchanged { IfOk result (λ answer. IsRefused answer → self.new ≡ self.old) }
+
+        ensures is_open { ForSome (F.told folder.new).files (IsOpen self.new.files) }
+        ensures notes { self.new.notes ≡ self.old.notes }
+        ensures mark { self.new.mark ≡ self.old.mark }
+
+        // Corruption is a check that fails on what is read here; nothing is written after it.
+        ensures damaged { IfDamaged result (IsFailedCheck self.new.files (F.told folder.new)) }
+
+        // An observable folder reports no corruption where the cache keeps a state.
+        ensures untold { ForSome (F.told folder.old).files (KeepsAny self.old) → IfDamaged result (λ _. (F.told folder.old).files ≡ None) }
+        ensures silent { (F.told folder.old).files ≡ None → (F.told folder.new).files ≡ None }
+        ensures later { F.faults folder.old ≤ F.faults folder.new }
+        ensures device { IfDevice result (Rises (F.faults folder.old) (F.faults folder.new)) }
+    {
+        let Some(object) = self.handles.object(handle) else {
+            return Ok(Answer::Refused(Refusal::BadHandle));
+        };
+        if object.doomed {
+            return Ok(Answer::Refused(Refusal::Doomed));
+        }
+        self.set_dirty(folder, handle, false)?;
+        Ok(Answer::Done)
+    }
+}
