@@ -7,16 +7,14 @@ use Rattle.std.proofs.lemmas.List.Sums.{sum_by-cons}
 use Rattle.spec_image.specs.Image.{Image, Index, byte}
 use Rattle.spec_image.proofs.Runs.{some_inj}
 use Rattle.blk_model.specs.Bounds.{bounds_of}
-use Rattle.blk_model.specs.Effects.{with_slot}
 use Rattle.blk_model.specs.Items.{Item, main}
 use Rattle.blk_model.specs.Room.{charge, item_count, items, of_slot, own_charge, total}
 use Rattle.blk_model.specs.State.{Object, State, is_named, named_by, object_at}
 use Rattle.spec_format.specs.Headers.{this_id_of}
 use Rattle.spec_folder.specs.Layout.{Layout}
 use Rattle.spec_folder.specs.Loads.{Loaded}
-use Rattle.blk_disk.specs.declared.tables.BlockFiles.{BlockFiles}
 use Rattle.blk_disk.specs.Tables.{Agrees}
-use Rattle.blk_handles.specs.Bindings.{Binding, Bindings, binding_of, entries_of, open_count, with_change, distinct_count}
+use Rattle.blk_handles.specs.Bindings.{Binding, Bindings, binding_of, entries_of, open_count, with_change}
 use Rattle.blk_handles.proofs.BindingLemmas.{binding_of-change}
 use Rattle.law_state.specs.CommandStates.{amidst}
 use Rattle.law_state.specs.Keeping.{Keeps, KeepsUncounted}

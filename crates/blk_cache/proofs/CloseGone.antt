@@ -1,14 +1,12 @@
 -- A Close of the last name of a doomed object, from the moments of the freeing; and of the last name of any object.
-use Rattle.std.proofs.Common.{◌≡◌, ⊎_elim, Result, Ok, ℕ, ◌-◌, ◌<◌, ◌^◌, Bool, true, false, List, [], ◌∷◌, ◌++◌, set, Option, Some, None, refl, sym, ap, subst, ◌∙◌}
+use Rattle.std.proofs.Common.{◌≡◌, ⊎_elim, Result, ℕ, ◌-◌, ◌<◌, ◌^◌, Bool, true, false, List, [], ◌∷◌, ◌++◌, set, Some, None, refl, sym, ap, subst, ◌∙◌}
 use Rattle.std.specs.Prelude.{OnOk, if◌then◌else◌, not}
 use Rattle.std.specs.Option.{ForSome}
 use Rattle.std.proofs.lemmas.Bool.{cases_Bool}
 use Rattle.spec_image.specs.Image.{Image, Index, byte}
 use Rattle.spec_image.specs.Told.{Passes, TellsBytes, Told}
-use Rattle.spec_image.proofs.Runs.{passes_weaker, some_inj}
+use Rattle.spec_image.proofs.Runs.{passes_weaker}
 use Rattle.blk_io.specs.declared.fault.Fault.{Fault}
-use Rattle.blk_io.specs.declared.fault.Fault.TheVariants.{Damaged, Device}
-use Rattle.blk_io.specs.Faults.{IfDamaged}
 use Rattle.blk_model.specs.Request.{to_close}
 use Rattle.blk_model.specs.Room.{own_charge}
 use Rattle.blk_model.specs.State.{State, is_named}

@@ -1,5 +1,5 @@
 -- The parts that a command covers: none, and what is pinned where some are.
-use Rattle.std.proofs.Common.{◌≡◌, ℕ, ◌+◌, Bool, true, false, ◌||◌, List, [], ◌∷◌, refl, sym, ap, subst, arith}
+use Rattle.std.proofs.Common.{◌≡◌, ℕ, ◌+◌, Bool, true, false, ◌||◌, List, [], ◌∷◌, refl, sym, subst, arith}
 use Rattle.std.specs.List.{list_any}
 use Rattle.spec_image.specs.Told.{Told}
 use Rattle.blk_model.specs.Items.{Item, main, part, same_item}

@@ -1,5 +1,5 @@
 -- A Create whole: why it is refused, what it evicts, and how the making of its object follows on the making of space.
-use Rattle.std.proofs.Common.{◌≡◌, ℕ, Bool, true, false, List, [], ◌∷◌, ◌++◌, length, Option, Some, None, Result, Ok, Err, refl, sym, ap, subst, ◌∙◌}
+use Rattle.std.proofs.Common.{◌≡◌, ℕ, Bool, true, false, List, [], length, Option, Some, None, Result, Ok, Err, refl, sym, ap, subst, ◌∙◌}
 use Rattle.std.specs.Option.{ForSome, option_map}
 use Rattle.std.specs.Prelude.{IfOk, OnOk}
 use Rattle.spec_image.specs.Image.{Image}

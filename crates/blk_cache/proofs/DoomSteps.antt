@@ -1,7 +1,7 @@
 -- A Doom and a DoomKey, from what they do to their object.
 use Rattle.std.proofs.Common.{◌≡◌, ⊎_elim, ℕ, ◌<◌, Bool, true, false, not, List, [], ◌∷◌, Option, Some, None, refl, sym, ap, subst, ◌∙◌, arith}
-use Rattle.std.specs.Prelude.{◌^◌, IfSome, if◌then◌else◌, is_none, nat_le}
-use Rattle.std.specs.Option.{ForSome, option_map, option_map_or}
+use Rattle.std.specs.Prelude.{◌^◌, if◌then◌else◌, is_none, nat_le}
+use Rattle.std.specs.Option.{ForSome, option_map}
 use Rattle.std.proofs.lemmas.Bool.Decides.{nat_tests}
 use Rattle.spec_image.specs.Image.{Image}
 use Rattle.spec_image.specs.Told.{Passes, Told}
@@ -11,14 +11,13 @@ use Rattle.blk_model.specs.Items.{IsBytes, main}
 use Rattle.blk_model.specs.Refusals.{first_refusal, no_key, refusals, refused}
 use Rattle.blk_model.specs.Reply.{answer_of}
 use Rattle.blk_model.specs.Request.{IsRequest, Request, to_doom, to_doom_key}
-use Rattle.blk_model.specs.State.{Object, State, is_named, live_with, named_by, object_at}
+use Rattle.blk_model.specs.State.{Object, State, live_with, named_by, object_at}
 use Rattle.blk_model.specs.Step.{reply, step}
 use Rattle.blk_model.specs.declared.Answer.TheVariants as answer
 use Rattle.blk_model.specs.declared.Refusal.TheVariants as refusal
-use Rattle.spec_folder.specs.Layout.{Layout}
 use Rattle.blk_handles.specs.declared.open_object.OpenObject.{OpenObject}
 use Rattle.blk_handles.specs.Bindings.{Binding, Bindings, binding_of, open_object}
-use Rattle.law_state.specs.Commands.{Does, IsDone, MayStop, MayStopAtEach}
+use Rattle.law_state.specs.Commands.{Does, MayStop, MayStopAtEach}
 use Rattle.law_state.specs.CommandStates.{IsDoomOf}
 use Rattle.law_state.proofs.CommandEnding.{dooms-end, passed}
 use Rattle.law_state.proofs.WordStops.{dooms-stop}
@@ -28,7 +27,7 @@ use Rattle.blk_cache.specs.declared.cache.Cache.{Cache}
 use Rattle.blk_cache.specs.declared.dooming_objects.Target.{Target}
 use Rattle.blk_cache.specs.CacheKeeping.{IsBoundTo, KeepsState}
 use Rattle.blk_cache.specs.Dooming.{ForEachKept, ForEachOpen, doom_refusal}
-use Rattle.blk_cache.specs.DoomingObjects.{IsDoomTarget, IsTargetAt, LiesOpen}
+use Rattle.blk_cache.specs.DoomingObjects.{IsTargetAt, LiesOpen}
 use Rattle.blk_cache.proofs.BoundObjects.{free-of, named-at, number-of}
 use Rattle.blk_cache.proofs.Closes.{within-some}
 

@@ -1,15 +1,13 @@
 -- What a cache keeps once an object is doomed in its folder.
-use Rattle.std.proofs.Common.{◌≡◌, ⊎_elim, ℕ, ◌-◌, Bool, true, false, not, List, [], length, Option, Some, None, refl, sym, ap, subst, ◌∙◌, arith}
-use Rattle.std.specs.Prelude.{◌==◌, if◌then◌else◌, sum_by}
+use Rattle.std.proofs.Common.{◌≡◌, ℕ, ◌-◌, Bool, true, false, not, [], Option, Some, None, refl, sym, ap, subst, ◌∙◌, arith}
+use Rattle.std.specs.Prelude.{◌==◌, if◌then◌else◌}
 use Rattle.std.specs.Option.{option_map}
 use Rattle.spec_image.specs.Image.{Image}
 use Rattle.spec_image.proofs.Runs.{some_inj}
 use Rattle.blk_model.specs.Bounds.{bounds_of}
 use Rattle.blk_model.specs.Effects.{doomed}
 use Rattle.blk_model.specs.Items.{main}
-use Rattle.blk_model.specs.Room.{own_charge}
-use Rattle.blk_model.specs.State.{Object, State, is_named, named_by, object_at}
-use Rattle.spec_folder.specs.Layout.{Layout}
+use Rattle.blk_model.specs.State.{Object, State, is_named, named_by}
 use Rattle.spec_folder.specs.Loads.{Loaded}
 use Rattle.law_folder.specs.CommandLaws.{IsPlacedAsLive}
 use Rattle.blk_handles.specs.Bindings.{Binding, Bindings, binding_of, is_open, open_count, with_change, with_doom}

@@ -1,11 +1,11 @@
 -- A Flush, from what it does to the mark of its object.
-use Rattle.std.proofs.Common.{◌≡◌, ⊎_elim, ℕ, ◌<◌, Bool, true, false, not, [], Option, Some, None, refl, sym, ap, subst, ◌∙◌, arith}
-use Rattle.std.specs.Prelude.{◌^◌, nat_le}
+use Rattle.std.proofs.Common.{◌≡◌, ℕ, ◌<◌, Bool, true, false, not, [], Option, Some, None, refl, sym, ap, subst, ◌∙◌, arith}
+use Rattle.std.specs.Prelude.{◌^◌, IfSome, nat_le}
 use Rattle.std.specs.Option.{ForSome}
 use Rattle.std.proofs.lemmas.Bool.Decides.{nat_tests}
 use Rattle.spec_image.specs.Image.{Image}
-use Rattle.spec_image.specs.Told.{Passes, Told}
-use Rattle.spec_image.proofs.Runs.{passes_weaker}
+use Rattle.spec_image.specs.Told.{Passes, Stays, Told}
+use Rattle.spec_image.proofs.Runs.{passes_weaker, some_inj}
 use Rattle.blk_model.specs.Refusals.{refusals, refused}
 use Rattle.blk_model.specs.Reply.{answer_of}
 use Rattle.blk_model.specs.Request.{to_flush}
@@ -16,7 +16,7 @@ use Rattle.blk_model.specs.declared.Refusal.TheVariants as refusal
 use Rattle.law_folder.specs.CommandLaws.{marked}
 use Rattle.blk_handles.specs.declared.open_object.OpenObject.{OpenObject}
 use Rattle.blk_handles.specs.Bindings.{Binding, binding_of}
-use Rattle.law_state.specs.Commands.{Does, MayStop, MayStopAtEach}
+use Rattle.law_state.specs.Commands.{Does, ForKept, MayStop, MayStopAtEach}
 use Rattle.law_state.specs.CommandStates.{IsOpened}
 use Rattle.law_state.specs.OneCallLaws.{Names}
 use Rattle.law_state.proofs.CommandEnding.{flush-passes, flushes-settle, passed}
@@ -24,6 +24,7 @@ use Rattle.law_state.proofs.WordStops.{cleaning-stops}
 use Rattle.blk_object.specs.RemovingObjects.{FindsEither}
 use Rattle.blk_cache.specs.declared.cache.Cache.{Cache}
 use Rattle.blk_cache.specs.CacheKeeping.{IsBoundTo, KeepsState}
+use Rattle.blk_cache.specs.CommandClauses.{FlushesClean}
 use Rattle.blk_cache.specs.Unsettling.{ForEachNamed}
 use Rattle.blk_cache.proofs.BoundObjects.{free-of, number-of}
 use Rattle.blk_cache.proofs.Closes.{within-some}
@@ -82,6 +83,16 @@ module _ (cache : Cache) (handle : ℕ) (small : handle < 2 ^ 16) (object : Open
 
     opened : object.doomed ≡ false → IsOpened state handle number it.object
     opened lives = record { names = named; here = it.here; live = is-doomed false lives }
+
+    -- a settled object is clean
+    is-clean : FlushesClean state (to_flush handle) → b.dirty ≡ false
+    is-clean (other, (its, (names, settled))) =
+        let same : number ≡ other = some_inj (sym named ∙ names.names) in
+        let one : it.object ≡ its = some_inj (sym it.here ∙ ap (object_at state) same ∙ names.here) in
+        it.dirty ∙ ap (λ (o : Object). not o.settled) one ∙ ap not settled
+
+  pub flush-idle : (old now : Told) → IfSome (binding_of cache.handles handle) (λ binding. binding.dirty ≡ false → Stays old now) → ForKept (KeepsState cache) old (λ state. FlushesClean state (to_flush handle) → Stays old now)
+  flush-idle old now idle image there state k flushes = subst (λ (o : Option Binding). IfSome o (λ binding. binding.dirty ≡ false → Stays old now)) given.bound idle (is-clean state image k flushes)
 
   pub flush-refused : object.doomed ≡ true → (moment : ℕ) (state : State) (image : Image) (k : KeepsState cache state image) → refused moment (to_flush handle) state ≡ Some refusal.Doomed
   flush-refused dead moment state image k =

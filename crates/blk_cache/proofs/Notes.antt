@@ -19,7 +19,7 @@ use Rattle.law_state.specs.Commands.{Does, ForKept, IsDone, IsNoted, IsStepped, 
 use Rattle.law_state.proofs.Keeping.{kept-stands}
 use Rattle.blk_cache.specs.declared.cache.Cache.{Cache}
 use Rattle.blk_cache.specs.CacheKeeping.{IsBoundAs, KeepsState}
-use Rattle.blk_cache.specs.CommandClauses.{IsRefused, OnlyNotesChange}
+use Rattle.blk_cache.specs.CommandClauses.{FlushesClean, IsRefused, OnlyNotesChange}
 
 -- a note changes no file
 note-nothing : (number : ℕ) (files : Option Image) → option_map (after (Note number ∷ [])) files ≡ files
@@ -76,6 +76,11 @@ module _ (old new last : Cache) (told mid now : Told) (moment : ℕ) (request : 
     refused-notes quiet image there state k refused =
         let d : IsDone (KeepsState new) mid moment request answer state = does image there state k in
         subst (λ (t : Told). Applies t now (Note number ∷ [])) (quiet (subst (λ (a : Answer). IsRefused a) (sym d.answered) refused)) note
+
+-- and so does a Flush of a clean object, which stays before it
+pub clean-notes : (cache : Cache) (told mid now : Told) (request : Request) (number : ℕ) → ForKept (KeepsState cache) told (λ state. FlushesClean state request → Stays told mid) → Applies mid now (Note number ∷ [])
+    → ForKept (KeepsState cache) told (λ state. FlushesClean state request → Applies told now (Note number ∷ []))
+clean-notes cache told mid now request number idle note image there state k settled = subst (λ (t : Told). Applies t now (Note number ∷ [])) (idle image there state k settled) note
 
 -- the folder is open still
 pub open-on : (new last : Cache) (mid now : Told) → now.files ≡ mid.files → OnlyNotesChange new last → ForSome mid.files (IsOpen new.files) → ForSome now.files (IsOpen last.files)

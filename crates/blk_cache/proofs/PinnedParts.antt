@@ -1,5 +1,5 @@
 -- What is pinned more where parts of an object that a handle names are covered.
-use Rattle.std.proofs.Common.{◌≡◌, ◌≢◌, ℕ, zero, suc, ◌+◌, ◌<◌, List, [], ◌∷◌, length, map, get_or, Bool, true, false, cond, not, Option, Some, None, T, refl, sym, ap, ap₂, ◌∙◌, subst, arith, ⊎_elim}
+use Rattle.std.proofs.Common.{◌≡◌, ◌≢◌, ℕ, zero, suc, ◌+◌, List, [], ◌∷◌, length, map, get_or, Bool, true, false, cond, not, Option, Some, None, T, refl, sym, ap, ap₂, ◌∙◌, subst, arith, ⊎_elim}
 use Rattle.std.specs.Prelude.{◌==◌, ◌&&◌, ◌||◌, IfSome, filter, if◌then◌else◌, is_some}
 use Rattle.std.specs.Bool.{passes}
 use Rattle.std.specs.Cmp.{nat_cmp_total, unsigned_tied}
@@ -10,11 +10,10 @@ use Rattle.std.specs.Option.{option_and_then, option_map, option_map_or}
 use Rattle.std.specs.Ordering.{eq_by_cmp, nat_cmp}
 use Rattle.std.specs.Str.{bytes_eq}
 use Rattle.std.proofs.lemmas.Bool.{cases_Bool, eq-eqb, eqb-true, or_right}
-use Rattle.std.proofs.lemmas.Bool.Decides.{nat_tests}
 use Rattle.std.proofs.lemmas.List.Sums.{sum_by-cons}
 use Rattle.spec_image.proofs.Runs.{some_inj}
 use Rattle.blk_model.specs.Charge.{part_charge}
-use Rattle.blk_model.specs.Holding.{owner, row_of}
+use Rattle.blk_model.specs.Holding.{owner}
 use Rattle.blk_model.specs.Items.{Item, PartValue, main, part, same_item, signature_of}
 use Rattle.blk_model.specs.Room.{charge, count_of, item_count, of_slot, own_charge, pinned, pinned_from, pinned_of, total_of}
 use Rattle.blk_model.specs.State.{IsObject, IsValidState, Object, State, is_named, object_at, part_at}

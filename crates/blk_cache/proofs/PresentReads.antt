@@ -1,5 +1,5 @@
 -- The bytes of a live sparse object that a handle names, where they are all present.
-use Rattle.std.proofs.Common.{◌≡◌, ℕ, Bool, true, false, List, [], length, Option, Some, None, refl, sym, ap, subst, ◌∙◌}
+use Rattle.std.proofs.Common.{◌≡◌, ℕ, false, List, [], length, Some, refl, sym, ap, ◌∙◌}
 use Rattle.std.specs.Prelude.{not}
 use Rattle.spec_image.specs.Image.{Image}
 use Rattle.blk_model.specs.Items.{is_sparse}

@@ -1,14 +1,14 @@
 -- A request that names an object for its sparse data, where a cache keeps a state.
-use Rattle.std.proofs.Common.{◌≡◌, ℕ, ◌<◌, ◌≤◌, ◌+◌, Bool, true, false, List, [], ◌∷◌, length, Option, Some, None, refl, sym, ap, ap₂, subst, ◌∙◌, arith}
+use Rattle.std.proofs.Common.{◌≡◌, ℕ, ◌<◌, ◌+◌, Bool, true, false, List, [], ◌∷◌, length, Option, Some, None, refl, sym, ap, ap₂, subst, ◌∙◌, arith}
 use Rattle.std.specs.Prelude.{◌==◌, ◌&&◌, IfSome, if◌then◌else◌, is_none, nat_lt, not, slice_index}
 use Rattle.std.specs.Int.{cast_unsigned, w64}
-use Rattle.std.specs.Option.{ForSome, option_map_or}
+use Rattle.std.specs.Option.{option_map_or}
 use Rattle.std.proofs.lemmas.Bool.{eq-eqb, eqb-true}
 use Rattle.std.proofs.lemmas.Bool.Decides.{nat_tests}
 use Rattle.spec_image.specs.Image.{Image}
 use Rattle.blk_model.specs.Effects.{stream_in}
-use Rattle.blk_model.specs.Items.{Row, Shape, is_sparse, main, main_row, plain, sparse}
-use Rattle.blk_model.specs.Refusals.{first_refusal, has_one_stream, is_doomed, names_none, past_end}
+use Rattle.blk_model.specs.Items.{Shape, is_sparse, main, main_row, plain, sparse}
+use Rattle.blk_model.specs.Refusals.{first_refusal, is_doomed, names_none, past_end}
 use Rattle.blk_model.specs.State.{Object, State}
 use Rattle.blk_model.specs.declared.Refusal.{Refusal}
 use Rattle.blk_model.specs.declared.Refusal.TheVariants as refusal

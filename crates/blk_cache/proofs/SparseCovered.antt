@@ -1,17 +1,16 @@
 -- The parts that a SparseWrite covers, as they are measured, are pinned.
 use Rattle.std.proofs.lemmas.Bool.Decides.{nat_tests}
-use Rattle.std.proofs.Common.{◌≡◌, ℕ, ◌+◌, ◌-◌, ◌/◌, ◌%◌, ◌<◌, ◌≤◌, List, [], ◌∷◌, length, map, Bool, true, false, Option, Some, None, refl, sym, ap, ap₂, subst, ◌∙◌, arith}
+use Rattle.std.proofs.Common.{◌≡◌, ℕ, ◌+◌, ◌-◌, ◌/◌, ◌%◌, ◌<◌, ◌≤◌, List, [], ◌∷◌, map, Bool, true, false, Option, Some, None, refl, sym, ap, ap₂, subst, ◌∙◌, arith}
 use Rattle.std.specs.Prelude.{◌||◌, IfSome, nat_lt, sum_by}
-use Rattle.std.specs.List.{AllByRecursion, list_any}
-use Rattle.std.specs.Option.{option_map, option_map_or}
+use Rattle.std.specs.Option.{option_map_or}
 use Rattle.std.proofs.lemmas.Bool.{ltb-false}
 use Rattle.std.proofs.lemmas.List.Sums.{sum_by-cons}
 use Rattle.blk_model.specs.Charge.{part_charge}
-use Rattle.blk_model.specs.Items.{Item, PartValue, Shape, is_sparse, main, part, same_item, signature_of}
-use Rattle.blk_model.specs.Room.{count_of, is_pinned, pinned, total_of}
+use Rattle.blk_model.specs.Items.{PartValue, is_sparse, part, same_item, signature_of}
+use Rattle.blk_model.specs.Room.{count_of, pinned, total_of}
 use Rattle.blk_model.specs.Sparse.{covered_parts}
 use Rattle.blk_model.specs.State.{IsObject, IsValidState, Object, State, is_named, object_at, part_at}
-use Rattle.spec_folder.specs.Layout.{IsLayoutOf, Layout, is_listed}
+use Rattle.spec_folder.specs.Layout.{IsLayoutOf, Layout}
 use Rattle.blk_sparse.specs.declared.measuring.Measured.{Measured}
 use Rattle.blk_sparse.specs.declared.storing.Target.{Target}
 use Rattle.blk_sparse.specs.Measuring.{IsMeasured, charge_there, node_there, nodes_there}
@@ -20,7 +19,7 @@ use Rattle.blk_sparse.specs.SparseWrites.{signature_to}
 use Rattle.blk_sparse.proofs.WritingCovered.{covers-one, covers-two}
 use Rattle.blk_evict.specs.RoomLaws.{AreOfNamed}
 use Rattle.blk_cache.specs.declared.covered.Covered.{Covered}
-use Rattle.blk_cache.specs.Covering.{AreCovered, covers, is_node, one_if_some, part_count}
+use Rattle.blk_cache.specs.Covering.{AreCovered, is_node, one_if_some, part_count}
 use Rattle.blk_cache.specs.SparseWriting.{IsTargetOf, MeasuredPartsAreCovered, covered_of}
 use Rattle.blk_cache.proofs.ChangedObjects.{its-named}
 use Rattle.blk_cache.proofs.CreateRoom.{main-pinned}

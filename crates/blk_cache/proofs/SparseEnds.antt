@@ -1,22 +1,21 @@
 -- A SparseWrite of some bytes, from where its object becomes dirty.
-use Rattle.std.proofs.Common.{◌≡◌, ⊎_elim, inl, inr, ℕ, zero, suc, ◌+◌, ◌<◌, ◌≤◌, ◌^◌, ◌%◌, Bool, true, false, List, [], ◌∷◌, length, map, set, get_or, Option, Some, None, Result, refl, sym, ap, ap₂, subst, ◌∙◌, arith}
-use Rattle.std.specs.Prelude.{◌⊎◌, IsSome}
+use Rattle.std.proofs.Common.{◌≡◌, inr, ℕ, ◌+◌, ◌<◌, ◌≤◌, ◌^◌, Bool, true, false, List, [], ◌∷◌, length, map, get_or, Option, Some, None, Result, refl, sym, ap, ap₂, subst, ◌∙◌, arith}
+use Rattle.std.specs.Prelude.{◌⊎◌}
 use Rattle.std.specs.Option.{ForSome}
 use Rattle.spec_image.specs.Image.{Image}
 use Rattle.spec_image.specs.Told.{Passes, Told}
 use Rattle.spec_image.proofs.Runs.{passes_then, passes_weaker}
 use Rattle.blk_io.specs.Faults.{IfDamaged}
 use Rattle.blk_io.specs.declared.fault.Fault.{Fault}
-use Rattle.blk_model.specs.Effects.{effect, made_sparse, number_of, object_of, sparse_after, sparse_written, used_all, used_sparse, with_slot}
+use Rattle.blk_model.specs.Effects.{effect, made_sparse, sparse_after, sparse_written, used_all, used_sparse, with_slot}
 use Rattle.blk_model.specs.Holding.{rest}
 use Rattle.blk_model.specs.Items.{Shape, main, part, plain, sparse}
 use Rattle.blk_model.specs.Refusals.{evicted, refused}
 use Rattle.blk_model.specs.Reply.{answer_of}
 use Rattle.blk_model.specs.Request.{to_sparse_write}
-use Rattle.blk_model.specs.Room.{charge, item_count, items, of_slot, total}
-use Rattle.blk_model.specs.Sizes.{signatures}
+use Rattle.blk_model.specs.Room.{charge, item_count, items, total}
 use Rattle.blk_model.specs.Sparse.{covered_parts, parts_after}
-use Rattle.blk_model.specs.State.{IsValidState, Object, State, named_by, object_at}
+use Rattle.blk_model.specs.State.{IsValidState, Object, State, named_by}
 use Rattle.blk_model.specs.Step.{reply, step}
 use Rattle.blk_model.specs.declared.Answer.TheVariants as answer
 use Rattle.blk_model.proofs.Written.{without_names}

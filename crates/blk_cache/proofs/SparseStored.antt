@@ -1,36 +1,31 @@
 -- What a cache keeps once sparse data are written to an open object that is dirty.
-use Rattle.std.proofs.Common.{◌≡◌, ◌≢◌, ⊎_elim, ℕ, ◌+◌, ◌<◌, ◌≤◌, ◌^◌, Bool, true, false, not, List, [], ◌∷◌, length, set, Option, Some, None, Result, T, refl, sym, ap, ap₂, subst, ◌∙◌, arith}
-use Rattle.std.specs.Prelude.{IfSome, if◌then◌else◌, sum_by}
+use Rattle.std.proofs.Common.{◌≡◌, ◌≢◌, ⊎_elim, ℕ, ◌+◌, ◌<◌, ◌≤◌, ◌^◌, Bool, true, false, not, List, [], length, Option, Some, None, Result, T, refl, sym, ap, subst, ◌∙◌, arith}
+use Rattle.std.specs.Prelude.{IfSome, if◌then◌else◌}
 use Rattle.std.specs.Bool.{passes}
 use Rattle.std.specs.FinMap.{is_sorted}
 use Rattle.std.specs.Ordering.{nat_cmp}
 use Rattle.std.specs.Option.{ForSome}
 use Rattle.std.proofs.lemmas.Bool.{cases_eq}
-use Rattle.spec_image.specs.Image.{Image, Index, byte}
+use Rattle.spec_image.specs.Image.{Image}
 use Rattle.spec_image.specs.Told.{Passes, Told}
 use Rattle.spec_image.proofs.Runs.{some_inj}
 use Rattle.blk_io.specs.Faults.{IfDamaged}
 use Rattle.blk_io.specs.declared.fault.Fault.{Fault}
 use Rattle.blk_model.specs.Bounds.{bounds_of}
-use Rattle.blk_model.specs.Effects.{with_slot}
 use Rattle.blk_model.specs.Holding.{rest}
 use Rattle.blk_model.specs.Charge.{main_charge}
 use Rattle.blk_model.specs.Items.{Row, Shape, main, main_row, part_row, plain, signature_of, sparse}
-use Rattle.blk_model.specs.Room.{item_count, items, own_charge, total}
+use Rattle.blk_model.specs.Room.{item_count, items, own_charge}
 use Rattle.blk_model.specs.Sparse.{covered_parts}
 use Rattle.blk_model.specs.State.{IsObject, Object, State, named_by, object_at}
-use Rattle.spec_format.specs.Headers.{this_id_of}
-use Rattle.spec_folder.specs.Entries.{IsParent, IsPart, IsPlain, Role, stream}
+use Rattle.spec_folder.specs.Entries.{IsParent, IsPart, IsPlain, Role}
 use Rattle.spec_format.specs.Names.{Name}
 use Rattle.spec_format.specs.SparseIndex.{ParentIndex, PartIndex}
 use Rattle.spec_folder.specs.Found.{row_of_loaded, row_with}
-use Rattle.spec_folder.specs.Layout.{Layout}
 use Rattle.spec_folder.specs.Loads.{Loaded}
 use Rattle.blk_disk.specs.Tables.{Agrees}
 use Rattle.blk_handles.specs.Bindings.{Binding, Bindings, binding_of, open_count}
 use Rattle.law_state.specs.Changes.{Finds}
-use Rattle.law_state.specs.Keeping.{Keeps}
-use Rattle.law_state.specs.OneCallLaws.{Names}
 use Rattle.law_state.proofs.Dirtying.{set-at, set-else}
 use Rattle.blk_object.specs.Writing.{node_of_object}
 use Rattle.blk_object.proofs.WrittenObjects.{object-row}
@@ -39,7 +34,7 @@ use Rattle.blk_sparse.specs.SparseObjects.{missing_parts, with_signature}
 use Rattle.blk_sparse.specs.SparseWrites.{CanBeStored, ForEachToStore, IsKeptWithBytes, MayGetParts, object_written, signature_to, sparse_state}
 use Rattle.blk_sparse.proofs.PartCharges.{more-written}
 use Rattle.blk_cache.specs.declared.cache.Cache.{Cache}
-use Rattle.blk_cache.specs.CacheKeeping.{IsBoundAs, IsBoundTo, KeepsState, named_from, named_objects}
+use Rattle.blk_cache.specs.CacheKeeping.{IsBoundAs, IsBoundTo, KeepsState, named_objects}
 use Rattle.blk_cache.specs.Creating.{sum_within}
 use Rattle.blk_cache.specs.SparseWriting.{CanStore, IsTargetOf, KeepsToStore, index_charge, own_target}
 use Rattle.blk_cache.proofs.ChangedObjects.{IsOneChanged, bound-to, its-named, its-object, named-changed, sum-changed}

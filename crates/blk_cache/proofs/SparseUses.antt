@@ -1,21 +1,19 @@
 -- A SparseRead and a SparseRange of a cache that keeps a state.
-use Rattle.std.proofs.Common.{◌≡◌, ◌⊎◌, ℕ, Bool, true, false, List, [], ◌∷◌, length, Option, Some, None, refl, sym, ap, subst, ◌∙◌}
-use Rattle.std.specs.Prelude.{◌==◌, if◌then◌else◌, nat_lt, not}
+use Rattle.std.proofs.Common.{◌≡◌, ℕ, Bool, true, false, List, [], ◌∷◌, Option, Some, None, refl, sym, ap, subst, ◌∙◌}
+use Rattle.std.specs.Prelude.{if◌then◌else◌, nat_lt, not}
 use Rattle.std.specs.Int.{cast_unsigned, w64}
 use Rattle.std.specs.Option.{ForSome}
-use Rattle.spec_image.specs.Image.{Image, Index, byte}
+use Rattle.spec_image.specs.Image.{Image}
 use Rattle.spec_image.specs.Told.{Passes, Told}
 use Rattle.spec_image.proofs.Runs.{passes_stayed, passes_weaker}
 use Rattle.blk_model.specs.Effects.{object_of, used_all}
-use Rattle.blk_model.specs.Items.{Item, is_sparse, main, plain, sparse}
+use Rattle.blk_model.specs.Items.{Item, is_sparse, main}
 use Rattle.blk_model.specs.ListSteps.{uses_of}
 use Rattle.blk_model.specs.Refusals.{first_refusal, is_doomed, is_plain, names_none, past_end, refusals, refused}
-use Rattle.blk_model.specs.Reply.{Reply, answer_of, answered, gave}
-use Rattle.blk_model.specs.Request.{Request}
-use Rattle.blk_model.specs.Sparse.{present_run, sparse_bytes}
+use Rattle.blk_model.specs.Reply.{answer_of, answered}
+use Rattle.blk_model.specs.Sparse.{present_run}
 use Rattle.blk_model.specs.State.{Object, State}
 use Rattle.blk_model.specs.Step.{reply, step}
-use Rattle.blk_model.specs.declared.Answer.{Answer}
 use Rattle.blk_model.specs.declared.Answer.TheVariants as answer
 use Rattle.blk_model.specs.declared.Refusal.{Refusal}
 use Rattle.blk_model.specs.declared.Refusal.TheVariants as refusal

@@ -14,7 +14,7 @@ use Rattle.blk_model.specs.State.{State}
 use Rattle.blk_model.specs.Step.{outcome, reply, step}
 use Rattle.blk_model.specs.declared.Answer.TheVariants as answer
 use Rattle.blk_model.specs.declared.Refusal.{Refusal}
-use Rattle.law_state.specs.Commands.{Does, ForKept, MayStop, MayStopAtEach}
+use Rattle.law_state.specs.Commands.{Does, MayStop, MayStopAtEach}
 use Rattle.law_state.proofs.CommandEnding.{passed}
 use Rattle.law_state.proofs.Stopping.{stop-evicted}
 use Rattle.blk_script.specs.Reply.{evicted_text}

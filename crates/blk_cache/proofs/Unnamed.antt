@@ -1,5 +1,5 @@
 -- What no handle names, and names that are free.
-use Rattle.std.proofs.Common.{◌≡◌, ℕ, zero, suc, ◌+◌, ◌≤◌, Bool, true, false, not, ◌&&◌, cond, List, [], ◌∷◌, length, map, Option, Some, None, IfSome, get_or, replicate, refl, sym, ap, ◌∙◌, arith}
+use Rattle.std.proofs.Common.{◌≡◌, ℕ, zero, suc, ◌+◌, ◌≤◌, Bool, true, false, not, ◌&&◌, cond, List, [], ◌∷◌, length, Option, Some, None, IfSome, get_or, replicate, refl, sym, ap, ◌∙◌, arith}
 use Rattle.std.specs.List.{cons_option, count_by, filter_map, list_any}
 use Rattle.std.proofs.lemmas.Bool.{and_parts}
 use Rattle.std.proofs.lemmas.List.{length-map}
@@ -12,7 +12,7 @@ use Rattle.blk_model.specs.Room.{items}
 use Rattle.blk_model.specs.Totals.{is_doomed_slot}
 use Rattle.blk_model.proofs.Sums.{totals_are_sums}
 use Rattle.spec_image.specs.Image.{Image}
-use Rattle.spec_folder.specs.Layout.{Layout, order}
+use Rattle.spec_folder.specs.Layout.{Layout}
 use Rattle.law_state.specs.Keeping.{KeepsUncounted}
 use Rattle.law_state.specs.KeepingLaws.{AllAreAtRest}
 use Rattle.blk_handles.specs.Bindings.{Binding, all_free, binding_of, distinct_count, entries_of, open_count}

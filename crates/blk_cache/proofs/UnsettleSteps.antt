@@ -3,7 +3,7 @@ use Rattle.std.proofs.Common.{◌≡◌, ℕ, ◌<◌, ◌^◌, Bool, true, fals
 use Rattle.std.specs.Prelude.{◌⊎◌, ◌==◌, IfSome, IsSome, OnOk, if◌then◌else◌}
 use Rattle.std.specs.Option.{ForSome, option_map}
 use Rattle.spec_image.specs.Image.{Image, Index, byte}
-use Rattle.spec_image.specs.Told.{Applies, Passes, TellsBytes, Told}
+use Rattle.spec_image.specs.Told.{Applies, Passes, Stays, TellsBytes, Told}
 use Rattle.spec_image.proofs.Words.{word-fits}
 use Rattle.spec_image.proofs.Runs.{passes_none, passes_weaker, some_inj}
 use Rattle.blk_io.specs.declared.fault.Fault.{Fault}
@@ -38,6 +38,11 @@ use Rattle.blk_cache.proofs.Unsettles.{at-node, marked-keeps, marked-same, marki
 -- the durable contents are recovered, before and after
 abbrev Either : State → ℕ → Object → (dirty : Bool) → Image → Type 0
 Either state number object dirty image = Finds (rest state) image ⊎ Finds (rest (marked state number object (not dirty))) image
+
+-- ---- one that isn't marked so
+
+pub not-idle : (bindings : Bindings) (handle : ℕ) (b : Binding) → binding_of bindings handle ≡ Some b → (dirty : Bool) → (b.dirty ≡ dirty → ⊥) → (old now : Told) → IfSome (binding_of bindings handle) (λ binding. binding.dirty ≡ dirty → Stays old now)
+not-idle bindings handle b bound dirty differs old now = subst (λ (o : Option Binding). IfSome o (λ binding. binding.dirty ≡ dirty → Stays old now)) (sym bound) (λ same. absurd (differs same))
 
 -- ---- names
 

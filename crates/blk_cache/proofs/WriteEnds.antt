@@ -1,5 +1,5 @@
 -- A Write, from where its object becomes dirty.
-use Rattle.std.proofs.Common.{◌≡◌, ⊎_elim, inl, inr, ℕ, zero, suc, ◌+◌, ◌<◌, ◌≤◌, Bool, true, false, List, [], ◌∷◌, length, set, get_or, Option, Some, None, Result, refl, sym, ap, ap₂, subst, ◌∙◌}
+use Rattle.std.proofs.Common.{◌≡◌, ⊎_elim, inr, ℕ, zero, suc, ◌+◌, ◌<◌, ◌≤◌, Bool, true, false, List, [], ◌∷◌, length, set, get_or, Option, Some, None, Result, refl, sym, ap, ap₂, subst, ◌∙◌}
 use Rattle.std.specs.Prelude.{◌⊎◌, IsSome, is_none, nat_lt}
 use Rattle.std.specs.Option.{ForSome}
 use Rattle.spec_image.specs.Image.{Image}
@@ -7,8 +7,7 @@ use Rattle.spec_image.specs.Told.{Passes, Told}
 use Rattle.spec_image.proofs.Runs.{passes_then, passes_weaker}
 use Rattle.blk_io.specs.Faults.{IfDamaged}
 use Rattle.blk_io.specs.declared.fault.Fault.{Fault}
-use Rattle.blk_model.specs.Bounds.{bounds_of}
-use Rattle.blk_model.specs.Effects.{effect, stream_after, stream_of, used_main, with_slot, written}
+use Rattle.blk_model.specs.Effects.{effect, stream_after, stream_of, used_main, written}
 use Rattle.blk_model.specs.Holding.{rest}
 use Rattle.blk_model.specs.Items.{Row}
 use Rattle.blk_model.specs.Refusals.{evicted, first_refusal, no_stream, refused}
@@ -16,7 +15,7 @@ use Rattle.blk_model.specs.Reply.{answer_of}
 use Rattle.blk_model.specs.Request.{to_write}
 use Rattle.blk_model.specs.Room.{total}
 use Rattle.blk_model.specs.Sizes.{longest_stream}
-use Rattle.blk_model.specs.State.{IsValidState, Object, State, named_by, object_at}
+use Rattle.blk_model.specs.State.{IsValidState, Object, State, named_by}
 use Rattle.blk_model.specs.Step.{reply, step}
 use Rattle.blk_model.specs.declared.Answer.TheVariants as answer
 use Rattle.blk_model.specs.declared.Refusal.{Refusal}

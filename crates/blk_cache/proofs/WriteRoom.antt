@@ -1,18 +1,17 @@
 -- The space that a Write needs, and has once all that it evicts is out.
-use Rattle.std.proofs.Common.{◌≡◌, ⊎_elim, ℕ, zero, suc, ◌+◌, ◌-◌, ◌≤◌, ◌<◌, ◌^◌, Bool, true, false, ◌&&◌, cond, List, [], ◌∷◌, ◌++◌, length, set, get_or, Option, Some, None, refl, sym, ap, ap₂, subst, ◌∙◌, arith}
+use Rattle.std.proofs.Common.{◌≡◌, ℕ, zero, suc, ◌+◌, ◌-◌, ◌≤◌, ◌<◌, Bool, true, false, ◌&&◌, cond, List, [], ◌++◌, length, set, Option, Some, None, refl, sym, ap, ap₂, subst, ◌∙◌, arith}
 use Rattle.std.specs.List.{AllByRecursion}
 use Rattle.std.specs.Prelude.{◌==◌, max, nat_lt, replicate, drop, take, unwrap_or, sum_by}
-use Rattle.std.proofs.lemmas.Bool.{and_right, cases_Bool, ltb-false}
 use Rattle.std.proofs.lemmas.Bool.Decides.{nat_tests}
 use Rattle.std.proofs.lemmas.List.{length-append, length-drop, length-take, length-replicate}
 use Rattle.blk_model.specs.Bytes.{overwritten, overwritten_and_cut}
-use Rattle.blk_model.specs.Charge.{main_charge, part_charge}
-use Rattle.blk_model.specs.Effects.{effect, new_object, number_of, object_of, stream_after, stream_in, stream_of, streams_with, used, used_main, with_slot, written}
-use Rattle.blk_model.specs.Items.{PartValue, Shape, Streams, is_sparse, main, plain, signature_of, sparse}
+use Rattle.blk_model.specs.Charge.{main_charge}
+use Rattle.blk_model.specs.Effects.{effect, number_of, stream_after, stream_in, stream_of, streams_with, used, used_main, with_slot, written}
+use Rattle.blk_model.specs.Items.{Shape, is_sparse, main, plain, sparse}
 use Rattle.blk_model.specs.Refusals.{names_none, evicted, evicted_for, is_full, is_kept_from_streams, refusals, refused, room_for}
 use Rattle.blk_model.specs.Request.{to_write}
-use Rattle.blk_model.specs.Room.{Group, charge, is_pinned, item_count, items, low, of_slot, own_charge, room, total, without}
-use Rattle.blk_model.specs.State.{Bounds, IsValidState, Object, State, named_by, object_at}
+use Rattle.blk_model.specs.Room.{Group, charge, is_pinned, item_count, items, of_slot, own_charge, room, total, without}
+use Rattle.blk_model.specs.State.{Bounds, IsValidState, Object, State}
 use Rattle.blk_model.proofs.Evicted.{IsLoose}
 use Rattle.blk_model.proofs.States.{Named, named_object}
 use Rattle.blk_model.proofs.Steps.{none_comes, room_for_is_loose}

@@ -1,5 +1,5 @@
 -- A stream of a dirty object is written and used, from the moments of both.
-use Rattle.std.proofs.Common.{◌≡◌, ℕ, ◌-◌, ◌<◌, ◌^◌, Bool, true, false, not, List, [], ◌++◌, ◌∷◌, Option, Some, None, Result, refl, sym, ap, subst, ◌∙◌}
+use Rattle.std.proofs.Common.{◌≡◌, ℕ, ◌-◌, ◌<◌, ◌^◌, Bool, true, false, not, List, [], Some, None, Result, refl, sym, ap, subst, ◌∙◌}
 use Rattle.std.specs.Prelude.{length}
 use Rattle.std.specs.Option.{ForSome}
 use Rattle.spec_image.specs.Image.{Image}
@@ -9,18 +9,17 @@ use Rattle.blk_io.specs.Faults.{IfDamaged}
 use Rattle.blk_io.specs.declared.fault.Fault.{Fault}
 use Rattle.blk_model.specs.Effects.{written}
 use Rattle.blk_model.specs.Holding.{rest}
-use Rattle.blk_model.specs.Items.{IsBytes, Row, main}
+use Rattle.blk_model.specs.Items.{IsBytes, Row}
 use Rattle.blk_model.specs.State.{Object, State}
 use Rattle.law_folder.proofs.states.Settling.{main-listed}
-use Rattle.spec_folder.specs.Layout.{Layout, is_listed}
+use Rattle.spec_folder.specs.Layout.{Layout}
 use Rattle.blk_disk.specs.Open.{IsOpen}
 use Rattle.blk_disk.specs.Tables.{Agrees}
-use Rattle.blk_handles.specs.Bindings.{Binding, Bindings, binding_of}
+use Rattle.blk_handles.specs.Bindings.{Binding, binding_of}
 use Rattle.blk_lru.specs.Lists.{IsListed}
 use Rattle.blk_stream.specs.Writing.{size_after}
 use Rattle.law_state.specs.Changes.{Finds}
 use Rattle.law_state.specs.CommandEnds.{after_write}
-use Rattle.law_state.specs.CommandStates.{amidst}
 use Rattle.law_state.specs.ObjectLaws.{layout_after}
 use Rattle.blk_object.specs.Writing.{ForEachUnsettled, IsWrittenUncounted, RisesAreCounted, UsesLeaveTheRise, node_of_object, with_written}
 use Rattle.blk_cache.specs.declared.cache.Cache.{Cache}

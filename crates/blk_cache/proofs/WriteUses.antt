@@ -1,8 +1,8 @@
 -- The use of an item of a dirty object, and the count of its rise.
-use Rattle.std.proofs.Common.{◌≡◌, ℕ, ◌+◌, ◌<◌, Bool, true, false, List, [], ◌∷◌, ◌++◌, set, Option, Some, None, Result, Ok, Err, refl, sym, ap, subst, ◌∙◌, arith}
-use Rattle.std.specs.Prelude.{OnOk, if◌then◌else◌, nat_lt}
+use Rattle.std.proofs.Common.{◌≡◌, ℕ, ◌+◌, Bool, true, false, List, [], ◌∷◌, ◌++◌, Option, Some, None, Result, Ok, Err, refl, sym, ap, subst, ◌∙◌}
+use Rattle.std.specs.Prelude.{if◌then◌else◌, nat_lt}
 use Rattle.std.specs.Option.{ForSome, option_map}
-use Rattle.spec_image.specs.Image.{Image, Index, byte}
+use Rattle.spec_image.specs.Image.{Image}
 use Rattle.spec_image.specs.Steps.{after}
 use Rattle.spec_image.specs.Told.{Applies, Passes, TellsBytes, Told}
 use Rattle.spec_image.proofs.Runs.{passes_end, passes_then, passes_weaker, some_inj}

@@ -1,20 +1,20 @@
 -- A Write whole: why it is refused, what it evicts, and how its end follows on the making of space.
 use Rattle.std.proofs.Common.{◌≡◌, ℕ, ◌-◌, Bool, true, false, List, [], ◌∷◌, ◌++◌, length, get_or, Option, Some, None, Result, Ok, Err, refl, sym, ap, subst, ◌∙◌}
 use Rattle.std.specs.Prelude.{◌||◌, IfOk, if◌then◌else◌, is_none}
-use Rattle.std.specs.Option.{ForSome, option_map}
+use Rattle.std.specs.Option.{ForSome}
 use Rattle.spec_image.specs.Image.{Image}
 use Rattle.spec_image.specs.Told.{Passes, Told}
-use Rattle.spec_image.proofs.Runs.{passes_then, passes_weaker, some_inj}
+use Rattle.spec_image.proofs.Runs.{passes_then, passes_weaker}
 use Rattle.blk_io.specs.Faults.{IfDamaged}
 use Rattle.blk_io.specs.Streams.{Appends}
 use Rattle.blk_io.specs.declared.fault.Fault.{Fault}
-use Rattle.blk_model.specs.Effects.{object_of, stream_after, stream_of}
+use Rattle.blk_model.specs.Effects.{stream_after, stream_of}
 use Rattle.blk_model.specs.Holding.{rest}
 use Rattle.blk_model.specs.Refusals.{evicted, evicted_for, first_refusal, is_full, is_kept_from_streams, names_none, no_name, no_room, no_stream, refused, room_for}
 use Rattle.blk_model.specs.Request.{Request, to_write}
 use Rattle.blk_model.specs.Room.{Group, Room, after as makes, full, room, without}
 use Rattle.blk_model.specs.State.{Object, State, named_by}
-use Rattle.blk_model.specs.Step.{Outcome, outcome, step}
+use Rattle.blk_model.specs.Step.{outcome, step}
 use Rattle.blk_model.specs.declared.Answer.{Answer}
 use Rattle.blk_model.specs.declared.Answer.TheVariants as answer
 use Rattle.blk_model.specs.declared.Refusal.{Refusal}

@@ -1,13 +1,13 @@
 -- A stream of a dirty object of a cache that keeps a state is written, used and counted.
-use Rattle.std.proofs.Common.{◌≡◌, ◌⊎◌, ⊎_elim, inl, inr, ℕ, zero, suc, ◌+◌, ◌-◌, ◌<◌, ◌≤◌, ◌^◌, Bool, true, false, not, List, [], ◌∷◌, length, set, get_or, Option, Some, None, refl, sym, ap, ap₂, subst, ◌∙◌, arith, cond}
-use Rattle.std.specs.Prelude.{◌&&◌, ◌==◌, ◌||◌, IfSome, if◌then◌else◌, is_none, nat_le, nat_lt, sum_by}
+use Rattle.std.proofs.Common.{◌≡◌, ◌⊎◌, ⊎_elim, inl, inr, ℕ, zero, suc, ◌+◌, ◌-◌, ◌<◌, ◌≤◌, ◌^◌, Bool, true, false, List, [], length, get_or, Option, Some, None, refl, sym, ap, ap₂, subst, ◌∙◌, arith}
+use Rattle.std.specs.Prelude.{◌&&◌, ◌||◌, IfSome, if◌then◌else◌, is_none, nat_lt, sum_by}
 use Rattle.std.proofs.lemmas.Bool.{ltb-false}
 use Rattle.std.proofs.lemmas.Bool.Decides.{nat_tests}
 use Rattle.spec_image.specs.Image.{Image, Index, byte}
-use Rattle.blk_model.specs.Effects.{new_object, stream_after, stream_in, stream_of, streams_with, used, with_slot, written}
+use Rattle.blk_model.specs.Effects.{new_object, stream_after, stream_in, stream_of, streams_with, used, written}
 use Rattle.blk_model.specs.Items.{IsBytes, Item, Streams, is_sparse, main, part}
 use Rattle.blk_model.specs.Refusals.{is_kept_from_streams, names_none, no_name}
-use Rattle.blk_model.specs.Room.{charge, of_slot, own_charge, total}
+use Rattle.blk_model.specs.Room.{charge, own_charge, total}
 use Rattle.blk_model.specs.State.{Bounds, IsObject, IsValidState, Object, State, has_item, is_named, named_by, object_at}
 use Rattle.blk_model.proofs.States.{if_some_is}
 use Rattle.blk_model.proofs.Written.{state_changed, state_written}
@@ -19,20 +19,18 @@ use Rattle.law_folder.proofs.states.Settling.{main-listed}
 use Rattle.blk_disk.specs.Tables.{Agrees}
 use Rattle.blk_handles.specs.Bindings.{Binding, Bindings, binding_of, open_count}
 use Rattle.blk_stream.specs.Writing.{size_after}
-use Rattle.law_state.specs.Changes.{SameCounters}
 use Rattle.law_state.specs.CommandEnds.{after_write}
 use Rattle.law_state.specs.CommandStates.{amidst}
-use Rattle.law_state.specs.Keeping.{CountsItems, Keeps, KeepsUncounted}
+use Rattle.law_state.specs.Keeping.{CountsItems, Keeps}
 use Rattle.law_state.specs.ListLaws.{with_used}
 use Rattle.law_state.specs.ObjectLaws.{layout_after}
-use Rattle.law_state.specs.OneCallLaws.{Names}
 use Rattle.law_state.proofs.Dirtying.{set-at}
 use Rattle.blk_object.specs.Writing.{IsRisen, IsToBeWritten, IsWrittenUncounted, RisesAreCounted, UsesLeaveTheRise, node_of_object, with_written}
 use Rattle.blk_cache.specs.declared.cache.Cache.{Cache}
 use Rattle.blk_cache.specs.CacheKeeping.{IsBoundAs, IsBoundTo, KeepsState, named_objects}
 use Rattle.blk_cache.specs.Creating.{sum_within}
 use Rattle.blk_cache.specs.Writing.{CanGetBytes, IsToBeUsed, IsUsedAndCounted}
-use Rattle.blk_cache.proofs.ChangedObjects.{CountsAs, IsOneChanged, LiesChanged, bound-to, changed-keeps, its-named, named-changed, names-stay, sum-changed}
+use Rattle.blk_cache.proofs.ChangedObjects.{CountsAs, LiesChanged, bound-to, changed-keeps, its-named, named-changed, names-stay, sum-changed}
 use Rattle.blk_cache.proofs.Closes.{within-some}
 use Rattle.blk_cache.proofs.NamedObjects.{named-total}
 use Rattle.blk_cache.proofs.Sizes.{named-object}

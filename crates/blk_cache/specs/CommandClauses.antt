@@ -4,7 +4,8 @@ use Rattle.std.specs.declared.option.Option.{Option}
 use Rattle.spec_image.specs.Image.{Image}
 use Rattle.spec_image.specs.Told.{Told}
 use Rattle.blk_io.specs.declared.fault.Damage.{Damage}
-use Rattle.blk_model.specs.State.{State}
+use Rattle.blk_model.specs.Request.{Request, to_flush}
+use Rattle.blk_model.specs.State.{Object, State}
 use Rattle.blk_model.specs.declared.Answer.{Answer}
 use Rattle.blk_model.specs.declared.Answer.TheVariants as answer
 use Rattle.blk_model.specs.declared.Refusal.{Refusal}
@@ -12,6 +13,7 @@ use Rattle.blk_model.specs.declared.Refusal.TheVariants as refusal
 use Rattle.blk_model.specs.Refusals.{first_refusal, no_key, no_name}
 use Rattle.blk_disk.specs.declared.tables.BlockFiles.{BlockFiles}
 use Rattle.blk_disk.specs.Tables.{is_node_among}
+use Rattle.law_state.specs.OneCallLaws.{Names}
 use Rattle.blk_lru.specs.Damages.{IsTouchDamage}
 use Rattle.blk_handles.specs.Bindings.{Bindings, binding_of}
 use Rattle.blk_cache.specs.declared.cache.Cache.{Cache}
@@ -45,6 +47,13 @@ pub record OnlyNotesChange (old new : Cache) : Type 0 where
   pub handles : new.handles ≡ old.handles
   pub files : new.files ≡ old.files
   pub mark : new.mark ≡ old.mark
+
+-- Flush.
+
+-- a request is a Flush of a clean object
+abbrev pub FlushesClean : State → Request → Type 0
+FlushesClean state (to_flush handle) = (number : ℕ) × ((object : Object) × (Names state handle number object × (object.settled ≡ true)))
+FlushesClean state _ = ⊥
 
 -- Open.
 

@@ -4,7 +4,6 @@ ghost use Rattle.std.specs.Option.{ForSome};
 ghost use Rattle.spec_image.specs.Told.{Rises, Stays};
 ghost use Rattle.blk_io.specs.Faults.{IfDamaged, IfDevice};
 ghost use Rattle.blk_model.specs.State.{State};
-ghost use Rattle.blk_disk.specs.Tables.{Agrees};
 ghost use Rattle.blk_object.specs.FailedChecks.{IsFailedCheck};
 ghost use Rattle.blk_cache.specs.Asking.{IsAskDamage, IsAsked, StandsAmong, early_stream_refusal, keeps_stream};
 ghost use Rattle.blk_cache.specs.declared.asking.Asked.TheVariants as asked;

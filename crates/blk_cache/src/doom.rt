@@ -27,7 +27,7 @@ impl Cache {
     /// and its places stay until its last handle is closed.
     ///
     /// It is refused with `BadHandle` where the name is free, or 4096 or more, and `Doomed` where its object is doomed. An
-    /// object without parts takes at most 38 folder calls where the search passes one record of its chain or none, and one
+    /// object without parts takes at most 39 folder calls where the search passes one record of its chain or none, and one
     /// more for each further one. After a fault nothing is promised of the cache but that it can be dropped.
     pub(crate) fn doom<F: Folder>(&mut self, folder: &mut F, handle: u16) -> Result<Answer, Fault>
         requires is_open { ForSome (F.told folder.old).files (IsOpen self.old.files) }

@@ -6,10 +6,10 @@ ghost use Rattle.blk_io.specs.Faults.{IfDamaged, IfDevice};
 ghost use Rattle.blk_model.specs.Request.{to_flush};
 ghost use Rattle.blk_model.specs.declared.Answer.TheVariants as answer;
 ghost use Rattle.blk_disk.specs.Open.{IsOpen};
-ghost use Rattle.law_state.specs.Commands.{Does, MayStopAtEach};
+ghost use Rattle.law_state.specs.Commands.{Does, ForKept, MayStopAtEach};
 ghost use Rattle.blk_object.specs.FailedChecks.{IsFailedCheck};
 ghost use Rattle.blk_cache.specs.CacheKeeping.{KeepsState};
-ghost use Rattle.blk_cache.specs.CommandClauses.{IsRefused, KeepsAny};
+ghost use Rattle.blk_cache.specs.CommandClauses.{FlushesClean, IsRefused, KeepsAny};
 ghost use Rattle.blk_cache.specs.Dooming.{doom_refusal};
 
 use crate::cache::Cache;
@@ -17,11 +17,11 @@ use blk_io::{Fault, Folder};
 use blk_model::{Answer, Refusal};
 
 impl Cache {
-    /// Settles the object that a handle names: where it is dirty its dirty word becomes 0. That is last of all, since
+    /// Makes the object that a handle names clean: where it is dirty its dirty word becomes 0. That is last of all, since
     /// each command has written all else of the object and its parts.
     ///
     /// It is refused with `BadHandle` where the name is free, or 4096 or more, and `Doomed` where its object is doomed.
-    /// One that settles takes three folder calls, and any other none. After a fault nothing is promised of the cache but
+    /// One of a dirty object takes three folder calls, and any other none. After a fault nothing is promised of the cache but
     /// that it can be dropped.
     pub(crate) fn flush<F: Folder>(&mut self, folder: &mut F, handle: u16) -> Result<Answer, Fault>
         requires is_open { ForSome (F.told folder.old).files (IsOpen self.old.files) }
@@ -32,6 +32,9 @@ impl Cache {
         ensures refuses { IfSome (doom_refusal self.old.handles handle) (λ why. result ≡ Ok (answer.Refused why)) }
         ensures quiet { IfOk result (λ answer. IsRefused answer → Stays (F.told folder.old) (F.told folder.new)) }
         ensures unchanged { IfOk result (λ answer. IsRefused answer → self.new ≡ self.old) }
+
+        // Nor does one of a clean object.
+        ensures idle { ForKept (KeepsState self.old) (F.told folder.old) (λ state. FlushesClean state (to_flush handle) → Stays (F.told folder.old) (F.told folder.new)) }
 
         ensures is_open { ForSome (F.told folder.new).files (IsOpen self.new.files) }
         ensures notes { self.new.notes ≡ self.old.notes }

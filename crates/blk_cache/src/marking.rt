@@ -1,7 +1,7 @@
 // An open object is marked dirty, or clean.
-ghost use Rattle.std.specs.Prelude.{◌≡◌, ◌≤◌, IsSome, None, OnOk, not, true};
+ghost use Rattle.std.specs.Prelude.{◌≡◌, ◌≤◌, IfSome, IsSome, None, OnOk, not, true};
 ghost use Rattle.std.specs.Option.{ForSome};
-ghost use Rattle.spec_image.specs.Told.{Passes, Rises};
+ghost use Rattle.spec_image.specs.Told.{Passes, Rises, Stays};
 ghost use Rattle.blk_io.specs.Faults.{IfDamaged, IfDevice};
 ghost use Rattle.law_folder.specs.CommandLaws.{marked};
 ghost use Rattle.blk_disk.specs.Open.{IsOpen};
@@ -35,6 +35,9 @@ impl Cache {
 
         // At each word the old durable contents are recovered, or the new ones.
         ensures stops { ForSome (F.told folder.old).files (λ from. ForEachNamed self.old handle from (λ state number object. Passes (F.told folder.old) (F.told folder.new) (FindsEither state (marked state number object (not dirty))))) }
+
+        // Where it is so no call is made.
+        ensures idle { IfSome (binding_of self.old.handles handle) (λ binding. binding.dirty ≡ dirty → Stays (F.told folder.old) (F.told folder.new)) }
 
         ensures stays_bound { IsSome (binding_of self.new.handles handle) }
         ensures others { OnlyNamesChange self.old self.new }
@@ -70,7 +73,8 @@ impl Cache {
 
 // Whether two marks are the same.
 fn same(a: bool, b: bool) -> bool
-    ensures { result ≡ true → a ≡ b }
+    ensures so { result ≡ true → a ≡ b }
+    ensures always { a ≡ b → result ≡ true }
 {
     a == b
 }

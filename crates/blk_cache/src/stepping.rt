@@ -12,9 +12,9 @@ ghost use Rattle.blk_disk.specs.Open.{IsOpen};
 ghost use Rattle.law_state.specs.Commands.{Does, ForKept, IsNoted, IsStepped, MayStopAtEach, note_number};
 ghost use Rattle.blk_object.specs.FailedChecks.{IsFailedCheck};
 ghost use Rattle.blk_cache.specs.CacheKeeping.{KeepsState};
-ghost use Rattle.blk_cache.specs.CommandClauses.{IsRefused, KeepsAny, OnlyNotesChange};
+ghost use Rattle.blk_cache.specs.CommandClauses.{FlushesClean, IsRefused, KeepsAny, OnlyNotesChange};
 ghost use Rattle.blk_evict.specs.RoomPrinting.{FailsWhereItRose};
-ghost use Rattle.blk_cache.specs.Stepping.{IfDone, IfSink, IfStepDamaged, IfStepDevice, SaysEvicted, SaysPrefix, evicted_first, outcome_text};
+ghost use Rattle.blk_cache.specs.Stepping.{IfDone, IfSink, IfStepDamaged, IfStepDevice, SaysEvicted, SaysPrefix, outcome_text};
 
 use crate::cache::Cache;
 use crate::fault::StepFault;
@@ -60,6 +60,9 @@ impl Cache {
 
         // So does one that the map refuses, also where only the sink failed.
         ensures refused { IfDone result (ForKept (KeepsState self.old) (F.told f.old) (λ state. IsRefused (answer_of (step state moment (request_of command.now)).reply) → Applies (F.told f.old) (F.told f.new) (Note (note_number (self.old.notes + 1)) ∷ []))) }
+
+        // So does a Flush of a clean object.
+        ensures idle { IfDone result (ForKept (KeepsState self.old) (F.told f.old) (λ state. FlushesClean state (request_of command.now) → Applies (F.told f.old) (F.told f.new) (Note (note_number (self.old.notes + 1)) ∷ []))) }
 
         // What it evicts is printed, and then the reply; where there is no answer, a prefix of it; where the folder failed nothing of the reply, or it failed in the reply, after the note.
         ensures printed { OnOk result (ForKept (KeepsState self.old) (F.told f.old) (λ state. K.written out.new ≡ option_map (λ w. w ++ outcome_text (step state moment (request_of command.now))) (K.written out.old))) }
@@ -147,6 +150,7 @@ impl Cache {
         ensures front { SaysPrefix self.old (F.told folder.old) moment (request_of command.now) (K.written out.old) (K.written out.new) }
         ensures failed { FailsWhereItRose failed.old failed.new (K.faults out.old) (K.faults out.new) }
         ensures quiet { IfOk result (λ answer. IsRefused answer → Stays (F.told folder.old) (F.told folder.new)) }
+        ensures idle { ForKept (KeepsState self.old) (F.told folder.old) (λ state. FlushesClean state (request_of command.now) → Stays (F.told folder.old) (F.told folder.new)) }
         ensures notes { self.new.notes ≡ self.old.notes }
         ensures mark { self.new.mark ≡ self.old.mark }
         ensures is_open { OnOk result (ForSome (F.told folder.new).files (IsOpen self.new.files)) }

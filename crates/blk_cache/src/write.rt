@@ -1,18 +1,17 @@
 // The command Write.
-ghost use Rattle.std.specs.Prelude.{◌≡◌, ◌≤◌, ◌<◌, ◌+◌, ◌-◌, ◌^◌, IfOk, IfSome, IsSome, IsTrue, None, Ok, OnOk, false, length, nat_lt, true, ℕ, Bool};
+ghost use Rattle.std.specs.Prelude.{◌≡◌, ◌≤◌, ◌<◌, ◌+◌, ◌-◌, ◌^◌, IfOk, IfSome, IsTrue, None, Ok, OnOk, false, length, true, ℕ, Bool};
 ghost use Rattle.std.specs.Option.{ForSome};
 ghost use Rattle.spec_image.specs.Told.{Passes, Rises, Stays};
 ghost use Rattle.blk_io.specs.Faults.{IfDamaged, IfDevice};
 ghost use Rattle.blk_model.specs.Effects.{written};
 ghost use Rattle.blk_model.specs.Holding.{rest};
 ghost use Rattle.blk_model.specs.Request.{to_write};
-ghost use Rattle.blk_model.specs.Sizes.{longest_stream, most_stream, stream_count, stream_share};
+ghost use Rattle.blk_model.specs.Sizes.{longest_stream, most_stream};
 ghost use Rattle.blk_model.specs.State.{State};
 ghost use Rattle.blk_model.specs.declared.Answer.TheVariants as answer;
 ghost use Rattle.spec_folder.specs.Entries.{most_stream_bytes};
 ghost use Rattle.blk_disk.specs.Open.{IsOpen};
 ghost use Rattle.blk_disk.specs.Tables.{is_node_among};
-ghost use Rattle.blk_handles.specs.Bindings.{binding_of};
 ghost use Rattle.blk_lru.specs.Lists.{IsListed};
 ghost use Rattle.blk_stream.specs.Writing.{size_after};
 ghost use Rattle.law_state.specs.Changes.{Finds};

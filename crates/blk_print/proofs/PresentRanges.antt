@@ -1,6 +1,6 @@
 -- Bytes of an object that are all present, by the parts that have them.
-use Rattle.std.proofs.Common.{◌≡◌, ◌≢◌, Bool, false, ℕ, suc, ◌+◌, ◌-◌, ◌<◌, ◌≤◌, List, [], ◌++◌, length, take, drop, refl, ap, ap₂, sym, subst, ◌∙◌, arith, true, Option, Some, None, Result}
-use Rattle.std.specs.Prelude.{◌==◌, ◌/◌, ◌%◌, ◌&&◌, min, nat_le, take_while}
+use Rattle.std.proofs.Common.{◌≡◌, Bool, false, ℕ, ◌+◌, ◌-◌, ◌<◌, ◌≤◌, List, [], ◌++◌, length, take, drop, refl, ap, ap₂, sym, subst, ◌∙◌, arith, true, Option, Some, None, Result}
+use Rattle.std.specs.Prelude.{◌==◌, ◌/◌, ◌%◌, min, nat_le, take_while}
 use Rattle.std.proofs.lemmas.Bool.{eq-eqb, eqb-false, eqb-true, leb-false, leb-true}
 use Rattle.std.proofs.lemmas.List.{length-append, length-take, take_min}
 use Rattle.spec_image.specs.Image.{AreBytes, Image}

@@ -1,4 +1,4 @@
--- The words of the index that are repaired last: the counters, the number of the session, and the crash word.
+-- The words of the index that are repaired last: the counters, the version, the number of the session, and the crash word.
 use Rattle.std.specs.Prelude.{ℕ, ◌≡◌, ◌⊎◌, ◌+◌, ◌/◌, ◌%◌, ◌^◌, ◌==◌, ◌&&◌, if◌then◌else◌, nat_le, Bool, List, [], ◌∷◌, ◌++◌, length, false}
 use Rattle.std.specs.List.{sum_by}
 use Rattle.spec_image.specs.Image.{Image, Index, byte, same_file, word}

@@ -1,5 +1,5 @@
 // A session: the lines of an input are played on a folder.
-ghost use Rattle.std.specs.Prelude.{◌≡◌, ◌≢◌, ◌≤◌, ◌<◌, ◌+◌, ◌*◌, List, [], ℕ, length, IfOk, OnOk, None, Option, Some};
+ghost use Rattle.std.specs.Prelude.{◌≡◌, ◌≢◌, ◌≤◌, ◌<◌, ◌+◌, ◌*◌, List, [], ℕ, length, IfOk, Option, Some};
 ghost use Rattle.std.specs.Option.{ForSome, option_map};
 ghost use Rattle.spec_image.specs.Image.{Image};
 ghost use Rattle.spec_image.specs.Checks.{Damage as check_damage};
@@ -20,7 +20,7 @@ ghost use Rattle.blk_run.specs.Failing.{IsCommandDamage, IsDamagedRun, IsFailedS
 ghost use Rattle.blk_run.specs.Inputs.{IsTakenUpTo};
 ghost use Rattle.blk_run.specs.Pending.{HoldsLine, pending};
 ghost use Rattle.blk_run.specs.Playing.{SoFar, StandsAt};
-ghost use Rattle.blk_run.specs.Session.{IsComplete, IsDamagedBy, OnDamage, Outside, Runs, Session};
+ghost use Rattle.blk_run.specs.Session.{IsComplete, IsDamagedBy, OnDamage, Runs, Session};
 ghost use Rattle.blk_run.specs.Statuses.{CauseOf, may_close, status_after};
 
 use crate::closing::close_all;

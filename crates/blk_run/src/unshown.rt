@@ -1,5 +1,5 @@
 // Commands whose replies aren't shown.
-ghost use Rattle.std.specs.Prelude.{◌≡◌, false, ◌≤◌, ◌+◌, ℕ, None};
+ghost use Rattle.std.specs.Prelude.{false, ◌≤◌, ◌+◌, ℕ, None};
 ghost use Rattle.std.specs.Option.{ForSome};
 ghost use Rattle.spec_image.specs.Told.{Rises};
 ghost use Rattle.blk_model.specs.Request.{request_of};

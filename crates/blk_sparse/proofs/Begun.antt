@@ -32,7 +32,7 @@ use Rattle.blk_object.proofs.GoingNext.{then-counters}
 use Rattle.blk_object.proofs.MakingTaken.{session-then}
 use Rattle.blk_object.proofs.OwnedCharges.{record-key}
 use Rattle.blk_sparse.specs.Beginning.{CanGetIndex, ForEachWithIndex, HasIndex, IsParentMarked, as_sparse, HasParentLength}
-use Rattle.blk_sparse.specs.SparseObjects.{CanBecomeSparse, ForEachPlain, KeepsParentThen, OthersLieAsBefore, with_signature}
+use Rattle.blk_sparse.specs.SparseObjects.{CanBecomeSparse, KeepsParentThen, OthersLieAsBefore, with_signature}
 use Rattle.blk_sparse.proofs.OthersLie.{changed-others, others-of, others-then}
 use Rattle.spec_folder.specs.Found.{row_with}
 use Rattle.blk_object.specs.Owning.{LoadsWith}

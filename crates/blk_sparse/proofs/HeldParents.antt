@@ -1,16 +1,12 @@
 -- An object with parts that a handle names: once all its items are out its record gets the state of a doomed one, and it is kept as one.
-use Rattle.std.proofs.Common.{◌≡◌, ℕ, List, ◌++◌, sym, ◌∙◌, subst, ap, Bool, true, Option, Some, None, Ok}
+use Rattle.std.proofs.Common.{◌≡◌, ℕ, List, ◌++◌, sym, subst, true, Option, Some}
 use Rattle.spec_image.specs.Image.{Image}
-use Rattle.spec_image.proofs.Runs.{some_inj}
-use Rattle.blk_model.specs.Effects.{doomed}
 use Rattle.blk_model.specs.Items.{main}
 use Rattle.blk_model.specs.State.{Object, State}
 use Rattle.spec_format.specs.Records.{entry_normal}
 use Rattle.spec_folder.specs.Layout.{Layout}
-use Rattle.spec_folder.specs.Loads.{Loaded}
 use Rattle.spec_folder.specs.Removal.{is_of_another}
 use Rattle.spec_folder.specs.Sound.{words_of}
-use Rattle.law_state.specs.Changes.{SameSession}
 use Rattle.blk_object.specs.Dooming.{IsDoomedOut, IsOutWhole}
 use Rattle.blk_object.specs.NextItems.{IsMainOut}
 use Rattle.blk_object.specs.UnlinkedLoads.{KeepsUnlinked, LiesUnlinked}

@@ -1,5 +1,5 @@
 -- The map of a part is read.
-use Rattle.std.proofs.Common.{◌≡◌, ℕ, List, map, length, take, refl, ap, sym, ◌∙◌, arith, Bool, true, false, Option, Some, None, take_all}
+use Rattle.std.proofs.Common.{◌≡◌, ℕ, List, length, take, refl, ap, sym, ◌∙◌, arith, Bool, true, false, Option, Some, None, take_all}
 use Rattle.std.specs.Prelude.{◌-◌, ◌==◌, ◌&&◌}
 use Rattle.std.specs.Option.{ForSome, option_map}
 use Rattle.std.proofs.lemmas.Bool.{eqb-true}

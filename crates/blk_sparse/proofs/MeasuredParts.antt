@@ -1,8 +1,7 @@
 -- Covered parts, as they are measured before a write.
-use Rattle.std.proofs.lemmas.Bool.Decides.{nat_tests}
-use Rattle.std.proofs.Common.{◌≡◌, ℕ, ◌+◌, ◌-◌, ◌*◌, ◌/◌, ◌%◌, ◌≤◌, ◌<◌, List, [], ◌∷◌, length, take, true, Option, None, Some, refl, sym, ◌∙◌, ap, ap₂, subst, arith}
+use Rattle.std.proofs.Common.{◌≡◌, ℕ, ◌+◌, ◌-◌, ◌/◌, ◌%◌, ◌≤◌, ◌<◌, List, [], ◌∷◌, length, take, true, Option, None, Some, refl, sym, ◌∙◌, ap, ap₂, subst, arith}
 use Rattle.std.proofs.lemmas.List.{take-take}
-use Rattle.std.specs.Prelude.{IfSome, if◌then◌else◌, is_some, max, slice_index, sum_by, unwrap_or}
+use Rattle.std.specs.Prelude.{IfSome, max, slice_index, sum_by, unwrap_or}
 use Rattle.std.specs.Option.{option_and_then, option_map, option_map_or}
 use Rattle.spec_image.specs.Image.{Image}
 use Rattle.spec_image.proofs.Runs.{some_inj}
@@ -17,7 +16,7 @@ use Rattle.spec_folder.specs.Entries.{IsParent, IsPart, IsPlain, Role, stream}
 use Rattle.spec_folder.specs.Found.{charge_of, row_of_loaded, row_with}
 use Rattle.spec_folder.specs.Layout.{Layout, rule_of}
 use Rattle.spec_folder.specs.Loads.{Loaded}
-use Rattle.spec_folder.specs.View.{RecordFields, data_size_of, entry_at, fields_of, store_of, view_of}
+use Rattle.spec_folder.specs.View.{RecordFields, entry_at, fields_of, store_of, view_of}
 use Rattle.law_folder.proofs.chains.ChainWords.{shown-fields}
 use Rattle.law_folder.proofs.states.Charges.{items-charged, part-names}
 use Rattle.law_folder.proofs.states.Settling.{main-owned}

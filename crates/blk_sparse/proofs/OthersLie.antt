@@ -5,7 +5,7 @@ use Rattle.std.proofs.lemmas.Bool.{eqb-true}
 use Rattle.spec_image.specs.Image.{Image}
 use Rattle.spec_image.proofs.Runs.{some_inj}
 use Rattle.blk_model.specs.Holding.{owner}
-use Rattle.blk_model.specs.Items.{Item, key_of, main, part}
+use Rattle.blk_model.specs.Items.{Item, key_of, main}
 use Rattle.blk_model.specs.State.{Object, State, object_at}
 use Rattle.spec_format.specs.BlockFiles.{is_among}
 use Rattle.spec_folder.specs.Layout.{IsDoomedAt, IsPlacedAt, Layout, is_listed, order}

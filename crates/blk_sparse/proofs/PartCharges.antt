@@ -1,13 +1,13 @@
 -- What a write to the parts of an object adds to its charge and to its items.
 use Rattle.std.proofs.lemmas.Bool.Decides.{nat_tests}
-use Rattle.std.proofs.Common.{◌≡◌, ℕ, zero, suc, ◌+◌, ◌-◌, ◌*◌, ◌/◌, ◌%◌, ◌≤◌, ◌<◌, List, [], ◌∷◌, length, take, drop, Bool, true, false, cond, Option, None, Some, T, refl, sym, ◌∙◌, ap, ap₂, subst, arith, length-take, length-drop}
-use Rattle.std.specs.Prelude.{◌==◌, ◌&&◌, is_some, max, min, nat_lt, sum_by, unwrap_or}
+use Rattle.std.proofs.Common.{◌≡◌, ℕ, suc, ◌+◌, ◌-◌, ◌/◌, ◌%◌, ◌≤◌, ◌<◌, List, [], ◌∷◌, length, take, drop, Bool, true, false, cond, Option, None, Some, T, refl, sym, ◌∙◌, ap, ap₂, arith, length-take, length-drop}
+use Rattle.std.specs.Prelude.{◌==◌, ◌&&◌, is_some, max, nat_lt, sum_by, unwrap_or}
 use Rattle.std.specs.Bool.{passes}
 use Rattle.std.specs.Cmp.{nat_cmp_total, unsigned_tied}
 use Rattle.std.specs.FinMap.{find, is_sorted, put}
 use Rattle.std.specs.FinMap.Entries.{by_order, find-put, is_sorted-put, length-put}
 use Rattle.std.specs.Option.{option_map_or}
-use Rattle.std.specs.Ordering.{eq_by_cmp, is_eq, nat_cmp}
+use Rattle.std.specs.Ordering.{is_eq, nat_cmp}
 use Rattle.std.specs.declared.cmp.Ordering.{Ordering}
 use Rattle.std.specs.declared.cmp.Ordering.TheVariants.{Equal, Greater, Less}
 use Rattle.std.proofs.lemmas.Bool.{eqb-true, ltb-false}

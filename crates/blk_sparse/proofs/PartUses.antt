@@ -1,9 +1,9 @@
 -- The use of a listed item, by the node that its record names.
-use Rattle.std.proofs.Common.{refl, ◌≡◌, inl, inr, ℕ, ◌+◌, ◌<◌, List, ◌∷◌, ◌++◌, ap, sym, ◌∙◌, subst, arith, Bool, true, false, Some, Ok}
+use Rattle.std.proofs.Common.{refl, ◌≡◌, inl, inr, ℕ, ◌+◌, List, ◌∷◌, ◌++◌, ap, sym, ◌∙◌, subst, Bool, true, false, Some, Ok}
 use Rattle.std.specs.Prelude.{nat_lt, if◌then◌else◌, ◌==◌}
 use Rattle.std.specs.Option.{ForSome}
 use Rattle.std.proofs.lemmas.Bool.{eqb-true, eq-eqb}
-use Rattle.spec_image.specs.Image.{Image, Index, byte}
+use Rattle.spec_image.specs.Image.{Image}
 use Rattle.spec_image.specs.Told.{Applies, Passes, TellsBytes, Told}
 use Rattle.spec_image.proofs.Runs.{passes_weaker, some_inj}
 use Rattle.blk_model.specs.Holding.{rest}

@@ -6,7 +6,7 @@ use Rattle.std.proofs.lemmas.Bool.{eqb-true, ltb-true}
 use Rattle.std.proofs.lemmas.List.{length-map}
 use Rattle.spec_image.specs.Image.{Image}
 use Rattle.blk_model.specs.Bytes.{numbers_from}
-use Rattle.blk_model.specs.Items.{IsPartValue, PartValue, Presence, is_block_present, part}
+use Rattle.blk_model.specs.Items.{IsPartValue, PartValue, Presence, is_block_present}
 use Rattle.blk_model.specs.Sparse.{byte_in, first_run, is_present_in, piece_in, up_to_missing}
 use Rattle.blk_model.specs.State.{Object, part_at}
 use Rattle.spec_format.specs.SparseIndex.{PartIndex}

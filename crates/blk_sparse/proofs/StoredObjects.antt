@@ -1,5 +1,5 @@
 -- Sparse data are written to an open object: its main item is used, it gets an index, and the bytes are written and counted.
-use Rattle.std.proofs.Common.{◌≡◌, inl, inr, ℕ, ◌+◌, ◌<◌, ◌≤◌, ◌^◌, List, [], ◌∷◌, length, set, Bool, true, false, Option, Some, None, Result, refl, sym, ◌∙◌, ap, ap₂, subst, arith}
+use Rattle.std.proofs.Common.{◌≡◌, inl, inr, ℕ, ◌<◌, ◌^◌, List, [], ◌∷◌, length, true, false, Option, Some, None, Result, refl, sym, ◌∙◌, ap, subst, arith}
 use Rattle.std.specs.Prelude.{IfSome}
 use Rattle.std.specs.Option.{ForSome}
 use Rattle.std.proofs.lemmas.List.Sums.{sum_by-set}
@@ -9,34 +9,36 @@ use Rattle.spec_image.proofs.Runs.{passes_end, passes_then, passes_weaker, some_
 use Rattle.blk_io.specs.Faults.{IfDamaged}
 use Rattle.blk_io.specs.declared.fault.Fault.{Fault}
 use Rattle.blk_io.proofs.Carried.{if_damaged_weaker}
-use Rattle.blk_model.specs.Effects.{used, used_all, with_slot}
+use Rattle.blk_model.specs.Effects.{used, used_all}
 use Rattle.blk_model.specs.Holding.{rest}
-use Rattle.blk_model.specs.Items.{Item, Row, Shape, main, sparse}
-use Rattle.blk_model.specs.Room.{item_count, items, of_slot, total}
+use Rattle.blk_model.specs.Items.{Row, Shape, main}
+use Rattle.blk_model.specs.Room.{item_count, items, of_slot}
 use Rattle.blk_model.specs.Sparse.{covered_parts}
 use Rattle.blk_model.specs.State.{Object, State, object_at}
 use Rattle.blk_model.proofs.Each.{some_within}
-use Rattle.spec_format.specs.Headers.{crash_of, this_id_of}
+use Rattle.spec_format.specs.Headers.{this_id_of}
 use Rattle.spec_folder.specs.Layout.{Layout}
 use Rattle.spec_folder.specs.Loads.{Loaded}
 use Rattle.law_folder.proofs.states.Settling.{main-listed}
 use Rattle.blk_stream.proofs.Joined.{IsTold, told_then}
-use Rattle.law_state.specs.Changes.{Finds, KeepsWith, SameCounters, SameSession}
+use Rattle.law_state.specs.Changes.{Finds, KeepsWith, SameSession}
 use Rattle.law_state.specs.CommandStates.{amidst}
 use Rattle.law_state.specs.Keeping.{CountsItems, Keeps, KeepsUncounted}
 use Rattle.law_state.specs.ListLaws.{with_used}
 use Rattle.law_state.specs.PartStates.{with_object}
-use Rattle.law_state.proofs.Dirtying.{set-at, set-else}
+use Rattle.law_state.proofs.Dirtying.{set-else}
 use Rattle.law_state.proofs.Keeping.{kept-found}
-use Rattle.blk_object.specs.Counters.{AreCountedMore, AreMoreItems}
+use Rattle.blk_object.specs.Counters.{AreMoreItems}
+use Rattle.blk_object.specs.Writing.{IsRisen}
 use Rattle.blk_object.proofs.CounterWords.{more-counted}
 use Rattle.blk_object.proofs.Counts.{still-counts}
+use Rattle.blk_object.proofs.RisenCounters.{rises-counted}
 use Rattle.blk_object.proofs.GoingNext.{then-counters}
 use Rattle.blk_object.proofs.MakingRoom.{uses-few}
 use Rattle.blk_object.proofs.MakingTaken.{session-then}
 use Rattle.blk_sparse.specs.Parts.{FindsBeforeOrAfter, ForEachListedAt, IsListedAt, IsUsed}
-use Rattle.blk_sparse.specs.SparseObjects.{CanBecomeSparse, CanGetParts, ForEachGrowing, ForEachPlain, KeepsParent, KeepsParentThen, OthersLieAsBefore, missing_parts, parts_of, with_bytes, with_bytes_written, with_signature}
-use Rattle.blk_sparse.specs.SparseWrites.{CanBeStored, CountsAfter, ForEachTarget, IsCountedThen, IsKeptWithBytes, IsTarget, object_written, signature_to, sparse_state, with_parent_used}
+use Rattle.blk_sparse.specs.SparseObjects.{CanBecomeSparse, CanGetParts, ForEachGrowing, ForEachPlain, KeepsParent, KeepsParentThen, OthersLieAsBefore, parts_of, with_bytes, with_bytes_written, with_signature}
+use Rattle.blk_sparse.specs.SparseWrites.{AreItemsCounted, CanBeStored, CountsAfter, ForEachTarget, IsCountedThen, IsKeptWithBytes, IsTarget, object_written, signature_to, sparse_state, with_parent_used}
 use Rattle.blk_sparse.specs.declared.storing.Target.{Target}
 use Rattle.blk_sparse.proofs.Begun.{set-twice}
 use Rattle.blk_sparse.proofs.MoreItems.{more-listed}
@@ -141,6 +143,19 @@ same-session state layout unlinked number object was mid image k l here live loo
     let marked-now : was.dirty ≡ this_id_of (byte image Index) = subst (λ (o : Option Loaded). IfSome o (λ x. x.dirty ≡ this_id_of (byte image Index))) lies (l.session.marked number object here live loose) in
     record { crash = l.session.crash ∙ sym k.session.crash; id = sym marked-now ∙ marked-was }
 
+-- no item more, and more charge, is a rise of the charges
+items-risen : (state after : State) (layout now : Layout) (entries charge : ℕ) → entries ≡ 0 → AreMoreItems state after layout now entries charge → IsRisen state after layout now 0 charge
+items-risen state after layout now entries charge none more = record {
+  items = let items = more.items in omega (arith, none, items);
+  bytes = let bytes = more.bytes in omega (arith, bytes);
+}
+
+-- all counters are written, or the sum alone
+items-counted : (state after : State) (layout now : Layout) (unlinked : List ℕ) (entries charge : ℕ) (from image : Image) → CountsItems from state layout → AreMoreItems state after layout now entries charge → KeepsUncounted after now unlinked from → length after.uses < 2 ^ 32
+    → AreItemsCounted entries charge from image → Keeps after now unlinked image
+items-counted state after layout now unlinked entries charge from image counts more kept few (inl all) = more-counted state after layout now unlinked entries charge from image counts more kept few all
+items-counted state after layout now unlinked entries charge from image counts more kept few (inr (none, rise)) = rises-counted state after layout now unlinked 0 charge from image counts (items-risen state after layout now entries charge none more) kept rise
+
 module _ (state : State) (layout : Layout) (unlinked : List ℕ) (number : ℕ) (object : Object) (node entry signature : ℕ) (from mid image : Image) (k : KeepsParentThen state layout unlinked number object node entry signature from mid) (loose : object.settled ≡ false)
     (kept : KeepsWith [] [] mid image) where
   counted-kept : KeepsUncounted state k.now unlinked image
@@ -149,9 +164,9 @@ module _ (state : State) (layout : Layout) (unlinked : List ℕ) (number : ℕ) 
   pub count-finds : Finds (rest state) image
   count-finds = (counted-kept.well_formed, kept-found state k.now unlinked image counted-kept)
 
-  pub then-counted : (counted : State) (laid : Layout) (entries charge : ℕ) → CountsAfter counted laid state entries charge from → AreCountedMore entries charge mid image → IsCountedThen state layout unlinked number object node entry signature from image
+  pub then-counted : (counted : State) (laid : Layout) (entries charge : ℕ) → CountsAfter counted laid state entries charge from → AreItemsCounted entries charge mid image → IsCountedThen state layout unlinked number object node entry signature from image
   then-counted counted laid entries charge c more =
-      let all : Keeps state k.now unlinked image = more-counted counted state laid k.now unlinked entries charge mid image (still-counts from mid counted laid k.counters c.counts) (c.more k.now unlinked mid k.parent.kept) k.parent.kept (c.few k.now unlinked mid k.parent.kept) more in
+      let all : Keeps state k.now unlinked image = items-counted counted state laid k.now unlinked entries charge mid image (still-counts from mid counted laid k.counters c.counts) (c.more k.now unlinked mid k.parent.kept) k.parent.kept (c.few k.now unlinked mid k.parent.kept) more in
       record {
         now = k.now;
         parent = record { kept = all.entries; here = k.parent.here; live = k.parent.live; node_is = k.parent.node_is; was = k.parent.was; lies = k.parent.lies; record_is = k.parent.record_is; index = k.parent.index; role = k.parent.role; same = k.parent.same };
@@ -296,7 +311,7 @@ module _ (offset : ℕ) (bytes : List ℕ) (a m b : Told) (from : Image) (there 
       (count-finds (with_bytes_written state number object offset bytes) layout unlinked number (with_bytes object offset bytes) node entry signature from told.image i w can.unsettled k) in
       passes_then first (passes_weaker (kept told.image told.is) may may)
 
-  pub count-ends : ForSome m.files (λ i. Passes m b (KeepsWith [] [] i)) → (entries charge : ℕ) → ForSome m.files (λ i. ForSome b.files (AreCountedMore entries charge i)) → (counted : State) (laid : Layout) → CountsAfter counted laid (with_bytes_written state number object offset bytes) entries charge from
+  pub count-ends : ForSome m.files (λ i. Passes m b (KeepsWith [] [] i)) → (entries charge : ℕ) → ForSome m.files (λ i. ForSome b.files (AreItemsCounted entries charge i)) → (counted : State) (laid : Layout) → CountsAfter counted laid (with_bytes_written state number object offset bytes) entries charge from
       → ForSome b.files (IsCountedThen (with_bytes_written state number object offset bytes) layout unlinked number (with_bytes object offset bytes) node entry signature from)
   count-ends kept entries charge more counted laid c image is =
       then-counted (with_bytes_written state number object offset bytes) layout unlinked number (with_bytes object offset bytes) node entry signature from told.image image w can.unsettled (passes_end (kept told.image told.is) image is) counted laid entries charge c (more told.image told.is image is)

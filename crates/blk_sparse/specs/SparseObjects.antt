@@ -16,7 +16,7 @@ use Rattle.spec_folder.specs.Loads.{Loaded}
 use Rattle.law_state.specs.Changes.{Finds, SameCounters, SameSession}
 use Rattle.law_state.specs.CommandStates.{amidst, in_order}
 use Rattle.law_state.specs.Keeping.{CountsItems, KeepsUncounted}
-use Rattle.law_state.specs.PartStates.{with_object, with_value}
+use Rattle.law_state.specs.PartStates.{with_value}
 use Rattle.blk_object.specs.Writing.{node_of_object}
 
 -- Parents.

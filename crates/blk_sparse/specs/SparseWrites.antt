@@ -1,5 +1,5 @@
 -- Sparse data are written to a live object, plain or with parts: its items are used, and all is counted.
-use Rattle.std.specs.Prelude.{◌≡◌, ℕ, ◌+◌, ◌<◌, ◌≤◌, ◌^◌, List, [], ◌∷◌, false, length, true}
+use Rattle.std.specs.Prelude.{◌≡◌, ◌⊎◌, ℕ, ◌+◌, ◌<◌, ◌≤◌, ◌^◌, List, [], ◌∷◌, false, length, true}
 use Rattle.std.specs.Int.{cast_unsigned, w64}
 use Rattle.std.specs.declared.option.Option.TheVariants.{Some}
 use Rattle.spec_image.specs.Image.{Image}
@@ -17,8 +17,8 @@ use Rattle.law_state.specs.Changes.{SameSession}
 use Rattle.law_state.specs.CommandStates.{amidst}
 use Rattle.law_state.specs.Keeping.{CountsItems, Keeps, KeepsUncounted}
 use Rattle.law_state.specs.ListLaws.{with_used}
-use Rattle.blk_object.specs.Counters.{AreMoreItems}
-use Rattle.blk_sparse.specs.declared.children.Parent.{Parent}
+use Rattle.blk_object.specs.Counters.{AreCountedMore, AreMoreItems}
+use Rattle.blk_object.specs.Writing.{IsRiseCounted}
 use Rattle.blk_sparse.specs.declared.storing.Target.{Target}
 use Rattle.blk_sparse.specs.SparseObjects.{KeepsParent, OthersLieAsBefore, missing_parts, parts_of, with_bytes, with_signature}
 
@@ -75,6 +75,10 @@ pub record CountsAfter (counted : State) (laid : Layout) (after : State) (entrie
   pub counts : CountsItems image counted laid
   pub more : (now : Layout) (unlinked : List ℕ) (end : Image) → KeepsUncounted after now unlinked end → AreMoreItems counted after laid now entries charge
   pub few : (now : Layout) (unlinked : List ℕ) (end : Image) → KeepsUncounted after now unlinked end → length after.uses < 2 ^ 32
+
+-- so many items more are counted, and so much more charge: where no item is new, the sum of the charges alone is written
+abbrev pub AreItemsCounted : (entries charge : ℕ) → (from image : Image) → Type 0
+AreItemsCounted entries charge from image = AreCountedMore entries charge from image ⊎ ((entries ≡ 0) × IsRiseCounted 0 charge from image)
 
 -- a state is kept and counted then, in which the number has this object, with the same main item as a parent, and each other object lies where it lay in a layout; the session is as it was
 pub record IsCountedThen (state : State) (old : Layout) (unlinked : List ℕ) (number : ℕ) (object : Object) (node entry signature : ℕ) (from image : Image) : Type 0 where

@@ -2,7 +2,7 @@
 ghost use Rattle.std.specs.Prelude.{◌≡◌, ◌≤◌, ◌<◌, ◌+◌, [], ◌∷◌, IfOk, IsTrue, None, OnOk, length, take};
 ghost use Rattle.std.specs.Int.{cast_unsigned, w64};
 ghost use Rattle.std.specs.Option.{ForSome};
-ghost use Rattle.spec_image.specs.Told.{Passes, Rises, Stays};
+ghost use Rattle.spec_image.specs.Told.{Passes, Rises};
 ghost use Rattle.blk_model.specs.Effects.{existing_parts};
 ghost use Rattle.blk_model.specs.Sizes.{largest_offset, longest_key, part_count, part_size, signatures};
 ghost use Rattle.blk_model.specs.Sparse.{present_run, sparse_bytes};

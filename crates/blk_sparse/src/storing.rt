@@ -14,10 +14,10 @@ ghost use Rattle.blk_io.specs.Faults.{IfDamaged, IfDevice};
 ghost use Rattle.blk_disk.specs.Open.{IsOpen};
 ghost use Rattle.blk_disk.specs.Tables.{stands_among};
 ghost use Rattle.blk_alloc.specs.Extending.{KeepsStanding};
-ghost use Rattle.law_state.specs.Changes.{Finds};
+ghost use Rattle.law_state.specs.Changes.{Finds, KeepsWith};
 ghost use Rattle.blk_object.specs.FailedChecks.{IsFailedCheck};
 ghost use Rattle.blk_sparse.specs.SparseObjects.{ForEachGrowing, KeepsParentThen, with_bytes, with_bytes_written, with_signature};
-ghost use Rattle.blk_sparse.specs.SparseWrites.{CountsAfter, ForEachTarget, ForEachToStore, IsCountedThen, IsKeptWithBytes, signature_to, with_parent_used};
+ghost use Rattle.blk_sparse.specs.SparseWrites.{AreItemsCounted, CountsAfter, ForEachTarget, ForEachToStore, IsCountedThen, IsKeptWithBytes, signature_to, with_parent_used};
 
 use crate::beginning::begin;
 use crate::children::Parent;
@@ -25,7 +25,7 @@ use crate::parts::use_entry;
 use crate::writing::write;
 use blk_disk::BlockFiles;
 use blk_io::{Fault, Folder};
-use blk_object::count_more;
+use blk_object::{count_more, count_rise};
 
 /// An object to which sparse data are written: its record, its node and the signature of its parts, which a plain one
 /// gets; and whether it is plain.
@@ -150,5 +150,30 @@ fn write_and_count<F: Folder>(
     ensures device { IfDevice result (Rises (F.faults folder.old) (F.faults folder.new)) }
 {
     write(folder, files, parent, name, offset, bytes, moment)?;
-    count_more(folder, files, entries, charge)
+    count_items(folder, files, entries, charge)
+}
+
+// Counts so many items more in the index, and so much more charge: where no item is new, the sum of the charges alone,
+// by two folder calls, and else by six.
+fn count_items<F: Folder>(
+    folder: &mut F,
+    files: &BlockFiles,
+    entries: u64,
+    charge: u64,
+) -> Result<(), Fault>
+    requires is_open { ForSome (F.told folder.old).files (IsOpen files.now) }
+    ensures counted { OnOk result (ForSome (F.told folder.old).files (λ from. ForSome (F.told folder.new).files (AreItemsCounted entries charge from))) }
+    ensures stops { ForSome (F.told folder.old).files (λ from. Passes (F.told folder.old) (F.told folder.new) (KeepsWith [] [] from)) }
+    ensures is_open { ForSome (F.told folder.new).files (IsOpen files.now) }
+    ensures damaged { IfDamaged result (IsFailedCheck files.now (F.told folder.new)) }
+    ensures untold { IfDamaged result (λ _. (F.told folder.old).files ≡ None) }
+    ensures silent { (F.told folder.old).files ≡ None → (F.told folder.new).files ≡ None }
+    ensures later { F.faults folder.old ≤ F.faults folder.new }
+    ensures device { IfDevice result (Rises (F.faults folder.old) (F.faults folder.new)) }
+{
+    if entries == 0 {
+        count_rise(folder, files, 0, charge)
+    } else {
+        count_more(folder, files, entries, charge)
+    }
 }

@@ -3,7 +3,6 @@ use Rattle.std.specs.Option.{ForSome}
 use Rattle.std.specs.Int.{cast_unsigned, w64}
 use Rattle.std.proofs.lemmas.Int.{of_z-to_z}
 use Rattle.std.proofs.lemmas.Result.{on_ok_weaker}
-use Rattle.spec_image.specs.Image.{Image}
 use Rattle.spec_image.specs.Told.{Told}
 use Rattle.spec_image.proofs.Runs.{passes_none, passes_stayed, some_inj}
 use Rattle.blk_io.proofs.Carried.{carried, if_damaged_weaker}
@@ -13,7 +12,6 @@ use Rattle.law_state.specs.Changes.{Finds}
 use Rattle.law_state.proofs.Keeping.{kept-found}
 use Rattle.blk_sparse.specs.Beginning.{HasIndex, HasParentLength}
 use Rattle.blk_sparse.proofs.Begun.{has-length}
-use Rattle.blk_sparse.proofs.beginning.begin.Given.{Over}
 use Rattle.blk_sparse.proofs.beginning.begin.Goals as goal
 
 pub returns-in_err-key_len-clause-stops : goal.returns-in_err-key_len-clause-stops

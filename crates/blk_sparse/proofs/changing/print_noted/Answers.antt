@@ -1,4 +1,4 @@
-use Rattle.std.proofs.Common.{◌≡◌, ◌+◌}
+use Rattle.std.proofs.Common.{◌+◌}
 use Rattle.blk_sparse.proofs.ChangedUsed.{noted-map}
 use Rattle.blk_sparse.proofs.changing.print_noted.Goals as goal
 

@@ -1,4 +1,4 @@
-use Rattle.std.proofs.Common.{◌≡◌, ◌∙◌, sym, arith, None, Err, refl}
+use Rattle.std.proofs.Common.{◌≡◌, None, Err, refl}
 use Rattle.blk_entry.proofs.KeyPlaces.{damaged_any, err_damaged}
 use Rattle.blk_io.proofs.Carried.{carried, untold_where}
 use Rattle.blk_object.proofs.OwnedPlaces.{loaded-checks}

@@ -3,7 +3,7 @@ use Rattle.std.specs.Prelude.{Some}
 use Rattle.std.specs.Int.{cast_unsigned, w64}
 use Rattle.std.proofs.lemmas.Int.{of_z-to_z}
 use Rattle.spec_image.proofs.Runs.{some_inj}
-use Rattle.spec_format.specs.Names.{Name, child_name}
+use Rattle.spec_format.specs.Names.{child_name}
 use Rattle.blk_io.proofs.Carried.{carried}
 use Rattle.blk_chain.specs.Finding.{CanBeSearched}
 use Rattle.blk_object.proofs.DamageChecks.{handed, moved, search-checked}

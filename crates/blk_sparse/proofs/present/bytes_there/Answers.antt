@@ -1,4 +1,4 @@
-use Rattle.std.proofs.Common.{◌≡◌, ◌∙◌, ◌++◌, ℕ, ap, drop, length, length-take, sym, subst, take, arith, List, None}
+use Rattle.std.proofs.Common.{◌≡◌, ◌∙◌, ℕ, ap, drop, length, length-take, sym, subst, take, arith, None}
 use Rattle.std.proofs.lemmas.Result.{IfOk-weaker}
 use Rattle.spec_image.specs.Told.{Told}
 use Rattle.blk_io.specs.Faults.{IfDamaged}

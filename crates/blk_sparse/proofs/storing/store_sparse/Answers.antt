@@ -1,7 +1,7 @@
 use Rattle.std.proofs.Common.{◌≡◌, None}
 use Rattle.std.proofs.lemmas.Result.{on_ok_weaker}
 use Rattle.blk_io.proofs.Carried.{carried}
-use Rattle.blk_sparse.proofs.StoredObjects.{all-ends, all-stops, all-untold, begins, to-begin}
+use Rattle.blk_sparse.proofs.StoredObjects.{all-ends, all-stops, all-untold, to-begin}
 use Rattle.blk_sparse.proofs.storing.store_sparse.Goals as goal
 
 pub returns-in_err-use_and_begin-clause-stops : goal.returns-in_err-use_and_begin-clause-stops

@@ -1,4 +1,4 @@
-use Rattle.std.proofs.Common.{◌≡◌, None, Some, refl, sym, ◌∙◌, ap, subst, arith, true, false}
+use Rattle.std.proofs.Common.{◌≡◌, None, refl, ◌∙◌, ap, arith, true, false}
 use Rattle.std.specs.Prelude.{is_some}
 use Rattle.blk_io.proofs.Carried.{carried}
 use Rattle.blk_model.specs.Request.{to_doom}

@@ -1,4 +1,4 @@
-use Rattle.std.proofs.Common.{rules, ◌≡◌, ◌<◌, ℕ, [], None, Some, Option, refl, sym, ◌∙◌, ap, subst, arith, true, false}
+use Rattle.std.proofs.Common.{rules, ◌≡◌, ◌<◌, ℕ, [], None, Option, refl, sym, ◌∙◌, ap, subst, arith, true, false}
 use Rattle.std.specs.Option.{ForSome}
 use Rattle.std.proofs.lemmas.List.Elements.{All-from_get_or}
 use Rattle.spec_image.specs.Told.{Told}

@@ -1,11 +1,11 @@
-use Rattle.std.proofs.Common.{rules, ◌≡◌, ◌∙◌, sym, subst, [], List, None, true, false}
+use Rattle.std.proofs.Common.{rules, ◌≡◌, ◌∙◌, sym, subst, List, None, true, false}
 use Rattle.std.specs.Prelude.{◌==◌, ◌&&◌, ◌||◌}
 use Rattle.std.specs.Option.{ForSome}
 use Rattle.spec_image.specs.Told.{Passes}
 use Rattle.spec_image.proofs.Runs.{some_inj}
 use Rattle.blk_io.proofs.Carried.{carried}
 use Rattle.blk_io.specs.Streams.{Appends}
-use Rattle.blk_model.specs.Refusals.{evicted_for, is_full}
+use Rattle.blk_model.specs.Refusals.{evicted_for}
 use Rattle.blk_model.specs.Room.{Group, fits, room, without}
 use Rattle.blk_script.specs.Reply.{evicted_text}
 use Rattle.blk_cache.specs.CacheKeeping.{KeepsState}

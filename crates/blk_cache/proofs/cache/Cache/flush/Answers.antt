@@ -7,7 +7,7 @@ use Rattle.law_state.proofs.Stopping.{nothing-stops, refusals-done}
 use Rattle.blk_cache.specs.CacheKeeping.{KeepsState}
 use Rattle.blk_cache.proofs.CloseSteps.{free-there}
 use Rattle.blk_cache.proofs.DoomSteps.{bound-object}
-use Rattle.blk_cache.proofs.FlushSteps.{flush-done, flush-refused, flush-stops, flush-unbound}
+use Rattle.blk_cache.proofs.FlushSteps.{flush-done, flush-idle, flush-refused, flush-stops, flush-unbound}
 use Rattle.blk_cache.proofs.Refusing.{says-kept}
 use Rattle.blk_cache.proofs.cache.Cache.flush.Goals as goal
 
@@ -35,6 +35,10 @@ pub returns-in_err-set_dirty-clause-stops : goal.returns-in_err-set_dirty-clause
 returns-in_err-set_dirty-clause-stops g c moment =
     flush-stops c.args.self.now c.args.handle (omega (arith, c.ranges.handle.fits)) c.in-Some.object (bound-object c.args.self.now.handles c.args.handle c.object.result c.in-Some.object c.object.ensures.object c.in-Some.is) c.if-object.false (g.F.Folder.told c.args.folder.now) (g.F.Folder.told c.set_dirty.new.folder) moment c.in_err-set_dirty.ensures.stops
 
+pub returns-in_err-set_dirty-clause-idle : goal.returns-in_err-set_dirty-clause-idle
+returns-in_err-set_dirty-clause-idle g c =
+    flush-idle c.args.self.now c.args.handle (omega (arith, c.ranges.handle.fits)) c.in-Some.object (bound-object c.args.self.now.handles c.args.handle c.object.result c.in-Some.object c.object.ensures.object c.in-Some.is) (g.F.Folder.told c.args.folder.now) (g.F.Folder.told c.set_dirty.new.folder) c.in_err-set_dirty.ensures.idle
+
 pub returns-in_err-set_dirty-clause-untold : goal.returns-in_err-set_dirty-clause-untold
 returns-in_err-set_dirty-clause-untold g c any =
     carried c.set_dirty.result c.from_residual.result c.in_err-set_dirty.field-0.0 (λ _. (g.F.Folder.told c.args.folder.now).files ≡ None) c.in_err-set_dirty.was c.from_residual.ensures.1 (c.set_dirty.ensures.untold any)
@@ -46,3 +50,7 @@ returns-clause-does g c moment =
 pub returns-clause-stops : goal.returns-clause-stops
 returns-clause-stops g c moment =
     flush-stops c.args.self.now c.args.handle (omega (arith, c.ranges.handle.fits)) c.in-Some.object (bound-object c.args.self.now.handles c.args.handle c.object.result c.in-Some.object c.object.ensures.object c.in-Some.is) c.if-object.false (g.F.Folder.told c.args.folder.now) (g.F.Folder.told c.set_dirty.new.folder) moment c.in_ok-set_dirty.ensures.stops
+
+pub returns-clause-idle : goal.returns-clause-idle
+returns-clause-idle g c =
+    flush-idle c.args.self.now c.args.handle (omega (arith, c.ranges.handle.fits)) c.in-Some.object (bound-object c.args.self.now.handles c.args.handle c.object.result c.in-Some.object c.object.ensures.object c.in-Some.is) (g.F.Folder.told c.args.folder.now) (g.F.Folder.told c.set_dirty.new.folder) c.in_ok-set_dirty.ensures.idle

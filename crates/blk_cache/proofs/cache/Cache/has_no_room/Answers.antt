@@ -1,9 +1,6 @@
-use Rattle.std.proofs.Common.{◌≡◌, [], ◌∙◌, false, refl, subst, sym}
-use Rattle.spec_image.specs.Image.{Image}
+use Rattle.std.proofs.Common.{[], ◌∙◌, false, refl, subst, sym}
 use Rattle.blk_model.specs.Refusals.{is_full}
 use Rattle.blk_model.specs.Request.{to_create}
-use Rattle.blk_model.specs.Room.{room}
-use Rattle.blk_model.specs.State.{State}
 use Rattle.blk_model.specs.declared.Refusal.TheVariants as refusal
 use Rattle.law_state.proofs.Stopping.{nothing-stops, refusals-done}
 use Rattle.blk_cache.specs.CacheKeeping.{KeepsState}

@@ -1,13 +1,11 @@
-use Rattle.std.proofs.Common.{◌≡◌, List, [], None, sym, subst}
+use Rattle.std.proofs.Common.{◌≡◌, [], sym, subst}
 use Rattle.std.proofs.lemmas.Result.{on_ok_weaker}
 use Rattle.std.specs.Option.{ForSome}
 use Rattle.spec_image.specs.Told.{Passes}
 use Rattle.blk_io.specs.Streams.{Appends}
 use Rattle.blk_lru.proofs.Results.{if_ok_weaker}
-use Rattle.blk_model.specs.Items.{Item}
 use Rattle.blk_model.specs.Refusals.{evicted_for, is_full}
 use Rattle.blk_model.specs.Room.{room, without}
-use Rattle.blk_model.specs.State.{State}
 use Rattle.blk_script.specs.Reply.{evicted_text}
 use Rattle.blk_cache.specs.CacheKeeping.{KeepsState}
 use Rattle.blk_cache.specs.Covering.{AreCovered}

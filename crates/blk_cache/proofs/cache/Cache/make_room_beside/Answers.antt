@@ -1,17 +1,10 @@
-use Rattle.std.proofs.Common.{rules, ◌≡◌, ◌∙◌, sym, subst, [], List, None, true, false}
-use Rattle.std.specs.Prelude.{◌==◌, ◌&&◌, ◌||◌}
-use Rattle.std.specs.Option.{ForSome}
-use Rattle.spec_image.specs.Told.{Passes}
+use Rattle.std.proofs.Common.{rules, ◌≡◌, ◌∙◌, sym, subst, None, true, false}
 use Rattle.spec_image.proofs.Runs.{some_inj}
 use Rattle.blk_io.proofs.Carried.{carried}
-use Rattle.blk_io.specs.Streams.{Appends}
 use Rattle.blk_model.specs.Refusals.{evicted_for, is_full}
-use Rattle.blk_model.specs.Room.{Group, fits, room, without}
-use Rattle.blk_script.specs.Reply.{evicted_text}
+use Rattle.blk_model.specs.Room.{room}
 use Rattle.blk_cache.specs.CacheKeeping.{KeepsState}
-use Rattle.blk_cache.specs.Evicting.{IsEvicting}
-use Rattle.blk_evict.specs.RoomPrinting.{PrintsUnlessFailed}
-use Rattle.blk_cache.proofs.RoomMade.{full-none, none-goes, none-kept, none-printed-of, none-stops, wanted-goes}
+use Rattle.blk_cache.proofs.RoomMade.{full-none, none-kept, none-printed-of, none-stops}
 use Rattle.blk_cache.proofs.cache.Cache.make_room_beside.Goals as goal
 
 pub returns-then-is_full-clause-full : goal.returns-then-is_full-clause-full

@@ -8,6 +8,7 @@ use Rattle.blk_model.specs.declared.Command.{Command}
 use Rattle.law_state.specs.Commands.{Does, MayStopAtEach}
 use Rattle.law_state.proofs.Stopping.{nothing-stops}
 use Rattle.blk_cache.specs.CacheKeeping.{KeepsState}
+use Rattle.blk_cache.specs.CommandClauses.{FlushesClean}
 use Rattle.blk_cache.specs.Stepping.{SaysEvicted, SaysPrefix}
 use Rattle.blk_cache.proofs.CreateWhole.{on-ok}
 use Rattle.blk_cache.proofs.Refusing.{says-kept}
@@ -204,3 +205,51 @@ returns-in-SparseRange-clause-says g c = subst (λ (cmd : Command). OnOk c.use_s
 pub returns-in-SparseRange-clause-front : goal.returns-in-SparseRange-clause-front
 returns-in-SparseRange-clause-front g c = subst (λ (cmd : Command). SaysPrefix c.args.self.now (g.F.Folder.told c.args.folder.now) c.args.moment (request_of cmd) (g.K.Sink.written c.args.out.now) (g.K.Sink.written c.args.out.now)) (sym c.in-SparseRange.is)
     (prefix-nothing c.args.self.now (g.F.Folder.told c.args.folder.now) c.args.moment (to_sparse_range c.in-SparseRange.handle c.in-SparseRange.offset c.in-SparseRange.count) tt c.args.failed.now (g.K.Sink.written c.args.out.now))
+
+-- none but a Flush is one of what is settled
+
+pub returns-in-Create-clause-idle : goal.returns-in-Create-clause-idle
+returns-in-Create-clause-idle g c image there state k flushes = absurd (subst (λ (cmd : Command). FlushesClean state (request_of cmd)) c.in-Create.is flushes)
+
+pub returns-in-Open-clause-idle : goal.returns-in-Open-clause-idle
+returns-in-Open-clause-idle g c image there state k flushes = absurd (subst (λ (cmd : Command). FlushesClean state (request_of cmd)) c.in-Open.is flushes)
+
+pub returns-in-Read-clause-idle : goal.returns-in-Read-clause-idle
+returns-in-Read-clause-idle g c image there state k flushes = absurd (subst (λ (cmd : Command). FlushesClean state (request_of cmd)) c.in-Read.is flushes)
+
+pub returns-in-Write-clause-idle : goal.returns-in-Write-clause-idle
+returns-in-Write-clause-idle g c image there state k flushes = absurd (subst (λ (cmd : Command). FlushesClean state (request_of cmd)) c.in-Write.is flushes)
+
+pub returns-in-Size-clause-idle : goal.returns-in-Size-clause-idle
+returns-in-Size-clause-idle g c image there state k flushes = absurd (subst (λ (cmd : Command). FlushesClean state (request_of cmd)) c.in-Size.is flushes)
+
+pub returns-in-Doom-clause-idle : goal.returns-in-Doom-clause-idle
+returns-in-Doom-clause-idle g c image there state k flushes = absurd (subst (λ (cmd : Command). FlushesClean state (request_of cmd)) c.in-Doom.is flushes)
+
+pub returns-in-DoomKey-clause-idle : goal.returns-in-DoomKey-clause-idle
+returns-in-DoomKey-clause-idle g c image there state k flushes = absurd (subst (λ (cmd : Command). FlushesClean state (request_of cmd)) c.in-DoomKey.is flushes)
+
+pub returns-in-Close-clause-idle : goal.returns-in-Close-clause-idle
+returns-in-Close-clause-idle g c image there state k flushes = absurd (subst (λ (cmd : Command). FlushesClean state (request_of cmd)) c.in-Close.is flushes)
+
+pub returns-in-List-clause-idle : goal.returns-in-List-clause-idle
+returns-in-List-clause-idle g c image there state k flushes = absurd (subst (λ (cmd : Command). FlushesClean state (request_of cmd)) c.in-List.is flushes)
+
+pub returns-in-Trim-clause-idle : goal.returns-in-Trim-clause-idle
+returns-in-Trim-clause-idle g c image there state k flushes = absurd (subst (λ (cmd : Command). FlushesClean state (request_of cmd)) c.in-Trim.is flushes)
+
+pub returns-in-Total-clause-idle : goal.returns-in-Total-clause-idle
+returns-in-Total-clause-idle g c image there state k flushes = absurd (subst (λ (cmd : Command). FlushesClean state (request_of cmd)) c.in-Total.is flushes)
+
+pub returns-in-SparseWrite-clause-idle : goal.returns-in-SparseWrite-clause-idle
+returns-in-SparseWrite-clause-idle g c image there state k flushes = absurd (subst (λ (cmd : Command). FlushesClean state (request_of cmd)) c.in-SparseWrite.is flushes)
+
+pub returns-in-SparseRead-clause-idle : goal.returns-in-SparseRead-clause-idle
+returns-in-SparseRead-clause-idle g c image there state k flushes = absurd (subst (λ (cmd : Command). FlushesClean state (request_of cmd)) c.in-SparseRead.is flushes)
+
+pub returns-in-SparseRange-clause-idle : goal.returns-in-SparseRange-clause-idle
+returns-in-SparseRange-clause-idle g c image there state k flushes = absurd (subst (λ (cmd : Command). FlushesClean state (request_of cmd)) c.in-SparseRange.is flushes)
+
+pub returns-in-Flush-clause-idle : goal.returns-in-Flush-clause-idle
+returns-in-Flush-clause-idle g c image there state k flushes =
+    c.flush.ensures.idle image there state k (subst (λ (cmd : Command). FlushesClean state (request_of cmd)) c.in-Flush.is flushes)

@@ -1,4 +1,4 @@
-use Rattle.std.proofs.Common.{◌≡◌, List, ℕ, refl, sym, ap, subst, ◌∙◌, arith}
+use Rattle.std.proofs.Common.{◌≡◌, List, ℕ, refl, ap, subst, ◌∙◌}
 use Rattle.std.proofs.lemmas.Result.{on_ok_weaker}
 use Rattle.blk_model.specs.Reply.{gave}
 use Rattle.blk_disk.specs.Tables.{is_record_among}
@@ -7,7 +7,6 @@ use Rattle.blk_handles.specs.declared.open_object.OpenObject.{OpenObject}
 use Rattle.blk_print.specs.declared.present_printing.PresentRange.{PresentRange}
 use Rattle.blk_evict.specs.RoomPrinting.{PrintsUnlessFailed, PrintsInPart}
 use Rattle.blk_cache.proofs.DoomSteps.{bound-object}
-use Rattle.blk_evict.proofs.RoomTexts.{part-none}
 use Rattle.blk_cache.proofs.PresentReads.{has-present, same-bytes}
 use Rattle.blk_cache.proofs.cache.Cache.print_sparse.Goals as goal
 

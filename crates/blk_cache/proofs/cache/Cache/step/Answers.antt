@@ -8,9 +8,9 @@ use Rattle.blk_model.specs.Step.{step}
 use Rattle.law_state.specs.Commands.{ForKept, IsNoted, IsStepped, note_number}
 use Rattle.blk_object.specs.FailedChecks.{IsFailedCheck}
 use Rattle.blk_cache.specs.CacheKeeping.{KeepsState}
-use Rattle.blk_cache.specs.CommandClauses.{IsRefused}
+use Rattle.blk_cache.specs.CommandClauses.{FlushesClean, IsRefused}
 use Rattle.blk_cache.specs.Stepping.{IfStepDamaged}
-use Rattle.blk_cache.proofs.Notes.{not-noted, noted-does, noted-ends, noted-steps, open-on, refused-notes, same-files}
+use Rattle.blk_cache.proofs.Notes.{not-noted, noted-does, noted-ends, noted-steps, open-on, refused-notes, same-files, clean-notes}
 use Rattle.blk_cache.proofs.StepEnds.{any-damaged, by-files, damaged-on, failed-before, failed-behind, kept-behind, open-behind}
 use Rattle.blk_cache.proofs.StepTexts.{any-after, prefix-of-whole, prefix-printed, none-before, whole-printed}
 use Rattle.blk_cache.proofs.cache.Cache.step.Goals as goal
@@ -119,6 +119,12 @@ returns-then-failed-clause-refused g c =
     (refused-notes c.args.self.now c.perform.new.self c.note.new.self (g.F.Folder.told c.args.f.now) (g.F.Folder.told c.perform.new.folder) (g.F.Folder.told c.note.new.folder) c.args.moment (request_of c.args.command.now) (note_number (c.args.self.now.notes + 1)) c.in_ok-answer.ensures.stops c.in_ok-answer.answer c.in_ok-answer.ensures.does
     (made c.args.self.now.notes c.perform.new.self.notes (g.F.Folder.told c.perform.new.folder) (g.F.Folder.told c.note.new.folder) c.in_ok-answer.ensures.notes c.in_ok-note.ensures.done) c.in_ok-note.ensures.others c.in_ok-answer.ensures.quiet)
 
+pub returns-then-failed-clause-idle : goal.returns-then-failed-clause-idle
+returns-then-failed-clause-idle g c =
+    subst (λ (t : Told). ForKept (KeepsState c.args.self.now) (g.F.Folder.told c.args.f.now) (λ state. FlushesClean state (request_of c.args.command.now) → Applies (g.F.Folder.told c.args.f.now) t (Note (note_number (c.args.self.now.notes + 1)) ∷ []))) (sym c.in_ok-reply.ensures.stays)
+    (clean-notes c.args.self.now (g.F.Folder.told c.args.f.now) (g.F.Folder.told c.perform.new.folder) (g.F.Folder.told c.note.new.folder) (request_of c.args.command.now) (note_number (c.args.self.now.notes + 1)) c.in_ok-answer.ensures.idle
+    (made c.args.self.now.notes c.perform.new.self.notes (g.F.Folder.told c.perform.new.folder) (g.F.Folder.told c.note.new.folder) c.in_ok-answer.ensures.notes c.in_ok-note.ensures.done))
+
 pub returns-then-failed-clause-is_open : goal.returns-then-failed-clause-is_open
 returns-then-failed-clause-is_open g c =
     open-behind c.note.new.self c.reply.new.self (g.F.Folder.told c.note.new.folder) (g.F.Folder.told c.reply.new.folder) c.in_ok-reply.ensures.others c.in_ok-reply.ensures.stays
@@ -167,6 +173,12 @@ returns-else-failed-clause-refused g c =
     subst (λ (t : Told). ForKept (KeepsState c.args.self.now) (g.F.Folder.told c.args.f.now) (λ state. IsRefused (answer_of (step state c.args.moment (request_of c.args.command.now)).reply) → Applies (g.F.Folder.told c.args.f.now) t (Note (note_number (c.args.self.now.notes + 1)) ∷ []))) (sym c.in_ok-reply.ensures.stays)
     (refused-notes c.args.self.now c.perform.new.self c.note.new.self (g.F.Folder.told c.args.f.now) (g.F.Folder.told c.perform.new.folder) (g.F.Folder.told c.note.new.folder) c.args.moment (request_of c.args.command.now) (note_number (c.args.self.now.notes + 1)) c.in_ok-answer.ensures.stops c.in_ok-answer.answer c.in_ok-answer.ensures.does
     (made c.args.self.now.notes c.perform.new.self.notes (g.F.Folder.told c.perform.new.folder) (g.F.Folder.told c.note.new.folder) c.in_ok-answer.ensures.notes c.in_ok-note.ensures.done) c.in_ok-note.ensures.others c.in_ok-answer.ensures.quiet)
+
+pub returns-else-failed-clause-idle : goal.returns-else-failed-clause-idle
+returns-else-failed-clause-idle g c =
+    subst (λ (t : Told). ForKept (KeepsState c.args.self.now) (g.F.Folder.told c.args.f.now) (λ state. FlushesClean state (request_of c.args.command.now) → Applies (g.F.Folder.told c.args.f.now) t (Note (note_number (c.args.self.now.notes + 1)) ∷ []))) (sym c.in_ok-reply.ensures.stays)
+    (clean-notes c.args.self.now (g.F.Folder.told c.args.f.now) (g.F.Folder.told c.perform.new.folder) (g.F.Folder.told c.note.new.folder) (request_of c.args.command.now) (note_number (c.args.self.now.notes + 1)) c.in_ok-answer.ensures.idle
+    (made c.args.self.now.notes c.perform.new.self.notes (g.F.Folder.told c.perform.new.folder) (g.F.Folder.told c.note.new.folder) c.in_ok-answer.ensures.notes c.in_ok-note.ensures.done))
 
 pub returns-else-failed-clause-is_open : goal.returns-else-failed-clause-is_open
 returns-else-failed-clause-is_open g c =
