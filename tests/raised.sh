@@ -1,6 +1,6 @@
 # Folders whose index has the first version, 0x20000: what they hold stays, and each opening raises them to 0x30000, also where it is killed.
 # One of them is kept in first_version as the program made it that knew no other version, beside what that printed. Which folders are refused
-# by their version. BLKCACHE_FIRST is that program, where it is at hand: what it says of a raised folder is asked then.
+# by their version. What the last program that knew no other version says of a raised folder: BLKCACHE_FIRST names it, or the history has it.
 . "$(dirname "${BASH_SOURCE[0]}")/common.sh"
 kept=$top/tests/first_version
 
@@ -115,20 +115,26 @@ patch "$room/copy/index" 48 "$any"
 says 'any words in the version that is made now: verify' "$room/copy" 0 "$first_sound" verify
 says 'any words in the version that is made now: list' "$room/copy" 0 "$first_list" list
 is_raised 'any words in the version that is made now' "$raised"
+is 'any words in the version that is made now: those that are not read stay' "$(od -An -tx1 "$room/pad")" "$(od -An -tx1 -j 56 -N 200 "$room/copy/index")"
 
 # The first program refuses a raised folder, and leaves it.
 copy "$room/first"
 run "$room/copy" count
-if [ -x "${BLKCACHE_FIRST-}" ]; then
+old=${BLKCACHE_FIRST-}
+if [ -z "$old" ] && git -C "$top" show ac28b00c:dist/x86_64-linux/blkcache >"$room/old" 2>/dev/null; then
+    chmod +x "$room/old"
+    old=$room/old
+fi
+if [ -x "$old" ]; then
     before=$(both "$room/copy")
     for line in count list verify 'put a 0' 'trim 0'; do
         # shellcheck disable=SC2086
-        said=$("$BLKCACHE_FIRST" "$room/copy" $line </dev/null 2>&1)
+        said=$("$old" "$room/copy" $line </dev/null 2>&1)
         is "the first program: $line" '7 damaged index 4 00030000' "$? $said"
     done
     is 'the first program writes nothing' "$before" "$(both "$room/copy")"
 else
-    skip 'what the first program says of a raised folder' 'BLKCACHE_FIRST names no program'
+    skip 'what the first program says of a raised folder' 'BLKCACHE_FIRST names no program, and there is no history'
 fi
 
 # Which versions are damages, with their word; behind the length, and before the words after the version.

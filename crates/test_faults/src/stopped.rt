@@ -89,11 +89,15 @@ const ABSENT: &[u8] = b"main b 1 0 0\nend 1\nok\ndata 1 62\nrefused 3 Missing\n\
 const CHANGED: &[u8] =
     b"main a 2 1 0\nmain b 1 0 0\nend 2\nok\ndata 1 62\nok\ndata 2 7a7a\ndata 1 7a\n";
 
-// Whether the node that is first in the list is marked dirty.
+// The place of the session's number in the index.
+const THIS_ID: u64 = 20;
+
+// Whether the dirty word of the node that is first in the list is the number of the session; else it is 0.
 fn is_first_dirty<F: Folder>(f: &mut F) -> Result<bool, Fail> {
     let head = read_word(f, FileId::Index, HEAD)?;
     let (file, place) = place_of(head);
-    Ok(read_word(f, file, place.wrapping_add(DIRTY))? != 0)
+    let word = read_word(f, file, place.wrapping_add(DIRTY))?;
+    Ok(word != 0 && word == read_word(f, FileId::Index, THIS_ID)?)
 }
 
 #[test]
@@ -115,6 +119,42 @@ fn a_change_turns_at_the_dirty_word_and_a_close_at_the_clean_word(
         assert_eq!(rt; out.written(), wanted, "{steps}");
     }
     assert!(rt; marked);
+    Ok(())
+}
+
+// The second one is changed, flushed and changed again, and what the look at it prints where it is as it was flushed, and as it was closed.
+const FLUSH: &[u8] = b"open 1 a\nwrite 1 0 0 6162\nflush 1\nwrite 1 0 0 63\n";
+
+const FLUSHED: &[u8] =
+    b"main a 2 1 0\nmain b 1 0 0\nend 2\nok\ndata 1 62\nok\ndata 2 6162\ndata 1 7a\n";
+
+const CLOSED: &[u8] =
+    b"main a 2 1 0\nmain b 1 0 0\nend 2\nok\ndata 1 62\nok\ndata 2 6362\ndata 1 7a\n";
+
+#[test]
+fn a_flush_turns_at_the_clean_word_and_a_write_after_it_at_the_dirty_word(
+    rt: HostRuntime,
+) -> Result<(), Fail> {
+    let whole = played(rt.alloc(), TWO, &["session"], FLUSH)?;
+    let mut was_dirty = false;
+    let mut turns = 0u32;
+    for steps in 0..=steps_of(&whole) {
+        let mut f = after(&whole, steps)?;
+        let is_dirty = is_first_dirty(&mut f)?;
+        if is_dirty != was_dirty {
+            turns = turns.saturating_add(1);
+        }
+        was_dirty = is_dirty;
+        let wanted = match turns {
+            0 => UNCHANGED,
+            2 => FLUSHED,
+            4 => CLOSED,
+            _ => ABSENT,
+        };
+        let out = shown(rt.alloc(), &mut f, LOOK)?;
+        assert_eq!(rt; out.written(), wanted, "{steps}");
+    }
+    assert!(rt; turns == 4);
     Ok(())
 }
 
