@@ -1,12 +1,13 @@
 # The pages say nothing that isn't there. Refused in README.md, CONTRIBUTING.md, CHANGELOG.md and docs/*.md: a link that leads nowhere, a path
-# that no file has, a code word that names nothing, one that isn't in the file in which it is said to be (of a name without its crate: in
-# no file of that name), and a label that the call of which it is said doesn't have; a place that is left to fill; a crate that the picture or
-# the table of docs/ARCHITECTURE.md lacks; and pages of docs/reference that aren't what docs/make-reference makes of the sources. Each kind is
-# shown to be refused. It needs awk, find, grep, sed and xargs.
+# that no file has, a code word that names nothing, also in a fence or in the manual page, one that isn't in the file in which it is said to be
+# (of a name without its crate: in no file of that name), and a label that the call of which it is said doesn't have; a place that is left to
+# fill; a crate that the picture or the table of docs/ARCHITECTURE.md lacks; a script of tests/run that the table of docs/TESTING.md lacks; and
+# pages of docs/reference that aren't what docs/make-reference makes of the sources. Each kind is shown to be refused. It needs awk, find, grep,
+# sed and xargs.
 . "$(dirname "${BASH_SOURCE[0]}")/common.sh"
 
-# Code words that name nothing of the repository: calls, flags, signals, errors and programs of the system.
-allowed='taskset statx pread pwrite fchmod chdir nanosleep unlink getdents64 fcntl fsync fdatasync clock_gettime O_NONBLOCK ENOSYS EOPNOTSUPP ENOLCK'
+# Code words that name nothing of the repository: calls, flags, signals, errors and programs of the system, and units.
+allowed='taskset statx pread pwrite fchmod chdir nanosleep unlink getdents64 fcntl fsync fdatasync clock_gettime O_NONBLOCK ENOSYS EOPNOTSUPP ENOLCK GiB'
 
 for it in awk find grep sed xargs; do
     if ! command -v "$it" >/dev/null; then
@@ -31,7 +32,7 @@ print_names() {
     printf '%s\n' $allowed
 }
 
-# Prints what is wrong with pages of a folder, a line each: look_at FOLDER PAGE.. What is in fences isn't looked at.
+# Prints what is wrong with pages of a folder, a line each: look_at FOLDER PAGE.. In fences those words are looked at that only code has.
 look_at() (
     cd "$1" || exit
     shift
@@ -117,7 +118,7 @@ look_at() (
         }
         FNR == 1 { fenced = 0 }
         /^ *```/ { fenced = !fenced; next }
-        fenced { next }
+        fenced { look($0 " "); next }
         {
             for (rest = $0; match(rest, /`[^`]+`/); rest = substr(rest, RSTART + RLENGTH)) look(substr(rest, RSTART + 1, RLENGTH - 2))
             for (rest = $0; match(rest, /(`[^` ]+`(, | and )?)+ in `([A-Za-z0-9_\/]+\.(rt|antt)|[A-Z][A-Za-z]+)`/); rest = substr(rest, RSTART + RLENGTH)) find(substr(rest, RSTART, RLENGTH))
@@ -177,6 +178,26 @@ look_for() {
         }' "$1/docs/ARCHITECTURE.md" "$1/crates.txt"
 }
 
+# Prints which scripts of tests/run have no row in the table of docs/TESTING.md: look_for_scripts FOLDER
+look_for_scripts() {
+    awk -F'|' '
+        FILENAME ~ /TESTING/ {
+            if ($0 == "| Script | What it tries |") inside = 1
+            if ($0 !~ /^\|/) inside = 0
+            if (inside) { n = split($2, a, /[^a-z_]+/); for (i = 1; i <= n; i++) has_row[a[i]] }
+            next
+        }
+        sub(/^scripts=\(/, "") { sub(/\).*/, ""); n = split($0, a, " "); for (i = 1; i <= n; i++) if (!(a[i] in has_row)) print "no row of " a[i] }
+    ' "$1/docs/TESTING.md" "$1/tests/run"
+}
+
+# Prints what is wrong with the code words of a manual page, which is looked at as if it were one fence: look_at_manual PAGE
+look_at_manual() {
+    mkdir -p "$room/manual"
+    { echo '```' && cat "$1"; } >"$room/manual/page"
+    look_at "$room/manual" page
+}
+
 find . \( -name .git -o -name out \) -prune -o -print | sed 's:^\./::' >"$room/files"
 print_names >"$room/names"
 print_labels >"$room/labels"
@@ -191,6 +212,8 @@ cat "$room/wrong"
 is 'the pages name what there is' 0 "$(wc -l <"$room/wrong")"
 is 'no page has a place left to fill' '' "$(look_open "$top" README.md CONTRIBUTING.md CHANGELOG.md docs/*.md)"
 is 'each crate has its place in docs/ARCHITECTURE.md' '' "$(look_for "$top")"
+is 'each script has its row in docs/TESTING.md' '' "$(look_for_scripts "$top")"
+is 'the manual page names what there is' '' "$(look_at_manual man/blkcache.1)"
 
 # A page that has a line more is refused: planted WHAT LINE WANTED
 planted() {
@@ -211,6 +234,10 @@ planted 'a word that another file of definitions has' 'It is `evicted_until` in 
 planted 'a label of another call' 'The clause `mended` of `run` says so.' 'no label mended of run'
 planted 'a label of another law' 'It is `rests` of `refusals_change_nothing`.' 'no label rests of refusals_change_nothing'
 planted 'an option that there is not' 'Call it with `--nosuchoption`.' 'no --nosuchoption'
+printf '%s\n' '```' 'ensures performs { IsNoSuchThing from old }' '```' >"$room/copy/docs/ARCHITECTURE.md"
+is 'refused: a word in a fence that names nothing' 'docs/ARCHITECTURE.md:2: no IsNoSuchThing' "$(look_at "$room/copy" docs/ARCHITECTURE.md)"
+sed 's/^\.It 1 Li BadHandle$/.It 1 Li NoSuchHandle/' man/blkcache.1 >"$room/other_page"
+is 'refused: a word of the manual page that names nothing' 'no NoSuchHandle' "$(look_at_manual "$room/other_page" | sed 's/^page:[0-9]*: //')"
 for it in 'It takes FOUR_MINUTES.' 'TODO: more.'; do
     printf '%s\n' "$it" >"$room/copy/docs/ARCHITECTURE.md"
     is "refused: a place left to fill, ${it%% *}" "docs/ARCHITECTURE.md:1:$it" "$(look_open "$room/copy" docs/ARCHITECTURE.md /dev/null)"
@@ -218,6 +245,10 @@ done
 cp -r docs crates.txt "$room/copy"
 echo 'blk_nowhere: blk_io' >>"$room/copy/crates.txt"
 is 'refused: a crate that is nowhere' $'no blk_nowhere in the picture\nno blk_nowhere in the table' "$(look_for "$room/copy" | grep blk_nowhere)"
+mkdir -p "$room/copy/tests"
+sed 's/^scripts=(/&nowhere /' tests/run >"$room/copy/tests/run"
+sed -i '/^| `raised`, `greatest` |/d' "$room/copy/docs/TESTING.md"
+is 'refused: scripts without a row' $'no row of nowhere\nno row of raised\nno row of greatest' "$(look_for_scripts "$room/copy")"
 
 if command -v python3 >/dev/null && command -v diff >/dev/null; then
     python3 -B docs/make-reference "$room/reference"
