@@ -1,9 +1,9 @@
 # The pages say nothing that isn't there. Refused in README.md, CONTRIBUTING.md, CHANGELOG.md and docs/*.md: a link that leads nowhere, a path
 # that no file has, a code word that names nothing, also in a fence or in the manual page, one that isn't in the file in which it is said to be
 # (of a name without its crate: in no file of that name), and a label that the call of which it is said doesn't have; a place that is left to
-# fill; a crate that the picture or the table of docs/ARCHITECTURE.md lacks; a script of tests/run that the table of docs/TESTING.md lacks; and
-# pages of docs/reference that aren't what docs/make-reference makes of the sources. Each kind is shown to be refused. It needs awk, find, grep,
-# sed and xargs.
+# fill; a line of a definition that no definition has; a crate that the picture or the table of docs/ARCHITECTURE.md lacks; a script of
+# tests/run that the table of docs/TESTING.md lacks; and pages of docs/reference that aren't what docs/make-reference makes of the sources.
+# Each kind is shown to be refused. It needs awk, find, grep, sed and xargs.
 . "$(dirname "${BASH_SOURCE[0]}")/common.sh"
 
 # Code words that name nothing of the repository: calls, flags, signals, errors and programs of the system, and units.
@@ -178,6 +178,14 @@ look_for() {
         }' "$1/docs/ARCHITECTURE.md" "$1/crates.txt"
 }
 
+# Prints which lines of records in the fences of a page, each up to '..', no definition has: look_for_lines PAGE
+look_for_lines() {
+    local line
+    awk '/^ *```/ { fenced = !fenced } fenced && /^ *pub / { sub(/ *\.\..*/, ""); print }' "$1" | while IFS= read -r line; do
+        grep -qF -- "$line" "$room/definitions" || echo "no line $line"
+    done
+}
+
 # Prints which scripts of tests/run have no row in the table of docs/TESTING.md: look_for_scripts FOLDER
 look_for_scripts() {
     awk -F'|' '
@@ -201,6 +209,7 @@ look_at_manual() {
 find . \( -name .git -o -name out \) -prune -o -print | sed 's:^\./::' >"$room/files"
 print_names >"$room/names"
 print_labels >"$room/labels"
+find crates -path '*/specs/*.antt' -not -path '*/out/*' -print0 | xargs -0 cat >"$room/definitions"
 awk '
     FNR == 1 { fenced = 0 }
     /^ *```/ { fenced = !fenced }
@@ -213,6 +222,7 @@ is 'the pages name what there is' 0 "$(wc -l <"$room/wrong")"
 is 'no page has a place left to fill' '' "$(look_open "$top" README.md CONTRIBUTING.md CHANGELOG.md docs/*.md)"
 is 'each crate has its place in docs/ARCHITECTURE.md' '' "$(look_for "$top")"
 is 'each script has its row in docs/TESTING.md' '' "$(look_for_scripts "$top")"
+is 'docs/GUARANTEES.md prints definitions as they are' '' "$(look_for_lines docs/GUARANTEES.md)"
 is 'the manual page names what there is' '' "$(look_at_manual man/blkcache.1)"
 
 # A page that has a line more is refused: planted WHAT LINE WANTED
@@ -236,6 +246,8 @@ planted 'a label of another law' 'It is `rests` of `refusals_change_nothing`.' '
 planted 'an option that there is not' 'Call it with `--nosuchoption`.' 'no --nosuchoption'
 printf '%s\n' '```' 'ensures performs { IsNoSuchThing from old }' '```' >"$room/copy/docs/ARCHITECTURE.md"
 is 'refused: a word in a fence that names nothing' 'docs/ARCHITECTURE.md:2: no IsNoSuchThing' "$(look_at "$room/copy" docs/ARCHITECTURE.md)"
+sed 's/^  pub stopped : Stopped /  pub stopped : IsStopped /' docs/GUARANTEES.md >"$room/other_page"
+is 'refused: a line that no definition has' 'no line   pub stopped : IsStopped result from run old new' "$(look_for_lines "$room/other_page")"
 sed 's/^\.It 1 Li BadHandle$/.It 1 Li NoSuchHandle/' man/blkcache.1 >"$room/other_page"
 is 'refused: a word of the manual page that names nothing' 'no NoSuchHandle' "$(look_at_manual "$room/other_page" | sed 's/^page:[0-9]*: //')"
 for it in 'It takes FOUR_MINUTES.' 'TODO: more.'; do
