@@ -1,7 +1,8 @@
 # With BLKCACHE_ERASE=1 what is removed is gone: no byte of it is in any file of the folder, also after a kill and the next opening.
 # Without it the bytes are found. ERASE_KILLS says how many places of a kill are tried of each command, in even steps from the first to the
 # last, and always the same ones: 16; or all, those before each write, after its first word, midway and before its last; or words, those
-# between any two words that are written. ERASE_SEED is what the script is drawn from.
+# between any two words that are written. ERASE_PART=K/N tries the K-th of N parts of these places alone. ERASE_SEED is what the script is
+# drawn from.
 . "$(dirname "${BASH_SOURCE[0]}")/common.sh"
 
 for tool in awk grep basenc; do
@@ -11,6 +12,8 @@ for tool in awk grep basenc; do
     }
 done
 places_of_each=${ERASE_KILLS:-16}
+part=${ERASE_PART:-1/1}
+part_of=${part#*/} part=${part%/*}
 seed=${ERASE_SEED:-$RANDOM}
 
 # Letters and digits that are drawn, so that no 16 of them are anywhere by chance. Each secret begins at a multiple of 16, and is found
@@ -475,30 +478,38 @@ told_of() {
 # What was found of a folder, by its names and the sums of its files: kills at many places lead to the same ones.
 declare -A looked
 places=0
+killed_openings=0
 # Shows that nothing of what was removed is left in a folder, and that the entries that stay have their bytes: NAME FOLDER
 is_clean() {
     local sum
-    # How many sessions there were is no matter.
+    # How many sessions there were is no matter, nor when the folder was made.
     patch "$2/index" 20 '\0\0\0\0'
+    patch "$2/index" 40 '\0\0\0\0\0\0\0\0'
     sum=$(sha256sum -- "$2"/*)
     [ -n "${looked[$sum]-}" ] ||
         looked[$sum]="$(left_in "$2") $(blocks_left_in "$2") $(behind_ends_in "$2") $(told_of "$2" "${stay[@]}" | cksum)"
     is "$1: pieces, bytes of free blocks, bytes behind ends, what stays" "0 0 0 $told" "${looked[$sum]}"
 }
-# Kills the program at places of what it writes: NAME INPUT WORDS. The entries that have to stay are those of the list stay.
+# A copy of the folder on which the commands are tried.
+base=$room/base
+take() {
+    rm -rf "$room/$1"
+    cp -a "$2" "$room/$1"
+}
+# Kills the program at places of what it writes: NAME INPUT WORDS. The entries that have to stay are those of the list stay. Behind each
+# third place the next opening is killed too, at one of its own places, another each time.
 kills() {
-    local name=$1 number turn total stride told
+    local name=$1 number turn total stride told next tried=0 openings=0
     printf %b "$2" >"$room/fed"
-    rm -rf "$room/try"
-    cp -a "$room/base" "$room/try"
+    take try "$base"
     told=$(told_of "$room/try" "${stay[@]}" | cksum)
     # What was found before was of other entries.
     looked=()
-    rm -rf "$room/try"
-    cp -a "$room/base" "$room/try"
+    take try "$base"
     stopped 0 "$between" "$room/try" "${@:3}"
     is "$name, killed nowhere" 0 "$status"
     total=$(cat "$room/complained")
+    is "$name: there are places" yes "$([ "$total" -gt 16 ] && echo yes)"
     is_clean "$name, killed nowhere" "$room/try"
     case $places_of_each in all | words) stride=1 ;; *) stride=$((total / places_of_each)) ;; esac
     [ "$stride" -gt 0 ] || stride=1
@@ -506,12 +517,20 @@ kills() {
     for ((turn = 0; turn * stride < total; turn++)); do
         number=$((turn * stride + turn % stride + 1))
         [ "$number" -le "$total" ] || break
-        rm -rf "$room/try"
-        cp -a "$room/base" "$room/try"
+        [ $((turn % part_of)) = $((part - 1)) ] || continue
+        take try "$base"
         stopped "$number" "$between" "$room/try" "${@:3}"
         is "$name, it is killed at place $number" 137 "$status"
-        places=$((places + 1))
-        [ $((turn % 3)) != 0 ] || stopped $((turn / 3 % 60 + 1)) writes "$room/try" count
+        tried=$((tried + 1))
+        if [ $((turn % 3)) = 0 ]; then
+            take again "$room/try"
+            stopped 0 "$between" "$room/again" count
+            next=$(cat "$room/complained")
+            next=$((turn / 3 * 7 % next + 1))
+            stopped "$next" "$between" "$room/try" count
+            is "$name, killed at place $number: the next opening is killed at place $next" 137 "$status"
+            openings=$((openings + 1))
+        fi
         # (with no other program beside it, since this is done so often)
         "$program" "$room/try" count </dev/null >"$room/said" 2>"$room/complained"
         status=$?
@@ -520,7 +539,8 @@ kills() {
         is "$name, killed at place $number: the next opening" '0 items' "$status ${said%% *}"
         is_clean "$name, killed at place $number" "$room/try"
     done
-    echo "$name: $turn of $total places, which left ${#looked[@]} folders"
+    places=$((places + tried)) killed_openings=$((killed_openings + openings))
+    echo "$name: $tried of $total places, and $openings of the next openings, which left ${#looked[@]} folders"
 }
 stay=("$second" "$third" sparse)
 kills 'doom of blocks' '' doom "$first"
@@ -538,7 +558,51 @@ kills 'growth, and a file that is cut' "open 0 $first\nwrite 0 0 64 $longer\nclo
 kills 'doom of open entries' "open 0 $first\ndoom 0\nopen 1 $second\ndoom 1\nclose 1\nclose 0\n" session
 stay=(sparse)
 kills 'eviction' "$new" put more 0 --items 4
+stay=("$third" sparse)
+kills 'eviction by bytes, by a write' "create 0 more\nwrite 0 0 0 $longer\nclose 0\n" session --max 45000
 stay=()
 kills 'trim' '' trim 0
-echo "$places places of a kill were tried"
+stay=("$third" sparse)
+kills 'doom of entries that are open at the end' "open 0 $first\ndoomkey $first\nopen 1 $second\ndoomkey $second\n" session
+
+# Sparse data that are evicted: the others were used since.
+take turned "$room/base"
+printf '%s\nclose 0\n' "open 0 $first" "open 0 $second" "open 0 $third" >"$room/input"
+plays "$room/turned"
+base=$room/turned
+stay=("$first" "$second" "$third")
+kills 'eviction of sparse data' "$new" put more 0 --items 4
+
+# A folder without an index, which is made anew. The zeros over its files have more than a million words, so it is not killed between all.
+take headless "$room/base"
+rm "$room/headless/index"
+base=$room/headless
+stay=()
+between=writes kills 'a folder that is made anew' '' count
+
+# An opening that drops what a killed session left dirty, and the same of a folder of the first version, which is raised besides.
+take dirty "$room/base"
+coproc talk { exec "$program" "$room/dirty" session 2>"$room/complained"; }
+talk_in=${talk[1]} talk_out=${talk[0]} talk_id=$talk_PID
+replies=
+for line in "open 0 $first" "write 0 0 64 $longer" "open 1 $second" "write 1 1 0 $longer" 'open 2 sparse' "swrite 2 2048 $longer"; do
+    echo "$line" >&"$talk_in"
+    read -r -t 20 reply <&"$talk_out"
+    replies+="$reply, "
+done
+kill -9 "$talk_id"
+wait "$talk_id" 2>/dev/null
+is 'a session is killed' 'ok, ok 4000, ok, ok 4000, ok, ok 4000, ' "$replies"
+run "$room/dirty" verify
+is 'it leaves three dirty entries, one of them with two parts' '0 5' "$status $(grep -c '^dropped' "$room/said")"
+base=$room/dirty
+stay=("$third")
+kills 'an opening that drops entries' '' count
+take dirty_old "$room/dirty"
+bytes=$("$program" "$room/dirty" verify | awk '/^items/ { print $4 }')
+put_back "$room/dirty_old" "$(printf '\\%03o' $((bytes & 255)) $((bytes >> 8 & 255)) $((bytes >> 16 & 255)) $((bytes >> 24 & 255)))"
+is 'a folder of the first version' 00020000 "$(words_of "$room/dirty_old" 4)"
+base=$room/dirty_old
+kills 'an opening that raises a folder' '' count
+echo "$places places of a kill were tried, and $killed_openings of the next openings"
 finish

@@ -1,7 +1,8 @@
 // Kills the program at one place of what it writes, the one with the number in the variable STOPPED: loaded before the C library. The
-// places are those before each write, new length, removal and file that is made; of a write of several words also those after its first
-// word, midway, and before its last, or between any two where STOPPED_BETWEEN is words. Where no place has the number, how many there are
-// is said on standard error at the end. The clock stands still, so that the same commands write the same bytes each time.
+// places are those before each write, new length, new mode, removal and file that is made; of a write of several words also those after
+// its first word, midway, and before its last, or between any two where STOPPED_BETWEEN is words. The last word may have fewer bytes than
+// the others. Where no place has the number, how many there are is said on standard error at the end. The clock stands still, so that the
+// same commands write the same bytes each time.
 #define _GNU_SOURCE
 #include <dlfcn.h>
 #include <fcntl.h>
@@ -10,6 +11,7 @@
 #include <stdio.h>
 #include <stdlib.h>
 #include <string.h>
+#include <sys/stat.h>
 #include <time.h>
 #include <unistd.h>
 
@@ -40,7 +42,7 @@ static void stop(void) {
 
 ssize_t pwrite(int file, const void *bytes, size_t count, off_t place) {
     static ssize_t (*next)(int, const void *, size_t, off_t);
-    size_t words = count / WORD, fronts[] = {0, 1, words / 2, words - 1};
+    size_t words = (count + WORD - 1) / WORD, fronts[] = {0, 1, words / 2, words - 1};
     size_t most = between_words ? words : words < 2 ? 1 : 4;
     if (!next) next = dlsym(RTLD_NEXT, "pwrite");
     for (size_t n = 0; n < most || n == 0; n++) {
@@ -58,6 +60,13 @@ int ftruncate(int file, off_t length) {
     if (!next) next = dlsym(RTLD_NEXT, "ftruncate");
     if (is_stopped()) stop();
     return next(file, length);
+}
+
+int fchmod(int file, mode_t mode) {
+    static int (*next)(int, mode_t);
+    if (!next) next = dlsym(RTLD_NEXT, "fchmod");
+    if (is_stopped()) stop();
+    return next(file, mode);
 }
 
 int unlink(const char *name) {
