@@ -78,7 +78,7 @@ END
 # A program that says what it was given, and notes that it ran.
 cat >"$room/program" <<'END'
 [ $# != 0 ] || { echo usage; exit 2; }
-[ "$2" != surroundings ] || { echo "[${BLKCACHE_WAIT-unset}] [${BLKCACHE_ERASE-unset}]" $(trap -p XFSZ TERM INT HUP PIPE); exit 0; }
+[ "$2" != surroundings ] || { echo "[${BLKCACHE_WAIT-unset}] [${BLKCACHE_ERASE-unset}] $(umask)" $(trap -p XFSZ TERM INT HUP PIPE); exit 0; }
 echo ran >>"$room/ran"
 printf 'words:'
 printf ' %q' "$@"
@@ -232,7 +232,8 @@ printf '%s\n' '# NAME: DEP DEP ..' 'blkcache may_wait=0: blk_run blk_io' 'spec_i
 touch -d '1 hour ago' "$repository/crates.txt"
 total=4
 
-# What the program gets beside its arguments: how long it waits, what its caller set, and a limit of the size of files as a failed write.
+# What the program gets beside its arguments: how long it waits, what its caller set, a limit of the size of files as a failed write, and
+# files for their owner alone, whatever the caller's umask.
 surrounded() {
     local signal ignored=
     for signal in XFSZ TERM INT HUP PIPE; do
@@ -240,7 +241,7 @@ surrounded() {
         [ "$signal" != XFSZ ] && [ -z "$("$BASH" -c "trap -p $signal")" ] || ignored+=" trap -- '' SIG$signal"
     done
     wrap "${@:2}" "$folder" surroundings
-    is "what surrounds the program, ${*:2}" "0 $1$ignored" "$status $said"
+    is "what surrounds the program under umask $(umask), ${*:2}" "0 $1 0077$ignored" "$status $said"
 }
 surrounded '[unset] [unset]'
 for it in 0 7 999999999; do
@@ -248,6 +249,12 @@ for it in 0 7 999999999; do
     BLKCACHE_WAIT=3 BLKCACHE_ERASE=1 surrounded "[$it] [1]" --wait "$it"
 done
 BLKCACHE_WAIT=3 surrounded '[3] [unset]'
+mask=$(umask)
+for it in 000 022 077 277 777; do
+    umask "$it"
+    surrounded '[unset] [unset]'
+    umask "$mask"
+done
 for it in x -1 '' 01 1.5 1000000000; do
     wrap --wait "$it" "$folder" count
     is "--wait [$it]" '2 usage' "$status $said$complained"
