@@ -1,6 +1,7 @@
 # Nothing outside the folder is read or written: links and second names of cache files are refused, before a run and during one.
 # OUTSIDE_OPENINGS says how many openings of each name have to go well beside a program that swaps it, however long that takes. Without it
-# there are up to ten thousand of an external file, which sessions open again and again, and 300 of each other, which take a run each.
+# there are up to ten thousand of an external file, which sessions open again and again, and 300 of each other, which take a run each: some
+# that may write, and some of a subcommand that only reads.
 . "$(dirname "${BASH_SOURCE[0]}")/common.sh"
 openings_of_each=${OUTSIDE_OPENINGS:-}
 
@@ -246,7 +247,8 @@ end_swaps() {
 # Runs the program with arguments beside one that swaps a file with all that may be put in its place, until so many openings have gone well,
 # or some seconds are over: OPENINGS NAME MICROSECONDS WORDS, with the lines as input. A run of a subcommand opens the file once; one of a
 # session opens it again at every other reply from the third on. What was refused is no opening, but has to be there too. No run prints
-# anything else than without swaps, and nothing outside is written or made.
+# anything else than without swaps, and nothing outside is written or made. A FIFO is not among what is put in place of a file that is opened
+# for reading alone: that would wait for a writer.
 beside_swaps() {
     local most=$1 name=$2 most_there=$3 ends=$((SECONDS + 8)) openings=0 well=0 silent=0 late=0 others=
     local swaps=0 faults=0 no_exchange= swapper wanted counted before replies
@@ -255,7 +257,7 @@ beside_swaps() {
     cp -a "$room/two" "$room/try"
     wanted=$("$program" "$room/try" "$@" <"$room/lines")
     counted=$("$program" "$room/try" count)
-    is "$name, before it is swapped: two entries are counted" 'items 2 bytes' "${counted% *}"
+    is "$name, before it is swapped beside $1: two entries are counted" 'items 2 bytes' "${counted% *}"
     rm -rf "$room/two"
     cp -a "$room/try" "$room/two"
     mkdir "$elsewhere" "$room/aside" "$room/aside/folder"
@@ -263,7 +265,7 @@ beside_swaps() {
     ln -s "$elsewhere/file" "$room/aside/link"
     ln -s "$elsewhere/nothing" "$room/aside/link-to-nothing"
     ln "$elsewhere/file" "$room/aside/second-name"
-    mkfifo "$room/aside/fifo"
+    [ "$1" = verify ] || mkfifo "$room/aside/fifo"
     before=$(picture "$room/aside" && both "$elsewhere")
     begin_swaps "$name" "$most_there"
     while [ "$openings" -lt "$most" ] || [ "$well" = 0 ] || [ $((silent + late)) = 0 ]; do
@@ -293,7 +295,7 @@ beside_swaps() {
     done
     end_swaps
     is "$name swapped: it was, up to the end" 0 "$faults"
-    echo "$openings openings of $name beside $swaps swaps: $well runs ended well, $silent were refused at once, $late after they had printed"
+    echo "$openings openings of $name by $1 beside $swaps swaps: $well runs ended well, $silent were refused at once, $late after they had printed"
     [ "$openings" -ge "$most" ] || skip "some of $most openings of $name beside a program that swaps it" 'the machine is too slow'
     [ -z "$no_exchange" ] || skip "a folder in place of $name" 'the file system exchanges no names'
     is "$name swapped: some runs end well, and some are refused" yes "$([ "$well" -gt 0 ] && [ $((silent + late)) -gt 0 ] && echo yes)"
@@ -322,4 +324,29 @@ for it in data_0:1000 data_1:100 data_2:3000 data_3:10000; do
     printf "%${it#*:}s" '' >"$room/lines"
     beside_swaps "${openings_of_each:-300}" "${it%:*}" 64000 put b 1
 done
+
+# One that only reads, and opens no external file.
+: >"$room/lines"
+for it in index data_0 data_1; do
+    beside_swaps "${openings_of_each:-300}" "$it" 64000 verify
+done
+
+# The one way in which others can make it wait: a FIFO that comes between the question for the kind and the opening. Once there is a writer
+# it is refused, and nothing is read.
+if ! command -v strace >/dev/null || ! strace -o /dev/null -e trace=openat -P "$room" -e inject=openat:delay_enter=1 true 2>/dev/null; then
+    skip 'a FIFO that comes just before an opening for reading' 'strace is missing, or may not do so'
+    finish
+fi
+rm -rf "$room/try"
+cp -a "$room/two" "$room/try"
+mkfifo "$room/fifo"
+strace -o "$room/calls" -e trace=openat -P index -e inject=openat:delay_enter=3s "$program" "$room/try" verify >"$room/said" 2>&1 &
+waits=$!
+sleep 1
+mv "$room/fifo" "$room/try/index"
+sleep 4
+is 'a FIFO that comes just before an opening for reading: it waits' yes "$(kill -0 "$waits" && echo yes)"
+timeout 20 "$BASH" -c 'echo line >"$1"' -- "$room/try/index" 2>/dev/null
+wait "$waits"
+is 'and is refused once there is a writer' '3 ' "$? $(cat "$room/said")"
 finish
