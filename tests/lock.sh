@@ -103,7 +103,7 @@ for seconds in x -1 1.5 ' 1' 1s 99999999999999999999999; do
     BLKCACHE_WAIT=$seconds run "$folder" count
     is "BLKCACHE_WAIT is [$seconds]" '2 usage' "$status $said"
 done
-for seconds in '' 0 3; do
+for seconds in '' 0 3 1000000000; do
     BLKCACHE_WAIT=$seconds run "$folder" count
     is "BLKCACHE_WAIT is [$seconds]" '0 items' "$status ${said%% *}"
 done
@@ -167,6 +167,37 @@ for words in "${words_that_read[@]}"; do
     is "beside a shared lock of another program, $words" 0 "$status"
 done
 flock --unlock 8
+
+# Who may read the folder can take the lock and keep it; who may only enter it cannot.
+as_nobody=()
+[ "$(id -u)" != 0 ] || as_nobody=(chroot --userspec=65534:65534 /)
+chmod 711 "$room"
+locked_by_another() {
+    chmod "$1" "$folder"
+    "${as_nobody[@]}" "$BASH" -c '{ exec 7<"$1"; } 2>/dev/null || exit 4; flock --exclusive --nonblock 7 || exit 5; echo locked; read -r _' -- "$folder" <&9 >"$room/locked" &
+}
+if [ "$(id -u)" != 0 ] || ! "${as_nobody[@]}" true 2>/dev/null; then
+    skip 'a lock of another user' 'nothing can be run as another user here'
+else
+    mkfifo "$room/pipe"
+    exec 9<>"$room/pipe"
+    locked_by_another 755
+    for ((tries = 0; tries < 100; tries++)); do
+        [ ! -s "$room/locked" ] || break
+        sleep 0.05
+    done
+    is 'another user, who may read the folder, has the lock' locked "$(cat "$room/locked")"
+    is_held 'beside a lock of another user' count
+    echo >&9
+    wait "$!"
+    run "$folder" count
+    is 'once he has given it back' 0 "$status"
+    locked_by_another 711
+    wait "$!"
+    is 'another user, who may only enter the folder, cannot open it' '4 ' "$? $(cat "$room/locked")"
+    exec 9>&-
+    chmod 755 "$folder"
+fi
 
 # It is waited for, at least as long as that is said, and not longer than the other one has it.
 flock --exclusive 8

@@ -93,6 +93,80 @@ is 'a lock that is given back' '0 removed 8' "$status $said$complained"
 wait
 exec 8<&-
 
+# How long it waits has at most nine digits, also where the environment says it.
+for it in 1000000000 x 01; do
+    BLKCACHE_WAIT=$it refused "BLKCACHE_WAIT=$it" 2 usage "$folder" reset --yes
+done
+fill
+BLKCACHE_WAIT=999999999 reset "$folder" reset --yes
+is 'BLKCACHE_WAIT=999999999' '0 removed 8' "$status $said$complained"
+
+# What the system answers, by strace: a file system without locks, and a removal that is killed.
+answered() {
+    strace -f -o "$room/calls" -e trace="$1" -e inject="$1:$2" "$BASH" "$top/blkcache" "$folder" reset --yes <"$room/input" >"$room/said" 2>"$room/complained"
+    status=$?
+    said=$(cat "$room/said")
+    complained=$(cat "$room/complained")
+}
+if ! command -v strace >/dev/null || ! strace -f -o /dev/null -e trace=flock -e inject=flock:error=ENOLCK true 2>/dev/null; then
+    skip 'reset where the folder has no locks, and reset that is killed' 'strace is missing, or may not do so'
+else
+    fill
+    before=$(names)
+    for it in ENOSYS EOPNOTSUPP ENOLCK EIO EACCES; do
+        answered flock "error=$it"
+        is "no lock ($it)" '3 blkcache: the folder cannot be locked' "$status $said$complained"
+        is "no lock ($it): nothing is removed" "$before" "$(names)"
+    done
+    # The index goes first, so whatever a kill leaves is a folder in which a new cache is made.
+    rm -rf "$room/filled"
+    mkdir "$room/filled"
+    printf 'a%.0s' {1..20000} >"$room/input"
+    run "$room/filled" put page 0
+    : >"$room/input"
+    is 'an entry is put' 0 "$status"
+    for it in 0 1; do
+        export BLKCACHE_ERASE=$it
+        for number in 1 2 4 6; do
+            rm -rf "$folder"
+            cp -a "$room/filled" "$folder"
+            answered unlinkat "signal=KILL:when=$number"
+            is "killed at removal $number, erasing $it" '3 blkcache: the cache files cannot be removed, or not all' "$status $said${complained##*$'\n'}"
+            is "killed at removal $number, erasing $it: how many of the six files are left" $((7 - number)) "$(ls "$folder" | wc -l)"
+            count_in "$folder"
+            is "killed at removal $number, erasing $it: what the next command counts" "0 $([ "$number" = 1 ] && [ "$it" = 0 ] && echo 'items 1 bytes 20004' || echo "$empty_line")" "$status $said"
+        done
+    done
+    unset BLKCACHE_ERASE
+fi
+
+# What the user may not do.
+as_nobody=()
+[ "$(id -u)" != 0 ] || as_nobody=(chroot --userspec=65534:65534 /)
+mkdir "$room/bin"
+cp "$top/blkcache" "$room/bin"
+chmod 711 "$room"
+chmod -R a+rX "$room/bin"
+if [ "$("${as_nobody[@]}" cat "$room/bin/blkcache" 2>/dev/null | cksum)" != "$(cksum <"$top/blkcache")" ]; then
+    skip 'reset of a folder that its user may not change' 'it cannot be run as nobody here'
+else
+    fill
+    before=$(names)
+    # The folder may not be entered; may not be read, so that it has no lock; may not be written.
+    while IFS=: read -r mode wanted; do
+        chmod "$mode" "$folder"
+        "${as_nobody[@]}" "$BASH" "$room/bin/blkcache" "$folder" reset --yes <"$room/input" >"$room/said" 2>"$room/complained"
+        status=$?
+        chmod 755 "$folder"
+        is "a folder of mode $mode" "3 blkcache: $wanted" "$status $(cat "$room/said" "$room/complained")"
+        is "a folder of mode $mode: nothing is removed" "$before" "$(names)"
+    done <<END
+600:the folder cannot be entered: $folder
+311:the folder cannot be locked
+555:the cache files cannot be removed, or not all
+END
+fi
+
 # An open session keeps its folder.
 rm -rf "$folder"
 mkdir "$folder"
