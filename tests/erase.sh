@@ -595,6 +595,28 @@ wait "$talk_id" 2>/dev/null
 is 'a session is killed' 'ok, ok 4000, ok, ok 4000, ok, ok 4000, ' "$replies"
 run "$room/dirty" verify
 is 'it leaves three dirty entries, one of them with two parts' '0 5' "$status $(grep -c '^dropped' "$room/said")"
+
+# What an opening drops without erasing stays where it was, also behind one that erases, until its places are used and freed again.
+take try "$room/dirty"
+BLKCACHE_ERASE=0 run "$room/try" count
+is 'a count that does not erase drops them' '0 items 1' "$status ${said% bytes*}"
+left=$(left_in "$room/try")
+is 'a count that does not erase leaves their pieces' yes "$([ "$left" -gt 400 ] && echo yes || echo "$left")"
+run "$room/try" count
+is 'one that erases leaves them too' "$left" "$(left_in "$room/try")"
+# (in runs of one to four blocks of each size)
+for ((number = 0; number < 40; number++)); do
+    run_of=$((number % 4 + 1))
+    printf "create 0 fills%d\nwrite 0 0 0 %0$((run_of * 480))d\nwrite 0 1 0 %0$((run_of * 2000 + 48))d\nwrite 0 2 0 %0$((run_of * 8000 + 192))d\nclose 0\n" "$number" 1 2 3
+done >"$room/input"
+plays "$room/try"
+for ((number = 0; number < 40; number++)); do
+    echo "doomkey fills$number"
+done >"$room/input"
+plays "$room/try"
+less=$(left_in "$room/try")
+is 'where their places were used and freed again they are gone' yes "$([ "$less" -lt "$left" ] && echo yes || echo "$less of $left")"
+
 base=$room/dirty
 stay=("$third")
 kills 'an opening that drops entries' '' count
