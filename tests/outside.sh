@@ -73,6 +73,25 @@ else
         is "a file of another device as $name: nothing is changed" "$before" "$(both "$room/try" && both "$device")"
     done
 fi
+
+# A union of folders of two devices, whose files have other devices than their folder.
+united() {
+    unshare --mount "$BASH" -c 'mount -t overlay overlay -o "lowerdir=$1,upperdir=$2/upper,workdir=$2/work" "$2/seen" &&
+        [ "$(stat -c %d "$2/seen")" != "$(stat -c %d "$2/seen/index")" ] && exec "${@:3}"' -- "$device/lower" "$room/union" "$@" 2>/dev/null
+}
+mkdir -p "$room/union"/{upper,work,seen}
+[ -z "$device" ] || cp -a "$room/two" "$device/lower"
+if [ -z "$device" ] || ! type -P unshare mount >/dev/null || ! united true; then
+    skip 'a union of folders of two devices' 'there are none here, or unshare or mount is missing, or not allowed'
+else
+    before=$(both "$device/lower")
+    for words in count 'get a 0' 'put a 0' verify; do
+        # shellcheck disable=SC2086
+        said=$(united "$program" "$room/union/seen" $words <"$room/input")
+        is "a union of folders of two devices, $words" '3 ' "$? $said"
+    done
+    is 'a union of folders of two devices: nothing is changed' "$before " "$(both "$device/lower") $(ls "$room/union/upper")"
+fi
 [ -z "$device" ] || rm -rf "$device"
 
 make finished "$room/unmade"
