@@ -4,7 +4,7 @@ ghost use Rattle.spec_image.specs.Image.{Image};
 ghost use Rattle.std.specs.Option.{ForSome};
 ghost use Rattle.spec_image.specs.Told.{Passes, Rises, Stays};
 ghost use Rattle.blk_io.specs.Faults.{IfDamaged, IfDevice};
-ghost use Rattle.blk_io.specs.Streams.{Appends};
+ghost use Rattle.blk_io.specs.Streams.{Appends, GoesOn};
 ghost use Rattle.blk_model.specs.Refusals.{evicted_for, is_full as is_full_room};
 ghost use Rattle.blk_model.specs.Room.{fits, room, without};
 ghost use Rattle.blk_model.specs.State.{State};
@@ -75,7 +75,7 @@ impl Cache {
         ensures untold { ForSome (F.told folder.old).files (KeepsAny self.old) → IfDamaged result (λ _. (F.told folder.old).files ≡ None) }
         ensures silent { (F.told folder.old).files ≡ None → (F.told folder.new).files ≡ None }
         ensures later { F.faults folder.old ≤ F.faults folder.new }
-        ensures sink_later { K.faults out.old ≤ K.faults out.new }
+        ensures sink_later { GoesOn K.is K.faults out.old out.new }
         ensures device { IfDevice result (Rises (F.faults folder.old) (F.faults folder.new)) }
     {
         self.make_room_beside(folder, out, failed, bytes, items, &Covered::none())
@@ -124,7 +124,7 @@ impl Cache {
         ensures untold { ForSome (F.told folder.old).files (KeepsCovered self.old parts.now) → IfDamaged result (λ _. (F.told folder.old).files ≡ None) }
         ensures silent { (F.told folder.old).files ≡ None → (F.told folder.new).files ≡ None }
         ensures later { F.faults folder.old ≤ F.faults folder.new }
-        ensures sink_later { K.faults out.old ≤ K.faults out.new }
+        ensures sink_later { GoesOn K.is K.faults out.old out.new }
         ensures device { IfDevice result (Rises (F.faults folder.old) (F.faults folder.new)) }
     {
         if self.is_full(bytes, items, parts) {
@@ -171,7 +171,7 @@ impl Cache {
         ensures untold { ForSome (F.told folder.old).files (KeepsCovered self.old parts.now) → IfDamaged result (λ _. (F.told folder.old).files ≡ None) }
         ensures silent { (F.told folder.old).files ≡ None → (F.told folder.new).files ≡ None }
         ensures later { F.faults folder.old ≤ F.faults folder.new }
-        ensures sink_later { K.faults out.old ≤ K.faults out.new }
+        ensures sink_later { GoesOn K.is K.faults out.old out.new }
         ensures device { IfDevice result (Rises (F.faults folder.old) (F.faults folder.new)) }
     {
         if self.wants_none(bytes, items) {

@@ -3,6 +3,7 @@ ghost use Rattle.std.specs.Prelude.{◌≡◌, ◌≢◌, ◌≤◌, ℕ, None, 
 ghost use Rattle.std.specs.Option.{ForSome};
 ghost use Rattle.spec_image.specs.Told.{Rises, Stays};
 ghost use Rattle.blk_io.specs.Faults.{IfDamaged, IfDevice};
+ghost use Rattle.blk_io.specs.Streams.{GoesOn};
 ghost use Rattle.blk_model.specs.Reply.{answered};
 ghost use Rattle.blk_model.specs.Request.{request_of};
 ghost use Rattle.blk_disk.specs.Open.{IsOpen};
@@ -42,7 +43,7 @@ impl Cache {
         ensures damaged { IfDamaged result (IsFailedCheck self.new.files (F.told folder.new)) }
         ensures untold { ForSome (F.told folder.old).files (KeepsAfter self.old (request_of command.now) answer.now) → IfDamaged result (λ _. (F.told folder.old).files ≡ None) }
         ensures later { F.faults folder.old ≤ F.faults folder.new }
-        ensures later_out { K.faults out.old ≤ K.faults out.new }
+        ensures later_out { GoesOn K.is K.faults out.old out.new }
         ensures device { IfDevice result (Rises (F.faults folder.old) (F.faults folder.new)) }
     {
         match *answer {
@@ -73,7 +74,7 @@ impl Cache {
         ensures damaged { IfDamaged result (IsFailedCheck self.new.files (F.told folder.new)) }
         ensures untold { ForSome (F.told folder.old).files (KeepsAfter self.old (request_of command.now) (Answer.Bytes number)) → IfDamaged result (λ _. (F.told folder.old).files ≡ None) }
         ensures later { F.faults folder.old ≤ F.faults folder.new }
-        ensures later_out { K.faults out.old ≤ K.faults out.new }
+        ensures later_out { GoesOn K.is K.faults out.old out.new }
         ensures device { IfDevice result (Rises (F.faults folder.old) (F.faults folder.new)) }
     {
         match *command {
@@ -107,7 +108,7 @@ impl Cache {
         ensures damaged { IfDamaged result (IsFailedCheck self.new.files (F.told folder.new)) }
         ensures untold { ForSome (F.told folder.old).files (KeepsAny self.old) → IfDamaged result (λ _. (F.told folder.old).files ≡ None) }
         ensures later { F.faults folder.old ≤ F.faults folder.new }
-        ensures later_out { K.faults out.old ≤ K.faults out.new }
+        ensures later_out { GoesOn K.is K.faults out.old out.new }
         ensures device { IfDevice result (Rises (F.faults folder.old) (F.faults folder.new)) }
     {
         self.print_rows(folder, out, failed)?;
@@ -121,7 +122,7 @@ fn say_answer<K: Sink>(out: &mut K, failed: &mut bool, answer: &Answer)
     requires has_line { (n : ℕ) → answer.now ≢ Answer.Bytes n }
     ensures prints { PrintsUnlessFailed failed.old failed.new (K.written out.old) (K.written out.new) (reply_text (answered answer.now)) }
     ensures failed { FailsWhereItRose failed.old failed.new (K.faults out.old) (K.faults out.new) }
-    ensures later { K.faults out.old ≤ K.faults out.new }
+    ensures later { GoesOn K.is K.faults out.old out.new }
 {
     if *failed {
         return;

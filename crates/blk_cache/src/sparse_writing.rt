@@ -3,6 +3,7 @@ ghost use Rattle.std.specs.Prelude.{◌≡◌, ◌≤◌, ◌<◌, ◌+◌, ◌^
 ghost use Rattle.std.specs.Option.{ForSome};
 ghost use Rattle.spec_image.specs.Told.{Rises, Stays};
 ghost use Rattle.blk_io.specs.Faults.{IfDamaged, IfDevice};
+ghost use Rattle.blk_io.specs.Streams.{GoesOn};
 ghost use Rattle.blk_model.specs.Request.{to_sparse_write};
 ghost use Rattle.blk_model.specs.Sizes.{largest_offset, part_size, signatures};
 ghost use Rattle.blk_model.specs.declared.Answer.TheVariants as answer;
@@ -73,7 +74,7 @@ impl Cache {
         ensures untold { ForSome (F.told folder.old).files (KeepsAny self.old) → IfDamaged result (λ _. (F.told folder.old).files ≡ None) }
         ensures silent { (F.told folder.old).files ≡ None → (F.told folder.new).files ≡ None }
         ensures later { F.faults folder.old ≤ F.faults folder.new }
-        ensures sink_later { K.faults out.old ≤ K.faults out.new }
+        ensures sink_later { GoesOn K.is K.faults out.old out.new }
         ensures device { IfDevice result (Rises (F.faults folder.old) (F.faults folder.new)) }
     {
         let asked = self.ask_target(folder, handle, offset, bytes, moment)?;
@@ -125,7 +126,7 @@ impl Cache {
         ensures untold { NamesTarget self.old (F.told folder.old) moment handle offset (length bytes.now) target.now → ForSome (F.told folder.old).files (KeepsAny self.old) → IfDamaged result (λ _. (F.told folder.old).files ≡ None) }
         ensures silent { (F.told folder.old).files ≡ None → (F.told folder.new).files ≡ None }
         ensures later { F.faults folder.old ≤ F.faults folder.new }
-        ensures sink_later { K.faults out.old ≤ K.faults out.new }
+        ensures sink_later { GoesOn K.is K.faults out.old out.new }
         ensures device { IfDevice result (Rises (F.faults folder.old) (F.faults folder.new)) }
     {
         if bytes.is_empty() {
@@ -175,7 +176,7 @@ impl Cache {
         ensures untold { NamesTarget self.old (F.told folder.old) moment handle offset (length bytes.now) target.now → ForSome (F.told folder.old).files (KeepsAny self.old) → IfDamaged result (λ _. (F.told folder.old).files ≡ None) }
         ensures silent { (F.told folder.old).files ≡ None → (F.told folder.new).files ≡ None }
         ensures later { F.faults folder.old ≤ F.faults folder.new }
-        ensures sink_later { K.faults out.old ≤ K.faults out.new }
+        ensures sink_later { GoesOn K.is K.faults out.old out.new }
         ensures device { IfDevice result (Rises (F.faults folder.old) (F.faults folder.new)) }
     {
         let rise = self.measure_rise(folder, target, offset, bytes.len() as u64)?;
@@ -226,7 +227,7 @@ impl Cache {
         ensures untold { AsksToStore self.old (F.told folder.old) moment handle offset bytes.now target.now rise.now → ForSome (F.told folder.old).files (KeepsAny self.old) → IfDamaged result (λ _. (F.told folder.old).files ≡ None) }
         ensures silent { (F.told folder.old).files ≡ None → (F.told folder.new).files ≡ None }
         ensures later { F.faults folder.old ≤ F.faults folder.new }
-        ensures sink_later { K.faults out.old ≤ K.faults out.new }
+        ensures sink_later { GoesOn K.is K.faults out.old out.new }
         ensures device { IfDevice result (Rises (F.faults folder.old) (F.faults folder.new)) }
     {
         if self.is_full(rise.bytes, rise.items, &rise.parts) {
@@ -279,7 +280,7 @@ impl Cache {
         ensures untold { HasRoomToStore self.old (F.told folder.old) moment handle offset bytes.now target.now rise.now → ForSome (F.told folder.old).files (KeepsAny self.old) → IfDamaged result (λ _. (F.told folder.old).files ≡ None) }
         ensures silent { (F.told folder.old).files ≡ None → (F.told folder.new).files ≡ None }
         ensures later { F.faults folder.old ≤ F.faults folder.new }
-        ensures sink_later { K.faults out.old ≤ K.faults out.new }
+        ensures sink_later { GoesOn K.is K.faults out.old out.new }
         ensures device { IfDevice result (Rises (F.faults folder.old) (F.faults folder.new)) }
     {
         // That what is kept is within the limits of its types is known once it is read.

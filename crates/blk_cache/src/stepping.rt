@@ -4,7 +4,7 @@ ghost use Rattle.std.specs.Option.{ForSome, option_map};
 ghost use Rattle.spec_image.specs.Steps.{Note};
 ghost use Rattle.spec_image.specs.Told.{Applies, Rises, Stays};
 ghost use Rattle.blk_io.specs.Faults.{IfDamaged, IfDevice};
-ghost use Rattle.blk_io.specs.Streams.{Appends};
+ghost use Rattle.blk_io.specs.Streams.{Appends, GoesOn};
 ghost use Rattle.blk_model.specs.Reply.{answer_of};
 ghost use Rattle.blk_model.specs.Request.{request_of, to_close};
 ghost use Rattle.blk_model.specs.Step.{step};
@@ -73,7 +73,7 @@ impl Cache {
         ensures damaged { IfStepDamaged result (IsFailedCheck self.new.files (F.told f.new)) }
         ensures untold { ForSome (F.told f.old).files (KeepsAny self.old) → IfStepDamaged result (λ _. (F.told f.old).files ≡ None) }
         ensures later { F.faults f.old ≤ F.faults f.new }
-        ensures printed_later { K.faults out.old ≤ K.faults out.new }
+        ensures printed_later { GoesOn K.is K.faults out.old out.new }
         ensures device { IfStepDevice result (Rises (F.faults f.old) (F.faults f.new)) }
         ensures sink { IfSink result (Rises (K.faults out.old) (K.faults out.new)) }
     {
@@ -157,7 +157,7 @@ impl Cache {
         ensures damaged { IfDamaged result (IsFailedCheck self.new.files (F.told folder.new)) }
         ensures untold { ForSome (F.told folder.old).files (KeepsAny self.old) → IfDamaged result (λ _. (F.told folder.old).files ≡ None) }
         ensures later { F.faults folder.old ≤ F.faults folder.new }
-        ensures printed_later { K.faults out.old ≤ K.faults out.new }
+        ensures printed_later { GoesOn K.is K.faults out.old out.new }
         ensures device { IfDevice result (Rises (F.faults folder.old) (F.faults folder.new)) }
     {
         match *command {

@@ -3,6 +3,7 @@ ghost use Rattle.std.specs.Prelude.{◌≡◌, ◌≤◌, ◌<◌, ◌+◌, ◌-
 ghost use Rattle.std.specs.Option.{ForSome};
 ghost use Rattle.spec_image.specs.Told.{Passes, Rises, Stays};
 ghost use Rattle.blk_io.specs.Faults.{IfDamaged, IfDevice};
+ghost use Rattle.blk_io.specs.Streams.{GoesOn};
 ghost use Rattle.blk_model.specs.Effects.{written};
 ghost use Rattle.blk_model.specs.Holding.{rest};
 ghost use Rattle.blk_model.specs.Request.{to_write};
@@ -82,7 +83,7 @@ impl Cache {
         ensures untold { ForSome (F.told folder.old).files (KeepsAny self.old) → IfDamaged result (λ _. (F.told folder.old).files ≡ None) }
         ensures silent { (F.told folder.old).files ≡ None → (F.told folder.new).files ≡ None }
         ensures later { F.faults folder.old ≤ F.faults folder.new }
-        ensures sink_later { K.faults out.old ≤ K.faults out.new }
+        ensures sink_later { GoesOn K.is K.faults out.old out.new }
         ensures device { IfDevice result (Rises (F.faults folder.old) (F.faults folder.new)) }
     {
         let asked = self.refuses_write(folder, handle, stream, offset, bytes)?;

@@ -3,7 +3,7 @@ ghost use Rattle.std.specs.Prelude.{◌≡◌, ◌≤◌, ◌<◌, ◌^◌, ◌+
 ghost use Rattle.std.specs.Option.{ForSome};
 ghost use Rattle.spec_image.specs.Told.{Passes, Rises, Stays};
 ghost use Rattle.blk_io.specs.Faults.{IfDamaged, IfDevice};
-ghost use Rattle.blk_io.specs.Streams.{Appends};
+ghost use Rattle.blk_io.specs.Streams.{Appends, GoesOn};
 ghost use Rattle.blk_model.specs.Effects.{doomed};
 ghost use Rattle.blk_model.specs.Refusals.{no_key};
 ghost use Rattle.blk_model.specs.Room.{parts_among, without};
@@ -65,7 +65,7 @@ pub fn evict_group<F: Folder, K: Sink>(
     ensures untold { ForSome (F.told folder.old).files (λ from. ForEachGoing found.now from (λ state layout group. IfDamaged result (λ _. (F.told folder.old).files ≡ None))) }
     ensures silent { (F.told folder.old).files ≡ None → (F.told folder.new).files ≡ None }
     ensures later { F.faults folder.old ≤ F.faults folder.new }
-    ensures sink_later { K.faults out.old ≤ K.faults out.new }
+    ensures sink_later { GoesOn K.is K.faults out.old out.new }
     ensures device { IfDevice result (Rises (F.faults folder.old) (F.faults folder.new)) }
 {
     let named = read_name(folder, files, found.entry, name)?;
@@ -110,7 +110,7 @@ fn evict_plain<F: Folder, K: Sink>(
     ensures untold { ForSome (F.told folder.old).files (λ from. IsOwnedBy found.now.entry owned.now from → ForEachOfKind found.now EntryKind.Plain key.now from (λ state layout group. IfDamaged result (λ _. (F.told folder.old).files ≡ None))) }
     ensures silent { (F.told folder.old).files ≡ None → (F.told folder.new).files ≡ None }
     ensures later { F.faults folder.old ≤ F.faults folder.new }
-    ensures sink_later { K.faults out.old ≤ K.faults out.new }
+    ensures sink_later { GoesOn K.is K.faults out.old out.new }
     ensures device { IfDevice result (Rises (F.faults folder.old) (F.faults folder.new)) }
 {
     say_evicted(out, failed, key);
@@ -142,7 +142,7 @@ fn evict_part<F: Folder, K: Sink>(
     ensures untold { ForSome (F.told folder.old).files (λ from. IsOwnedBy found.now.entry owned.now from → ForEachOfKind found.now EntryKind.Part name.now from (λ state layout group. IfDamaged result (λ _. (F.told folder.old).files ≡ None))) }
     ensures silent { (F.told folder.old).files ≡ None → (F.told folder.new).files ≡ None }
     ensures later { F.faults folder.old ≤ F.faults folder.new }
-    ensures sink_later { K.faults out.old ≤ K.faults out.new }
+    ensures sink_later { GoesOn K.is K.faults out.old out.new }
     ensures device { IfDevice result (Rises (F.faults folder.old) (F.faults folder.new)) }
 {
     let Some(child) = read_child_name(name) else {
@@ -181,7 +181,7 @@ fn evict_parent<F: Folder, K: Sink>(
     ensures untold { ForSome (F.told folder.old).files (λ from. IsOwnedBy found.now.entry owned.now from → ForEachOfKind found.now EntryKind.Parent key.now from (λ state layout group. IfDamaged result (λ _. (F.told folder.old).files ≡ None))) }
     ensures silent { (F.told folder.old).files ≡ None → (F.told folder.new).files ≡ None }
     ensures later { F.faults folder.old ≤ F.faults folder.new }
-    ensures sink_later { K.faults out.old ≤ K.faults out.new }
+    ensures sink_later { GoesOn K.is K.faults out.old out.new }
     ensures device { IfDevice result (Rises (F.faults folder.old) (F.faults folder.new)) }
 {
     if is_no_key(key) {
@@ -238,7 +238,7 @@ fn remove_parent<F: Folder, K: Sink>(
     ensures untold { ForSome (F.told folder.old).files (λ from. IsOwnedBy at.now.entry owned.now from → ForEachParent key.now node at.now.entry at.now.before from (λ state layout unlinked number object. IfDamaged result (λ _. (F.told folder.old).files ≡ None))) }
     ensures silent { (F.told folder.old).files ≡ None → (F.told folder.new).files ≡ None }
     ensures later { F.faults folder.old ≤ F.faults folder.new }
-    ensures sink_later { K.faults out.old ≤ K.faults out.new }
+    ensures sink_later { GoesOn K.is K.faults out.old out.new }
     ensures device { IfDevice result (Rises (F.faults folder.old) (F.faults folder.new)) }
 {
     let mut say = |number: u32| say_evicted_part(out, failed, key, u64::from(number));

@@ -1,5 +1,6 @@
 // Evicted items are printed.
 ghost use Rattle.std.specs.Prelude.{◌≤◌, map};
+ghost use Rattle.blk_io.specs.Streams.{GoesOn};
 ghost use Rattle.blk_model.specs.Items.{main, part};
 ghost use Rattle.blk_script.specs.Reply.{evicted_line};
 ghost use Rattle.blk_script.specs.Spelling.{field_text, line};
@@ -13,7 +14,7 @@ use blk_script::print_fields;
 pub(crate) fn say_evicted<K: Sink>(out: &mut K, failed: &mut bool, key: &[u8])
     ensures prints { PrintsUnlessFailed failed.old failed.new (K.written out.old) (K.written out.new) (evicted_line (main key.now)) }
     ensures failed { FailsWhereItRose failed.old failed.new (K.faults out.old) (K.faults out.new) }
-    ensures later { K.faults out.old ≤ K.faults out.new }
+    ensures later { GoesOn K.is K.faults out.old out.new }
 {
     say(out, failed, &[Word("evicted"), Key(key)]);
 }
@@ -22,7 +23,7 @@ pub(crate) fn say_evicted<K: Sink>(out: &mut K, failed: &mut bool, key: &[u8])
 pub(crate) fn say_evicted_part<K: Sink>(out: &mut K, failed: &mut bool, key: &[u8], number: u64)
     ensures prints { PrintsUnlessFailed failed.old failed.new (K.written out.old) (K.written out.new) (evicted_line (part key.now number)) }
     ensures failed { FailsWhereItRose failed.old failed.new (K.faults out.old) (K.faults out.new) }
-    ensures later { K.faults out.old ≤ K.faults out.new }
+    ensures later { GoesOn K.is K.faults out.old out.new }
 {
     say(
         out,
@@ -35,7 +36,7 @@ pub(crate) fn say_evicted_part<K: Sink>(out: &mut K, failed: &mut bool, key: &[u
 pub fn say<K: Sink>(out: &mut K, failed: &mut bool, fields: &[Field])
     ensures prints { PrintsUnlessFailed failed.old failed.new (K.written out.old) (K.written out.new) (line (map field_text fields.now)) }
     ensures failed { FailsWhereItRose failed.old failed.new (K.faults out.old) (K.faults out.new) }
-    ensures later { K.faults out.old ≤ K.faults out.new }
+    ensures later { GoesOn K.is K.faults out.old out.new }
 {
     if *failed {
         return;

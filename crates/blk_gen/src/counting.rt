@@ -2,7 +2,7 @@
 ghost use Rattle.std.specs.Prelude.{◌≡◌, ◌≤◌, ◌++◌, OnOk, OnErr};
 ghost use Rattle.std.specs.Option.{option_map};
 ghost use Rattle.spec_image.specs.Told.{Rises};
-ghost use Rattle.blk_io.specs.Streams.{Appends};
+ghost use Rattle.blk_io.specs.Streams.{Appends, GoesOn};
 ghost use Rattle.blk_gen.specs.Counting.{no_counts, held, with_answer, refusals_in, bytes_read, counts_line, AreLong};
 
 use blk_io::{Failed, Sink};
@@ -53,7 +53,7 @@ impl Counts {
     pub fn print_counts<K: Sink>(&self, out: &mut K) -> Result<(), Failed>
         ensures steps { OnOk result (K.written out.new ≡ option_map (λ w. w ++ counts_line self.now) (K.written out.old)) }
         ensures prefix { Appends (K.written out.old) (K.written out.new) (counts_line self.now) }
-        ensures later { K.faults out.old ≤ K.faults out.new }
+        ensures later { GoesOn K.is K.faults out.old out.new }
         ensures failed { OnErr result (Rises (K.faults out.old) (K.faults out.new)) }
     {
         print_fields(

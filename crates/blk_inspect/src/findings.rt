@@ -2,7 +2,7 @@
 ghost use Rattle.std.specs.Prelude.{◌≡◌, ◌≤◌, ◌++◌, OnOk, OnErr};
 ghost use Rattle.std.specs.Option.{option_map};
 ghost use Rattle.spec_image.specs.Told.{Rises};
-ghost use Rattle.blk_io.specs.Streams.{Appends};
+ghost use Rattle.blk_io.specs.Streams.{Appends, GoesOn};
 ghost use Rattle.blk_inspect.specs.Findings.{findings_text};
 ghost use Rattle.blk_inspect.specs.Texts.{place_line};
 
@@ -37,7 +37,7 @@ pub(crate) enum Findings {
 pub(crate) fn print_findings<K: Sink>(out: &mut K, findings: &Findings) -> Result<(), Failed>
     ensures steps { OnOk result (K.written out.new ≡ option_map (λ w. w ++ findings_text findings.now) (K.written out.old)) }
     ensures prefix { Appends (K.written out.old) (K.written out.new) (findings_text findings.now) }
-    ensures later { K.faults out.old ≤ K.faults out.new }
+    ensures later { GoesOn K.is K.faults out.old out.new }
     ensures failed { OnErr result (Rises (K.faults out.old) (K.faults out.new)) }
 {
     match findings {
@@ -55,7 +55,7 @@ pub(crate) fn print_findings<K: Sink>(out: &mut K, findings: &Findings) -> Resul
 fn print_place<K: Sink>(out: &mut K, addr: Addr) -> Result<(), Failed>
     ensures steps { OnOk result (K.written out.new ≡ option_map (λ w. w ++ place_line addr) (K.written out.old)) }
     ensures prefix { Appends (K.written out.old) (K.written out.new) (place_line addr) }
-    ensures later { K.faults out.old ≤ K.faults out.new }
+    ensures later { GoesOn K.is K.faults out.old out.new }
     ensures failed { OnErr result (Rises (K.faults out.old) (K.faults out.new)) }
 {
     match addr.file() {

@@ -1,5 +1,6 @@
 // A folder is inspected and verified.
 ghost use Rattle.std.specs.Prelude.{◌≡◌, ◌≤◌};
+ghost use Rattle.blk_io.specs.Streams.{GoesOn};
 ghost use Rattle.std.specs.Option.{ForSome};
 ghost use Rattle.spec_image.specs.Told.{Rises, Stays};
 ghost use Rattle.blk_inspect.specs.Inspecting.{AnswersFor, IfInspectDamaged, IfInspectDevice, IfInspectSink, IsInspectDamage, PrintsAt, UnlessSink};
@@ -58,7 +59,7 @@ pub fn inspect<F: Folder, K: Sink>(
     ensures cause { IfInspectDamaged result (IsInspectDamage (F.told f.old)) }
 
     ensures later { F.faults f.old ≤ F.faults f.new }
-    ensures sink_later { K.faults out.old ≤ K.faults out.new }
+    ensures sink_later { GoesOn K.is K.faults out.old out.new }
     ensures device { IfInspectDevice result (Rises (F.faults f.old) (F.faults f.new)) }
     ensures sink { IfInspectSink result (Rises (K.faults out.old) (K.faults out.new)) }
 {
@@ -93,7 +94,7 @@ pub fn verify<F: Folder, K: Sink>(alloc: Global, f: &mut F, out: &mut K) -> Resu
     ensures cause { IfInspectDamaged result (IsInspectDamage (F.told f.old)) }
 
     ensures later { F.faults f.old ≤ F.faults f.new }
-    ensures sink_later { K.faults out.old ≤ K.faults out.new }
+    ensures sink_later { GoesOn K.is K.faults out.old out.new }
     ensures device { IfInspectDevice result (Rises (F.faults f.old) (F.faults f.new)) }
     ensures sink { IfInspectSink result (Rises (K.faults out.old) (K.faults out.new)) }
 {

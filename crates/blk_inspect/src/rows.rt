@@ -3,7 +3,7 @@ ghost use Rattle.std.specs.Prelude.{◌≡◌, ◌≤◌, ◌++◌, ℕ, List, O
 ghost use Rattle.std.specs.List.{flat_map};
 ghost use Rattle.std.specs.Option.{option_map};
 ghost use Rattle.spec_image.specs.Told.{Rises};
-ghost use Rattle.blk_io.specs.Streams.{Appends};
+ghost use Rattle.blk_io.specs.Streams.{Appends, GoesOn};
 ghost use Rattle.blk_script.specs.Spelling.{data_text};
 ghost use Rattle.blk_inspect.specs.Texts.{end_line, word_text};
 
@@ -21,7 +21,7 @@ pub(crate) trait Row {
     fn print<K: Sink>(&self, out: &mut K) -> Result<(), Failed>
         ensures steps { OnOk result (K.written out.new ≡ option_map (λ w. w ++ text self.now) (K.written out.old)) }
         ensures prefix { Appends (K.written out.old) (K.written out.new) (text self.now) }
-        ensures later { K.faults out.old ≤ K.faults out.new }
+        ensures later { GoesOn K.is K.faults out.old out.new }
         ensures failed { OnErr result (Rises (K.faults out.old) (K.faults out.new)) };
 }
 
@@ -100,7 +100,7 @@ impl Row for RecordRow {
 pub(crate) fn print_rows<K: Sink, R: Row>(out: &mut K, rows: &[R]) -> Result<(), Failed>
     ensures steps { OnOk result (K.written out.new ≡ option_map (λ w. w ++ flat_map R.text rows.now) (K.written out.old)) }
     ensures prefix { Appends (K.written out.old) (K.written out.new) (flat_map R.text rows.now) }
-    ensures later { K.faults out.old ≤ K.faults out.new }
+    ensures later { GoesOn K.is K.faults out.old out.new }
     ensures failed { OnErr result (Rises (K.faults out.old) (K.faults out.new)) }
 {
     for row in rows {
@@ -113,7 +113,7 @@ pub(crate) fn print_rows<K: Sink, R: Row>(out: &mut K, rows: &[R]) -> Result<(),
 pub(crate) fn print_counted<K: Sink, R: Row>(out: &mut K, rows: &[R]) -> Result<(), Failed>
     ensures steps { OnOk result (K.written out.new ≡ option_map (λ w. w ++ (flat_map R.text rows.now ++ end_line (length rows.now))) (K.written out.old)) }
     ensures prefix { Appends (K.written out.old) (K.written out.new) (flat_map R.text rows.now ++ end_line (length rows.now)) }
-    ensures later { K.faults out.old ≤ K.faults out.new }
+    ensures later { GoesOn K.is K.faults out.old out.new }
     ensures failed { OnErr result (Rises (K.faults out.old) (K.faults out.new)) }
 {
     print_rows(out, rows)?;

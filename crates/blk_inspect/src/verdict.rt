@@ -3,7 +3,7 @@ ghost use Rattle.std.specs.Prelude.{◌≡◌, ◌≤◌, ◌++◌, ◌∷◌, [
 ghost use Rattle.std.specs.List.{flat_map};
 ghost use Rattle.std.specs.Option.{option_map};
 ghost use Rattle.spec_image.specs.Told.{Rises};
-ghost use Rattle.blk_io.specs.Streams.{Appends};
+ghost use Rattle.blk_io.specs.Streams.{Appends, GoesOn};
 ghost use Rattle.spec_run.specs.Script.{totals_line};
 ghost use Rattle.blk_script.specs.Spelling.{data_text, line, number_text};
 ghost use Rattle.blk_verdict.specs.Reasons.{reason_of};
@@ -22,7 +22,7 @@ use blk_verdict::Reason;
 pub(crate) fn print_verdict<K: Sink>(out: &mut K, scan: &Scan) -> Result<(), Failed>
     ensures steps { OnOk result (K.written out.new ≡ option_map (λ w. w ++ scan_text scan.now) (K.written out.old)) }
     ensures prefix { Appends (K.written out.old) (K.written out.new) (scan_text scan.now) }
-    ensures later { K.faults out.old ≤ K.faults out.new }
+    ensures later { GoesOn K.is K.faults out.old out.new }
     ensures failed { OnErr result (Rises (K.faults out.old) (K.faults out.new)) }
 {
     print_kept(out, scan)?;
@@ -34,7 +34,7 @@ pub(crate) fn print_verdict<K: Sink>(out: &mut K, scan: &Scan) -> Result<(), Fai
 fn print_kept<K: Sink>(out: &mut K, scan: &Scan) -> Result<(), Failed>
     ensures steps { OnOk result (K.written out.new ≡ option_map (λ w. w ++ kept_line (length scan.now.kept.items)) (K.written out.old)) }
     ensures prefix { Appends (K.written out.old) (K.written out.new) (kept_line (length scan.now.kept.items)) }
-    ensures later { K.faults out.old ≤ K.faults out.new }
+    ensures later { GoesOn K.is K.faults out.old out.new }
     ensures failed { OnErr result (Rises (K.faults out.old) (K.faults out.new)) }
 {
     print_fields(out, &[Word("kept"), Number(scan.items())])
@@ -44,7 +44,7 @@ fn print_kept<K: Sink>(out: &mut K, scan: &Scan) -> Result<(), Failed>
 fn print_totals<K: Sink>(out: &mut K, items: u64, bytes: u64) -> Result<(), Failed>
     ensures steps { OnOk result (K.written out.new ≡ option_map (λ w. w ++ totals_line items bytes) (K.written out.old)) }
     ensures prefix { Appends (K.written out.old) (K.written out.new) (totals_line items bytes) }
-    ensures later { K.faults out.old ≤ K.faults out.new }
+    ensures later { GoesOn K.is K.faults out.old out.new }
     ensures failed { OnErr result (Rises (K.faults out.old) (K.faults out.new)) }
 {
     print_fields(
@@ -57,7 +57,7 @@ fn print_totals<K: Sink>(out: &mut K, items: u64, bytes: u64) -> Result<(), Fail
 fn print_all_dropped<K: Sink>(out: &mut K, scan: &Scan) -> Result<(), Failed>
     ensures steps { OnOk result (K.written out.new ≡ option_map (λ w. w ++ flat_map dropped_line_told scan.now.dropped.items) (K.written out.old)) }
     ensures prefix { Appends (K.written out.old) (K.written out.new) (flat_map dropped_line_told scan.now.dropped.items) }
-    ensures later { K.faults out.old ≤ K.faults out.new }
+    ensures later { GoesOn K.is K.faults out.old out.new }
     ensures failed { OnErr result (Rises (K.faults out.old) (K.faults out.new)) }
 {
     let mut next = 0;
@@ -72,7 +72,7 @@ fn print_all_dropped<K: Sink>(out: &mut K, scan: &Scan) -> Result<(), Failed>
 fn print_dropped<K: Sink>(out: &mut K, one: &Dropped) -> Result<(), Failed>
     ensures steps { OnOk result (K.written out.new ≡ option_map (λ w. w ++ dropped_line_told one.now) (K.written out.old)) }
     ensures prefix { Appends (K.written out.old) (K.written out.new) (dropped_line_told one.now) }
-    ensures later { K.faults out.old ≤ K.faults out.new }
+    ensures later { GoesOn K.is K.faults out.old out.new }
     ensures failed { OnErr result (Rises (K.faults out.old) (K.faults out.new)) }
 {
     let place = bytes_of(one.place.word());
@@ -88,7 +88,7 @@ fn print_why<'a, K: Sink>(
 ) -> Result<(), Failed>
     ensures steps { OnOk result (K.written out.new ≡ option_map (λ w. w ++ line (codes "dropped" ∷ data_text place.now ∷ number_text number ∷ name.now ∷ [])) (K.written out.old)) }
     ensures prefix { Appends (K.written out.old) (K.written out.new) (line (codes "dropped" ∷ data_text place.now ∷ number_text number ∷ name.now ∷ [])) }
-    ensures later { K.faults out.old ≤ K.faults out.new }
+    ensures later { GoesOn K.is K.faults out.old out.new }
     ensures failed { OnErr result (Rises (K.faults out.old) (K.faults out.new)) }
 {
     print_fields(

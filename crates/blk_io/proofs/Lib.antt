@@ -9,3 +9,4 @@ pub mod Splicing
 pub mod CallLists
 pub mod Writes
 pub mod Carried
+pub mod GoingOn

@@ -1,8 +1,8 @@
 // A source of bytes, a sink of bytes and a clock.
-ghost use Rattle.std.specs.Prelude.{◌≡◌, ◌+◌, ◌-◌, ◌^◌, ◌<◌, ◌≤◌, ℕ, List, [], ◌∷◌, ◌++◌, length, take, drop, min, Option, OnOk, OnErr, IfOk};
+ghost use Rattle.std.specs.Prelude.{◌≡◌, ◌≤◌, ℕ, Bool, List, ◌++◌, length, drop, false, Option, OnOk, OnErr, IfOk};
 ghost use Rattle.std.specs.Option.{ForSome, option_map};
 ghost use Rattle.spec_image.specs.Told.{Rises};
-ghost use Rattle.blk_io.specs.Streams.{Appends, Moves, Readings, reading_of, later_of};
+ghost use Rattle.blk_io.specs.Streams.{Appends, GoesOn, Moves, Readings, reading_of, later_of};
 
 use crate::Failed;
 
@@ -31,8 +31,14 @@ pub trait Source {
 /// A sink may gather bytes, as long as it isn't flushed; those that it holds count as written. A call that answers
 /// `Failed` may have written a prefix of its bytes, and is counted in `faults`.
 pub trait Sink {
+    /// What it is, which no call changes: so one that was lent to a call is known for the same behind it.
+    ghost is: { Self → List ℕ };
+
     /// The bytes that were written, where they are told.
     ghost written: { Self → Option (List ℕ) };
+
+    /// Whether bytes wait to be handed on.
+    ghost waiting: { Self → Bool };
 
     /// How often the sink has failed.
     ghost faults: { Self → ℕ };
@@ -41,13 +47,14 @@ pub trait Sink {
     fn put(&mut self, bytes: &[u8]) -> Result<(), Failed>
         ensures steps { OnOk result (written self.new ≡ option_map (λ w. w ++ bytes.now) (written self.old)) }
         ensures prefix { Appends (written self.old) (written self.new) bytes.now }
-        ensures later { faults self.old ≤ faults self.new }
+        ensures later { GoesOn is faults self.old self.new }
         ensures failed { OnErr result (Rises (faults self.old) (faults self.new)) };
 
     /// Hands on the bytes that are held, at the end of a text. Nothing more is written.
     fn flush(&mut self) -> Result<(), Failed>
         ensures stays { written self.new ≡ written self.old }
-        ensures later { faults self.old ≤ faults self.new }
+        ensures handed { OnOk result (waiting self.new ≡ false) }
+        ensures later { GoesOn is faults self.old self.new }
         ensures failed { OnErr result (Rises (faults self.old) (faults self.new)) };
 }
 

@@ -4,6 +4,7 @@ ghost use Rattle.std.specs.List.{flat_map};
 ghost use Rattle.std.specs.Option.{ForSome};
 ghost use Rattle.spec_image.specs.Told.{Rises, Stays};
 ghost use Rattle.blk_io.specs.Faults.{IfDamaged, IfDevice};
+ghost use Rattle.blk_io.specs.Streams.{GoesOn};
 ghost use Rattle.blk_model.specs.Holding.{rows};
 ghost use Rattle.blk_script.specs.Reply.{row_line};
 ghost use Rattle.spec_format.specs.Address.{blocks_256, kind_of};
@@ -54,7 +55,7 @@ pub fn print_items<F: Folder, K: Sink>(
     ensures damaged { IfDamaged result (IsFailedCheck files.now (F.told folder.new)) }
     ensures untold { ForSome (F.told folder.old).files (HasKeptState files.now) → IfDamaged result (λ _. (F.told folder.old).files ≡ None) }
     ensures later { F.faults folder.old ≤ F.faults folder.new }
-    ensures later_out { K.faults out.old ≤ K.faults out.new }
+    ensures later_out { GoesOn K.is K.faults out.old out.new }
     ensures device { IfDevice result (Rises (F.faults folder.old) (F.faults folder.new)) }
 {
     let mut last = None;
@@ -88,7 +89,7 @@ fn print_row<F: Folder, K: Sink>(
     ensures damaged { IfDamaged result (IsFailedCheck files.now (F.told folder.new)) }
     ensures untold { ForSome (F.told folder.old).files (Agrees files.now) → ForSome (F.told folder.old).files (λ image. (loaded : Loaded) × LoadsAt node loaded image) → IfDamaged result (λ _. (F.told folder.old).files ≡ None) }
     ensures later { F.faults folder.old ≤ F.faults folder.new }
-    ensures later_out { K.faults out.old ≤ K.faults out.new }
+    ensures later_out { GoesOn K.is K.faults out.old out.new }
     ensures device { IfDevice result (Rises (F.faults folder.old) (F.faults folder.new)) }
 {
     let entry = entry_named(folder, files, node)?;
@@ -112,7 +113,7 @@ fn say_row<K: Sink>(
     ensures failed { FailsWhereItRose failed.old failed.new (K.faults out.old) (K.faults out.new) }
     ensures damaged { IfDamaged result (λ damage. IsWordOf entry EntryView.FLAGS child damage × (read_name name.now ≡ None)) }
     ensures untold { IfDamaged result (λ _. (loaded : Loaded) → IsItemToldBy loaded name.now head.now → ⊥) }
-    ensures later { K.faults out.old ≤ K.faults out.new }
+    ensures later { GoesOn K.is K.faults out.old out.new }
     ensures never { IfDevice result ⊥ }
 {
     let first = u64::from(head.sizes[0]);

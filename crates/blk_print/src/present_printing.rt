@@ -3,6 +3,7 @@ ghost use Rattle.std.specs.Prelude.{◌≡◌, ◌≤◌, ◌+◌, IfSome, IsTru
 ghost use Rattle.std.specs.Option.{ForSome};
 ghost use Rattle.spec_image.specs.Told.{Rises, Stays};
 ghost use Rattle.blk_io.specs.Faults.{IfDamaged, IfDevice};
+ghost use Rattle.blk_io.specs.Streams.{GoesOn};
 ghost use Rattle.blk_model.specs.Reply.{gave};
 ghost use Rattle.blk_model.specs.Sizes.{largest_offset, longest_key, part_size};
 ghost use Rattle.blk_model.specs.Sparse.{sparse_bytes};
@@ -60,7 +61,7 @@ pub fn print_present<F: Folder, K: Sink>(
     ensures damaged { IfDamaged result (IsFailedCheck files.now (F.told folder.new)) }
     ensures untold { ForSome (F.told folder.old).files (HasPresent range.now) → IfDamaged result (λ _. (F.told folder.old).files ≡ None) }
     ensures later { F.faults folder.old ≤ F.faults folder.new }
-    ensures later_out { K.faults out.old ≤ K.faults out.new }
+    ensures later_out { GoesOn K.is K.faults out.old out.new }
     ensures device { IfDevice result (Rises (F.faults folder.old) (F.faults folder.new)) }
 {
     if range.count == 0 {
@@ -100,7 +101,7 @@ fn print_parts<F: Folder, K: Sink>(
     ensures damaged { IfDamaged result (IsFailedCheck files.now (F.told folder.new)) }
     ensures untold { ForSome (F.told folder.old).files (λ image. (p : HasPresent range.now image) × ArePartsFound p.layout p.object range.now.offset range.now.count parts.now) → IfDamaged result (λ _. (F.told folder.old).files ≡ None) }
     ensures later { F.faults folder.old ≤ F.faults folder.new }
-    ensures later_out { K.faults out.old ≤ K.faults out.new }
+    ensures later_out { GoesOn K.is K.faults out.old out.new }
     ensures device { IfDevice result (Rises (F.faults folder.old) (F.faults folder.new)) }
 {
     let (_, place) = child_of(range.offset);

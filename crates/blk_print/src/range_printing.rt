@@ -4,6 +4,7 @@ ghost use Rattle.std.specs.Option.{ForSome};
 ghost use Rattle.hex.specs.Hex.{encode_lower};
 ghost use Rattle.spec_image.specs.Told.{Rises, Stays};
 ghost use Rattle.blk_io.specs.Faults.{IfDamaged, IfDevice};
+ghost use Rattle.blk_io.specs.Streams.{GoesOn};
 ghost use Rattle.blk_model.specs.Reply.{gave};
 ghost use Rattle.blk_disk.specs.Tables.{is_record_among};
 ghost use Rattle.blk_script.specs.Reply.{reply_text};
@@ -53,7 +54,7 @@ pub fn print_range<F: Folder, K: Sink>(
     ensures damaged { IfDamaged result (IsFailedCheck files.now (F.told folder.new)) }
     ensures untold { ForSome (F.told folder.old).files (HasBytes files.now range.now) → IfDamaged result (λ _. (F.told folder.old).files ≡ None) }
     ensures later { F.faults folder.old ≤ F.faults folder.new }
-    ensures later_out { K.faults out.old ≤ K.faults out.new }
+    ensures later_out { GoesOn K.is K.faults out.old out.new }
     ensures device { IfDevice result (Rises (F.faults folder.old) (F.faults folder.new)) }
 {
     say_front(out, failed, range.count);
@@ -89,7 +90,7 @@ pub(crate) fn print_ranges<F: Folder, K: Sink>(
     ensures damaged { IfDamaged result (IsFailedCheck files.now (F.told folder.new)) }
     ensures untold { ForSome (F.told folder.old).files (HasBytes files.now first.now) → ForSome (F.told folder.old).files (HasBytes files.now second.now) → IfDamaged result (λ _. (F.told folder.old).files ≡ None) }
     ensures later { F.faults folder.old ≤ F.faults folder.new }
-    ensures later_out { K.faults out.old ≤ K.faults out.new }
+    ensures later_out { GoesOn K.is K.faults out.old out.new }
     ensures device { IfDevice result (Rises (F.faults folder.old) (F.faults folder.new)) }
 {
     say_front(out, failed, first.count + second.count);
@@ -117,7 +118,7 @@ fn print_data<F: Folder, K: Sink>(
     ensures damaged { IfDamaged result (IsFailedCheck files.now (F.told folder.new)) }
     ensures untold { ForSome (F.told folder.old).files (HasBytes files.now range.now) → IfDamaged result (λ _. (F.told folder.old).files ≡ None) }
     ensures later { F.faults folder.old ≤ F.faults folder.new }
-    ensures later_out { K.faults out.old ≤ K.faults out.new }
+    ensures later_out { GoesOn K.is K.faults out.old out.new }
     ensures device { IfDevice result (Rises (F.faults folder.old) (F.faults folder.new)) }
 {
     if range.count == 0 {
@@ -145,7 +146,7 @@ fn print_pieces<F: Folder, K: Sink>(
     ensures damaged { IfDamaged result (IsFailedCheck files.now (F.told folder.new)) }
     ensures untold { ForSome (F.told folder.old).files (HasBytes files.now range.now) → IfDamaged result (λ _. (F.told folder.old).files ≡ None) }
     ensures later { F.faults folder.old ≤ F.faults folder.new }
-    ensures later_out { K.faults out.old ≤ K.faults out.new }
+    ensures later_out { GoesOn K.is K.faults out.old out.new }
     ensures device { IfDevice result (Rises (F.faults folder.old) (F.faults folder.new)) }
 {
     let mut done = 0;
@@ -181,7 +182,7 @@ fn print_piece<F: Folder, K: Sink>(
     ensures damaged { IfDamaged result (IsFailedCheck files.now (F.told folder.new)) }
     ensures untold { ForSome (F.told folder.old).files (HasBytes files.now range.now) → IfDamaged result (λ _. (F.told folder.old).files ≡ None) }
     ensures later { F.faults folder.old ≤ F.faults folder.new }
-    ensures later_out { K.faults out.old ≤ K.faults out.new }
+    ensures later_out { GoesOn K.is K.faults out.old out.new }
     ensures device { IfDevice result (Rises (F.faults folder.old) (F.faults folder.new)) }
 {
     let mut buffer = [0u8; PIECE as usize];
@@ -209,7 +210,7 @@ fn print_through<F: Folder, K: Sink>(
     ensures damaged { IfDamaged result (IsFailedCheck files.now (F.told folder.new)) }
     ensures untold { ForSome (F.told folder.old).files (HasBytes files.now range.now) → IfDamaged result (λ _. (F.told folder.old).files ≡ None) }
     ensures later { F.faults folder.old ≤ F.faults folder.new }
-    ensures later_out { K.faults out.old ≤ K.faults out.new }
+    ensures later_out { GoesOn K.is K.faults out.old out.new }
     ensures device { IfDevice result (Rises (F.faults folder.old) (F.faults folder.new)) }
 {
     let number = read(
@@ -236,7 +237,7 @@ fn print_through<F: Folder, K: Sink>(
 fn say_front<K: Sink>(out: &mut K, failed: &mut bool, number: u64)
     ensures prints { PrintsUnlessFailed failed.old failed.new (K.written out.old) (K.written out.new) (codes "data " ++ (number_text number ++ codes " ")) }
     ensures failed { FailsWhereItRose failed.old failed.new (K.faults out.old) (K.faults out.new) }
-    ensures later { K.faults out.old ≤ K.faults out.new }
+    ensures later { GoesOn K.is K.faults out.old out.new }
 {
     say_text(out, failed, b"data ");
     say_digits(out, failed, number);
@@ -247,7 +248,7 @@ fn say_front<K: Sink>(out: &mut K, failed: &mut bool, number: u64)
 fn say_digits<K: Sink>(out: &mut K, failed: &mut bool, number: u64)
     ensures prints { PrintsUnlessFailed failed.old failed.new (K.written out.old) (K.written out.new) (number_text number) }
     ensures failed { FailsWhereItRose failed.old failed.new (K.faults out.old) (K.faults out.new) }
-    ensures later { K.faults out.old ≤ K.faults out.new }
+    ensures later { GoesOn K.is K.faults out.old out.new }
 {
     if *failed {
         return;
@@ -259,7 +260,7 @@ fn say_digits<K: Sink>(out: &mut K, failed: &mut bool, number: u64)
 fn say_bytes<K: Sink>(out: &mut K, failed: &mut bool, bytes: &[u8])
     ensures prints { PrintsUnlessFailed failed.old failed.new (K.written out.old) (K.written out.new) (encode_lower bytes.now) }
     ensures failed { FailsWhereItRose failed.old failed.new (K.faults out.old) (K.faults out.new) }
-    ensures later { K.faults out.old ≤ K.faults out.new }
+    ensures later { GoesOn K.is K.faults out.old out.new }
 {
     if *failed {
         return;
@@ -271,7 +272,7 @@ fn say_bytes<K: Sink>(out: &mut K, failed: &mut bool, bytes: &[u8])
 fn say_text<K: Sink>(out: &mut K, failed: &mut bool, text: &[u8])
     ensures prints { PrintsUnlessFailed failed.old failed.new (K.written out.old) (K.written out.new) text.now }
     ensures failed { FailsWhereItRose failed.old failed.new (K.faults out.old) (K.faults out.new) }
-    ensures later { K.faults out.old ≤ K.faults out.new }
+    ensures later { GoesOn K.is K.faults out.old out.new }
 {
     if *failed {
         return;

@@ -1,5 +1,6 @@
 // The rows of a List are printed.
 ghost use Rattle.std.specs.Prelude.{◌≤◌, ◌∷◌, [], codes};
+ghost use Rattle.blk_io.specs.Streams.{GoesOn};
 ghost use Rattle.blk_script.specs.Spelling.{key_text, line, number_text};
 ghost use Rattle.blk_evict.specs.RoomPrinting.{FailsWhereItRose, PrintsUnlessFailed};
 
@@ -18,7 +19,7 @@ pub(crate) fn say_plain<K: Sink>(
 )
     ensures prints { PrintsUnlessFailed failed.old failed.new (K.written out.old) (K.written out.new) (line (codes "main" ∷ key_text key.now ∷ number_text first ∷ number_text second ∷ number_text third ∷ [])) }
     ensures failed { FailsWhereItRose failed.old failed.new (K.faults out.old) (K.faults out.new) }
-    ensures later { K.faults out.old ≤ K.faults out.new }
+    ensures later { GoesOn K.is K.faults out.old out.new }
 {
     say(
         out,
@@ -37,7 +38,7 @@ pub(crate) fn say_plain<K: Sink>(
 pub(crate) fn say_sparse<K: Sink>(out: &mut K, failed: &mut bool, key: &[u8], first: u64)
     ensures prints { PrintsUnlessFailed failed.old failed.new (K.written out.old) (K.written out.new) (line (codes "sparse" ∷ key_text key.now ∷ number_text first ∷ [])) }
     ensures failed { FailsWhereItRose failed.old failed.new (K.faults out.old) (K.faults out.new) }
-    ensures later { K.faults out.old ≤ K.faults out.new }
+    ensures later { GoesOn K.is K.faults out.old out.new }
 {
     say(out, failed, &[Word("sparse"), Key(key), Number(first)]);
 }
@@ -46,7 +47,7 @@ pub(crate) fn say_sparse<K: Sink>(out: &mut K, failed: &mut bool, key: &[u8], fi
 pub(crate) fn say_part<K: Sink>(out: &mut K, failed: &mut bool, key: &[u8], number: u64, size: u64)
     ensures prints { PrintsUnlessFailed failed.old failed.new (K.written out.old) (K.written out.new) (line (codes "part" ∷ key_text key.now ∷ number_text number ∷ number_text size ∷ [])) }
     ensures failed { FailsWhereItRose failed.old failed.new (K.faults out.old) (K.faults out.new) }
-    ensures later { K.faults out.old ≤ K.faults out.new }
+    ensures later { GoesOn K.is K.faults out.old out.new }
 {
     say(
         out,

@@ -5,7 +5,7 @@ ghost use Rattle.spec_image.specs.Image.{Image, Index as index, byte};
 ghost use Rattle.spec_image.specs.Checks.{Damage as check_damage};
 ghost use Rattle.spec_image.specs.Told.{Passes, Rises, Stays, Told};
 ghost use Rattle.spec_format.specs.Headers.{IsUnfinished, create_time_of, this_id_of};
-ghost use Rattle.blk_io.specs.Streams.{Appends, Readings, later_of};
+ghost use Rattle.blk_io.specs.Streams.{Appends, GoesOn, Readings, later_of};
 ghost use Rattle.blk_model.specs.Bounds.{bounds_of};
 ghost use Rattle.blk_model.specs.Holding.{open_state};
 ghost use Rattle.blk_model.specs.Sizes.{handle_names};
@@ -51,7 +51,7 @@ pub(crate) fn run_count<F: Folder, K: Sink, C: Clock>(
 
     // The cause of each status, on every folder.
     ensures cause { CauseOf result (IsDamagedRun (F.told folder.old) (F.told folder.new) (K.written out.old) (K.written out.new) (K.faults out.old) (K.faults out.new)) (Rises (F.faults folder.old) (F.faults folder.new)) ⊥ (Rises (K.faults out.old) (K.faults out.new)) ⊥ }
-    ensures later { (F.faults folder.old ≤ F.faults folder.new) × (K.faults out.old ≤ K.faults out.new) }
+    ensures later { (F.faults folder.old ≤ F.faults folder.new) × GoesOn K.is K.faults out.old out.new }
 
     // The folder decides the status, but for failures and out of memory.
     ensures answer { ForSome (F.told folder.old).files (CountAnswersFor result) }
@@ -104,7 +104,7 @@ fn count<F: Folder, K: Sink>(cache: Cache, folder: &mut F, out: &mut K) -> Statu
     ensures stops { ForSome (F.told folder.old).files (λ from. (state : State) → KeepsState cache state from → Passes (F.told folder.old) (F.told folder.new) (HoldsStill from)) }
     ensures silent { (F.told folder.old).files ≡ None → (F.told folder.new).files ≡ None }
     ensures later { F.faults folder.old ≤ F.faults folder.new }
-    ensures sink_later { K.faults out.old ≤ K.faults out.new }
+    ensures sink_later { GoesOn K.is K.faults out.old out.new }
     ensures device { result ≡ Status.Device → Rises (F.faults folder.old) (F.faults folder.new) }
     ensures sink { result ≡ Status.Sink → Rises (K.faults out.old) (K.faults out.new) }
 {
@@ -121,7 +121,7 @@ pub(crate) fn show_totals<K: Sink>(cache: &Cache, out: &mut K) -> Result<(), Ste
     ensures printed { OnOk result (K.written out.new ≡ option_map (λ w. w ++ totals_line cache.now.items cache.now.bytes) (K.written out.old)) }
     ensures front { Appends (K.written out.old) (K.written out.new) (totals_line cache.now.items cache.now.bytes) }
     ensures only { IsOnlySink result }
-    ensures later { K.faults out.old ≤ K.faults out.new }
+    ensures later { GoesOn K.is K.faults out.old out.new }
     ensures sink { IfSink result (Rises (K.faults out.old) (K.faults out.new)) }
 {
     let (items, bytes) = cache.totals();

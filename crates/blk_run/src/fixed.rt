@@ -2,7 +2,7 @@
 ghost use Rattle.std.specs.Prelude.{◌≡◌, ◌*◌, true, ◌≤◌, ◌+◌, ◌++◌, ℕ, length, map, OnOk};
 ghost use Rattle.std.specs.Option.{ForSome, option_map};
 ghost use Rattle.spec_image.specs.Told.{Rises};
-ghost use Rattle.blk_io.specs.Streams.{Appends};
+ghost use Rattle.blk_io.specs.Streams.{Appends, GoesOn};
 ghost use Rattle.blk_model.specs.Reply.{answered};
 ghost use Rattle.blk_model.specs.Request.{request_of};
 ghost use Rattle.blk_script.specs.Reply.{reply_text};
@@ -36,7 +36,7 @@ pub(crate) fn play_until_refused<F: Folder, K: Sink, C: Clock>(
     ensures played { (far : SoFar) (left : ℕ) → StandsAt far (KeepsState cache.old) (cache.old.notes) (left + 2 * length commands.now) (F.told folder.old) → PlaysPart result (turns (until_refused (map request_of commands.now))) far (KeepsState cache.new) (cache.new.notes) left (record { folder = F.told folder.old; written = K.written out.old; clock = C.readings clock.old; refused = refused.old }) (record { folder = F.told folder.new; written = K.written out.new; clock = C.readings clock.new; refused = refused.new }) }
     ensures is_open { IfDone result (ForSome (F.told folder.new).files (IsOpen cache.new.files)) }
     ensures later { F.faults folder.old ≤ F.faults folder.new }
-    ensures printed_later { K.faults out.old ≤ K.faults out.new }
+    ensures printed_later { GoesOn K.is K.faults out.old out.new }
     ensures damaged { IfStepDamaged result (IsFailedCheck cache.new.files (F.told folder.new)) }
     ensures device { IfStepDevice result (Rises (F.faults folder.old) (F.faults folder.new)) }
     ensures sink { IfSink result (Rises (K.faults out.old) (K.faults out.new)) }
@@ -65,7 +65,7 @@ pub(crate) fn play_put<F: Folder, K: Sink, C: Clock>(
     ensures played { (far : SoFar) (left : ℕ) → StandsAt far (KeepsState cache.old) (cache.old.notes) (left + 8) (F.told folder.old) → PlaysPart result (turns (put_script put.entry.key.now put.entry.stream put.entry.bytes.now)) far (KeepsState cache.new) (cache.new.notes) left (record { folder = F.told folder.old; written = K.written out.old; clock = C.readings clock.old; refused = refused.old }) (record { folder = F.told folder.new; written = K.written out.new; clock = C.readings clock.new; refused = refused.new }) }
     ensures is_open { IfDone result (ForSome (F.told folder.new).files (IsOpen cache.new.files)) }
     ensures later { F.faults folder.old ≤ F.faults folder.new }
-    ensures printed_later { K.faults out.old ≤ K.faults out.new }
+    ensures printed_later { GoesOn K.is K.faults out.old out.new }
     ensures damaged { IfStepDamaged result (IsFailedCheck cache.new.files (F.told folder.new)) }
     ensures device { IfStepDevice result (Rises (F.faults folder.old) (F.faults folder.new)) }
     ensures sink { IfSink result (Rises (K.faults out.old) (K.faults out.new)) }
@@ -116,7 +116,7 @@ fn print_opened<K: Sink>(out: &mut K, answer: &Answer) -> Result<(), StepFault>
     ensures printed { OnOk result (K.written out.new ≡ option_map (λ w. w ++ reply_text (answered (opened_answer answer.now))) (K.written out.old)) }
     ensures front { Appends (K.written out.old) (K.written out.new) (reply_text (answered (opened_answer answer.now))) }
     ensures only { IsOnlySink result }
-    ensures later { K.faults out.old ≤ K.faults out.new }
+    ensures later { GoesOn K.is K.faults out.old out.new }
     ensures sink { IfSink result (Rises (K.faults out.old) (K.faults out.new)) }
 {
     let printed = match *answer {

@@ -2,7 +2,7 @@
 ghost use Rattle.std.specs.Prelude.{◌≡◌, ◌≤◌, ◌<◌, ◌+◌, ◌*◌, ◌^◌, ◌++◌, Bool, List, Option, ℕ, length, OnOk};
 ghost use Rattle.std.specs.Option.{ForSome, option_map};
 ghost use Rattle.spec_image.specs.Told.{Rises};
-ghost use Rattle.blk_io.specs.Streams.{Appends};
+ghost use Rattle.blk_io.specs.Streams.{Appends, GoesOn};
 ghost use Rattle.blk_model.specs.Request.{request_of};
 ghost use Rattle.spec_run.specs.Run.{turns};
 ghost use Rattle.spec_run.specs.Script.{totals_line};
@@ -45,7 +45,7 @@ pub(crate) fn play_generated<F: Folder, K: Sink, C: Clock>(
     ensures played { (refused : Bool) (far : SoFar) (left : ℕ) → StandsAt far (KeepsState cache.old) (cache.old.notes) (left + 2 * (5 * count)) (F.told folder.old) → PlaysPart result (turns (gen_script seed count)) far (KeepsState cache.new) (cache.new.notes) left (record { folder = F.told folder.old; written = K.written out.old; clock = C.readings clock.old; refused = refused }) (record { folder = F.told folder.new; written = K.written out.new; clock = C.readings clock.new; refused = refused }) }
     ensures is_open { IfDone result (ForSome (F.told folder.new).files (IsOpen cache.new.files)) }
     ensures later { F.faults folder.old ≤ F.faults folder.new }
-    ensures printed_later { K.faults out.old ≤ K.faults out.new }
+    ensures printed_later { GoesOn K.is K.faults out.old out.new }
     ensures damaged { IfStepDamaged result (IsFailedCheck cache.new.files (F.told folder.new)) }
     ensures device { IfStepDevice result (Rises (F.faults folder.old) (F.faults folder.new)) }
     ensures sink { IfSink result (Rises (K.faults out.old) (K.faults out.new)) }
@@ -233,7 +233,7 @@ fn show_counts<K: Sink>(cache: &Cache, counts: &Counts, out: &mut K) -> Result<(
     ensures printed { OnOk result (K.written out.new ≡ option_map (λ w. w ++ (counts_line counts.now ++ totals_line cache.now.items cache.now.bytes)) (K.written out.old)) }
     ensures front { Appends (K.written out.old) (K.written out.new) (counts_line counts.now ++ totals_line cache.now.items cache.now.bytes) }
     ensures only { IsOnlySink result }
-    ensures later { K.faults out.old ≤ K.faults out.new }
+    ensures later { GoesOn K.is K.faults out.old out.new }
     ensures sink { IfSink result (Rises (K.faults out.old) (K.faults out.new)) }
 {
     match counts.print_counts(out) {

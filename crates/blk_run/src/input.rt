@@ -1,5 +1,6 @@
 // The lines of an input are played.
 ghost use Rattle.std.specs.Prelude.{◌≡◌, ◌≤◌, ◌<◌, ◌+◌, ℕ, [], length, take, drop, IfOk, OnErr};
+ghost use Rattle.blk_io.specs.Streams.{GoesOn};
 ghost use Rattle.std.specs.Option.{ForSome, option_map};
 ghost use Rattle.spec_image.specs.Told.{Rises};
 ghost use Rattle.blk_object.specs.FailedChecks.{IsFailedCheck};
@@ -72,7 +73,7 @@ pub(crate) fn play_input<F: Folder, S: Source, K: Sink, C: Clock>(
     ensures taken { ForSome (S.left input.old) (IsTakenUpTo (budget + 1) (S.left input.new)) }
     ensures is_open { IfDone result (ForSome (F.told folder.new).files (IsOpen cache.new.files)) }
     ensures later { F.faults folder.old ≤ F.faults folder.new }
-    ensures printed_later { K.faults out.old ≤ K.faults out.new }
+    ensures printed_later { GoesOn K.is K.faults out.old out.new }
     ensures taken_later { S.faults input.old ≤ S.faults input.new }
     ensures damaged { IfStepDamaged result (IsFailedCheck cache.new.files (F.told folder.new)) }
     ensures device { IfStepDevice result (Rises (F.faults folder.old) (F.faults folder.new)) }

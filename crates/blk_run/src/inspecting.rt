@@ -1,7 +1,7 @@
 // The subcommands that print what a folder holds, and leave it as it is.
 ghost use Rattle.std.specs.Prelude.{◌≡◌, ◌≤◌, List, Option, ℕ};
 ghost use Rattle.spec_image.specs.Told.{Rises, Stays};
-ghost use Rattle.blk_io.specs.Streams.{Readings};
+ghost use Rattle.blk_io.specs.Streams.{GoesOn, Readings};
 ghost use Rattle.blk_model.specs.State.{Bounds};
 ghost use Rattle.blk_inspect.specs.Texts.{inspect_text, verify_text};
 ghost use Rattle.blk_run.specs.Shown.{PrintsFault, status_shown};
@@ -23,7 +23,7 @@ pub(crate) fn show_part<F: Folder, K: Sink>(
 ) -> Status
     ensures performs { (limits : Bounds) (left : Option (List ℕ)) (clock : Option Readings) → Performs (folder_text (inspect_text part.now)) result limits (Rises (F.faults folder.old) (F.faults folder.new)) ⊥ (K.faults out.old) (K.faults out.new) (record { folder = F.told folder.old; written = K.written out.old; left = left; clock = clock }) (record { folder = F.told folder.new; written = K.written out.new; left = left; clock = clock }) }
     ensures stays { Stays (F.told folder.old) (F.told folder.new) }
-    ensures later { (F.faults folder.old ≤ F.faults folder.new) × (K.faults out.old ≤ K.faults out.new) }
+    ensures later { (F.faults folder.old ≤ F.faults folder.new) × GoesOn K.is K.faults out.old out.new }
 {
     let shown = flush_text(inspect(alloc, folder, out, part), out);
     end_shown(&shown, out)
@@ -33,7 +33,7 @@ pub(crate) fn show_part<F: Folder, K: Sink>(
 pub(crate) fn show_verdict<F: Folder, K: Sink>(alloc: Global, out: &mut K, folder: &mut F) -> Status
     ensures performs { (limits : Bounds) (left : Option (List ℕ)) (clock : Option Readings) → Performs (folder_text verify_text) result limits (Rises (F.faults folder.old) (F.faults folder.new)) ⊥ (K.faults out.old) (K.faults out.new) (record { folder = F.told folder.old; written = K.written out.old; left = left; clock = clock }) (record { folder = F.told folder.new; written = K.written out.new; left = left; clock = clock }) }
     ensures stays { Stays (F.told folder.old) (F.told folder.new) }
-    ensures later { (F.faults folder.old ≤ F.faults folder.new) × (K.faults out.old ≤ K.faults out.new) }
+    ensures later { (F.faults folder.old ≤ F.faults folder.new) × GoesOn K.is K.faults out.old out.new }
 {
     let shown = flush_text(verify(alloc, folder, out), out);
     end_shown(&shown, out)
@@ -43,7 +43,7 @@ pub(crate) fn show_verdict<F: Folder, K: Sink>(alloc: Global, out: &mut K, folde
 fn flush_text<K: Sink>(shown: Result<(), InspectFault>, out: &mut K) -> Result<(), InspectFault>
     ensures flushed { IsFlushed shown result InspectFault.Sink (Rises (K.faults out.old) (K.faults out.new)) }
     ensures stays { K.written out.new ≡ K.written out.old }
-    ensures later { K.faults out.old ≤ K.faults out.new }
+    ensures later { GoesOn K.is K.faults out.old out.new }
 {
     match (shown, out.flush()) {
         (Ok(()), Err(_)) => Err(InspectFault::Sink),
@@ -55,7 +55,7 @@ fn flush_text<K: Sink>(shown: Result<(), InspectFault>, out: &mut K) -> Result<(
 fn end_shown<K: Sink>(shown: &Result<(), InspectFault>, out: &mut K) -> Status
     ensures status { result ≡ status_shown shown.now }
     ensures printed { PrintsFault shown.now (K.written out.old) (K.written out.new) (K.faults out.old) (K.faults out.new) }
-    ensures later { K.faults out.old ≤ K.faults out.new }
+    ensures later { GoesOn K.is K.faults out.old out.new }
 {
     match *shown {
         Ok(()) => Status::Ok,

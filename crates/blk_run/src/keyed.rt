@@ -1,5 +1,6 @@
 // The subcommands that name an entry by its key.
 ghost use Rattle.std.specs.Prelude.{◌≡◌, ◌≤◌, ℕ, List, Option, IfOk, Ok, length};
+ghost use Rattle.blk_io.specs.Streams.{GoesOn};
 ghost use Rattle.percent_encoding.specs.Percent.{percent_decode};
 ghost use Rattle.spec_image.specs.Told.{Rises};
 ghost use Rattle.blk_model.specs.Bounds.{bounds_of};
@@ -28,7 +29,7 @@ pub(crate) fn get<F: Folder, K: Sink, C: Clock>(
 ) -> Status
     requires spelled { key_field key.now ≡ Ok (percent_decode key.now) }
     ensures performs { (left : Option (List ℕ)) → Performs (no_input (get_script (percent_decode key.now) stream)) result (bounds_of limits) (Rises (F.faults folder.old) (F.faults folder.new)) ⊥ (K.faults out.old) (K.faults out.new) (record { folder = F.told folder.old; written = K.written out.old; left = left; clock = C.readings clock.old }) (record { folder = F.told folder.new; written = K.written out.new; left = left; clock = C.readings clock.new }) }
-    ensures later { (F.faults folder.old ≤ F.faults folder.new) × (K.faults out.old ≤ K.faults out.new) }
+    ensures later { (F.faults folder.old ≤ F.faults folder.new) × GoesOn K.is K.faults out.old out.new }
 {
     let Ok(mut buffer) = take_buffer(alloc, key.len()) else {
         return Status::Memory;
@@ -59,7 +60,7 @@ pub(crate) fn doom<F: Folder, K: Sink, C: Clock>(
 ) -> Status
     requires spelled { key_field key.now ≡ Ok (percent_decode key.now) }
     ensures performs { (left : Option (List ℕ)) → Performs (no_input (doom_script (percent_decode key.now))) result (bounds_of limits) (Rises (F.faults folder.old) (F.faults folder.new)) ⊥ (K.faults out.old) (K.faults out.new) (record { folder = F.told folder.old; written = K.written out.old; left = left; clock = C.readings clock.old }) (record { folder = F.told folder.new; written = K.written out.new; left = left; clock = C.readings clock.new }) }
-    ensures later { (F.faults folder.old ≤ F.faults folder.new) × (K.faults out.old ≤ K.faults out.new) }
+    ensures later { (F.faults folder.old ≤ F.faults folder.new) × GoesOn K.is K.faults out.old out.new }
 {
     let Ok(mut buffer) = take_buffer(alloc, key.len()) else {
         return Status::Memory;
@@ -85,7 +86,7 @@ pub(crate) fn put<F: Folder, S: Source, K: Sink, C: Clock>(
 ) -> Status
     requires spelled { key_field key.now ≡ Ok (percent_decode key.now) }
     ensures performs { Performs (whole_input (put_script (percent_decode key.now) stream)) result (bounds_of limits) (Rises (F.faults folder.old) (F.faults folder.new)) (Rises (S.faults input.old) (S.faults input.new)) (K.faults out.old) (K.faults out.new) (record { folder = F.told folder.old; written = K.written out.old; left = S.left input.old; clock = C.readings clock.old }) (record { folder = F.told folder.new; written = K.written out.new; left = S.left input.new; clock = C.readings clock.new }) }
-    ensures later { (F.faults folder.old ≤ F.faults folder.new) × ((S.faults input.old ≤ S.faults input.new) × (K.faults out.old ≤ K.faults out.new)) }
+    ensures later { (F.faults folder.old ≤ F.faults folder.new) × ((S.faults input.old ≤ S.faults input.new) × GoesOn K.is K.faults out.old out.new) }
 {
     let Ok(mut buffer) = take_buffer(alloc, key.len()) else {
         return Status::Memory;

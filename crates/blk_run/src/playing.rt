@@ -3,7 +3,7 @@ ghost use Rattle.std.specs.Prelude.{drop, ◌==◌, ◌≡◌, ◌-◌, true, fa
 ghost use Rattle.std.specs.Option.{ForSome, option_map};
 ghost use Rattle.std.specs.List.{position};
 ghost use Rattle.spec_image.specs.Told.{Rises};
-ghost use Rattle.blk_io.specs.Streams.{Appends};
+ghost use Rattle.blk_io.specs.Streams.{Appends, GoesOn};
 ghost use Rattle.blk_model.specs.Request.{request_of};
 ghost use Rattle.blk_script.specs.Reply.{line_fault_text};
 ghost use Rattle.spec_run.specs.Script.{ended, line_script, session_script};
@@ -35,7 +35,7 @@ pub(crate) struct Played {
 fn print_error<K: Sink>(out: &mut K, number: u64, why: LineFault) -> Result<(), Failed>
     ensures steps { OnOk result (K.written out.new ≡ option_map (λ w. w ++ line_fault_text number why) (K.written out.old)) }
     ensures prefix { Appends (K.written out.old) (K.written out.new) (line_fault_text number why) }
-    ensures later { K.faults out.old ≤ K.faults out.new }
+    ensures later { GoesOn K.is K.faults out.old out.new }
     ensures failed { OnErr result (Rises (K.faults out.old) (K.faults out.new)) }
 {
     print_fields(
@@ -67,7 +67,7 @@ pub(crate) fn play_line<F: Folder, K: Sink, C: Clock>(
     ensures lines { played.new.lines ≡ played.old.lines + 1 }
     ensures is_open { IfDone result (ForSome (F.told folder.new).files (IsOpen cache.new.files)) }
     ensures later { F.faults folder.old ≤ F.faults folder.new }
-    ensures printed_later { K.faults out.old ≤ K.faults out.new }
+    ensures printed_later { GoesOn K.is K.faults out.old out.new }
     ensures damaged { IfStepDamaged result (IsFailedCheck cache.new.files (F.told folder.new)) }
     ensures device { IfStepDevice result (Rises (F.faults folder.old) (F.faults folder.new)) }
     ensures sink { IfSink result (Rises (K.faults out.old) (K.faults out.new)) }
@@ -96,7 +96,7 @@ fn play_command<F: Folder, K: Sink, C: Clock>(
     ensures lines { played.new.lines ≡ played.old.lines }
     ensures is_open { IfDone result (ForSome (F.told folder.new).files (IsOpen cache.new.files)) }
     ensures later { F.faults folder.old ≤ F.faults folder.new }
-    ensures printed_later { K.faults out.old ≤ K.faults out.new }
+    ensures printed_later { GoesOn K.is K.faults out.old out.new }
     ensures damaged { IfStepDamaged result (IsFailedCheck cache.new.files (F.told folder.new)) }
     ensures device { IfStepDevice result (Rises (F.faults folder.old) (F.faults folder.new)) }
     ensures sink { IfSink result (Rises (K.faults out.old) (K.faults out.new)) }
@@ -130,7 +130,7 @@ pub(crate) fn ask<F: Folder, K: Sink, C: Clock>(
     ensures asked { (far : SoFar) (left : ℕ) → StandsAt far (KeepsState cache.old) (cache.old.notes) (left + 2) (F.told folder.old) → Asks result (request_of command.now) far (KeepsState cache.new) (cache.new.notes) left (record { folder = F.told folder.old; written = K.written out.old; clock = C.readings clock.old; refused = false }) (record { folder = F.told folder.new; written = K.written out.new; clock = C.readings clock.new; refused = has_refused result }) }
     ensures is_open { IfDone result (ForSome (F.told folder.new).files (IsOpen cache.new.files)) }
     ensures later { F.faults folder.old ≤ F.faults folder.new }
-    ensures printed_later { K.faults out.old ≤ K.faults out.new }
+    ensures printed_later { GoesOn K.is K.faults out.old out.new }
     ensures damaged { IfStepDamaged result (IsFailedCheck cache.new.files (F.told folder.new)) }
     ensures device { IfStepDevice result (Rises (F.faults folder.old) (F.faults folder.new)) }
     ensures sink { IfSink result (Rises (K.faults out.old) (K.faults out.new)) }
@@ -146,7 +146,7 @@ fn flush_reply<K: Sink>(
 ) -> Result<Answer, StepFault>
     ensures flushed { IsFlushed answered result StepFault.Sink (Rises (K.faults out.old) (K.faults out.new)) }
     ensures stays { K.written out.new ≡ K.written out.old }
-    ensures later { K.faults out.old ≤ K.faults out.new }
+    ensures later { GoesOn K.is K.faults out.old out.new }
 {
     match (answered, out.flush()) {
         (Ok(_), Err(_)) => Err(StepFault::Sink),
@@ -161,7 +161,7 @@ fn play_error<K: Sink>(played: &mut Played, why: LineFault, out: &mut K) -> Resu
     ensures refused { played.new.refused ≡ true }
     ensures lines { played.new.lines ≡ played.old.lines }
     ensures only { IsOnlySink result }
-    ensures later { K.faults out.old ≤ K.faults out.new }
+    ensures later { GoesOn K.is K.faults out.old out.new }
     ensures sink { IfSink result (Rises (K.faults out.old) (K.faults out.new)) }
 {
     played.refused = true;
@@ -206,7 +206,7 @@ pub(crate) fn play_bytes<F: Folder, K: Sink, C: Clock>(
     ensures lines { OnOk result (played.new.lines + pending line.new ≤ played.old.lines + pending line.old + length bytes.now) }
     ensures is_open { IfDone result (ForSome (F.told folder.new).files (IsOpen cache.new.files)) }
     ensures later { F.faults folder.old ≤ F.faults folder.new }
-    ensures printed_later { K.faults out.old ≤ K.faults out.new }
+    ensures printed_later { GoesOn K.is K.faults out.old out.new }
     ensures damaged { IfStepDamaged result (IsFailedCheck cache.new.files (F.told folder.new)) }
     ensures device { IfStepDevice result (Rises (F.faults folder.old) (F.faults folder.new)) }
     ensures sink { IfSink result (Rises (K.faults out.old) (K.faults out.new)) }

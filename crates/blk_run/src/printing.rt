@@ -3,7 +3,7 @@ ghost use Rattle.std.specs.Prelude.{◌≡◌, ◌++◌, ◌≤◌, OnOk, OnErr,
 ghost use Rattle.std.specs.List.{flat_map};
 ghost use Rattle.std.specs.Option.{option_map};
 ghost use Rattle.spec_image.specs.Told.{Rises};
-ghost use Rattle.blk_io.specs.Streams.{Appends};
+ghost use Rattle.blk_io.specs.Streams.{Appends, GoesOn};
 ghost use Rattle.blk_io.specs.Faults.{damage_of};
 ghost use Rattle.blk_io.specs.Texts.{hex_text};
 ghost use Rattle.spec_run.specs.Script.{totals_line};
@@ -16,7 +16,7 @@ use itoa::Buffer;
 fn print_all<K: Sink>(out: &mut K, pieces: &[&[u8]]) -> Result<(), Failed>
     ensures steps { OnOk result (K.written out.new ≡ option_map (λ w. w ++ flat_map (λ piece. piece.now) pieces.now) (K.written out.old)) }
     ensures prefix { Appends (K.written out.old) (K.written out.new) (flat_map (λ piece. piece.now) pieces.now) }
-    ensures later { K.faults out.old ≤ K.faults out.new }
+    ensures later { GoesOn K.is K.faults out.old out.new }
     ensures failed { OnErr result (Rises (K.faults out.old) (K.faults out.new)) }
 {
     for piece in pieces {
@@ -31,7 +31,7 @@ fn print_all<K: Sink>(out: &mut K, pieces: &[&[u8]]) -> Result<(), Failed>
 pub(crate) fn print_usage<K: Sink>(out: &mut K) -> Result<(), Failed>
     ensures steps { OnOk result (K.written out.new ≡ option_map (λ w. w ++ usage_text) (K.written out.old)) }
     ensures prefix { Appends (K.written out.old) (K.written out.new) usage_text }
-    ensures later { K.faults out.old ≤ K.faults out.new }
+    ensures later { GoesOn K.is K.faults out.old out.new }
     ensures failed { OnErr result (Rises (K.faults out.old) (K.faults out.new)) }
 {
     out.put(b"usage\n")?;
@@ -56,7 +56,7 @@ fn digits_of(word: u32) -> [u8; 8]
 pub fn print_damage<K: Sink>(out: &mut K, damage: Damage) -> Result<(), Failed>
     ensures steps { OnOk result (K.written out.new ≡ option_map (λ w. w ++ damage_line (damage_of damage)) (K.written out.old)) }
     ensures prefix { Appends (K.written out.old) (K.written out.new) (damage_line (damage_of damage)) }
-    ensures later { K.faults out.old ≤ K.faults out.new }
+    ensures later { GoesOn K.is K.faults out.old out.new }
     ensures failed { OnErr result (Rises (K.faults out.old) (K.faults out.new)) }
 {
     let mut number = Buffer::new();
@@ -97,7 +97,7 @@ fn left_out(n: u32) -> usize
 pub fn print_totals<K: Sink>(out: &mut K, items: u64, bytes: u64) -> Result<(), Failed>
     ensures steps { OnOk result (K.written out.new ≡ option_map (λ w. w ++ totals_line items bytes) (K.written out.old)) }
     ensures prefix { Appends (K.written out.old) (K.written out.new) (totals_line items bytes) }
-    ensures later { K.faults out.old ≤ K.faults out.new }
+    ensures later { GoesOn K.is K.faults out.old out.new }
     ensures failed { OnErr result (Rises (K.faults out.old) (K.faults out.new)) }
 {
     let mut count = Buffer::new();

@@ -4,7 +4,7 @@ ghost use Rattle.std.specs.Option.{ForSome, option_map};
 ghost use Rattle.spec_image.specs.Image.{Image};
 ghost use Rattle.spec_image.specs.Checks.{Damage as check_damage};
 ghost use Rattle.spec_image.specs.Told.{Rises, Told};
-ghost use Rattle.blk_io.specs.Streams.{Readings, later_of};
+ghost use Rattle.blk_io.specs.Streams.{GoesOn, Readings, later_of};
 ghost use Rattle.blk_model.specs.Bounds.{bounds_of};
 ghost use Rattle.blk_model.specs.Holding.{open_state};
 ghost use Rattle.blk_model.specs.Sizes.{handle_names};
@@ -56,7 +56,7 @@ fn play_turns<F: Folder, K: Sink, C: Clock>(
     ensures played { (far : SoFar) (left : ℕ) → StandsAt far (KeepsState cache.old) (cache.old.notes) (left + 2 * commands_in fixed.entry) (F.told folder.old) → PlaysPart result (turns (script_of fixed.entry)) far (KeepsState cache.new) (cache.new.notes) left (record { folder = F.told folder.old; written = K.written out.old; clock = C.readings clock.old; refused = refused.old }) (record { folder = F.told folder.new; written = K.written out.new; clock = C.readings clock.new; refused = refused.new }) }
     ensures is_open { IfDone result (ForSome (F.told folder.new).files (IsOpen cache.new.files)) }
     ensures later { F.faults folder.old ≤ F.faults folder.new }
-    ensures printed_later { K.faults out.old ≤ K.faults out.new }
+    ensures printed_later { GoesOn K.is K.faults out.old out.new }
     ensures damaged { IfStepDamaged result (IsFailedCheck cache.new.files (F.told folder.new)) }
     ensures device { IfStepDevice result (Rises (F.faults folder.old) (F.faults folder.new)) }
     ensures sink { IfSink result (Rises (K.faults out.old) (K.faults out.new)) }
@@ -106,7 +106,7 @@ pub(crate) fn play_script<F: Folder, K: Sink, C: Clock>(
 ) -> Status
     requires is_open { ForSome (F.told folder.old).files (IsOpen cache.files) }
     ensures runs { (from : Image) (limits : Bounds) (readings : Readings) (left : Option (List ℕ)) (start : Told) (first : Option Readings) → start.files ≡ Some from → first ≡ Some readings → C.readings clock.old ≡ option_map later_of first → StandsAt (record { start = start; from = from; opened = open_state (found from) limits; done = [] }) (KeepsState cache) cache.notes (2 * handle_names + 2 * commands_in fixed.entry) (F.told folder.old) → FixedRuns result (script_of fixed.entry) limits from readings (Rises (K.faults out.old) (K.faults out.new)) (record { folder = start; written = K.written out.old; left = left; clock = first }) (record { folder = F.told folder.new; written = K.written out.new; left = left; clock = C.readings clock.new }) }
-    ensures later { (F.faults folder.old ≤ F.faults folder.new) × (K.faults out.old ≤ K.faults out.new) }
+    ensures later { (F.faults folder.old ≤ F.faults folder.new) × GoesOn K.is K.faults out.old out.new }
     ensures untold { (far : SoFar) → StandsAt far (KeepsState cache) cache.notes (2 * handle_names + 2 * commands_in fixed.entry) (F.told folder.old) → result ≢ Status.Damaged }
     ensures cause { CauseOf result (IsFailedSomewhere (F.told folder.new)) (Rises (F.faults folder.old) (F.faults folder.new)) ⊥ (Rises (K.faults out.old) (K.faults out.new)) ⊥ }
 {
@@ -144,7 +144,7 @@ pub(crate) fn run_script<F: Folder, K: Sink, C: Clock>(
 
     // The cause of each status, on every folder.
     ensures cause { CauseOf result (IsDamagedRun (F.told folder.old) (F.told folder.new) (K.written out.old) (K.written out.new) (K.faults out.old) (K.faults out.new)) (Rises (F.faults folder.old) (F.faults folder.new)) ⊥ (Rises (K.faults out.old) (K.faults out.new)) ⊥ }
-    ensures later { (F.faults folder.old ≤ F.faults folder.new) × (K.faults out.old ≤ K.faults out.new) }
+    ensures later { (F.faults folder.old ≤ F.faults folder.new) × GoesOn K.is K.faults out.old out.new }
 {
     match Cache::start(alloc, folder, limits, clock.now()) {
         Ok(cache) => play_script(cache, fixed, out, folder, clock),

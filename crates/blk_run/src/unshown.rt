@@ -37,9 +37,13 @@ pub(crate) fn ask_unshown<F: Folder, C: Clock>(
 struct Unshown;
 
 impl Sink for Unshown {
-    ghost use Rattle.std.specs.Prelude.{None};
+    ghost use Rattle.std.specs.Prelude.{[], None, false};
+
+    ghost is = { λ _. [] };
 
     ghost written = { λ _. None };
+
+    ghost waiting = { λ _. false };
 
     ghost faults = { λ _. 0 };
 

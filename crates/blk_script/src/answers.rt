@@ -2,7 +2,7 @@
 ghost use Rattle.std.specs.Prelude.{◌≡◌, ◌≢◌, ◌≤◌, ◌<◌, ◌^◌, ◌++◌, ℕ, List, OnOk, OnErr};
 ghost use Rattle.std.specs.Option.{option_map};
 ghost use Rattle.spec_image.specs.Told.{Rises};
-ghost use Rattle.blk_io.specs.Streams.{Appends};
+ghost use Rattle.blk_io.specs.Streams.{Appends, GoesOn};
 ghost use Rattle.blk_model.specs.Reply.{answered};
 ghost use Rattle.blk_script.specs.Reply.{reply_text};
 
@@ -18,7 +18,7 @@ pub fn print_reply<K: Sink>(out: &mut K, answer: &Answer) -> Result<(), Failed>
     requires { (n : ℕ) → answer.now ≢ Answer.Bytes n }
     ensures steps { OnOk result (K.written out.new ≡ option_map (λ w. w ++ reply_text (answered answer.now)) (K.written out.old)) }
     ensures prefix { Appends (K.written out.old) (K.written out.new) (reply_text (answered answer.now)) }
-    ensures later { K.faults out.old ≤ K.faults out.new }
+    ensures later { GoesOn K.is K.faults out.old out.new }
     ensures failed { OnErr result (Rises (K.faults out.old) (K.faults out.new)) }
 {
     match *answer {

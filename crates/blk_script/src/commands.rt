@@ -2,7 +2,7 @@
 ghost use Rattle.std.specs.Prelude.{◌≡◌, ◌≤◌, ◌<◌, ◌^◌, ◌++◌, List, [], ◌∷◌, OnOk, OnErr};
 ghost use Rattle.std.specs.Option.{option_map};
 ghost use Rattle.spec_image.specs.Told.{Rises};
-ghost use Rattle.blk_io.specs.Streams.{Appends};
+ghost use Rattle.blk_io.specs.Streams.{Appends, GoesOn};
 ghost use Rattle.blk_model.specs.Request.{request_of};
 ghost use Rattle.blk_script.specs.Spelling.{line_of};
 
@@ -16,7 +16,7 @@ use blk_model::Command;
 pub fn print_line<K: Sink>(out: &mut K, command: &Command) -> Result<(), Failed>
     ensures steps { OnOk result (K.written out.new ≡ option_map (λ w. w ++ (line_of (request_of command.now) ++ 10 ∷ [])) (K.written out.old)) }
     ensures prefix { Appends (K.written out.old) (K.written out.new) (line_of (request_of command.now) ++ 10 ∷ []) }
-    ensures later { K.faults out.old ≤ K.faults out.new }
+    ensures later { GoesOn K.is K.faults out.old out.new }
     ensures failed { OnErr result (Rises (K.faults out.old) (K.faults out.new)) }
 {
     match *command {

@@ -3,7 +3,7 @@ ghost use Rattle.std.specs.Prelude.{◌≡◌, ◌≤◌, ◌<◌, ◌^◌, ◌+
 ghost use Rattle.std.specs.Option.{option_map};
 ghost use Rattle.hex.specs.Hex.{encode_lower};
 ghost use Rattle.spec_image.specs.Told.{Rises};
-ghost use Rattle.blk_io.specs.Streams.{Appends};
+ghost use Rattle.blk_io.specs.Streams.{Appends, GoesOn};
 ghost use Rattle.blk_script.specs.Spelling.{number_text, key_text, data_text, field_text, line};
 
 use blk_io::{Failed, Sink};
@@ -42,7 +42,7 @@ pub enum Field<'a> {
 pub fn print_number<K: Sink>(out: &mut K, number: u64) -> Result<(), Failed>
     ensures steps { OnOk result (K.written out.new ≡ option_map (λ w. w ++ number_text number) (K.written out.old)) }
     ensures prefix { Appends (K.written out.old) (K.written out.new) (number_text number) }
-    ensures later { K.faults out.old ≤ K.faults out.new }
+    ensures later { GoesOn K.is K.faults out.old out.new }
     ensures failed { OnErr result (Rises (K.faults out.old) (K.faults out.new)) }
 {
     let mut buffer = Buffer::new();
@@ -54,7 +54,7 @@ pub fn print_number<K: Sink>(out: &mut K, number: u64) -> Result<(), Failed>
 pub fn print_key<K: Sink>(out: &mut K, key: &[u8]) -> Result<(), Failed>
     ensures steps { OnOk result (K.written out.new ≡ option_map (λ w. w ++ key_text key.now) (K.written out.old)) }
     ensures prefix { Appends (K.written out.old) (K.written out.new) (key_text key.now) }
-    ensures later { K.faults out.old ≤ K.faults out.new }
+    ensures later { GoesOn K.is K.faults out.old out.new }
     ensures failed { OnErr result (Rises (K.faults out.old) (K.faults out.new)) }
 {
     for piece in percent_encode(key, ESCAPED) {
@@ -67,7 +67,7 @@ pub fn print_key<K: Sink>(out: &mut K, key: &[u8]) -> Result<(), Failed>
 pub fn print_bytes<K: Sink>(out: &mut K, bytes: &[u8]) -> Result<(), Failed>
     ensures steps { OnOk result (K.written out.new ≡ option_map (λ w. w ++ encode_lower bytes.now) (K.written out.old)) }
     ensures prefix { Appends (K.written out.old) (K.written out.new) (encode_lower bytes.now) }
-    ensures later { K.faults out.old ≤ K.faults out.new }
+    ensures later { GoesOn K.is K.faults out.old out.new }
     ensures failed { OnErr result (Rises (K.faults out.old) (K.faults out.new)) }
 {
     let mut left = bytes;
@@ -84,7 +84,7 @@ fn print_piece<K: Sink>(out: &mut K, piece: &[u8]) -> Result<(), Failed>
     requires { length piece.now ≤ 256 }
     ensures steps { OnOk result (K.written out.new ≡ option_map (λ w. w ++ encode_lower piece.now) (K.written out.old)) }
     ensures prefix { Appends (K.written out.old) (K.written out.new) (encode_lower piece.now) }
-    ensures later { K.faults out.old ≤ K.faults out.new }
+    ensures later { GoesOn K.is K.faults out.old out.new }
     ensures failed { OnErr result (Rises (K.faults out.old) (K.faults out.new)) }
 {
     let mut digits = [0; 2 * PIECE];
@@ -97,7 +97,7 @@ fn print_piece<K: Sink>(out: &mut K, piece: &[u8]) -> Result<(), Failed>
 pub fn print_fields<K: Sink>(out: &mut K, fields: &[Field]) -> Result<(), Failed>
     ensures steps { OnOk result (K.written out.new ≡ option_map (λ w. w ++ line (map field_text fields.now)) (K.written out.old)) }
     ensures prefix { Appends (K.written out.old) (K.written out.new) (line (map field_text fields.now)) }
-    ensures later { K.faults out.old ≤ K.faults out.new }
+    ensures later { GoesOn K.is K.faults out.old out.new }
     ensures failed { OnErr result (Rises (K.faults out.old) (K.faults out.new)) }
 {
     let Some((first, rest)) = fields.split_first() else {
@@ -114,7 +114,7 @@ pub fn print_fields<K: Sink>(out: &mut K, fields: &[Field]) -> Result<(), Failed
 fn print_further<K: Sink>(out: &mut K, field: &Field) -> Result<(), Failed>
     ensures steps { OnOk result (K.written out.new ≡ option_map (λ w. w ++ 32 ∷ field_text field.now) (K.written out.old)) }
     ensures prefix { Appends (K.written out.old) (K.written out.new) (32 ∷ field_text field.now) }
-    ensures later { K.faults out.old ≤ K.faults out.new }
+    ensures later { GoesOn K.is K.faults out.old out.new }
     ensures failed { OnErr result (Rises (K.faults out.old) (K.faults out.new)) }
 {
     out.put(b" ")?;
@@ -125,7 +125,7 @@ fn print_further<K: Sink>(out: &mut K, field: &Field) -> Result<(), Failed>
 fn print_field<K: Sink>(out: &mut K, field: &Field) -> Result<(), Failed>
     ensures steps { OnOk result (K.written out.new ≡ option_map (λ w. w ++ field_text field.now) (K.written out.old)) }
     ensures prefix { Appends (K.written out.old) (K.written out.new) (field_text field.now) }
-    ensures later { K.faults out.old ≤ K.faults out.new }
+    ensures later { GoesOn K.is K.faults out.old out.new }
     ensures failed { OnErr result (Rises (K.faults out.old) (K.faults out.new)) }
 {
     match *field {
@@ -140,7 +140,7 @@ fn print_field<K: Sink>(out: &mut K, field: &Field) -> Result<(), Failed>
 fn print_data<K: Sink>(out: &mut K, bytes: &[u8]) -> Result<(), Failed>
     ensures steps { OnOk result (K.written out.new ≡ option_map (λ w. w ++ data_text bytes.now) (K.written out.old)) }
     ensures prefix { Appends (K.written out.old) (K.written out.new) (data_text bytes.now) }
-    ensures later { K.faults out.old ≤ K.faults out.new }
+    ensures later { GoesOn K.is K.faults out.old out.new }
     ensures failed { OnErr result (Rises (K.faults out.old) (K.faults out.new)) }
 {
     if bytes.is_empty() {

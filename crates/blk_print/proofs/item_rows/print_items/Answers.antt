@@ -11,6 +11,7 @@ use Rattle.blk_object.proofs.ListWalks.{node-passed, nodes-kinds, none-passed, w
 use Rattle.blk_object.proofs.DamageChecks.{handed, moved, node-word-checked}
 use Rattle.blk_print.proofs.ListedLines.{IsListedTo, line-in-part, list-begun, list-ended, list-is-at-rest, listed-part, node-listed, placed, step-listed, step-loads, turns-ended, turns-few}
 use Rattle.blk_evict.proofs.RoomTexts.{faults-on, part-none}
+use Rattle.blk_io.proofs.GoingOn.{goes_on, stays_on}
 use Rattle.blk_print.proofs.item_rows.print_items.Goals as goal
 
 pub returns-in_err-next-clause-part : goal.returns-in_err-next-clause-part
@@ -32,7 +33,7 @@ loop-init g c = record {
   fails = λ was now. absurd (let e : false ≡ true = sym was ∙ now in cc);
   stays = c.in_ok-next.ensures.stays;
   later = c.in_ok-next.ensures.later;
-  later_out = omega arith;
+  later_out = stays_on;
 }
 
 pub returns-in_default-clause-printed : goal.returns-in_default-clause-printed
@@ -50,7 +51,7 @@ returns-in_err-print_row-clause-part g c image there p =
     listed-part p.state p.layout c.loop.next c.loop.counter c.args.failed.now c.loop.failed (g.K.Sink.written c.args.out.now) (g.K.Sink.written c.loop.out) (g.K.Sink.written c.print_row.new.out) (c.loop.invariant.walks image there p) c.in_err-print_row.ensures.unprinted
 
 pub returns-in_err-print_row-clause-failed : goal.returns-in_err-print_row-clause-failed
-returns-in_err-print_row-clause-failed g c = faults-on _ _ _ _ _ _ c.loop.invariant.fails c.in_err-print_row.ensures.failed c.loop.invariant.later_out c.in_err-print_row.ensures.later_out
+returns-in_err-print_row-clause-failed g c = faults-on _ _ _ _ _ _ c.loop.invariant.fails c.in_err-print_row.ensures.failed c.loop.invariant.later_out.later c.in_err-print_row.ensures.later_out.later
 
 pub returns-in_err-print_row-clause-untold : goal.returns-in_err-print_row-clause-untold
 returns-in_err-print_row-clause-untold g c has =
@@ -73,7 +74,7 @@ returns-in_err-next-2-clause-part g c image there p =
     (c.in_ok-print_row.ensures.printed image (ap (λ (t : Told). t.files) c.loop.invariant.stays ∙ there) _ (step-loads p.state p.layout image p.kept c.in-Some.node c.loop.counter c.args.failed.now c.loop.failed (g.K.Sink.written c.args.out.now) (g.K.Sink.written c.loop.out) w))
 
 pub returns-in_err-next-2-clause-failed : goal.returns-in_err-next-2-clause-failed
-returns-in_err-next-2-clause-failed g c = faults-on _ _ _ _ _ _ c.loop.invariant.fails c.in_ok-print_row.ensures.failed c.loop.invariant.later_out c.in_ok-print_row.ensures.later_out
+returns-in_err-next-2-clause-failed g c = faults-on _ _ _ _ _ _ c.loop.invariant.fails c.in_ok-print_row.ensures.failed c.loop.invariant.later_out.later c.in_ok-print_row.ensures.later_out.later
 
 pub returns-in_err-next-2-clause-untold : goal.returns-in_err-next-2-clause-untold
 returns-in_err-next-2-clause-untold g c has =
@@ -104,10 +105,10 @@ loop-preserved g c = record {
   stands = c.in_ok-next-2.ensures.stands;
   stands_last = subst (λ (o : Option ℕ). IfSome o (λ n. IsTrue (is_node_among c.args.files.now n))) c.in-Some.is c.loop.invariant.stands;
   buffer = (let one = c.print_row.auto.name in let two = c.loop.invariant.buffer in omega (arith, one, two));
-  fails = faults-on _ _ _ _ _ _ c.loop.invariant.fails c.in_ok-print_row.ensures.failed c.loop.invariant.later_out c.in_ok-print_row.ensures.later_out;
+  fails = faults-on _ _ _ _ _ _ c.loop.invariant.fails c.in_ok-print_row.ensures.failed c.loop.invariant.later_out.later c.in_ok-print_row.ensures.later_out.later;
   stays = c.in_ok-next-2.ensures.stays ∙ c.in_ok-print_row.ensures.stays ∙ c.loop.invariant.stays;
   later = (let one = c.loop.invariant.later in let two = c.in_ok-print_row.ensures.later in let three = c.in_ok-next-2.ensures.later in omega (arith, one, two, three));
-  later_out = (let one = c.loop.invariant.later_out in let two = c.in_ok-print_row.ensures.later_out in omega (arith, one, two));
+  later_out = goes_on c.loop.invariant.later_out c.in_ok-print_row.ensures.later_out;
 }
 
 pub end_walk-requires : goal.end_walk-requires

@@ -8,6 +8,7 @@ use Rattle.blk_object.specs.ListWalks.{GoesTo, HasPassedNodes}
 use Rattle.blk_print.specs.ItemRows.{HasKeptState}
 use Rattle.blk_evict.specs.RoomPrinting.{FailsWhereItRose}
 use Rattle.blk_print.proofs.ListedLines.{IsListedTo}
+use Rattle.blk_io.specs.Streams.{GoesOn}
 use Rattle.blk_print.proofs.item_rows.print_items.Given as goal
 
 abbrev pub invariant-loop : goal.invariant-loop
@@ -21,5 +22,5 @@ invariant-loop g l = record {
   fails : FailsWhereItRose l.fn.failed l.failed (g.K.Sink.faults l.fn.out) (g.K.Sink.faults l.out);
   stays : Stays (g.F.Folder.told l.fn.folder) (g.F.Folder.told l.folder);
   later : g.F.Folder.faults l.fn.folder ≤ g.F.Folder.faults l.folder;
-  later_out : g.K.Sink.faults l.fn.out ≤ g.K.Sink.faults l.out;
+  later_out : GoesOn g.K.Sink.is g.K.Sink.faults l.fn.out l.out;
 }

@@ -3,13 +3,14 @@ use Rattle.spec_image.specs.Told.{Told}
 use Rattle.blk_io.proofs.Carried.{carried, if_damaged_weaker}
 use Rattle.blk_print.proofs.PrintedRanges.{a-piece, all-printed, none-yet, one-more, some-printed}
 use Rattle.blk_evict.proofs.RoomTexts.{faults-on, part-whole}
+use Rattle.blk_io.proofs.GoingOn.{goes_on, stays_on}
 use Rattle.blk_print.proofs.range_printing.print_pieces.Goals as goal
 
 pub loop-done-init : goal.loop-done-init
 loop-done-init g c = record {
   told = refl;
   later = omega arith;
-  later_out = omega arith;
+  later_out = stays_on;
   within = omega arith;
   failed = λ was now. absurd (let e : false ≡ true = sym was ∙ now in cc);
   printed = λ image there p. none-yet c.args.files.now c.args.range.now image p c.args.failed.now (g.K.Sink.written c.args.out.now);
@@ -33,9 +34,9 @@ pub loop-done-preserved : goal.loop-done-preserved
 loop-done-preserved g c = record {
   told = c.in_ok-print_piece.ensures.stays ∙ c.loop-done.invariant.told;
   later = let a = c.in_ok-print_piece.ensures.later in let b = c.loop-done.invariant.later in omega (arith, a, b);
-  later_out = let a = c.in_ok-print_piece.ensures.later_out in let b = c.loop-done.invariant.later_out in omega (arith, a, b);
+  later_out = goes_on c.loop-done.invariant.later_out c.in_ok-print_piece.ensures.later_out;
   within = let a = c.loop-done.invariant.within in let m = c.min-next.ensures in omega (arith, a, m);
-  failed = faults-on _ _ _ _ _ _ c.loop-done.invariant.failed c.in_ok-print_piece.ensures.failed c.loop-done.invariant.later_out c.in_ok-print_piece.ensures.later_out;
+  failed = faults-on _ _ _ _ _ _ c.loop-done.invariant.failed c.in_ok-print_piece.ensures.failed c.loop-done.invariant.later_out.later c.in_ok-print_piece.ensures.later_out.later;
   printed = λ image there p.
       let now = ap (λ (t : Told). t.files) c.loop-done.invariant.told ∙ there in
       one-more c.args.files.now c.args.range.now image p _ _ _ _ _ _ c.loop-done.done c.min-next.result (c.loop-done.invariant.printed image there p)

@@ -9,6 +9,7 @@ use Rattle.spec_run.specs.Run.{commands_of}
 use Rattle.blk_run.proofs.Asking.{around}
 use Rattle.blk_run.proofs.Parts.{stands_fewer}
 use Rattle.blk_run.proofs.FixedTurns.{asked_fault, asked_last, asked_on, fault_is, next_is, none_is, nothing_left, up_to_end, up_to_none, made_none}
+use Rattle.blk_io.proofs.GoingOn.{goes_on, stays_on}
 use Rattle.blk_run.proofs.fixed.play_until_refused.Goals as goal
 
 pub loop-command-init : goal.loop-command-init
@@ -18,7 +19,7 @@ loop-command-init g c = record {
   refused = refl;
   is_open = c.requires.is_open;
   later = omega arith;
-  printed_later = omega arith;
+  printed_later = stays_on;
 }
 
 pub returns-in_err-answer-clause-played : goal.returns-in_err-answer-clause-played
@@ -55,7 +56,7 @@ loop-command-preserved g c = record {
   refused = c.loop-command.invariant.refused;
   is_open = c.in_ok-answer.ensures.is_open;
   later = let a = c.loop-command.invariant.later in let b = c.in_ok-answer.ensures.later in omega (arith, a, b);
-  printed_later = let a = c.loop-command.invariant.printed_later in let b = c.in_ok-answer.ensures.printed_later in omega (arith, a, b);
+  printed_later = goes_on c.loop-command.invariant.printed_later c.in_ok-answer.ensures.printed_later;
 }
 
 pub returns-clause-played : goal.returns-clause-played

@@ -8,6 +8,7 @@ use Rattle.spec_run.specs.Run.{turns}
 use Rattle.blk_run.specs.Fixed.{PlaysUpTo}
 use Rattle.blk_run.specs.Playing.{SoFar, StandsAt}
 use Rattle.blk_run.proofs.Asking.{around}
+use Rattle.blk_io.specs.Streams.{GoesOn}
 use Rattle.blk_run.proofs.fixed.play_until_refused.Given as goal
 
 abbrev pub invariant-loop-command : goal.invariant-loop-command
@@ -18,5 +19,5 @@ invariant-loop-command g l = record {
   refused : l.refused ≡ l.initial.refused;
   is_open : ForSome (g.F.Folder.told l.folder).files (IsOpen l.cache.files);
   later : g.F.Folder.faults l.initial.folder ≤ g.F.Folder.faults l.folder;
-  printed_later : g.K.Sink.faults l.initial.out ≤ g.K.Sink.faults l.out;
+  printed_later : GoesOn g.K.Sink.is g.K.Sink.faults l.initial.out l.out;
 }

@@ -4,6 +4,7 @@ use Rattle.spec_run.specs.Lines.{cut}
 use Rattle.blk_cache.specs.CacheKeeping.{KeepsState}
 use Rattle.blk_run.proofs.Asking.{around}
 use Rattle.blk_run.proofs.InputPlayed.{all_but_one, all_used, input_ended, input_failed, input_handed, last_failed, last_played, no_input, none_taken, piece_failed, piece_played, piece_too_long, some_used, taken_up_to}
+use Rattle.blk_io.proofs.GoingOn.{goes_on}
 use Rattle.blk_run.proofs.input.play_input.Goals as goal
 
 clash : false ≡ true → ⊥
@@ -76,7 +77,7 @@ loop-n-preserved g c =
       lines = let so_far = c.loop-n.invariant.lines in let next = c.in_ok-play_bytes.ensures.lines in omega (arith, so_far, next, size, min_is);
       buffer = c.play_bytes.auto.buffer ∙ c.loop-n.invariant.buffer;
       later = let now = c.loop-n.invariant.later in let next = c.in_ok-play_bytes.ensures.later in omega (arith, now, next);
-      sink = let now = c.loop-n.invariant.sink in let next = c.in_ok-play_bytes.ensures.printed_later in omega (arith, now, next);
+      sink = goes_on c.loop-n.invariant.sink c.in_ok-play_bytes.ensures.printed_later;
       source = let now = c.loop-n.invariant.source in let next = c.in-Ok.ensures.later in omega (arith, now, next);
     }
 

@@ -5,6 +5,7 @@ use Rattle.blk_cache.specs.CacheKeeping.{KeepsState}
 use Rattle.blk_run.specs.Pending.{pending}
 use Rattle.blk_run.proofs.InputPlayed.{IsInputPlayed}
 use Rattle.blk_run.proofs.Asking.{around}
+use Rattle.blk_io.specs.Streams.{GoesOn}
 use Rattle.blk_run.proofs.input.play_input.Given as goal
 
 abbrev pub invariant-loop-n : goal.invariant-loop-n
@@ -15,7 +16,7 @@ invariant-loop-n g l = record {
   lines : l.played.lines + pending l.line + l.left ≤ l.budget;
   buffer : length l.buffer ≡ length l.initial.buffer;
   later : g.F.Folder.faults l.initial.folder ≤ g.F.Folder.faults l.folder;
-  sink : g.K.Sink.faults l.initial.out ≤ g.K.Sink.faults l.out;
+  sink : GoesOn g.K.Sink.is g.K.Sink.faults l.initial.out l.out;
   source : g.S.Source.faults l.initial.input ≤ g.S.Source.faults l.input;
 }
 

@@ -36,4 +36,4 @@ pub returns-clause-device : goal.returns-clause-device
 returns-clause-device g c = device_flushed c.step-answered.result c.flush_reply.result _ _ c.flush_reply.ensures.flushed c.step-answered.ensures.device
 
 pub returns-clause-sink : goal.returns-clause-sink
-returns-clause-sink g c = sink_flushed c.step-answered.result c.flush_reply.result _ _ _ c.step-answered.ensures.printed_later c.flush_reply.ensures.later c.flush_reply.ensures.flushed c.step-answered.ensures.sink
+returns-clause-sink g c = sink_flushed c.step-answered.result c.flush_reply.result _ _ _ c.step-answered.ensures.printed_later.later c.flush_reply.ensures.later.later c.flush_reply.ensures.flushed c.step-answered.ensures.sink

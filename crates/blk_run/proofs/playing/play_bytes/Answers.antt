@@ -3,6 +3,7 @@ use Rattle.blk_cache.specs.CacheKeeping.{KeepsState}
 use Rattle.blk_run.proofs.Parts.{part_handed}
 use Rattle.blk_run.proofs.Asking.{around}
 use Rattle.blk_run.proofs.BytesPlayed.{all_counted, all_played, line_failed, line_played_of, fewer_behind, none_played, rest_holds}
+use Rattle.blk_io.proofs.GoingOn.{goes_on}
 use Rattle.blk_run.proofs.playing.play_bytes.Goals as goal
 
 pub loop-end-init : goal.loop-end-init
@@ -39,7 +40,7 @@ loop-end-preserved g c = record {
       omega (arith, fewer, so_far, one, none);
   buffer = c.play_line.auto.buffer ∙ c.loop-end.invariant.buffer;
   later = let now = c.loop-end.invariant.later in let next = c.in_ok-play_line.ensures.later in omega (arith, now, next);
-  sink = let now = c.loop-end.invariant.sink in let next = c.in_ok-play_line.ensures.printed_later in omega (arith, now, next);
+  sink = goes_on c.loop-end.invariant.sink c.in_ok-play_line.ensures.printed_later;
 }
 
 pub returns-clause-played : goal.returns-clause-played

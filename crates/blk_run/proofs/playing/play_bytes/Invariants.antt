@@ -5,6 +5,7 @@ use Rattle.blk_cache.specs.CacheKeeping.{KeepsState}
 use Rattle.blk_run.specs.Pending.{HoldsLine, pending}
 use Rattle.blk_run.proofs.BytesPlayed.{ArePlayed}
 use Rattle.blk_run.proofs.Asking.{around}
+use Rattle.blk_io.specs.Streams.{GoesOn}
 use Rattle.blk_run.proofs.playing.play_bytes.Given as goal
 
 abbrev pub invariant-loop-end : goal.invariant-loop-end
@@ -16,7 +17,7 @@ invariant-loop-end g l = record {
   lines : l.played.lines + pending l.line + length l.rest ≤ l.initial.played.lines + pending l.initial.line + length l.bytes;
   buffer : length l.buffer ≡ length l.initial.buffer;
   later : g.F.Folder.faults l.initial.folder ≤ g.F.Folder.faults l.folder;
-  sink : g.K.Sink.faults l.initial.out ≤ g.K.Sink.faults l.out;
+  sink : GoesOn g.K.Sink.is g.K.Sink.faults l.initial.out l.out;
 }
 
 abbrev pub decreases-loop-end : goal.decreases-loop-end

@@ -2,6 +2,7 @@ use Rattle.std.proofs.Common.{arith, subst, List, ℕ, length, ◌≡◌}
 use Rattle.hex.specs.Hex.{encode_lower}
 use Rattle.blk_script.proofs.Putting.{IsPutUpTo, put_more, put_partly, put_whole}
 use Rattle.blk_script.proofs.Printed.{encode_lower-cut, encode_lower-none, tested_empty}
+use Rattle.blk_io.proofs.GoingOn.{goes_on}
 use Rattle.blk_script.proofs.print.print_bytes.Goals as goal
 
 pub returns-in_err-print_piece-clause-prefix : goal.returns-in_err-print_piece-clause-prefix
@@ -13,7 +14,7 @@ pub loop-left-preserved : goal.loop-left-preserved
 loop-left-preserved g c = record {
   put = put_more _ _ _ _ _ (encode_lower c.split_at.result.0.now) (encode_lower c.split_at.result.1.now) c.loop-left.invariant.put
       (encode_lower-cut _ _ _ _ c.split_at.ensures.front c.split_at.ensures.back) c.in_ok-print_piece.ensures.steps;
-  later = omega (arith, c.loop-left.invariant.later, c.print_piece.ensures.later);
+  later = goes_on c.loop-left.invariant.later c.print_piece.ensures.later;
 }
 
 pub returns-clause-steps : goal.returns-clause-steps

@@ -12,6 +12,7 @@ use Rattle.blk_evict.specs.ListPlaces.{IsLast}
 use Rattle.blk_cache.specs.RoomSearch.{KeepsPinnedFrom}
 use Rattle.blk_cache.proofs.Evictions.{all-gone, gone-count, gone-kept, gone-prints, next-front, next-out, next-passes, none-yet, ran-out, so-far-front, so-far-passes, untold-on}
 use Rattle.blk_evict.proofs.RoomTexts.{faults-on, same-fails}
+use Rattle.blk_io.proofs.GoingOn.{goes_on, stays_on}
 use Rattle.blk_cache.proofs.cache.Cache.evict_groups.Goals as goal
 
 pub loop-init : goal.loop-init
@@ -22,7 +23,7 @@ loop-init g c = record {
   others = record { limits = refl; open_bytes = refl; handles = refl; files = refl; mark = refl; notes = refl };
   silent = λ none. none;
   later = omega arith;
-  sink_later = omega arith;
+  sink_later = stays_on;
   quiet = λ failed. (failed, refl);
   fails = same-fails c.args.failed.now (g.K.Sink.faults c.args.out.now) (g.K.Sink.faults c.args.out.now);
   evicted = λ image there state k covered are. none-yet (is_met c.args.goal.now) state covered c.args.parts.now c.args.self.now (g.F.Folder.told c.args.folder.now) c.args.failed.now (g.K.Sink.written c.args.out.now) image there k are.lie;
@@ -186,9 +187,9 @@ loop-preserved g c =
       };
       silent = λ none. c.in_ok-evict.ensures.silent (ap (λ (t : Told). t.files) c.in_ok-found.ensures.stays ∙ c.loop.invariant.silent none);
       later = omega (arith, c.loop.invariant.later, c.in_ok-found.ensures.later, c.in_ok-evict.ensures.later);
-      sink_later = omega (arith, c.loop.invariant.sink_later, c.in_ok-evict.ensures.sink_later);
+      sink_later = goes_on c.loop.invariant.sink_later c.in_ok-evict.ensures.sink_later;
       quiet = λ failed. let i = c.loop.invariant.quiet failed in let q = c.in_ok-evict.ensures.quiet i.0 in (q.0, q.1 ∙ i.1);
-      fails = faults-on c.args.failed.now c.loop.failed c.evict.new.failed (g.K.Sink.faults c.args.out.now) (g.K.Sink.faults c.loop.out) (g.K.Sink.faults c.evict.new.out) c.loop.invariant.fails c.in_ok-evict.ensures.fails c.loop.invariant.sink_later c.in_ok-evict.ensures.sink_later;
+      fails = faults-on c.args.failed.now c.loop.failed c.evict.new.failed (g.K.Sink.faults c.args.out.now) (g.K.Sink.faults c.loop.out) (g.K.Sink.faults c.evict.new.out) c.loop.invariant.fails c.in_ok-evict.ensures.fails c.loop.invariant.sink_later.later c.in_ok-evict.ensures.sink_later.later;
       evicted = λ image there state k covered are.
           let h = c.loop.invariant.evicted image there state k covered are in
           let valid = k.kept.entries.valid in

@@ -18,4 +18,4 @@ returns-clause-part g c image there state k =
     (c.in_ok-print_rows.ensures.printed image there state k) c.say_answer.ensures.prints)
 
 pub returns-clause-failed : goal.returns-clause-failed
-returns-clause-failed g c = faults-on _ _ _ _ _ _ c.in_ok-print_rows.ensures.failed c.say_answer.ensures.failed c.in_ok-print_rows.ensures.later_out c.say_answer.ensures.later
+returns-clause-failed g c = faults-on _ _ _ _ _ _ c.in_ok-print_rows.ensures.failed c.say_answer.ensures.failed c.in_ok-print_rows.ensures.later_out.later c.say_answer.ensures.later.later
