@@ -24,7 +24,7 @@ unput old new nothing = record { unwritten = nothing.unwritten; unprinted = noth
 pub performs_nothing : (work : Work) (limits : Bounds) (device source : Type 0) (before now : ℕ) (old new : Outside) → DoesNothing old new → Performs work status.Memory limits device source before now old new
 performs_nothing (input_by protocol) limits device source before now old new nothing = record {
   plays = λ from there usable readings clock input left. nothing;
-  complete = λ from there usable readings clock no_device no_source no_sink input left within. nothing;
+  complete = λ from there usable readings clock no_device no_source no_sink input left within unbroken. nothing;
   damage = λ from there damage is. nothing;
   cause = tt;
   takes = λ input left. none_taken _ new.left input (nothing.unread ∙ left);

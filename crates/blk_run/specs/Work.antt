@@ -1,5 +1,5 @@
 -- What the program does for its arguments, by its status.
-use Rattle.std.specs.Prelude.{ℕ, ◌≡◌, ◌+◌, ◌<◌, ◌≤◌, ◌^◌, List, length}
+use Rattle.std.specs.Prelude.{ℕ, ◌≡◌, ◌+◌, ◌<◌, ◌≤◌, ◌^◌, List, false, length}
 use Rattle.std.specs.Option.{ForSome}
 use Rattle.std.specs.declared.option.Option.{Option}
 use Rattle.std.specs.declared.option.Option.TheVariants.{None, Some}
@@ -55,9 +55,9 @@ DoesWork (whole_input script) result limits from readings source sink old new = 
 DoesWork (no_input script) result limits from readings source sink old new = FixedScript result script limits from readings sink old new
 DoesWork (folder_text text) result limits from readings source sink old new = ShowsText result (text from) old new
 
--- where nothing failed and the input is as long as it may be: the whole output was printed, or it was out of memory
+-- where nothing failed and the input is as long as it may be, and doesn't break off: the whole output was printed, or it was out of memory
 abbrev pub CompletesWork : Work → Status → Bounds → Image → Readings → Outside → Outside → Type 0
-CompletesWork (input_by protocol) result limits from readings old new = ForSome old.left (λ input. length input ≤ budget → IsComplete protocol result limits from readings input old new)
+CompletesWork (input_by protocol) result limits from readings old new = ForSome old.left (λ input. length input ≤ budget → protocol.breaks_off input ≡ false → IsComplete protocol result limits from readings input old new)
 CompletesWork (whole_input script) result limits from readings old new = ForSome old.left (λ input. length input ≤ longest_input → IsCompleteScript result (script input) limits from readings (record old { left = new.left }) new)
 CompletesWork (no_input script) result limits from readings old new = IsCompleteScript result script limits from readings old new
 CompletesWork (folder_text text) result limits from readings old new = IsCompleteText result (text from) old new

@@ -1,23 +1,23 @@
 -- Iterations after iterations.
-use Rattle.std.proofs.Common.{ℕ, ◌+◌, ◌≡◌, List, [], ◌∷◌, ◌++◌, length, take, cond, Result, Ok, Err, refl, sym, ◌∙◌, ap, arith, append_assoc}
+use Rattle.std.proofs.Common.{ℕ, zero, suc, ◌+◌, ◌≡◌, List, [], ◌∷◌, ◌++◌, length, take, cond, Result, Ok, Err, refl, sym, ◌∙◌, ap, arith, append_assoc}
 use Rattle.std.proofs.Math.Seq.{take-append_seam}
 use Rattle.std.proofs.lemmas.List.{append-nil, drop-drop, length-append}
 use Rattle.std.proofs.lemmas.List.Concat.{flat_map-append}
 use Rattle.std.proofs.lemmas.List.Elements.{filter_map-append}
 use Rattle.std.proofs.lemmas.List.Folds.{list_any-append}
 use Rattle.std.proofs.lemmas.List.Sums.{sum_by-append, sum_by-cons}
-use Rattle.std.specs.Prelude.{◌||◌, true}
+use Rattle.std.specs.Prelude.{◌||◌, Bool, false, if◌then◌else◌, true}
 use Rattle.blk_model.specs.Holding.{open_state}
-use Rattle.blk_model.specs.Request.{Request}
+use Rattle.blk_model.specs.Request.{Request, to_close, to_create, to_write}
 use Rattle.blk_model.specs.State.{State}
 use Rattle.blk_io.specs.Streams.{Readings, later_of}
 use Rattle.blk_script.specs.declared.fault.LineFault.{LineFault}
 use Rattle.blk_script.specs.Line.{read_text}
 use Rattle.blk_script.specs.Reply.{line_fault_text}
-use Rattle.spec_run.specs.Script.{Script, ended, errs, says, turns_away, asks, session_script, shown_where, line_script}
+use Rattle.spec_run.specs.Script.{Script, TurnsNoneAway, ended, errs, says, turns_away, asks, is_missing, is_refused, session_script, shown_where, line_script, put_script, until_refused}
 use Rattle.spec_run.specs.Run.{Stamped, Turn, away_turn, error_turn, text_turn, command_turn, stamped_by, outcome_in, state_then, turns, commands_of, readings_of, state_after, clock_after, text_of, refuse, bound_names, closings, commands}
 use Rattle.spec_run.specs.Playing.{IsPlayed}
-use Rattle.spec_run.specs.Laws.{LinesArePlayedInTurn, NothingIsPlayed, CommandsArePlayed, ErrorsArePlayed, TextsArePlayed, PlayingGoesOn, PlayedRunsAreCut, PlayedRunsAreWhole, PlayedCommandsComeFirst, AskedCommandsAreNext, LinesReadForCommands, RefusalsOutsideArePlayed}
+use Rattle.spec_run.specs.Laws.{LinesArePlayedInTurn, NothingIsPlayed, CommandsArePlayed, ErrorsArePlayed, TextsArePlayed, PlayingGoesOn, PlayedRunsAreCut, PlayedRunsAreWhole, PlayedCommandsComeFirst, AskedCommandsAreNext, ClockIsReadForCommands, FixedScriptsTurnNoneAway, LinesTurnNoneAway, RefusalsOutsideArePlayed}
 use Rattle.spec_run.proofs.CommandStates.{state_after-append}
 
 pub commands_of-append : (xs ys : List Turn) → commands_of (xs ++ ys) ≡ commands_of xs ++ commands_of ys
@@ -180,22 +180,53 @@ asked_next script found limits readings made request shown next now readings_now
     let rest = commands_first script found limits readings (made ++ turn ∷ []) (next outcome) outcome.state (later_of readings_now) after in
     (rest.0, rest.1 ∙ ap (λ (l : List Stamped). l ++ rest.0) (commands_of-append made (turn ∷ [])) ∙ append_assoc (commands_of made) (command ∷ []) rest.0)
 
--- a line reads the clock where it is a command
-line_reads : (number : ℕ) (read : Result Request LineFault) (following : Script) (state : State) (clock : Readings)
-    → ((s : State) (c : Readings) → readings_of (turns following s c) ≡ length (commands_of (turns following s c)))
-    → readings_of (turns (line_script number read following) state clock) ≡ length (commands_of (turns (line_script number read following) state clock))
-unfolding turns
-line_reads number (Err why) following state clock later =
-    let here = later state clock in
-    let first = sum_by-cons (λ (turn : Turn). cond turn.reads 1 0) (error_turn (line_fault_text number why)) (turns following state clock) in
+-- the clock is read for commands alone
+pub clock_read : ClockIsReadForCommands
+unfolding turns TurnsNoneAway
+clock_read script none zero state clock = refl
+clock_read ended none (suc count) state clock = refl
+clock_read (errs text script) none (suc count) state clock =
+    let here = clock_read script none count state clock in
+    let first = sum_by-cons (λ (turn : Turn). cond turn.reads 1 0) (error_turn text) (take count (turns script state clock)) in
     omega (arith, here, first)
-line_reads number (Ok request) following state clock later =
+clock_read (says text script) none (suc count) state clock =
+    let here = clock_read script none count state clock in
+    let first = sum_by-cons (λ (turn : Turn). cond turn.reads 1 0) (text_turn (text state)) (take count (turns script state clock)) in
+    omega (arith, here, first)
+clock_read (turns_away text script) none (suc count) state clock = absurd none
+clock_read (asks request shown script) none (suc count) state clock =
     let command = stamped_by clock request in
-    let here = later (state_then state command) (later_of clock) in
-    let first = sum_by-cons (λ (turn : Turn). cond turn.reads 1 0) (command_turn command (shown_where true (outcome_in state command))) (turns following (state_then state command) (later_of clock)) in
+    let outcome = outcome_in state command in
+    let here = clock_read (script outcome) (none outcome) count outcome.state (later_of clock) in
+    let first = sum_by-cons (λ (turn : Turn). cond turn.reads 1 0) (command_turn command (shown outcome)) (take count (turns (script outcome) outcome.state (later_of clock))) in
     omega (arith, here, first)
 
-pub lines_read : LinesReadForCommands
-unfolding session_script turns
-lines_read number [] state clock = refl
-lines_read number (x ∷ texts) state clock = line_reads number (read_text x) (session_script (number + 1) texts) state clock (lines_read (number + 1) texts)
+line_turns : (number : ℕ) (read : Result Request LineFault) (following : Script) → TurnsNoneAway following → TurnsNoneAway (line_script number read following)
+unfolding TurnsNoneAway
+line_turns number (Err why) following none = none
+line_turns number (Ok request) following none = λ outcome. none
+
+pub lines_turn : LinesTurnNoneAway
+unfolding session_script TurnsNoneAway
+lines_turn number [] = tt
+lines_turn number (x ∷ texts) = line_turns number (read_text x) (session_script (number + 1) texts) (lines_turn (number + 1) texts)
+
+either_turns : (test : Bool) (one other : Script) → TurnsNoneAway one → TurnsNoneAway other → TurnsNoneAway (if test then one else other)
+either_turns true one other first second = first
+either_turns false one other first second = second
+
+until_turns : (requests : List Request) → TurnsNoneAway (until_refused requests)
+unfolding until_refused TurnsNoneAway
+until_turns [] = tt
+until_turns (request ∷ requests) = λ outcome. either_turns (is_refused outcome) ended (until_refused requests) tt (until_turns requests)
+
+put_turns : (key : List ℕ) (stream : ℕ) (bytes : List ℕ) → TurnsNoneAway (put_script key stream bytes)
+unfolding TurnsNoneAway
+put_turns key stream bytes = λ opened.
+    let more = to_write 0 stream 0 true bytes ∷ to_close 0 ∷ [] in
+    either_turns (is_missing opened) (until_refused (to_create 0 key ∷ more)) (if is_refused opened then ended else until_refused more) (until_turns (to_create 0 key ∷ more))
+    (either_turns (is_refused opened) ended (until_refused more) tt (until_turns more))
+
+pub fixed_turn : FixedScriptsTurnNoneAway
+unfolding TurnsNoneAway
+fixed_turn = (until_turns, (tt, put_turns))

@@ -1,5 +1,5 @@
 -- The laws by which a run composes: an opening, commands one after another, the closing, and the iterations of a script.
-use Rattle.std.specs.Prelude.{◌≡◌, ◌<◌, ◌≤◌, ◌+◌, ◌*◌, ◌^◌, ℕ, Bool, true, false, List, [], ◌∷◌, ◌++◌, length, Some, None, is_some, slice_set}
+use Rattle.std.specs.Prelude.{◌≡◌, ◌<◌, ◌≤◌, ◌+◌, ◌*◌, ◌^◌, ℕ, Bool, true, false, List, [], ◌∷◌, ◌++◌, length, Some, None, is_some, slice_set, take}
 use Rattle.std.specs.List.{Contains}
 use Rattle.std.specs.Option.{ForSome}
 use Rattle.spec_image.specs.Image.{Image}
@@ -18,7 +18,7 @@ use Rattle.blk_io.specs.Streams.{Readings, later_of}
 use Rattle.law_state.specs.Commands.{IsNoted, IsStepped, note_number}
 use Rattle.spec_folder.specs.Found.{found}
 use Rattle.spec_run.specs.Lines.{Cut, with_bytes, lines, whole_lines}
-use Rattle.spec_run.specs.Script.{Script, Shown, ended, errs, says, turns_away, asks, session_script}
+use Rattle.spec_run.specs.Script.{Script, Shown, TurnsNoneAway, ended, errs, says, turns_away, asks, count_script, put_script, session_script, until_refused}
 use Rattle.spec_run.specs.Run.{Stamped, Turn, error_turn, text_turn, away_turn, command_turn, stamped_by, outcome_in, state_then, state_after, clock_after, turns, commands_of, readings_of, bound_names, closings, run_of, cut_after, commands, command_after, state_at}
 use Rattle.spec_run.specs.Moments.{IsStopped}
 use Rattle.spec_run.specs.Opening.{IsUsable, HoldsStill, Opens, FailsToOpen, has_opened}
@@ -135,10 +135,18 @@ AskedCommandsAreNext = (script : Script) (found : List Row) (limits : Bounds) (r
     → IsPlayed script (open_state found limits) (later_of readings) made (asks request shown next) now readings_now
     → (more : List Stamped) × (commands (run_of script found limits readings) ≡ commands_of made ++ stamped_by readings_now request ∷ more)
 
--- the lines of a session read the clock for their commands alone
-abbrev pub LinesReadForCommands : Type 0
-LinesReadForCommands = (number : ℕ) (texts : List (List ℕ)) (state : State) (clock : Readings)
-    → readings_of (turns (session_script number texts) state clock) ≡ length (commands_of (turns (session_script number texts) state clock))
+-- where a script turns none away the clock is read for its commands alone, in each front of its iterations
+abbrev pub ClockIsReadForCommands : Type 0
+ClockIsReadForCommands = (script : Script) → TurnsNoneAway script → (count : ℕ) (state : State) (clock : Readings)
+    → readings_of (take count (turns script state clock)) ≡ length (commands_of (take count (turns script state clock)))
+
+-- so it is with the lines of a session
+abbrev pub LinesTurnNoneAway : Type 0
+LinesTurnNoneAway = (number : ℕ) (texts : List (List ℕ)) → TurnsNoneAway (session_script number texts)
+
+-- and with the scripts of the other subcommands: commands up to the first that is refused, the totals, and `put`
+abbrev pub FixedScriptsTurnNoneAway : Type 0
+FixedScriptsTurnNoneAway = ((requests : List Request) → TurnsNoneAway (until_refused requests)) × (TurnsNoneAway count_script × ((key : List ℕ) (stream : ℕ) (bytes : List ℕ) → TurnsNoneAway (put_script key stream bytes)))
 
 -- a session makes fewer commands than its input has bytes: each has a line that isn't empty
 abbrev pub CommandsAreFew : Type 0

@@ -117,3 +117,13 @@ totals_text state = totals_line (items state) (total state)
 -- no command, and then the totals
 abbrev pub count_script : Script
 count_script = says totals_text ended
+
+-- What a script doesn't do.
+
+-- whatever comes of its commands, it turns none away
+unfoldable pub TurnsNoneAway : Script → Type 0
+TurnsNoneAway ended = Unit {0}
+TurnsNoneAway (errs text script) = TurnsNoneAway script
+TurnsNoneAway (says text script) = TurnsNoneAway script
+TurnsNoneAway (turns_away text script) = ⊥
+TurnsNoneAway (asks request shown script) = (outcome : Outcome) → TurnsNoneAway (script outcome)

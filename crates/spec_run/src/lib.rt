@@ -4,7 +4,7 @@
 //! which a run composes, each the contract of a function with an empty body.
 #![tactic(auto)]
 
-ghost use Rattle.spec_run.specs.Laws.{AskedCommandsAreNext, BoundNamesAreFew, ClosesFreeTheirName, CommandsAreFew, CommandsArePlayed, ErrorsArePlayed, LeastNamesAreClosedFirst, LinesArePlayedInTurn, LinesGoOn, LinesReadForCommands, NoneIsClosedWhereNoneIsBound, NoteNumbersAreExact, NotedCommandsFollow, NothingIsPlayed, PlayedCommandsComeFirst, PlayedRunsAreCut, PlayedRunsAreWhole, PlayingGoesOn, RefusalsOutsideArePlayed, RestsAreFound, RunsBegin, RunsEnd, RunsGoOn, RunsGoOnInTurn, RunsMayStopBetween, RunsMayStopInACommand, RunsMayStopInTheOpening, SettledEntriesAreFound, TextsArePlayed, WholeLinesComeFirst};
+ghost use Rattle.spec_run.specs.Laws.{AskedCommandsAreNext, BoundNamesAreFew, ClockIsReadForCommands, ClosesFreeTheirName, CommandsAreFew, CommandsArePlayed, ErrorsArePlayed, FixedScriptsTurnNoneAway, LeastNamesAreClosedFirst, LinesArePlayedInTurn, LinesGoOn, LinesTurnNoneAway, NoneIsClosedWhereNoneIsBound, NoteNumbersAreExact, NotedCommandsFollow, NothingIsPlayed, PlayedCommandsComeFirst, PlayedRunsAreCut, PlayedRunsAreWhole, PlayingGoesOn, RefusalsOutsideArePlayed, RestsAreFound, RunsBegin, RunsEnd, RunsGoOn, RunsGoOnInTurn, RunsMayStopBetween, RunsMayStopInACommand, RunsMayStopInTheOpening, SettledEntriesAreFound, TextsArePlayed, WholeLinesComeFirst};
 
 /// A run begins with an opening. Where the opening failed a crash in any run may leave what it left.
 pub fn runs_begin()
@@ -38,7 +38,9 @@ pub fn scripts_are_played()
     ensures text { TextsArePlayed }
     ensures go_on { PlayingGoesOn }
     ensures lines { LinesArePlayedInTurn }
-    ensures reads { LinesReadForCommands }
+    ensures reads { ClockIsReadForCommands }
+    ensures lines_read { LinesTurnNoneAway }
+    ensures fixed_read { FixedScriptsTurnNoneAway }
     ensures cut { PlayedRunsAreCut }
     ensures whole { PlayedRunsAreWhole }
     ensures first { PlayedCommandsComeFirst }
