@@ -1,5 +1,5 @@
 // Whether the map and the counters of a file are those of the used blocks already.
-ghost use Rattle.std.specs.Prelude.{◌≡◌, ℕ, ◌≤◌, ◌<◌, length, IsTrue};
+ghost use Rattle.std.specs.Prelude.{◌≡◌, ◌≤◌, length, IsTrue};
 ghost use Rattle.spec_image.specs.Bytes.{content};
 ghost use Rattle.spec_image.specs.Image.{Image};
 ghost use Rattle.spec_format.specs.BlockFiles.{max_entries_in};

@@ -1,5 +1,5 @@
 // The arguments are taken apart into options and positional arguments.
-ghost use Rattle.std.specs.Prelude.{◌≡◌, ◌≤◌, ◌++◌, ℕ, List, [], ◌∷◌, length, map, string_bytes, MatchOption, IfSome, Some, None};
+ghost use Rattle.std.specs.Prelude.{◌≡◌, ◌≤◌, ◌++◌, [], ◌∷◌, length, MatchOption, IfSome, Some, None};
 ghost use Rattle.std.specs.Option.{option_map, option_and_then};
 ghost use Rattle.blk_args.specs.Apart.{joined, parts_in, taken_apart, with_value, words_alone, words_in, Parts};
 ghost use Rattle.blk_args.specs.Words.{asked_by, bytes_of, words_ask};

@@ -1,5 +1,5 @@
 // The arguments are parsed by the crate `clap`, which gives the values of the options and the positional arguments.
-ghost use Rattle.std.specs.Prelude.{◌≡◌, ◌≤◌, IfErr, IfOk, IsSome, Some, codes, length, map, option_map};
+ghost use Rattle.std.specs.Prelude.{◌≡◌, ◌≤◌, IfErr, IfOk, IsSome, Some, length, map, option_map};
 ghost use Rattle.clap.specs.Words.{HasMatchesOf, first_value, found_of, kind_of};
 ghost use Rattle.blk_args.specs.Apart.{parts_in, taken_apart, words_in};
 ghost use Rattle.blk_args.specs.Parsing.{program};

@@ -1,5 +1,5 @@
 // The first of the positional arguments.
-ghost use Rattle.std.specs.Prelude.{◌≡◌, map};
+ghost use Rattle.std.specs.Prelude.{◌≡◌};
 ghost use Rattle.blk_args.specs.Tasks.{by_word, first_words};
 
 /// What the first positional argument names.

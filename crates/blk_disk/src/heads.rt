@@ -8,7 +8,6 @@ ghost use Rattle.spec_image.specs.Told.{Stays, Rises};
 ghost use Rattle.spec_format.specs.Address as address;
 ghost use Rattle.spec_format.specs.Address.{external};
 ghost use Rattle.spec_format.specs.BlockFiles as block_files;
-ghost use Rattle.spec_format.specs.BlockFiles.{most_files};
 ghost use Rattle.spec_format.specs.Headers.{block_fields_length};
 ghost use Rattle.blk_addr.specs.Kind.{kind_number};
 ghost use Rattle.blk_io.specs.Faults.{IfDamaged, IfDevice, IsShortAtStart, damage_of};

@@ -1,9 +1,9 @@
 // Sealed records at the front of blocks, and their updates.
-ghost use Rattle.std.specs.Prelude.{[], ◌≡◌, ◌+◌, ◌%◌, ◌^◌, ◌<◌, ◌≤◌, ◌⊎◌, All, IsTrue, None, OnErr, OnOk, length};
+ghost use Rattle.std.specs.Prelude.{[], ◌≡◌, ◌+◌, ◌^◌, ◌<◌, ◌≤◌, IsTrue, None, OnErr, OnOk, length};
 ghost use Rattle.std.specs.Option.{ForSome};
 ghost use Rattle.spec_image.specs.Steps.{with_words};
 ghost use Rattle.spec_image.specs.Told.{Applies, AppliesPrefix, MakesPartOf, Passes, Rises, Stays};
-ghost use Rattle.spec_format.specs.Address.{file_selector, kind_of, place};
+ghost use Rattle.spec_format.specs.Address.{place};
 ghost use Rattle.spec_format.specs.Records as records;
 ghost use Rattle.blk_addr.specs.Kind.{kind_number};
 ghost use Rattle.blk_record.specs.Fields.{IsField};

@@ -1,10 +1,9 @@
 // What is kept of the block files.
-ghost use Rattle.std.specs.Prelude.{ℕ, ◌≡◌, ◌≢◌, ◌<◌, ◌≤◌, ◌+◌, [], ◌∷◌, ◌++◌, ◌==◌, length, IsTrue, Some, None, false, true, slice_get, slice_index, if◌then◌else◌};
+ghost use Rattle.std.specs.Prelude.{ℕ, ◌≡◌, ◌≢◌, ◌<◌, ◌≤◌, ◌+◌, [], ◌++◌, ◌==◌, length, IsTrue, false, true, slice_index};
 ghost use Rattle.std.specs.List.{IsDistinct};
-ghost use Rattle.std.specs.Option.{option_map};
 ghost use Rattle.std.proofs.Props.{props};
 ghost use Rattle.spec_format.specs.Address.{external};
-ghost use Rattle.spec_format.specs.BlockFiles.{is_among, is_block_count, kind_among, most_files};
+ghost use Rattle.spec_format.specs.BlockFiles.{is_among, is_block_count, most_files};
 ghost use Rattle.blk_addr.specs.Kind.{kind_number};
 
 use arrayvec::ArrayVec;

@@ -1,19 +1,18 @@
 // The keys of entry records.
-ghost use Rattle.std.specs.Prelude.{◌≡◌, ◌⊎◌, ◌+◌, ◌%◌, ◌≤◌, ◌<◌, min, IfOk, IsOk, IsTrue, None, OnOk, false, true, length};
+ghost use Rattle.std.specs.Prelude.{◌≡◌, ◌+◌, ◌%◌, ◌≤◌, ◌<◌, min, IfOk, IsOk, IsTrue, None, OnOk, false, true, length};
 ghost use Rattle.std.specs.Option.{ForSome};
 ghost use Rattle.spec_image.specs.Bytes.{content, words_at};
 ghost use Rattle.spec_image.specs.Told.{Rises, Stays};
 ghost use Rattle.blk_record.specs.Views.{entry_window};
-ghost use Rattle.spec_format.specs.Address.{blocks_256, is_address, file_selector, kind_of, place};
+ghost use Rattle.spec_format.specs.Address.{blocks_256, is_address, kind_of, place};
 ghost use Rattle.spec_format.specs.Records.{entry_size};
 ghost use Rattle.blk_io.specs.declared.folder.FileId.TheVariants as FileId;
-ghost use Rattle.blk_io.specs.Faults.{IfDamaged, IfDevice, IsShort};
+ghost use Rattle.blk_io.specs.Faults.{IfDamaged, IfDevice};
 ghost use Rattle.blk_disk.specs.Tables.{Agrees, stands_among};
-ghost use Rattle.blk_disk.specs.Unsealed.{IsUnsealed};
 ghost use Rattle.spec_format.specs.Sealed.{RecordChecks};
 ghost use Rattle.spec_folder.specs.View.{entry_at};
 ghost use Rattle.blk_entry.specs.Keys as keys;
-ghost use Rattle.blk_entry.specs.Keys.{CanBeRead, HasKeyBytes, HasKeyPlace, HasRecord, IsRecordHead, IsHeadDamage, IsInside, IsMisplacedKey, IsPiece, IsPlaceOfKey, is_short, key_at, key_address, key_bytes, bytes_before};
+ghost use Rattle.blk_entry.specs.Keys.{CanBeRead, HasKeyBytes, HasKeyPlace, HasRecord, IsRecordHead, IsHeadDamage, IsInside, IsMisplacedKey, IsPiece, IsPlaceOfKey, is_short, key_at, key_bytes};
 
 use crate::data::{is_of, read_data};
 use blk_addr::{Addr, Kind, LONGEST_SHORT_KEY, RECORD_BLOCK, blocks_for, entry_blocks, kind_for};

@@ -1,5 +1,5 @@
 // Bytes of a file are overwritten by zeros.
-ghost use Rattle.std.specs.Prelude.{◌≡◌, ◌-◌, ◌≤◌, OnOk, OnErr, IfOk, min};
+ghost use Rattle.std.specs.Prelude.{◌≡◌, ◌-◌, ◌≤◌, OnOk, IfOk, min};
 ghost use Rattle.std.specs.Option.{ForSome};
 ghost use Rattle.spec_image.specs.Bytes.{zeros};
 ghost use Rattle.spec_image.specs.Image.{length_of};

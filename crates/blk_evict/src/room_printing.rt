@@ -1,5 +1,5 @@
 // Evicted items are printed.
-ghost use Rattle.std.specs.Prelude.{◌≤◌, map};
+ghost use Rattle.std.specs.Prelude.{map};
 ghost use Rattle.blk_io.specs.Streams.{GoesOn};
 ghost use Rattle.blk_model.specs.Items.{main, part};
 ghost use Rattle.blk_script.specs.Reply.{evicted_line};

@@ -5,7 +5,7 @@ ghost use Rattle.spec_image.specs.Told.{Applies, AppliesPrefix, Stays, Passes, R
 ghost use Rattle.spec_format.specs.Address.{kind_of, external, external_number};
 ghost use Rattle.spec_format.specs.Headers.{HasWholeIndex};
 ghost use Rattle.blk_io.specs.Faults.{IfDamaged, IfDevice, IsShort};
-ghost use Rattle.blk_external.specs.Numbers.{IsNumber, HasFreeNumber, IsFirstFree, IsSearched, IsLeastExternal, most_number};
+ghost use Rattle.blk_external.specs.Numbers.{IsNumber, HasFreeNumber, IsFirstFree, IsSearched, IsLeastExternal};
 ghost use Rattle.blk_external.specs.Making.{making, last_number, last_file_place, CreatesPrefix, CreatesInProgress, Creates, AreNumbersUsedUp};
 
 use blk_addr::{Addr, LAST_EXTERNAL};

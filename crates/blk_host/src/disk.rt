@@ -1,5 +1,5 @@
 // The files of a folder that are kept open.
-ghost use Rattle.std.specs.Prelude.{◌<ℤ◌, pos, IfOk};
+ghost use Rattle.std.specs.Prelude.{◌<ℤ◌, pos};
 ghost use Rattle.std.specs.Fd.{file_raw_fd};
 
 use crate::again::again;

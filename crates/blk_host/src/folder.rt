@@ -1,8 +1,5 @@
 // A folder of the machine. It tells nothing of its content.
-ghost use Rattle.std.specs.Prelude.{◌≡◌, ◌≤◌, ◌^◌, ◌<◌, None, Ok, OnErr, OnOk, IfOk, length};
-ghost use Rattle.std.specs.Option.{ForSome};
-ghost use Rattle.blk_host.specs.FileIds.{ComesAfter};
-ghost use Rattle.spec_image.specs.Told.{Rises};
+ghost use Rattle.std.specs.Prelude.{◌<◌, Ok, length};
 
 use crate::faults::counted;
 use crate::files::DiskFiles;

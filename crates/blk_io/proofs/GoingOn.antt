@@ -1,5 +1,5 @@
 -- A sink goes on through one call after another.
-use Rattle.std.proofs.Common.{◌≤◌, ℕ, List, refl, ◌∙◌, arith}
+use Rattle.std.proofs.Common.{ℕ, List, refl, ◌∙◌, arith}
 use Rattle.blk_io.specs.Streams.{GoesOn}
 
 pub stays_on : {S : Type 0} {is : S → List ℕ} {faults : S → ℕ} {a : S} → GoesOn is faults a a

@@ -1,9 +1,9 @@
 // A folder of cache files, seen as its files now and the steps that made them.
-ghost use Rattle.std.specs.Prelude.{◌≡◌, ◌↔◌, ◌+◌, ◌<◌, ◌≤◌, ℕ, IsTrue, [], ◌∷◌, length, OnOk, OnErr, IfOk};
+ghost use Rattle.std.specs.Prelude.{◌≡◌, ◌↔◌, ◌<◌, ◌≤◌, ℕ, IsTrue, [], ◌∷◌, length, OnOk, OnErr, IfOk};
 ghost use Rattle.std.specs.Option.{ForSome, option_map};
-ghost use Rattle.spec_image.specs.Image.{same_file, HasRange};
+ghost use Rattle.spec_image.specs.Image.{HasRange};
 ghost use Rattle.spec_image.specs.Steps.{SetLength, Delete, Note, words};
-ghost use Rattle.spec_image.specs.Order.{IsNextFile, IsAfter, IsBefore, file_rank, file_number};
+ghost use Rattle.spec_image.specs.Order.{IsNextFile, IsAfter, file_number};
 ghost use Rattle.spec_image.specs.Told.{Told, Applies, Stays, AppliesPrefix, Rises, AgreesWithTrail, TellsBytes, GivesBytes};
 ghost use Rattle.blk_io.specs.FileNames.{file_of};
 ghost use Rattle.blk_io.specs.Untold.{untold};

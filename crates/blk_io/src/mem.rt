@@ -1,5 +1,5 @@
 // A folder in memory, which keeps its start files, its files and each step since.
-ghost use Rattle.std.specs.Prelude.{◌≡◌, ◌||◌, nat_lt, ◌+◌, ◌-◌, ◌^◌, ◌<◌, ◌≤◌, [], ◌∷◌, length, take, min, Some, None, OnOk, OnErr, IfOk, IsSome, is_some, is_err};
+ghost use Rattle.std.specs.Prelude.{◌≡◌, ◌||◌, nat_lt, ◌-◌, ◌^◌, ◌<◌, ◌≤◌, [], ◌∷◌, length, take, min, Some, None, OnOk, OnErr, IfOk, IsSome, is_some, is_err};
 ghost use Rattle.std.specs.Option.{ForSome, option_map};
 ghost use Rattle.spec_image.specs.Image.{HasRange, empty_image, AreBytes};
 ghost use Rattle.spec_image.specs.Order.{IsAfter, IsNextFile};

@@ -2,7 +2,7 @@
 ghost use Rattle.std.specs.Prelude.{◌≡◌, ◌-◌, ◌^◌, ◌≤◌, [], ◌∷◌, ◌++◌, length, take, min, OnOk, OnErr};
 ghost use Rattle.std.specs.Option.{option_map};
 ghost use Rattle.spec_image.specs.Image.{File};
-ghost use Rattle.spec_image.specs.Steps.{after, image_at, words};
+ghost use Rattle.spec_image.specs.Steps.{image_at, words};
 ghost use Rattle.blk_io.specs.FileNames.{file_of};
 ghost use Rattle.blk_io.specs.Files.{image_of};
 ghost use Rattle.blk_io.specs.Trail.{kept_calls, kept_steps, steps_of_call, steps_of, prefix_in};

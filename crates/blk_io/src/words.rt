@@ -1,5 +1,5 @@
 // Words and bytes that are read whole, and words that are written one by one or side by side.
-ghost use Rattle.std.specs.Prelude.{◌≡◌, ◌⊎◌, ◌+◌, ◌*◌, ◌%◌, ◌^◌, ◌≤◌, ◌<◌, ℕ, All, length, map, OnOk, OnErr, IfOk, take};
+ghost use Rattle.std.specs.Prelude.{◌≡◌, ◌⊎◌, ◌+◌, ◌*◌, ◌%◌, ◌^◌, ◌≤◌, ◌<◌, All, length, map, OnOk, OnErr, IfOk, take};
 ghost use Rattle.std.specs.Option.{ForSome};
 ghost use Rattle.spec_image.specs.Bytes.{range_at, word_bytes};
 ghost use Rattle.spec_image.specs.Image.{HasRange, byte, word};

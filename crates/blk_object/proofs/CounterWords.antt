@@ -15,7 +15,7 @@ use Rattle.blk_disk.specs.Open.{IsOpen}
 use Rattle.blk_disk.proofs.Agreeing.{agrees_still}
 use Rattle.blk_chain.proofs.Links.{index_spares, index_word}
 use Rattle.spec_format.specs.Headers.{num_bytes64_of, num_entries_of, sizes_of}
-use Rattle.law_folder.specs.IndexWrites.{IsIndexLong, IsIndexWord}
+use Rattle.law_folder.specs.IndexWrites.{IsIndexWord}
 use Rattle.law_state.specs.Changes.{KeepsWith}
 use Rattle.law_state.specs.CounterLaws.{AreCountersWritten, charged}
 use Rattle.law_state.proofs.Charges.{charges-small}

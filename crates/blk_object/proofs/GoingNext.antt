@@ -1,6 +1,5 @@
 -- The next item of an object goes: what each call adds.
-use Rattle.std.proofs.Common.{◌≡◌, inl, inr, ℕ, ◌%◌, List, [], ◌++◌, refl, ap, sym, ◌∙◌, subst, Bool, true, Ok, Option, None, Some}
-use Rattle.std.specs.Prelude.{◌^◌}
+use Rattle.std.proofs.Common.{◌≡◌, inl, inr, ℕ, List, [], ◌++◌, refl, ap, sym, ◌∙◌, subst, Bool, true, Ok, Option, None, Some}
 use Rattle.std.specs.Option.{ForSome}
 use Rattle.spec_image.specs.Image.{Image}
 use Rattle.spec_image.specs.Told.{Passes, Told}

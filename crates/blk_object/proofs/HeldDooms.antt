@@ -1,6 +1,6 @@
 -- An object that a handle names is doomed: its record gets state 2 once its items are out, and it is kept as a doomed one then.
 use Rattle.std.proofs.Common.{◌≡◌, ◌≢◌, inr, ⊎_elim, ℕ, ◌%◌, ◌<◌, ◌≤◌, List, [], ◌∷◌, ◌++◌, length, refl, ap, sym, ◌∙◌, subst, arith, lit≤, Bool, true, false, Ok, Option, None, Some}
-use Rattle.std.specs.Prelude.{◌^◌, ◌||◌, filter, if◌then◌else◌, not}
+use Rattle.std.specs.Prelude.{◌||◌, filter, if◌then◌else◌, not}
 use Rattle.std.specs.List.{sum_by}
 use Rattle.std.specs.Option.{ForSome, option_map_or}
 use Rattle.std.proofs.lemmas.Bool.{cases_Bool}

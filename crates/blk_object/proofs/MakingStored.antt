@@ -1,16 +1,16 @@
 -- What is stored at unlinked words stays where places are taken and filled, and so do the counters of the index.
-use Rattle.std.proofs.Common.{◌≡◌, ◌⊎◌, inl, inr, ⊎_elim, ℕ, ◌+◌, ◌<◌, ◌≤◌, List, [], ◌∷◌, ◌++◌, None, Option, Some, refl, sym, ◌∙◌, ap, subst, arith, Bool, true, false}
-use Rattle.std.specs.Prelude.{◌==◌, ◌||◌, is_some}
+use Rattle.std.proofs.Common.{◌≡◌, ◌⊎◌, inl, inr, ⊎_elim, ℕ, ◌+◌, ◌≤◌, List, [], ◌∷◌, ◌++◌, Some, refl, sym, ◌∙◌, ap, subst, arith, Bool, true, false}
+use Rattle.std.specs.Prelude.{◌==◌, ◌||◌}
 use Rattle.std.specs.List.{flat_map}
 use Rattle.std.specs.Option.{ForSome}
 use Rattle.std.proofs.lemmas.Bool.{cases_Bool, eqb-true, or_left, or_right}
 use Rattle.spec_image.specs.Footprint.{SameOutside}
-use Rattle.spec_image.specs.Image.{External, Image, Index, byte, has_file, word}
+use Rattle.spec_image.specs.Image.{Image, Index, byte, word}
 use Rattle.spec_image.specs.Steps.{after}
 use Rattle.spec_image.specs.Told.{Applies, Told}
 use Rattle.spec_image.proofs.Footprints.{same_word_outside}
 use Rattle.spec_image.proofs.Runs.{some_inj, told_whole}
-use Rattle.spec_format.specs.Address.{external, external_number, kind_of}
+use Rattle.spec_format.specs.Address.{external, external_number}
 use Rattle.spec_format.specs.BlockFiles.{is_among}
 use Rattle.spec_format.specs.Claims.{BlockOf, Claim, ExternalOf, claims_of, claims_of_all, has_claim, repeats, same_claim}
 use Rattle.spec_format.specs.Growth.{HaveGrown}

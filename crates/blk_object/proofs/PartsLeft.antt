@@ -1,6 +1,6 @@
 -- What a part that is found, and none, are to the state.
-use Rattle.std.proofs.Common.{◌≡◌, ℕ, ◌%◌, ◌<◌, lit<, List, [], ◌∷◌, ◌++◌, length, refl, ap, sym, ◌∙◌, subst, Bool, true, false, Option, None, Some, ⊎_elim}
-use Rattle.std.specs.Prelude.{◌||◌, ◌^◌, filter, not}
+use Rattle.std.proofs.Common.{◌≡◌, ℕ, ◌<◌, lit<, List, [], ◌∷◌, ◌++◌, length, refl, ap, sym, ◌∙◌, subst, Bool, true, false, Option, None, Some, ⊎_elim}
+use Rattle.std.specs.Prelude.{◌||◌, filter, not}
 use Rattle.std.specs.Str.{bytes_eq}
 use Rattle.std.proofs.lemmas.Bool.{and_from, and_parts, cases_Bool}
 use Rattle.blk_model.specs.Items.{Item, key_of, main, part, same_item}

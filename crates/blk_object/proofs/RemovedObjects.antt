@@ -1,6 +1,5 @@
 -- An item that goes alone is removed: what each call adds.
-use Rattle.std.proofs.Common.{◌≡◌, inl, inr, ℕ, ◌%◌, List, [], ◌++◌, ap, sym, ◌∙◌, subst, Option, None, Some}
-use Rattle.std.specs.Prelude.{◌^◌}
+use Rattle.std.proofs.Common.{◌≡◌, inl, inr, ℕ, List, [], ◌++◌, ap, sym, ◌∙◌, subst, Option, None, Some}
 use Rattle.std.specs.Option.{ForSome}
 use Rattle.spec_image.specs.Image.{Image}
 use Rattle.spec_image.specs.Told.{Passes, Told}
@@ -11,8 +10,8 @@ use Rattle.spec_folder.specs.Found.{charge_of}
 use Rattle.spec_folder.specs.Layout.{Layout}
 use Rattle.spec_folder.specs.Removal.{without_items}
 use Rattle.spec_folder.specs.Sound.{words_of}
-use Rattle.law_state.specs.Changes.{Finds, KeepsWith, SameCounters}
-use Rattle.law_state.specs.Keeping.{CountsItems, Keeps, KeepsUncounted}
+use Rattle.law_state.specs.Changes.{Finds, KeepsWith}
+use Rattle.law_state.specs.Keeping.{Keeps, KeepsUncounted}
 use Rattle.law_state.specs.PlainRemovals.{IsRemoved}
 use Rattle.law_state.specs.RemovalLaws.{layout_removed}
 use Rattle.law_state.proofs.Free.{then-found}

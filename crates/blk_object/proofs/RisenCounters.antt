@@ -1,15 +1,11 @@
 -- The bytes that the index counts become less by one number and more by another.
-use Rattle.std.proofs.Common.{◌≡◌, ℕ, ◌+◌, ◌/◌, ◌%◌, ◌<◌, ◌≤◌, List, [], ◌∷◌, length, length-append, refl, ap, sym, ◌∙◌, subst, arith, lit≤, false}
-use Rattle.std.specs.Prelude.{◌^◌, ◌-◌, ◌&&◌, nat_le, nat_lt}
+use Rattle.std.proofs.Common.{◌≡◌, ℕ, ◌+◌, ◌/◌, ◌%◌, ◌<◌, ◌≤◌, List, [], ◌∷◌, length, length-append, refl, ap, sym, ◌∙◌, subst, arith, lit≤}
+use Rattle.std.specs.Prelude.{◌^◌, ◌-◌}
 use Rattle.std.specs.List.{sum_by}
-use Rattle.std.proofs.lemmas.Bool.Decides.{nat_tests}
 use Rattle.std.specs.Option.{ForSome}
-use Rattle.spec_image.specs.Footprint.{one_word}
-use Rattle.spec_image.specs.Image.{AreBytes, Image, Index, byte}
+use Rattle.spec_image.specs.Image.{Image, Index, byte}
 use Rattle.spec_image.specs.Steps.{TrailStep, after, word_step, word_steps}
 use Rattle.spec_image.specs.Told.{Along, Applies, AppliesPrefix, IsQuiet, Passes, Told}
-use Rattle.spec_image.proofs.ByteSteps.{word-small}
-use Rattle.spec_image.proofs.Footprints.{same_word_outside}
 use Rattle.spec_image.proofs.Runs.{passes_part, some_inj, told_part, told_whole}
 use Rattle.blk_disk.specs.declared.tables.BlockFiles.{BlockFiles}
 use Rattle.blk_disk.specs.Open.{IsOpen}

@@ -45,7 +45,6 @@ use Rattle.spec_image.proofs.Footprints.{same_word_outside}
 use Rattle.spec_format.specs.Headers.{header_length, place_of_bucket}
 use Rattle.std.proofs.lemmas.Bool.Decides.{nat_tests}
 use Rattle.std.specs.Prelude.{◌&&◌, nat_le}
-use Rattle.std.proofs.Common.{lit≤}
 use Rattle.law_state.specs.Keeping.{KeepsUncounted}
 use Rattle.law_state.specs.PlainRemovals.{IsRemoved, IsRemoving}
 use Rattle.law_state.specs.RemovalLaws.{IsRemovalDone, chains_without}

@@ -1,28 +1,24 @@
 -- The places of a stream that is written: what a new one is to the state that was kept, while it is taken and filled, and an old one that is freed.
-use Rattle.std.proofs.Common.{◌≡◌, ◌≢◌, ◌⊎◌, inl, inr, ⊎_elim, ℕ, ◌+◌, ◌≤◌, [], ◌∷◌, Bool, true, false, if◌then◌else◌, None, Some, refl, sym, ◌∙◌, ap, subst, arith}
+use Rattle.std.proofs.Common.{◌≡◌, ◌≢◌, inl, inr, ℕ, [], ◌∷◌, Bool, true, false, if◌then◌else◌, None, Some, refl, sym, ◌∙◌, ap, subst, arith}
 use Rattle.std.specs.Prelude.{◌==◌, is_some}
 use Rattle.std.proofs.lemmas.Bool.{or_left}
 use Rattle.std.proofs.lemmas.Bool.Decides.{nat_tests}
 use Rattle.spec_image.specs.Footprint.{Footprint, SameOutside, range, whole}
-use Rattle.spec_image.specs.Image.{Block, External, Image, Index, byte, has_file, word}
-use Rattle.spec_image.proofs.Footprints.{same_word_outside}
+use Rattle.spec_image.specs.Image.{Block, External, Image, Index, byte, has_file}
 use Rattle.spec_format.specs.Address.{byte_size, external, external_number, file_selector, is_block_kind, kind_of, place}
 use Rattle.spec_format.specs.BlockFiles.{IsWellFormed, stands_in, stands_in_blocks}
 use Rattle.spec_format.specs.Claims.{Claim, ExternalOf, claims_of, claims_of_all, has_claim, same_claim}
-use Rattle.spec_format.specs.Headers.{crash_of, num_bytes_of, num_entries_of, sizes_of, this_id_of}
+use Rattle.spec_format.specs.Headers.{crash_of, this_id_of}
 use Rattle.spec_format.specs.Standing.{stands}
 use Rattle.blk_disk.specs.declared.tables.BlockFiles.{BlockFiles}
 use Rattle.blk_disk.specs.Tables.{Agrees}
 use Rattle.blk_disk.proofs.Ranges.{stands_agree}
-use Rattle.blk_alloc.specs.Allocating.{AllocatesIn}
 use Rattle.blk_alloc.specs.Changes.{map_of}
-use Rattle.blk_external.specs.Making.{touched_by_making}
 use Rattle.law_folder.proofs.claims.ClaimLists.{claim-append}
 use Rattle.spec_folder.specs.View.{store_of}
 use Rattle.blk_stream.specs.Inside.{data_of}
 use Rattle.blk_stream.specs.Stages.{TakesBlocks, TakesFile, TakesInProgress, TakesPlace}
 use Rattle.blk_stream.proofs.InsideSteps.{data_blocks, data_external}
-use Rattle.blk_stream.proofs.Naming.{apart_place}
 use Rattle.law_state.specs.Changes.{AddsAllocation, AddsExternal, ChangesOnly, KeepsWith, SameCounters, SameSession, StillFinds}
 use Rattle.law_state.specs.Keeping.{KeepsUncounted}
 use Rattle.law_state.proofs.Allocating.{allocated-unlinked}

@@ -1,5 +1,5 @@
 -- A stream of a dirty object is written: what lies at its node.
-use Rattle.std.proofs.Common.{◌≡◌, ℕ, ◌+◌, ◌<◌, List, ◌++◌, refl, ap, sym, ◌∙◌, subst, Bool, true, false, Ok, Option, Some, map}
+use Rattle.std.proofs.Common.{◌≡◌, ℕ, ◌+◌, ◌<◌, List, ◌++◌, refl, ap, sym, ◌∙◌, subst, Bool, true, false, Ok, Option, Some}
 use Rattle.std.specs.Prelude.{◌==◌, IfSome, if◌then◌else◌}
 use Rattle.std.specs.List.Sorted.{IsPermutation}
 use Rattle.std.proofs.lemmas.Bool.{or_left, or_right}
@@ -12,7 +12,6 @@ use Rattle.blk_model.specs.State.{IsValidState, Object, State, object_at}
 use Rattle.blk_model.proofs.States.{has_main}
 use Rattle.spec_format.specs.Address.{place}
 use Rattle.spec_format.specs.Claims.{Claim}
-use Rattle.spec_folder.specs.Entries.{stream}
 use Rattle.spec_folder.specs.Footprint.{IsFreeBut, IsInsideNode, IsReplaced}
 use Rattle.spec_folder.specs.Found.{row_of_loaded}
 use Rattle.spec_folder.specs.Layout.{Layout, rule_of, order}

@@ -14,7 +14,7 @@ use Rattle.spec_format.specs.Claims.{Claim}
 use Rattle.spec_format.specs.Names.{Name, read_name}
 use Rattle.spec_format.proofs.Among.{is_among-append}
 use Rattle.spec_folder.specs.Audit.{is_parent_of}
-use Rattle.spec_folder.specs.Entries.{IsPart, Role, part_role, stream}
+use Rattle.spec_folder.specs.Entries.{IsPart, Role, part_role}
 use Rattle.spec_folder.specs.Footprint.{IsReplaced}
 use Rattle.spec_folder.specs.Found.{row_of_loaded, row_with}
 use Rattle.spec_folder.specs.Layout.{IsPartAt, IsPlacedAt, Layout, is_listed, order, rule_of}

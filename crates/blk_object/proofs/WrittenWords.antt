@@ -19,7 +19,7 @@ use Rattle.spec_format.specs.Records.{entry_in}
 use Rattle.spec_format.specs.Standing.{is_linked_as, stands_as_blocks}
 use Rattle.spec_format.specs.Storage.{kind_for}
 use Rattle.spec_format.proofs.Among.{is_among-append}
-use Rattle.spec_folder.specs.Layout.{Layout, order}
+use Rattle.spec_folder.specs.Layout.{Layout}
 use Rattle.spec_folder.specs.Loads.{Loaded}
 use Rattle.spec_folder.specs.Sound.{words_of}
 use Rattle.spec_folder.specs.View.{entry_at}

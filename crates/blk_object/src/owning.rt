@@ -1,5 +1,5 @@
 // The places that an entry has.
-ghost use Rattle.std.specs.Prelude.{◌≡◌, ◌≤◌, ◌<◌, ◌+◌, ◌%◌, ◌^◌, ◌==◌, All, IfOk, IsOk, IsTrue, None, OnOk, Some, false, true, slice_index, if◌then◌else◌};
+ghost use Rattle.std.specs.Prelude.{◌≡◌, ◌≤◌, ◌<◌, ◌+◌, ◌^◌, ◌==◌, All, IfOk, IsOk, IsTrue, None, OnOk, Some, false, true, slice_index, if◌then◌else◌};
 ghost use Rattle.std.specs.Option.{ForSome};
 ghost use Rattle.spec_image.specs.Told.{Passes, Rises, Stays};
 ghost use Rattle.spec_format.specs.Address.{blocks_256, kind_of};

@@ -1,5 +1,5 @@
 // The rows of a List are printed.
-ghost use Rattle.std.specs.Prelude.{◌≤◌, ◌∷◌, [], codes};
+ghost use Rattle.std.specs.Prelude.{◌∷◌, [], codes};
 ghost use Rattle.blk_io.specs.Streams.{GoesOn};
 ghost use Rattle.blk_script.specs.Spelling.{key_text, line, number_text};
 ghost use Rattle.blk_evict.specs.RoomPrinting.{FailsWhereItRose, PrintsUnlessFailed};

@@ -13,7 +13,7 @@ use Rattle.blk_io.specs.declared.fault.Fault.{Fault}
 use Rattle.blk_io.specs.declared.fault.Fault.TheVariants as fault
 use Rattle.blk_io.specs.Faults.{IfDamaged, damage_of}
 use Rattle.blk_index.specs.declared.start.Start.{Start}
-use Rattle.blk_index.specs.Start.{IsFinished, LooksAs}
+use Rattle.blk_index.specs.Start.{LooksAs}
 
 -- where no check of the index fails, it is that of the block files
 pub first-behind : (image : Image) → first_index_damage image ≡ None → first_damage image ≡ first_block_damage image

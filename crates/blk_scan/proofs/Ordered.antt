@@ -6,7 +6,6 @@ use Rattle.spec_image.specs.Image.{Image}
 use Rattle.spec_folder.specs.Audit.{dropped_of, kept_of}
 use Rattle.spec_folder.specs.Found.{charge_of}
 use Rattle.spec_folder.specs.Loads as shown
-use Rattle.spec_folder.specs.Loads.{is_part}
 use Rattle.spec_folder.specs.Reasons as reasons
 use Rattle.blk_verdict.specs.Charges.{charge_said}
 use Rattle.blk_verdict.specs.Kept.{AreShown, IsLoadedFrom, is_part_said}

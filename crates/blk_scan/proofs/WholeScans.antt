@@ -4,7 +4,7 @@ use Rattle.std.specs.List.{AllZip, filter_map, flat_map, sum_by}
 use Rattle.std.proofs.lemmas.List.{map-append}
 use Rattle.spec_image.specs.Image.{Image}
 use Rattle.spec_folder.specs.Audit as audit
-use Rattle.spec_folder.specs.Audit.{dropped_among, dropped_of, judged, kept_among, kept_of, verdict_on}
+use Rattle.spec_folder.specs.Audit.{dropped_among, dropped_of, judged, kept_among, verdict_on}
 use Rattle.spec_folder.specs.Found.{completed, dropped, kept}
 use Rattle.spec_folder.specs.ListImages.{completed_walk}
 use Rattle.spec_folder.specs.Loads as shown

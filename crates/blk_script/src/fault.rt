@@ -1,5 +1,5 @@
 // Why a line is no command.
-ghost use Rattle.std.specs.Prelude.{◌≡◌, ◌∷◌};
+ghost use Rattle.std.specs.Prelude.{◌≡◌};
 ghost use Rattle.blk_script.specs.Faults.{fault_number, fault_name};
 
 use std::error::Error;

@@ -1,5 +1,5 @@
 // The fields of a line, one by one.
-ghost use Rattle.std.specs.Prelude.{◌≡◌, ◌≤◌, ◌+◌, ◌↔◌, List, [], ◌∷◌, length, position, IsTrue, MatchResult};
+ghost use Rattle.std.specs.Prelude.{◌≡◌, ◌≤◌, ◌+◌, [], ◌∷◌, length, position, MatchResult};
 ghost use Rattle.blk_script.specs.Fields.{is_space, line_fields, fields_left, length_left, AreFields, LacksFields, SplitsField};
 
 use crate::LineFault;

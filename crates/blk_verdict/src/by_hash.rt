@@ -1,5 +1,5 @@
 // The places in a list by hashes.
-ghost use Rattle.std.specs.Prelude.{◌≡◌, ◌<◌, ℕ, ◌++◌, [], ◌∷◌, List, OnOk, length, slice_index};
+ghost use Rattle.std.specs.Prelude.{◌<◌, ℕ, ◌++◌, [], ◌∷◌, List, OnOk, length, slice_index};
 ghost use Rattle.blk_verdict.specs.ByHash.{IsByHash, IsLastWithHash};
 
 use blk_addr::NoMemory;

@@ -14,7 +14,6 @@ ghost use Rattle.blk_disk.specs.Tables.{Agrees};
 ghost use Rattle.blk_entry.specs.Keys.{most_key};
 ghost use Rattle.blk_audit.specs.Faults.{IfScanDamaged, IfScanDevice};
 ghost use Rattle.blk_verdict.specs.Kept.{AreShown, HasPartNumber, HaveKeys, IsAlwaysInOrder, IsSameAnswer, IsKeptInOrder, IsIndexed, IsLoadedFrom, NoneMayBe, addresses_of, addresses_of_all, claims_kept, is_sought, kept_with, records_kept};
-ghost use Rattle.blk_verdict.specs.Keyed.{HasItsKey};
 ghost use Rattle.blk_verdict.specs.PartNames.{IsNameOf};
 ghost use Rattle.blk_verdict.specs.Readable.{IsReadable};
 ghost use Rattle.blk_verdict.specs.Reads.{IsCutRead};

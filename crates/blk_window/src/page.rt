@@ -1,5 +1,5 @@
 // A page of a file, with space for its bytes.
-ghost use Rattle.std.specs.Prelude.{◌≡◌, ◌+◌, ◌-◌, ◌*◌, ◌<◌, ◌≤◌, ◌^◌, true, false, not, ◌&&◌, ◌||◌, nat_lt, length, take, drop, min, Some, None, IfOk, OnOk, OnErr, option_and_then, is_some, IsTrue};
+ghost use Rattle.std.specs.Prelude.{◌≡◌, ◌+◌, ◌-◌, ◌*◌, ◌<◌, ◌≤◌, ◌^◌, true, false, not, ◌&&◌, ◌||◌, nat_lt, length, take, drop, min, None, IfOk, OnOk, OnErr, option_and_then, is_some, IsTrue};
 ghost use Rattle.std.specs.Option.{ForSome};
 ghost use Rattle.spec_image.specs.Bytes.{spliced};
 ghost use Rattle.spec_image.specs.Image.{same_file};

@@ -2,7 +2,7 @@
 ghost use Rattle.std.specs.Prelude.{◌≡◌, false, [], ◌∷◌, ◌+◌, ◌-◌, ◌*◌, ◌<◌, ◌≤◌, ◌%◌, length, Some, None, IfOk, IfSome, IfNone, is_none, is_some, nat_eq, slice_index_or, option_and_then};
 ghost use Rattle.std.specs.Option.{ForSome, option_map};
 ghost use Rattle.std.specs.List.{All, IsDistinct, filter_map, find};
-ghost use Rattle.std.specs.Map.{keys_of, lookup};
+ghost use Rattle.std.specs.Map.{keys_of};
 ghost use Rattle.blk_io.specs.FileNames.{file_of};
 ghost use Rattle.std.proofs.Props.{props};
 ghost use Rattle.lru.specs.LruCache.{last_entry};

@@ -1,5 +1,5 @@
 // A window of pages over a folder.
-ghost use Rattle.std.specs.Prelude.{◌≡◌, ◌+◌, ◌-◌, ◌<◌, ◌≤◌, ◌%◌, ◌^◌, true, false, [], ◌∷◌, length, map, Some, None, IfOk, IfErr, OnOk, OnErr, IsOk, IsTrue};
+ghost use Rattle.std.specs.Prelude.{◌≡◌, ◌+◌, ◌-◌, ◌<◌, ◌≤◌, ◌%◌, ◌^◌, true, false, [], ◌∷◌, length, map, Some, IfOk, IfErr, OnOk, OnErr, IsOk, IsTrue};
 ghost use Rattle.std.specs.Option.{ForSome, option_map};
 ghost use Rattle.std.specs.List.{All, filter_map};
 ghost use Rattle.spec_image.specs.Image.{HasRange};

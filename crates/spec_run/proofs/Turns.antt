@@ -1,7 +1,7 @@
 -- Iterations after iterations.
 use Rattle.std.proofs.Common.{ℕ, zero, suc, ◌+◌, ◌≡◌, List, [], ◌∷◌, ◌++◌, length, take, cond, Result, Ok, Err, refl, sym, ◌∙◌, ap, arith, append_assoc}
 use Rattle.std.proofs.Math.Seq.{take-append_seam}
-use Rattle.std.proofs.lemmas.List.{append-nil, drop-drop, length-append}
+use Rattle.std.proofs.lemmas.List.{append-nil, drop-drop}
 use Rattle.std.proofs.lemmas.List.Concat.{flat_map-append}
 use Rattle.std.proofs.lemmas.List.Elements.{filter_map-append}
 use Rattle.std.proofs.lemmas.List.Folds.{list_any-append}
@@ -13,8 +13,7 @@ use Rattle.blk_model.specs.State.{State}
 use Rattle.blk_io.specs.Streams.{Readings, later_of}
 use Rattle.blk_script.specs.declared.fault.LineFault.{LineFault}
 use Rattle.blk_script.specs.Line.{read_text}
-use Rattle.blk_script.specs.Reply.{line_fault_text}
-use Rattle.spec_run.specs.Script.{Script, TurnsNoneAway, ended, errs, says, turns_away, asks, is_missing, is_refused, session_script, shown_where, line_script, put_script, until_refused}
+use Rattle.spec_run.specs.Script.{Script, TurnsNoneAway, ended, errs, says, turns_away, asks, is_missing, is_refused, session_script, line_script, put_script, until_refused}
 use Rattle.spec_run.specs.Run.{Stamped, Turn, away_turn, error_turn, text_turn, command_turn, stamped_by, outcome_in, state_then, turns, commands_of, readings_of, state_after, clock_after, text_of, refuse, bound_names, closings, commands}
 use Rattle.spec_run.specs.Playing.{IsPlayed}
 use Rattle.spec_run.specs.Laws.{LinesArePlayedInTurn, NothingIsPlayed, CommandsArePlayed, ErrorsArePlayed, TextsArePlayed, PlayingGoesOn, PlayedRunsAreCut, PlayedRunsAreWhole, PlayedCommandsComeFirst, AskedCommandsAreNext, ClockIsReadForCommands, FixedScriptsTurnNoneAway, LinesTurnNoneAway, RefusalsOutsideArePlayed}

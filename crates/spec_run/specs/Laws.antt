@@ -1,5 +1,5 @@
 -- The laws by which a run composes: an opening, commands one after another, the closing, and the iterations of a script.
-use Rattle.std.specs.Prelude.{◌≡◌, ◌<◌, ◌≤◌, ◌+◌, ◌*◌, ◌^◌, ℕ, Bool, true, false, List, [], ◌∷◌, ◌++◌, length, Some, None, is_some, slice_set, take}
+use Rattle.std.specs.Prelude.{◌≡◌, ◌<◌, ◌≤◌, ◌+◌, ◌*◌, ◌^◌, ℕ, true, false, List, [], ◌∷◌, ◌++◌, length, Some, None, is_some, slice_set, take}
 use Rattle.std.specs.List.{Contains}
 use Rattle.std.specs.Option.{ForSome}
 use Rattle.spec_image.specs.Image.{Image}

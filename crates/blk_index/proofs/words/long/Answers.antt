@@ -1,4 +1,4 @@
-use Rattle.std.proofs.Common.{◌≡◌, ◌+◌, ◌∙◌, None, arith}
+use Rattle.std.proofs.Common.{◌≡◌, ◌∙◌, None, arith}
 use Rattle.blk_io.specs.declared.folder.FileId.TheVariants.{Index}
 use Rattle.blk_io.proofs.Carried.{carried}
 use Rattle.blk_io.proofs.Shorts.{untold_if}

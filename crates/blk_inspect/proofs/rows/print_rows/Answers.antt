@@ -1,4 +1,4 @@
-use Rattle.std.proofs.Common.{◌+◌, drop, length, refl, arith}
+use Rattle.std.proofs.Common.{◌+◌, drop, length, refl}
 use Rattle.std.specs.List.{flat_map}
 use Rattle.std.proofs.lemmas.Option.{slice_get_read}
 use Rattle.blk_script.proofs.Putting.{not_yet, put_more, put_partly, put_so_far}

@@ -1,4 +1,4 @@
-use Rattle.std.proofs.Common.{◌≤◌, drop}
+use Rattle.std.proofs.Common.{drop}
 use Rattle.std.specs.List.{flat_map}
 use Rattle.blk_script.proofs.Putting.{IsPutUpTo}
 use Rattle.blk_io.specs.Streams.{GoesOn}

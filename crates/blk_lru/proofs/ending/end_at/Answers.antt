@@ -1,6 +1,5 @@
 use Rattle.std.proofs.Common.{◌≡◌, ◌∙◌, List, map, sym, ap, subst, true, rules}
 use Rattle.std.specs.Option.{ForSome}
-use Rattle.std.proofs.lemmas.Result.{on_ok_weaker}
 use Rattle.spec_folder.specs.ListView.{ListWrite}
 use Rattle.spec_folder.specs.View.{list_of}
 use Rattle.spec_folder.specs.ListPlans.{ending_writes}

@@ -1,5 +1,4 @@
-use Rattle.std.proofs.Common.{◌≡◌, ◌%◌, None, true}
-use Rattle.std.specs.Prelude.{◌^◌}
+use Rattle.std.proofs.Common.{◌≡◌, None, true}
 use Rattle.std.proofs.lemmas.Result.{on_ok_weaker}
 use Rattle.blk_io.proofs.Carried.{carried, if_damaged_weaker}
 use Rattle.law_state.proofs.PartlyOut.{kept-begin}

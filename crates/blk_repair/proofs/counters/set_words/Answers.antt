@@ -1,8 +1,8 @@
-use Rattle.std.proofs.Common.{◌≡◌, ℕ, ◌+◌, ◌%◌, ◌<◌, List, None, drop, get_or, refl, subst, arith}
+use Rattle.std.proofs.Common.{◌≡◌, ℕ, ◌+◌, ◌%◌, ◌<◌, List, drop, get_or, refl, subst, arith}
 use Rattle.std.specs.Prelude.{All}
 use Rattle.std.specs.Option.{ForSome}
 use Rattle.spec_image.specs.Bytes.{content, range_at}
-use Rattle.spec_image.specs.Image.{Image, Index, byte}
+use Rattle.spec_image.specs.Image.{Index, byte}
 use Rattle.spec_image.specs.Steps.{TrailStep}
 use Rattle.spec_image.specs.Told.{Told, Applies, AppliesPrefix}
 use Rattle.spec_image.proofs.Runs.{part_whole}

@@ -1,12 +1,8 @@
-use Rattle.std.proofs.Common.{inl, inr, sym, ap, subst, ◌∙◌}
-use Rattle.std.specs.Option.{ForSome}
+use Rattle.std.proofs.Common.{inl, inr, ◌∙◌}
 use Rattle.std.proofs.lemmas.Result.{IfOk-weaker}
-use Rattle.spec_image.specs.Image.{Image}
-use Rattle.spec_image.specs.Told.{Told}
 use Rattle.spec_format.proofs.Finished.{finished_whole}
 use Rattle.blk_lru.proofs.Conditions.{told_now}
 use Rattle.blk_audit.proofs.Carrying.{converted, weaker}
-use Rattle.blk_index.specs.Start.{IsFinished}
 use Rattle.blk_scan.proofs.FirstDamages.{first-behind, formed-of, length-checked, looked-as, looked-first}
 use Rattle.blk_scan.proofs.scanning.scan_folder.Given as given
 use Rattle.blk_scan.proofs.scanning.scan_folder.Goals as goal

@@ -1,4 +1,4 @@
-use Rattle.std.proofs.Common.{arith, subst, List, ℕ, length, ◌≡◌}
+use Rattle.std.proofs.Common.{subst, List, ℕ, length, ◌≡◌}
 use Rattle.hex.specs.Hex.{encode_lower}
 use Rattle.blk_script.proofs.Putting.{IsPutUpTo, put_more, put_partly, put_whole}
 use Rattle.blk_script.proofs.Printed.{encode_lower-cut, encode_lower-none, tested_empty}

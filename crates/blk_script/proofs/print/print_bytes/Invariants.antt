@@ -1,4 +1,4 @@
-use Rattle.std.proofs.Common.{◌≤◌, length}
+use Rattle.std.proofs.Common.{length}
 use Rattle.hex.specs.Hex.{encode_lower}
 use Rattle.blk_script.proofs.Putting.{IsPutUpTo}
 use Rattle.blk_io.specs.Streams.{GoesOn}

@@ -1,4 +1,4 @@
-use Rattle.std.proofs.Common.{arith, [], ◌∷◌, ◌+◌, map, drop}
+use Rattle.std.proofs.Common.{[], ◌∷◌, ◌+◌, map, drop}
 use Rattle.std.proofs.lemmas.Result.{on_ok_weaker}
 use Rattle.blk_script.specs.Spelling.{field_text}
 use Rattle.blk_script.proofs.Putting.{not_yet, put_more, put_partly, put_whole}

@@ -1,4 +1,4 @@
-use Rattle.std.proofs.Common.{◌≤◌, map, drop}
+use Rattle.std.proofs.Common.{map, drop}
 use Rattle.blk_script.proofs.Putting.{IsPutUpTo}
 use Rattle.blk_script.proofs.Printed.{after_first}
 use Rattle.blk_script.specs.Spelling.{field_text, line}

@@ -1,4 +1,3 @@
-use Rattle.std.proofs.Common.{◌≤◌}
 use Rattle.percent_encoding.specs.Iter.{encoded_text}
 use Rattle.blk_script.proofs.Putting.{IsPutUpTo}
 use Rattle.blk_script.specs.Spelling.{key_text}

@@ -1,4 +1,4 @@
-use Rattle.std.proofs.Common.{◌≡◌, ◌+◌, ◌<◌, inl, ℕ, length, None, Option, Some, arith}
+use Rattle.std.proofs.Common.{◌≡◌, ◌+◌, inl, ℕ, length, None, Option, Some, arith}
 use Rattle.spec_image.proofs.Runs.{passes_weaker}
 use Rattle.blk_io.proofs.Carried.{carried, if_damaged_weaker}
 use Rattle.blk_stream.proofs.Placements.{both_fill, fill_untold}

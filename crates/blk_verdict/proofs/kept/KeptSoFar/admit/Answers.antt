@@ -1,4 +1,4 @@
-use Rattle.std.proofs.Common.{◌≡◌, ◌∙◌, ◌++◌, ◌∷◌, [], List, Bool, Option, None, Some, true, false, refl, sym, ap, subst}
+use Rattle.std.proofs.Common.{◌≡◌, ◌∙◌, List, Option, None, Some, true, false, refl, sym, ap, subst}
 use Rattle.std.specs.Prelude.{All, is_some, not}
 use Rattle.std.proofs.lemmas.List.Elements.{All-push}
 use Rattle.spec_folder.specs.Audit as audit
