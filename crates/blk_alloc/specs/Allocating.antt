@@ -154,7 +154,7 @@ AllocatesByStage files kind count from image =
     ⊎ ((place : Blocks) × IsFit from (files_of files kind) count place × MarksUsedInProgress place.file from image)
     ⊎ (HaveNoRoom files kind count from × ExtendsInProgress files kind from image)
 
--- before the last word of an allocation, at each word: what differs, and updating, which is 1 from before the first to after the last word of map and counters; files that have grown at most, and a folder that stays well formed
+-- at each word of an allocation but its last: how far it has come, and that the folder is well formed, with files that are as long as before or longer
 pub record AllocatesInProgress (files : BlockFiles) (kind count : ℕ) (from image : Image) : Type 0 where
   pub stage : AllocatesByStage files kind count from image
   pub stays : StaysWhole from image

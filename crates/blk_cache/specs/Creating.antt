@@ -50,7 +50,7 @@ pub record IsReadyToCreate (cache : Cache) (state : State) (moment handle : ℕ)
   pub passes : refused moment (to_create handle key) state ≡ None
   pub kept : KeepsState cache (with_room state moment (to_create handle key)) image
 
--- a cache is ready for a Create of some state
+-- for some state and some moment, a cache is ready for this Create
 pub record IsReadyForSome (cache : Cache) (handle : ℕ) (key : List ℕ) (image : Image) : Type 0 where
   pub state : State
   pub moment : ℕ

@@ -70,7 +70,7 @@ pub record IsAmong (files : BlockFiles) (found : Target) : Type 0 where
   pub entry : is_record_among files found.parent.entry ≡ true
   pub signature : signature_to found < signatures
 
--- what is found lies among the files, and nothing refuses early: so the range lies inside of what sparse data may have
+-- what is found lies in the block files, and where nothing was refused before, the range lies inside of sparse data
 abbrev pub FindsTarget : BlockFiles → (early : Option Refusal) → (offset count : ℕ) → AskedTarget → Type 0
 FindsTarget files early offset count (target.Refused why) = Unit {0}
 FindsTarget files early offset count (target.Found found) = IsAmong files found × IsRangeInside early offset count

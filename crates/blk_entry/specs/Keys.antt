@@ -89,7 +89,7 @@ stores files size w = is_storage size w && ((kind_of w == external) || stands_am
 abbrev pub may_hold : BlockFiles → ℕ → ℕ → Bool
 may_hold files key_len w = stores files (key_len + 1) w
 
--- the longest key that lies in its record
+-- whether a key of this length lies in its record
 abbrev pub is_short : ℕ → Bool
 is_short key_len = nat_le key_len longest_short_key
 

@@ -21,7 +21,7 @@ use Rattle.blk_eraser.specs.Erasing.{delete_steps, zeros_before_write}
 abbrev pub WritesClaimedMarks : Claims → Image → ℕ → ℕ → List ℕ → Type 0
 WritesClaimedMarks claims image n place new = (b : ℕ) → b < most_blocks → (is_block_marked (after (words (Block n) place new) image) n b ≡ is_block_marked image n b) ⊎ (is_block_marked (after (words (Block n) place new) image) n b ≡ is_block_claimed claims n b)
 
--- where the links are mended and the claims are those of what is kept: the same is kept and found at each of the zeros
+-- where the links are repaired, and the used blocks are those of what is kept: the same is kept and found at each of the zeros
 abbrev pub RemadeMapsMayErase : Type 0
 RemadeMapsMayErase = (claims : Claims) (image : Image) (n place : ℕ) (new : List ℕ) → HasMendedLinks image → IsClaimsOf claims (flat_map words_of (kept image)) → WritesClaimedMarks claims image n place new
     → Along (KeepsMendedLinks image) image (zeros_before_write image (Block n) place new)

@@ -103,7 +103,7 @@ fn erase_before<F: Folder>(
     Ok(())
 }
 
-/// Writes bytes of a file, where it has the range, after the zeros over what that frees.
+/// Writes bytes to a range that the file has, and before that zeros over the blocks that this frees.
 pub(crate) fn write_over<F: Folder>(
     folder: &mut F,
     file: FileId,

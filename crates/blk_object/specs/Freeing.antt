@@ -54,7 +54,7 @@ Removes (w ∷ words) from image = (between : Image) × (RemovesPlace w from bet
 abbrev pub IsPlaceGoing : ℕ → Image → Image → Type 0
 IsPlaceGoing w from image = StaysWhole from image ⊎ ((kind_of w ≡ external) × SameOutside (whole (External (external_number w))) from image)
 
--- nothing has changed, or the place of the first of some words is being freed
+-- nothing has changed, or the place of the first of these addresses is being freed
 abbrev pub IsNextGoing : List ℕ → Image → Image → Type 0
 IsNextGoing [] from image = image ≡ from
 IsNextGoing (w ∷ words) from image = (image ≡ from) ⊎ IsPlaceGoing w from image

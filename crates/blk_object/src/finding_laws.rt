@@ -1,7 +1,8 @@
 // What a search finds where some items of a state are out, or none: laws, each the contract of a function with an empty body.
 ghost use Rattle.blk_object.specs.FindingOut.{LeftItemsAreFound, ListedItemsAreFound, PartlyOutCanBeSearched};
 
-/// Where some items of a state are out each chain can be searched; and the record of an item that isn't out is found by what it has as its key and its child flag, where it is in its chain as a removal asks. So is that of a listed item of a kept state.
+/// While items are being removed each hash chain can be searched, and the record of an item that is left is found by its
+/// key and its child flag. In a kept state the record of each listed item is found.
 pub fn left_items_are_found()
     ensures searched { PartlyOutCanBeSearched }
     ensures left { LeftItemsAreFound }

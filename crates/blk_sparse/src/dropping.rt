@@ -80,7 +80,7 @@ pub fn drop_parts_with<F: Folder, E: FnMut(u32)>(
     ensures gone { IfOk result (λ gone. ForSome (F.told folder.old).files (λ from. ForEachLeft key.now (cast_unsigned w64 signature) from (λ state layout keep unlinked number object. AreGone layout (map (part key.now) (parts_among key.now (filter keep state.uses))) gone))) }
     ensures session { OnOk result (ForSome (F.told folder.old).files (λ from. ForEachLeft key.now (cast_unsigned w64 signature) from (λ state layout keep unlinked number object. ForSome (F.told folder.new).files (SameSession from)))) }
 
-    // What lies in places that were unlinked at first, as those of the main item, lies there still.
+    // Places that were unlinked at the start, as those of the main item, keep their bytes.
     ensures keeps { OnOk result (ForSome (F.told folder.old).files (λ from. ForEachLeft key.now (cast_unsigned w64 signature) from (λ state layout keep unlinked number object. ForSome (F.told folder.new).files (KeepsUnlinked unlinked from)))) }
 
     // No more parts go than a list has nodes, each charged less than 2^34 bytes.

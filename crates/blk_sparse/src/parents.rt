@@ -37,7 +37,7 @@ use blk_record::{EntryView, PARENT, SparseHead};
 use blk_stream::read;
 
 /// Removes an object with an index, a parent, which no handle names, with its parts: its main item is taken out and
-/// counted no longer, then each part goes, as `drop_parts_with` says, and the main item's own places are freed last.
+/// counted no longer, then each part is removed, as `drop_parts_with` says, and the main item's own places are freed last.
 /// Where no bit of its index is set, no list is walked. How many items went is given, the main one too, and what they
 /// were charged.
 ///

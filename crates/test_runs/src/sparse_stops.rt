@@ -100,7 +100,7 @@ const EVICTING: [Command<'static>; 6] = [
     },
 ];
 
-// A folder in which some commands were done, with its trail.
+// A folder in which some commands were done, with its write trace.
 fn done(alloc: Global, limits: Limits, commands: &[Command<'_>]) -> Result<MemFolder, Fail> {
     let mut f = SilentFolder::new(MemFolder::new(alloc));
     let mut cache = Cache::start(alloc, &mut f, limits, MOMENT)?;
@@ -111,7 +111,7 @@ fn done(alloc: Global, limits: Limits, commands: &[Command<'_>]) -> Result<MemFo
     Ok(f.into_inner())
 }
 
-// The number of steps of a folder with a trail.
+// The number of steps of a folder with a write trace.
 fn steps_of(f: &MemFolder) -> u64 {
     f.steps().unwrap_or(0)
 }
@@ -136,7 +136,7 @@ fn held_at(alloc: Global, f: &MemFolder, steps: u64) -> Result<Held, Fail> {
     Ok(held(alloc, &mut image)?)
 }
 
-// What is held after so many steps, and where the folder is opened there; and the opened folder, with the trail of the opening.
+// What is held after so many steps, and where the folder is opened there; and the opened folder, with the write trace of the opening.
 fn opened_at(alloc: Global, f: &MemFolder, steps: u64) -> Result<(Held, Held, MemFolder), Fail> {
     let mut image = SilentFolder::new(stopped(f, steps)?);
     let before = held(alloc, &mut image)?;
