@@ -25,7 +25,7 @@ use Rattle.blk_object.specs.RemovingObjects.{FindsEither}
 use Rattle.blk_cache.specs.declared.cache.Cache.{Cache}
 use Rattle.blk_cache.specs.CacheKeeping.{IsBoundTo, KeepsState}
 use Rattle.blk_cache.specs.CommandClauses.{FlushesClean}
-use Rattle.blk_cache.specs.Unsettling.{ForEachNamed}
+use Rattle.blk_cache.specs.Marking.{ForEachNamed}
 use Rattle.blk_cache.proofs.BoundObjects.{free-of, number-of}
 use Rattle.blk_cache.proofs.Closes.{within-some}
 use Rattle.blk_cache.proofs.DoomSteps.{IsGivenFor}
@@ -84,7 +84,7 @@ module _ (cache : Cache) (handle : ℕ) (small : handle < 2 ^ 16) (object : Open
     opened : object.doomed ≡ false → IsOpened state handle number it.object
     opened lives = record { names = named; here = it.here; live = is-doomed false lives }
 
-    -- a settled object is clean
+    -- an object that the state has as settled is not dirty in the cache
     is-clean : FlushesClean state (to_flush handle) → b.dirty ≡ false
     is-clean (other, (its, (names, settled))) =
         let same : number ≡ other = some_inj (sym named ∙ names.names) in

@@ -54,8 +54,8 @@ pub mod DoomedNames
 pub mod Dooms
 pub mod DoomSteps
 pub mod ChangedObjects
-pub mod Unsettles
-pub mod UnsettleSteps
+pub mod Marks
+pub mod MarkSteps
 pub mod FlushSteps
 pub mod WriteRoom
 pub mod ListedRows

@@ -51,7 +51,7 @@ use Rattle.blk_cache.proofs.ReadSteps.{keeps-in-order}
 use Rattle.blk_cache.proofs.Sizes.{named-object}
 use Rattle.blk_cache.proofs.SparseEnds.{effect-same, sparse-written-is}
 use Rattle.blk_cache.proofs.SparseRoom.{wants-room}
-use Rattle.blk_cache.proofs.Unsettles.{set-same}
+use Rattle.blk_cache.proofs.Marks.{set-same}
 
 -- ---- the map's
 

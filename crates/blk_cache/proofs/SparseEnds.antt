@@ -34,7 +34,7 @@ use Rattle.blk_cache.specs.declared.cache.Cache.{Cache}
 use Rattle.blk_cache.specs.CacheKeeping.{KeepsState}
 use Rattle.blk_cache.specs.CommandClauses.{KeepsAny}
 use Rattle.blk_cache.specs.SparseWriting.{CanStore, IsReadyToStore, IsReadyToStoreSome, IsSignedBy, IsTargetOf, KeepsToStore}
-use Rattle.blk_cache.specs.Unsettling.{ForEachNamed}
+use Rattle.blk_cache.specs.Marking.{ForEachNamed}
 use Rattle.blk_cache.proofs.ChangedObjects.{sum-changed}
 use Rattle.blk_cache.proofs.CreateWhole.{there-after, untold-by}
 use Rattle.blk_cache.proofs.Sizes.{named-object}

@@ -36,7 +36,7 @@ use Rattle.law_state.proofs.WordStops.{unsettling-stops}
 use Rattle.blk_cache.specs.declared.cache.Cache.{Cache}
 use Rattle.blk_cache.specs.CacheKeeping.{KeepsState}
 use Rattle.blk_cache.specs.CommandClauses.{KeepsAny, OnlyNamesChange}
-use Rattle.blk_cache.specs.Unsettling.{ForEachNamed}
+use Rattle.blk_cache.specs.Marking.{ForEachNamed}
 use Rattle.blk_cache.specs.Writing.{CanGetBytes, IsReadyToWrite, IsReadyToWriteSome, KeepsToWrite, early_write_refusal}
 use Rattle.blk_cache.proofs.CreateWhole.{there-after, untold-by}
 use Rattle.blk_cache.proofs.WriteRoom.{ready-apart, ready-within, written-is}

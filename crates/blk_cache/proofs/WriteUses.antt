@@ -36,7 +36,7 @@ use Rattle.blk_object.proofs.KeptLists.{listed-amid, touches-done, touches-partl
 use Rattle.blk_object.specs.Writing.{IsRiseCounted}
 use Rattle.blk_cache.specs.Writing.{ForEachToUse, IsToBeUsed, IsUsedAndCounted}
 use Rattle.blk_cache.proofs.CreateWhole.{there-after, untold-by}
-use Rattle.blk_cache.proofs.Unsettles.{set-same}
+use Rattle.blk_cache.proofs.Marks.{set-same}
 
 -- ---- the durable contents
 

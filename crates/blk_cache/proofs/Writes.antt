@@ -34,7 +34,7 @@ use Rattle.blk_cache.proofs.ChangedObjects.{CountsAs, LiesChanged, bound-to, cha
 use Rattle.blk_cache.proofs.Closes.{within-some}
 use Rattle.blk_cache.proofs.NamedObjects.{named-total}
 use Rattle.blk_cache.proofs.Sizes.{named-object}
-use Rattle.blk_cache.proofs.Unsettles.{at-node, node-is}
+use Rattle.blk_cache.proofs.Marks.{at-node, node-is}
 use Rattle.blk_cache.proofs.WriteRoom.{charge-risen, long-after, own-risen, total-risen, written-dead, written-live, written-objects}
 
 -- ---- streams

@@ -18,7 +18,7 @@ pub mod Asking
 pub mod Reading
 pub mod ReadPrinting
 pub mod Dooming
-pub mod Unsettling
+pub mod Marking
 pub mod Writing
 pub mod WritingLaws
 pub mod SparseWriting

@@ -10,7 +10,7 @@ ghost use Rattle.blk_object.specs.FailedChecks.{IsFailedCheck};
 ghost use Rattle.blk_object.specs.RemovingObjects.{FindsEither};
 ghost use Rattle.blk_cache.specs.CacheKeeping.{KeepsState};
 ghost use Rattle.blk_cache.specs.CommandClauses.{KeepsAny, OnlyNamesChange};
-ghost use Rattle.blk_cache.specs.Unsettling.{ForEachNamed, dirty_word};
+ghost use Rattle.blk_cache.specs.Marking.{ForEachNamed, dirty_word};
 
 use crate::cache::Cache;
 use blk_io::{Fault, Folder};

@@ -1,4 +1,4 @@
--- A state stays valid while an object is settled.
+-- A state stays valid where an object becomes clean.
 use Rattle.std.proofs.Common.{◌≡◌, ◌≢◌, ℕ, ◌+◌, Bool, true, false, ◌&&◌, cond, List, Some, None, Option, IfSome, IsSome, is_some, refl, ap, sym, ◌∙◌, subst, arith, get_or, set}
 use Rattle.blk_model.specs.Items.{Item, main, part, times}
 use Rattle.blk_model.specs.State.{Object, State, IsValidState, IsObject, object_at, named_by, is_named, has_item, slot_has_item, owners}

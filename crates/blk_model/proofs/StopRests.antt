@@ -96,7 +96,7 @@ unfolding after_of
 live_and_settled_is None = refl
 live_and_settled_is (Some object) = refl
 
--- no object becomes clean by a command that settles none, and none becomes dirty by one that may settle
+-- no object becomes clean by a command that makes none clean, and none becomes dirty by one that may make some clean
 none_settled : (closes : Bool) (Fresh : Object → Type 0) (old : Object) (slot : Option Object) → Leads closes Fresh (Some old) slot → closes ≡ false → is_live slot ≡ true → after_of slot ≡ true → old.settled ≡ true
 unfolding after_of
 none_settled closes Fresh old None leads no_close live settled = cc

@@ -149,12 +149,12 @@ released number state (Some object) = with_slot number (released_slot (is_named 
 unfoldable pub closed : ℕ → State → State
 closed handle state = released (number_of state handle) (with_name handle None state) (object_at state (number_of state handle))
 
--- the state with the object of a number settled
+-- the state with the object of a number clean
 abbrev pub settled_at : ℕ → State → Option Object → State
 settled_at number state None = state
 settled_at number state (Some object) = with_slot number (Some (record object { settled = true })) state
 
--- after Flush: the object that the handle names is settled, and nothing else changes
+-- after Flush: the object that the handle names is clean, and nothing else changes
 unfoldable pub flushed : ℕ → State → State
 flushed handle state = settled_at (number_of state handle) state (object_at state (number_of state handle))
 

@@ -79,7 +79,7 @@ pub enum Command<'a> {
     Close {
         handle: u16,
     },
-    /// Settles the object that the handle names.
+    /// Makes the object that the handle names clean.
     Flush {
         handle: u16,
     },

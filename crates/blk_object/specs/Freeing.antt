@@ -50,7 +50,7 @@ Removes (w ∷ words) from image = (between : Image) × (RemovesPlace w from bet
 
 -- At each word.
 
--- the place of a word is being freed: the folder stays whole, as where blocks are freed, or the external file of the word has changed
+-- the place of an address is being freed: of blocks, the folder stays well formed meanwhile; of an external file, that file alone has changed
 abbrev pub IsPlaceGoing : ℕ → Image → Image → Type 0
 IsPlaceGoing w from image = StaysWhole from image ⊎ ((kind_of w ≡ external) × SameOutside (whole (External (external_number w))) from image)
 

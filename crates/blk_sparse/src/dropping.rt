@@ -75,7 +75,7 @@ pub fn drop_parts_with<F: Folder, E: FnMut(u32)>(
     requires callable { E.IsAlwaysCallable each.old }
     requires is_open { ForSome (F.told folder.old).files (IsOpen files.now) }
 
-    // Where the main item of an object is out, and perhaps parts of it, and what is left is counted, all its items are out in the end, in the same session. How many went is told, and what they were charged.
+    // Where the main item of an object is out, and perhaps parts of it, and what is left is counted, all its items are out in the end, in the same session. It answers how many parts were removed, and what they were charged.
     ensures out { OnOk result (ForSome (F.told folder.old).files (λ from. ForEachLeft key.now (cast_unsigned w64 signature) from (λ state layout keep unlinked number object. ForSome (F.told folder.new).files (IsWholeDropped state layout unlinked key.now)))) }
     ensures gone { IfOk result (λ gone. ForSome (F.told folder.old).files (λ from. ForEachLeft key.now (cast_unsigned w64 signature) from (λ state layout keep unlinked number object. AreGone layout (map (part key.now) (parts_among key.now (filter keep state.uses))) gone))) }
     ensures session { OnOk result (ForSome (F.told folder.old).files (λ from. ForEachLeft key.now (cast_unsigned w64 signature) from (λ state layout keep unlinked number object. ForSome (F.told folder.new).files (SameSession from)))) }

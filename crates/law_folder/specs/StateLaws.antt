@@ -34,7 +34,7 @@ WalksAreTheOrder = (view : View) (state : State) (layout : Layout) → Represent
 abbrev pub ListedAreTheRows : Type 0
 ListedAreTheRows = (view : View) (state : State) (layout : Layout) → Represents view state layout → IsValidState state → map row_of_loaded (kept_by listed_rule view) ≡ rows state
 
--- nothing is dropped but for dirt
+-- where dirty nodes are kept too, no listed node is dropped
 abbrev pub NothingListedIsDropped : Type 0
 NothingListedIsDropped = (view : View) (state : State) (layout : Layout) → Represents view state layout → IsValidState state → dropped_by listed_rule view ≡ []
 

@@ -57,7 +57,7 @@ pub fn completions_at_each_write()
     ensures ends { CompletionsEnd }
 {}
 
-/// A chain is its records, of which there are no more than first blocks; a record is linked in front of it or taken out of it, and no other chain is touched.
+/// A hash chain has no more records than there are first blocks; a record joins it at its head or leaves it, and no other chain changes.
 pub fn chains_are_linked()
     ensures records { ChainsAreTheirRecords }
     ensures short { WholeChainsAreShort }

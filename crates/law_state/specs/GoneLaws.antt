@@ -1,4 +1,4 @@
--- A doomed object is gone: its words are unlinked then, and nothing is written for that.
+-- When a doomed object leaves the state its addresses become unlinked (allocated, named by nothing). Nothing is written for that; they are freed afterwards.
 use Rattle.std.specs.Prelude.{ℕ, List, ◌++◌, if◌then◌else◌}
 use Rattle.std.specs.declared.option.Option.{Option}
 use Rattle.std.specs.declared.option.Option.TheVariants.{None}
@@ -22,12 +22,12 @@ owner_without layout node claim = if is_owned_by node (layout.owner claim) then 
 abbrev pub layout_without : Layout → ℕ → Layout
 layout_without layout node = emptied_at layout node (owner_without layout node)
 
--- a doomed object that is gone from the state, with the names that were its handles, has its words unlinked, in the same folder
+-- once a doomed object has left the state, with its handle names, the same folder keeps the state without it, and its addresses are unlinked
 abbrev pub GoneObjectsAreUnlinked : Type 0
 GoneObjectsAreUnlinked = (state : State) (layout : Layout) (unlinked : List ℕ) (image : Image) (number : ℕ) (object : Object) (was : Loaded) (names : List (Option ℕ)) → KeepsUncounted state layout unlinked image → IsPlacedAsDoomed state layout number object was
     → IsValidState (with_names names (with_slot number None state)) → KeepsUncounted (with_names names (with_slot number None state)) (layout_without layout (layout.place_of_doomed number)) (words_of was ++ unlinked) image
 
--- and it was not counted
+-- the same where the folder was counted: a doomed object is in none of the index's counters
 abbrev pub GoneObjectsAreNotCounted : Type 0
 GoneObjectsAreNotCounted = (state : State) (layout : Layout) (unlinked : List ℕ) (image : Image) (number : ℕ) (object : Object) (was : Loaded) (names : List (Option ℕ)) → Keeps state layout unlinked image → IsPlacedAsDoomed state layout number object was
     → IsValidState (with_names names (with_slot number None state)) → Keeps (with_names names (with_slot number None state)) (layout_without layout (layout.place_of_doomed number)) (words_of was ++ unlinked) image

@@ -54,7 +54,7 @@ MarkingKeepsTheState = (state : State) (layout : Layout) (unlinked : List ℕ) (
     → IsValidState (marked state number object (mark == 0)) → ((mark == 0) ≡ false → mark ≡ this_id_of (byte from Index)) → IsMarked from (layout.place (main object.key)) mark image
     → KeepsUncounted (marked state number object (mark == 0)) (dirtied layout (layout.place (main object.key)) loaded mark) unlinked image
 
--- the counters count it still
+-- the same where the folder was counted: setting or clearing a dirty word leaves the counters right
 abbrev pub MarkingKeepsTheCounters : Type 0
 MarkingKeepsTheCounters = (state : State) (layout : Layout) (unlinked : List ℕ) (from image : Image) (number : ℕ) (object : Object) (loaded : Loaded) (mark : ℕ) → Keeps state layout unlinked from → IsPlacedAsLive state layout number object loaded
     → IsValidState (marked state number object (mark == 0)) → ((mark == 0) ≡ false → mark ≡ this_id_of (byte from Index)) → IsMarked from (layout.place (main object.key)) mark image

@@ -50,7 +50,7 @@ pub record ShowsState (view : View) (state : State) : Type 0 where
   pub rows : map row_of_loaded (kept_by listed_rule view) ≡ model.rows state
   pub marks : AllByRecursion (λ loaded. HasDirtyMark state (item_of (row_of_loaded loaded)) loaded) (kept_by listed_rule view)
 
--- an image stands for a state
+-- an image represents a state, as a folder in use does between two commands
 pub record StandsFor (image : Image) (state : State) : Type 0 where
   pub well_formed : IsWellFormed image
   -- its index has the version that is made now

@@ -60,7 +60,7 @@ before_words file place b (Word other next bytes ∷ steps) =
     if (place + 1) % 4 == 0 then Word file place (b ∷ []) ∷ Word other next bytes ∷ steps else Word file place (b ∷ bytes) ∷ steps
 before_words file place b steps = Word file place (b ∷ []) ∷ steps
 
--- a write of bytes from a place on, cut into the aligned words that it touches, in rising place
+-- a write of bytes from a place on, cut into the aligned words that it touches, in rising offset
 unfoldable pub words : File → ℕ → List ℕ → List TrailStep
 words file place [] = []
 words file place (b ∷ bytes) = before_words file place b (words file (place + 1) bytes)

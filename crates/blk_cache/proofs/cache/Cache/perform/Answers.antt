@@ -206,7 +206,7 @@ pub returns-in-SparseRange-clause-front : goal.returns-in-SparseRange-clause-fro
 returns-in-SparseRange-clause-front g c = subst (λ (cmd : Command). SaysPrefix c.args.self.now (g.F.Folder.told c.args.folder.now) c.args.moment (request_of cmd) (g.K.Sink.written c.args.out.now) (g.K.Sink.written c.args.out.now)) (sym c.in-SparseRange.is)
     (prefix-nothing c.args.self.now (g.F.Folder.told c.args.folder.now) c.args.moment (to_sparse_range c.in-SparseRange.handle c.in-SparseRange.offset c.in-SparseRange.count) tt c.args.failed.now (g.K.Sink.written c.args.out.now))
 
--- none but a Flush is one of what is settled
+-- no other command is a Flush of a clean object
 
 pub returns-in-Create-clause-idle : goal.returns-in-Create-clause-idle
 returns-in-Create-clause-idle g c image there state k flushes = absurd (subst (λ (cmd : Command). FlushesClean state (request_of cmd)) c.in-Create.is flushes)

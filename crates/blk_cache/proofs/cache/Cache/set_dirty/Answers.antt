@@ -4,7 +4,7 @@ use Rattle.blk_handles.specs.declared.open_object.OpenObject.{OpenObject}
 use Rattle.blk_handles.specs.Bindings.{Bindings, with_change, with_status}
 use Rattle.blk_cache.specs.BoundNames.{AreBoundAmong}
 use Rattle.blk_cache.proofs.Asks.{opened-there}
-use Rattle.blk_cache.proofs.UnsettleSteps.{change-is, change-stands, not-idle, same-keeps, same-stops, sets-so, mark-keeps, mark-stops, node-may}
+use Rattle.blk_cache.proofs.MarkSteps.{change-is, change-stands, not-idle, same-keeps, same-stops, sets-so, mark-keeps, mark-stops, node-may}
 use Rattle.blk_cache.proofs.cache.Cache.set_dirty.Goals as goal
 
 pub returns-then-same-clause-marked : goal.returns-then-same-clause-marked

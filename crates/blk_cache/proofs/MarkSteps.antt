@@ -30,10 +30,10 @@ use Rattle.blk_cache.specs.declared.cache.Cache.{Cache}
 use Rattle.blk_cache.specs.BoundNames.{AreBoundAmong}
 use Rattle.blk_cache.specs.CacheKeeping.{IsBoundTo, KeepsState}
 use Rattle.blk_cache.specs.CommandClauses.{KeepsAny, OnlyNamesChange}
-use Rattle.blk_cache.specs.Unsettling.{ForEachNamed, dirty_word}
+use Rattle.blk_cache.specs.Marking.{ForEachNamed, dirty_word}
 use Rattle.blk_cache.proofs.BoundObjects.{number-of}
 use Rattle.blk_cache.proofs.ChangedObjects.{bound-to, its-object}
-use Rattle.blk_cache.proofs.Unsettles.{at-node, marked-keeps, marked-same, marking-finds-either, node-is}
+use Rattle.blk_cache.proofs.Marks.{at-node, marked-keeps, marked-same, marking-finds-either, node-is}
 
 -- the durable contents are recovered, before and after
 abbrev Either : State → ℕ → Object → (dirty : Bool) → Image → Type 0

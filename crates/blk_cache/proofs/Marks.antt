@@ -31,7 +31,7 @@ use Rattle.blk_object.specs.Writing.{node_of_object}
 use Rattle.blk_cache.specs.declared.cache.Cache.{Cache}
 use Rattle.blk_cache.specs.CacheKeeping.{IsBoundAs, IsBoundTo, KeepsState}
 use Rattle.blk_cache.specs.CommandClauses.{OnlyNamesChange}
-use Rattle.blk_cache.specs.Unsettling.{dirty_word}
+use Rattle.blk_cache.specs.Marking.{dirty_word}
 use Rattle.blk_cache.proofs.ChangedObjects.{CountsAs, LiesChanged, bound-to, changed-keeps, entries-same, its-named, its-object, names-change}
 
 -- ---- states
