@@ -6,7 +6,7 @@ use Rattle.blk_script.specs.declared.fault.LineFault.{LineFault}
 use Rattle.blk_script.specs.declared.fault.LineFault.TheVariants as fault
 use Rattle.blk_script.specs.declared.words.Word.{Word}
 use Rattle.blk_script.specs.declared.words.Word.TheVariants as word
-use Rattle.blk_script.specs.Fields.{line_fields, number_field, data_field, key_field}
+use Rattle.blk_script.specs.Fields.{◌>>=◌, line_fields, number_field, data_field, key_field}
 
 -- the number of a handle
 abbrev pub handle_field : List ℕ → Result ℕ LineFault

@@ -11,7 +11,7 @@ use Rattle.spec_format.specs.Records.{entry_normal}
 use Rattle.spec_folder.specs.Chains.{bucket_of_hash, chain}
 use Rattle.spec_folder.specs.Entries.{is_key_length, stored_key, stored_streams, role_of}
 use Rattle.spec_folder.specs.Loads.{Loaded}
-use Rattle.spec_folder.specs.Reasons.{Reason, demand}
+use Rattle.spec_folder.specs.Reasons.{Reason, ◌>>=◌, demand}
 use Rattle.spec_folder.specs.Reasons as reason
 use Rattle.spec_folder.specs.View.{StoreView, RecordFields}
 
