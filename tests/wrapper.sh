@@ -201,7 +201,10 @@ is 'one line before them, and none besides' "$((total + 1))" "$(wc -l <"$room/co
 is 'the last crate is the program' blkcache "${order[-1]}"
 first='^blkcache: proving and building ([0-9]+) crates, since .*/blkcache is missing, up to ([0-9]+) at once where memory holds them; the first time takes about [0-9]+ min, judged by the size of the sources, and less where rt has proved some before$'
 [[ ${complained%%$'\n'*} =~ $first ]]
-is 'the first line tells how many crates, and how long' "0 $total $(nproc)" "$? ${BASH_REMATCH[1]} ${BASH_REMATCH[2]}"
+told=$?
+# (as many at once as there are processors, or fewer where memory is short)
+is 'the first line tells how many crates, and how long' "0 $total yes" \
+    "$told ${BASH_REMATCH[1]} $([ "${BASH_REMATCH[2]}" -ge 1 ] && [ "${BASH_REMATCH[2]}" -le "$(nproc)" ] && echo yes)"
 
 # rt is given the crates that the program uses, each after those that it uses, and no others.
 declare -A below=() listed=() wanted=()
