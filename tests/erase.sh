@@ -13,6 +13,10 @@ for tool in awk grep basenc; do
 done
 places_of_each=${ERASE_KILLS:-16}
 part=${ERASE_PART:-1/1}
+if [[ ! $part =~ ^[1-9][0-9]{0,5}/[1-9][0-9]{0,5}$ ]] || [ "${part%/*}" -gt "${part#*/}" ]; then
+    is 'ERASE_PART is K/N' 'a part, and how many there are' "$part"
+    finish
+fi
 part_of=${part#*/} part=${part%/*}
 seed=${ERASE_SEED:-$RANDOM}
 
