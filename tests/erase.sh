@@ -500,6 +500,8 @@ take() {
     rm -rf "$room/$1"
     cp -a "$2" "$room/$1"
 }
+# Of each so many places one is tried, where all are asked for.
+step=1
 # Kills the program at places of what it writes: NAME INPUT WORDS. The entries that have to stay are those of the list stay. Behind each
 # third place the next opening is killed too, at one of its own places, another each time.
 kills() {
@@ -515,7 +517,7 @@ kills() {
     total=$(cat "$room/complained")
     is "$name: there are places" yes "$([ "$total" -gt 16 ] && echo yes)"
     is_clean "$name, killed nowhere" "$room/try"
-    case $places_of_each in all | words) stride=1 ;; *) stride=$((total / places_of_each)) ;; esac
+    case $places_of_each in all | words) stride=$step ;; *) stride=$((total / places_of_each)) ;; esac
     [ "$stride" -gt 0 ] || stride=1
     # In steps of a length each place of a step is met in its turn, so that not all are at the beginning of a write.
     for ((turn = 0; turn * stride < total; turn++)); do
@@ -577,12 +579,13 @@ base=$room/turned
 stay=("$first" "$second" "$third")
 kills 'eviction of sparse data' "$new" put more 0 --items 4
 
-# A folder without an index, which is made anew. The zeros over its files have more than a million words, so it is not killed between all.
+# A folder without an index, which is made anew. Most of what it writes are zeros over zeros, more than a million words in pages, so it is
+# killed at each seventh place of the writes.
 take headless "$room/base"
 rm "$room/headless/index"
 base=$room/headless
 stay=()
-between=writes kills 'a folder that is made anew' '' count
+between=writes step=7 kills 'a folder that is made anew' '' count
 
 # An opening that drops what a killed session left dirty, and the same of a folder of the first version, which is raised besides.
 take dirty "$room/base"
