@@ -15,7 +15,7 @@ ghost use Rattle.blk_sparse.specs.Parts.{ForEachOfKey};
 ghost use Rattle.blk_sparse.specs.SparseObjects.{ForEachKeptParent};
 
 use crate::children::{Parent, read_key};
-use crate::parts::find_part;
+use crate::parts::{ParentName, find_part};
 use blk_addr::Addr;
 use blk_disk::BlockFiles;
 use blk_io::{Fault, Folder};
@@ -69,54 +69,49 @@ pub fn find_parts<F: Folder>(
 {
     let len = read_key(folder, files, parent.entry, name)?;
     let (key, buffer) = name.split_at_mut(LONGEST_KEY as usize);
-    find_covered(
-        folder,
-        files,
-        &key[..len],
-        parent.signature,
-        buffer,
-        offset,
-        count,
-    )
+    let parent = ParentName {
+        key: &key[..len],
+        signature: parent.signature,
+    };
+    find_covered(folder, files, parent, buffer, offset, count)
 }
 
 // Finds the parts of an object with a key that a range covers.
 fn find_covered<F: Folder>(
     folder: &mut F,
     files: &BlockFiles,
-    key: &[u8],
-    signature: i64,
+    parent: ParentName,
     buffer: &mut [u8],
     offset: u64,
     count: u64,
 ) -> Result<PartRecords, Fault>
-    requires some_key { 1 ≤ length key.now }
-    requires short { length key.now ≤ longest_key }
-    requires signature { cast_unsigned w64 signature < signatures }
+    requires some_key { 1 ≤ length parent.key.now }
+    requires short { length parent.key.now ≤ longest_key }
+    requires signature { cast_unsigned w64 parent.signature < signatures }
     requires buffer { longest_name ≤ length buffer.old }
     requires some { 1 ≤ count }
     requires few { count ≤ part_size }
     requires inside { offset + count ≤ largest_offset }
     requires is_open { ForSome (F.told folder.old).files (IsOpen files.now) }
-    ensures parts { IfOk result (λ found. ForSome (F.told folder.old).files (λ from. ForEachOfKey key.now (cast_unsigned w64 signature) from (λ state layout unlinked at object node entry. ArePartsFound layout object offset count found))) }
+    ensures parts { IfOk result (λ found. ForSome (F.told folder.old).files (λ from. ForEachOfKey parent.entry.key.now (cast_unsigned w64 parent.entry.signature) from (λ state layout unlinked at object node entry. ArePartsFound layout object offset count found))) }
     ensures first_kind { IfOk result (λ found. IfSome found.first (λ entry. kind_of entry ≡ blocks_256)) }
     ensures first_stands { IfOk result (λ found. IfSome found.first (λ entry. IsTrue (stands_among files.now entry))) }
     ensures second_kind { IfOk result (λ found. IfSome found.second (λ entry. kind_of entry ≡ blocks_256)) }
     ensures second_stands { IfOk result (λ found. IfSome found.second (λ entry. IsTrue (stands_among files.now entry))) }
     ensures stays { Stays (F.told folder.old) (F.told folder.new) }
     ensures damaged { IfDamaged result (IsFailedCheck files.now (F.told folder.new)) }
-    ensures untold { ForSome (F.told folder.old).files (λ from. ForEachOfKey key.now (cast_unsigned w64 signature) from (λ state layout unlinked at object node entry. IfDamaged result (λ _. (F.told folder.old).files ≡ None))) }
+    ensures untold { ForSome (F.told folder.old).files (λ from. ForEachOfKey parent.entry.key.now (cast_unsigned w64 parent.entry.signature) from (λ state layout unlinked at object node entry. IfDamaged result (λ _. (F.told folder.old).files ≡ None))) }
     ensures later { F.faults folder.old ≤ F.faults folder.new }
     ensures device { IfDevice result (Rises (F.faults folder.old) (F.faults folder.new)) }
 {
     let (number, place) = child_of(offset);
-    let first = find_part(folder, files, key, signature, number, buffer)?;
+    let first = find_part(folder, files, parent, number, buffer)?;
     if count <= u64::from(PART_SIZE - place) {
         return Ok(PartRecords {
             first,
             second: None,
         });
     }
-    let second = find_part(folder, files, key, signature, number + 1, buffer)?;
+    let second = find_part(folder, files, parent, number + 1, buffer)?;
     Ok(PartRecords { first, second })
 }

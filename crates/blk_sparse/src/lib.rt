@@ -31,4 +31,4 @@ pub use reading::{range, read, use_parts};
 pub use runs::{Run, find_run};
 pub use storing::{Target, store_sparse};
 pub use using::use_range;
-pub use writing::write;
+pub use writing::{SparseBytes, write};

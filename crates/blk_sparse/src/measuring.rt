@@ -17,7 +17,7 @@ ghost use Rattle.blk_sparse.specs.Parts.{ForEachOfKey};
 ghost use Rattle.blk_sparse.specs.SparseObjects.{with_signature};
 
 use crate::children::{Parent, read_key};
-use crate::parts::find_part;
+use crate::parts::{ParentName, find_part};
 use blk_addr::Addr;
 use blk_disk::BlockFiles;
 use blk_entry::{node_of, read_head};
@@ -169,7 +169,8 @@ fn measure_piece<F: Folder>(
     ensures later { F.faults folder.old ≤ F.faults folder.new }
     ensures device { IfDevice result (Rises (F.faults folder.old) (F.faults folder.new)) }
 {
-    match find_part(folder, files, key, signature, number, buffer)? {
+    let parent = ParentName { key, signature };
+    match find_part(folder, files, parent, number, buffer)? {
         Some(part) => measure_there(folder, files, part, end),
         None => Ok(measure_new(key, signature, number, buffer, end)),
     }

@@ -49,6 +49,15 @@ pub(crate) struct PartPlaces {
     pub(crate) index: Addr,
 }
 
+/// The name of a part.
+#[derive(Clone, Copy)]
+pub(crate) struct PartName<'a> {
+    /// What it says.
+    pub(crate) child: ChildName,
+    /// Its bytes.
+    pub(crate) bytes: &'a [u8],
+}
+
 // Stores the bytes of a new stream, which no record names yet: zeros, and then the given ones from an offset on.
 fn take_stream<F: Folder>(
     folder: &mut F,
@@ -333,32 +342,31 @@ pub(crate) fn make_part<F: Folder>(
     folder: &mut F,
     files: &mut BlockFiles,
     parent: Addr,
-    child: &ChildName,
-    name: &[u8],
+    name: PartName,
     place: u32,
     piece: &[u8],
     moment: u64,
 ) -> Result<(), Fault>
     requires kind { kind_of parent ≡ blocks_256 }
     requires stands { IsTrue (stands_among files.old parent) }
-    requires some_name { 1 ≤ length name.now }
-    requires short_name { length name.now ≤ longest_name }
-    requires signature { cast_unsigned w64 child.now.signature < signatures }
-    requires some_key { 1 ≤ child.now.key_len }
-    requires short_key { child.now.key_len ≤ longest_key }
-    requires part { child.now.part < part_count }
+    requires some_name { 1 ≤ length name.bytes.now }
+    requires short_name { length name.bytes.now ≤ longest_name }
+    requires signature { cast_unsigned w64 name.child.signature < signatures }
+    requires some_key { 1 ≤ name.child.key_len }
+    requires short_key { name.child.key_len ≤ longest_key }
+    requires part { name.child.part < part_count }
     requires some { 1 ≤ length piece.now }
     requires most { place + length piece.now ≤ part_size }
     requires is_open { ForSome (F.told folder.old).files (IsOpen files.old) }
 
     // For each dirty object that has this parent and lacks this part: in the end the folder keeps the state with the piece written, but for the counters, which come later.
-    ensures written { OnOk result (ForSome (F.told folder.old).files (λ from. ForEachLacking parent child.now name.now from (λ state layout unlinked number object node. ForSome (F.told folder.new).files (KeepsParentThen (with_piece_written state number object child.now.part place piece.now) layout unlinked number (with_piece object child.now.part place piece.now) node parent (cast_unsigned w64 child.now.signature) from)))) }
+    ensures written { OnOk result (ForSome (F.told folder.old).files (λ from. ForEachLacking parent name.entry.child name.entry.bytes.now from (λ state layout unlinked number object node. ForSome (F.told folder.new).files (KeepsParentThen (with_piece_written state number object name.entry.child.part place piece.now) layout unlinked number (with_piece object name.entry.child.part place piece.now) node parent (cast_unsigned w64 name.entry.child.signature) from)))) }
 
     // At each word the old durable contents are recovered: a dirty object isn't durable.
-    ensures stops { ForSome (F.told folder.old).files (λ from. ForEachLacking parent child.now name.now from (λ state layout unlinked number object node. Passes (F.told folder.old) (F.told folder.new) (Finds (rest state)))) }
+    ensures stops { ForSome (F.told folder.old).files (λ from. ForEachLacking parent name.entry.child name.entry.bytes.now from (λ state layout unlinked number object node. Passes (F.told folder.old) (F.told folder.new) (Finds (rest state)))) }
 
     // It is whole, in the list and in its chain, before its parent's bit is set.
-    ensures ordered { OnOk result (ForSome (F.told folder.old).files (λ from. ForEachLacking parent child.now name.now from (λ state layout unlinked number object node. IsWholeBeforeItsBit files.new state layout object.key name.now child.now.part parent (F.told folder.old) (F.told folder.new)))) }
+    ensures ordered { OnOk result (ForSome (F.told folder.old).files (λ from. ForEachLacking parent name.entry.child name.entry.bytes.now from (λ state layout unlinked number object node. IsWholeBeforeItsBit files.new state layout object.key name.entry.bytes.now name.entry.child.part parent (F.told folder.old) (F.told folder.new)))) }
 
     // What was valid still is.
     ensures keeps { KeepsStanding files.old files.new }
@@ -368,22 +376,22 @@ pub(crate) fn make_part<F: Folder>(
     ensures damaged { IfDamaged result (IsFailedCheck files.new (F.told folder.new)) }
 
     // An observable folder, with such an object, reports no corruption.
-    ensures untold { ForSome (F.told folder.old).files (λ from. ForEachLacking parent child.now name.now from (λ state layout unlinked number object node. IfDamaged result (λ _. (F.told folder.old).files ≡ None))) }
+    ensures untold { ForSome (F.told folder.old).files (λ from. ForEachLacking parent name.entry.child name.entry.bytes.now from (λ state layout unlinked number object node. IfDamaged result (λ _. (F.told folder.old).files ≡ None))) }
 
     ensures silent { (F.told folder.old).files ≡ None → (F.told folder.new).files ≡ None }
     ensures later { F.faults folder.old ≤ F.faults folder.new }
     ensures device { IfDevice result (Rises (F.faults folder.old) (F.faults folder.new)) }
 {
-    let index = first_index(child, place, piece.len() as u32);
-    let places = take_part(folder, files, name.len() as u32, place, piece, &index)?;
+    let index = first_index(&name.child, place, piece.len() as u32);
+    let places = take_part(folder, files, name.bytes.len() as u32, place, piece, &index)?;
     write_part(
         folder,
         files,
         &places,
-        name,
+        name.bytes,
         place + piece.len() as u32,
         moment,
     )?;
     list_part(folder, files, places.places.entry, places.places.node)?;
-    note_part(folder, files, parent, child.part)
+    note_part(folder, files, parent, name.child.part)
 }

@@ -20,32 +20,40 @@ use blk_io::{Fault, Folder};
 use blk_lru::touch;
 use blk_ranges::child_name;
 
+// What the name of each part of an object says of the object.
+#[derive(Clone, Copy)]
+pub(crate) struct ParentName<'a> {
+    // The bytes of its key.
+    pub(crate) key: &'a [u8],
+    // The signature of its parts.
+    pub(crate) signature: i64,
+}
+
 // The record of a part of an object with a key and a signature, which is found by its name. The name is made in `buffer`.
 pub(crate) fn find_part<F: Folder>(
     folder: &mut F,
     files: &BlockFiles,
-    key: &[u8],
-    signature: i64,
+    parent: ParentName,
     number: u32,
     buffer: &mut [u8],
 ) -> Result<Option<Addr>, Fault>
-    requires some { 1 ≤ length key.now }
-    requires short { length key.now ≤ longest_key }
-    requires signature { cast_unsigned w64 signature < signatures }
+    requires some { 1 ≤ length parent.key.now }
+    requires short { length parent.key.now ≤ longest_key }
+    requires signature { cast_unsigned w64 parent.signature < signatures }
     requires number { number < part_count }
     requires buffer { longest_name ≤ length buffer.old }
     requires is_open { ForSome (F.told folder.old).files (IsOpen files.now) }
-    ensures part { IfOk result (λ part. ForSome (F.told folder.old).files (λ from. ForEachOfKey key.now (cast_unsigned w64 signature) from (λ state layout unlinked at object node entry. IsPartFound layout object number part))) }
+    ensures part { IfOk result (λ part. ForSome (F.told folder.old).files (λ from. ForEachOfKey parent.entry.key.now (cast_unsigned w64 parent.entry.signature) from (λ state layout unlinked at object node entry. IsPartFound layout object number part))) }
     ensures kind { IfOk result (λ part. IfSome part (λ entry. kind_of entry ≡ blocks_256)) }
     ensures stands { IfOk result (λ part. IfSome part (λ entry. IsTrue (stands_among files.now entry))) }
     ensures buffer { length buffer.new ≡ length buffer.old }
     ensures stays { Stays (F.told folder.old) (F.told folder.new) }
     ensures damaged { IfDamaged result (IsFailedCheck files.now (F.told folder.new)) }
-    ensures untold { ForSome (F.told folder.old).files (λ from. ForEachOfKey key.now (cast_unsigned w64 signature) from (λ state layout unlinked at object node entry. IfDamaged result (λ _. (F.told folder.old).files ≡ None))) }
+    ensures untold { ForSome (F.told folder.old).files (λ from. ForEachOfKey parent.entry.key.now (cast_unsigned w64 parent.entry.signature) from (λ state layout unlinked at object node entry. IfDamaged result (λ _. (F.told folder.old).files ≡ None))) }
     ensures later { F.faults folder.old ≤ F.faults folder.new }
     ensures device { IfDevice result (Rises (F.faults folder.old) (F.faults folder.new)) }
 {
-    let len = child_name(key, signature, number, buffer);
+    let len = child_name(parent.key, parent.signature, number, buffer);
     match find(folder, files, &buffer[..len], true)? {
         Some(found) => Ok(Some(found.entry)),
         None => Ok(None),

@@ -18,7 +18,7 @@ ghost use Rattle.blk_sparse.specs.SparseObjects.{ForEachKeptParent};
 
 use crate::changing::read_map;
 use crate::children::{Parent, read_key};
-use crate::parts::find_part;
+use crate::parts::{ParentName, find_part};
 use blk_addr::Addr;
 use blk_disk::BlockFiles;
 use blk_io::{Fault, Folder};
@@ -65,41 +65,36 @@ pub fn read_present<F: Folder>(
 {
     let len = read_key(folder, files, parent.entry, name)?;
     let (key, buffer) = name.split_at_mut(LONGEST_KEY as usize);
-    bytes_covered(
-        folder,
-        files,
-        &key[..len],
-        parent.signature,
-        buffer,
-        offset,
-        out,
-    )
+    let parent = ParentName {
+        key: &key[..len],
+        signature: parent.signature,
+    };
+    bytes_covered(folder, files, parent, buffer, offset, out)
 }
 
 // Reads the bytes of an object with a key.
 fn bytes_covered<F: Folder>(
     folder: &mut F,
     files: &BlockFiles,
-    key: &[u8],
-    signature: i64,
+    parent: ParentName,
     buffer: &mut [u8],
     offset: u64,
     out: &mut [u8],
 ) -> Result<usize, Fault>
-    requires some { 1 ≤ length key.now }
-    requires short { length key.now ≤ longest_key }
-    requires signature { cast_unsigned w64 signature < signatures }
+    requires some { 1 ≤ length parent.key.now }
+    requires short { length parent.key.now ≤ longest_key }
+    requires signature { cast_unsigned w64 parent.signature < signatures }
     requires buffer { longest_name ≤ length buffer.old }
     requires few { length out.old ≤ part_size }
     requires inside { offset + length out.old ≤ largest_offset }
     requires is_open { ForSome (F.told folder.old).files (IsOpen files.now) }
-    ensures bytes { IfOk result (λ n. ForSome (F.told folder.old).files (λ from. ForEachOfKey key.now (cast_unsigned w64 signature) from (λ state layout unlinked at object node entry. take n out.new ≡ sparse_bytes object offset (length out.old)))) }
+    ensures bytes { IfOk result (λ n. ForSome (F.told folder.old).files (λ from. ForEachOfKey parent.entry.key.now (cast_unsigned w64 parent.entry.signature) from (λ state layout unlinked at object node entry. take n out.new ≡ sparse_bytes object offset (length out.old)))) }
     ensures within { IfOk result (λ n. n ≤ length out.old) }
     ensures long { length out.new ≡ length out.old }
     ensures buffer { length buffer.new ≡ length buffer.old }
     ensures stays { Stays (F.told folder.old) (F.told folder.new) }
     ensures damaged { IfDamaged result (IsFailedCheck files.now (F.told folder.new)) }
-    ensures untold { ForSome (F.told folder.old).files (λ from. ForEachOfKey key.now (cast_unsigned w64 signature) from (λ state layout unlinked at object node entry. IfDamaged result (λ _. (F.told folder.old).files ≡ None))) }
+    ensures untold { ForSome (F.told folder.old).files (λ from. ForEachOfKey parent.entry.key.now (cast_unsigned w64 parent.entry.signature) from (λ state layout unlinked at object node entry. IfDamaged result (λ _. (F.told folder.old).files ≡ None))) }
     ensures later { F.faults folder.old ≤ F.faults folder.new }
     ensures device { IfDevice result (Rises (F.faults folder.old) (F.faults folder.new)) }
 {
@@ -109,11 +104,11 @@ fn bytes_covered<F: Folder>(
     let (first, place) = child_of(offset);
     let cut = ((PART_SIZE - place) as usize).min(out.len());
     let (front, behind) = out.split_at_mut(cut);
-    let len = bytes_of_part(folder, files, key, signature, first, buffer, place, front)?;
+    let len = bytes_of_part(folder, files, parent, first, buffer, place, front)?;
     if len < cut || behind.is_empty() {
         return Ok(len);
     }
-    let more = bytes_of_part(folder, files, key, signature, first + 1, buffer, 0, behind)?;
+    let more = bytes_of_part(folder, files, parent, first + 1, buffer, 0, behind)?;
     Ok(len + more)
 }
 
@@ -121,31 +116,30 @@ fn bytes_covered<F: Folder>(
 fn bytes_of_part<F: Folder>(
     folder: &mut F,
     files: &BlockFiles,
-    key: &[u8],
-    signature: i64,
+    parent: ParentName,
     number: u32,
     buffer: &mut [u8],
     place: u32,
     out: &mut [u8],
 ) -> Result<usize, Fault>
-    requires some { 1 ≤ length key.now }
-    requires short { length key.now ≤ longest_key }
-    requires signature { cast_unsigned w64 signature < signatures }
+    requires some { 1 ≤ length parent.key.now }
+    requires short { length parent.key.now ≤ longest_key }
+    requires signature { cast_unsigned w64 parent.signature < signatures }
     requires number { number < part_count }
     requires buffer { longest_name ≤ length buffer.old }
     requires inside { place + length out.old ≤ part_size }
     requires is_open { ForSome (F.told folder.old).files (IsOpen files.now) }
-    ensures bytes { IfOk result (λ n. ForSome (F.told folder.old).files (λ from. ForEachOfKey key.now (cast_unsigned w64 signature) from (λ state layout unlinked at object node entry. take n out.new ≡ part_bytes object number place (length out.old)))) }
+    ensures bytes { IfOk result (λ n. ForSome (F.told folder.old).files (λ from. ForEachOfKey parent.entry.key.now (cast_unsigned w64 parent.entry.signature) from (λ state layout unlinked at object node entry. take n out.new ≡ part_bytes object number place (length out.old)))) }
     ensures within { IfOk result (λ n. n ≤ length out.old) }
     ensures long { length out.new ≡ length out.old }
     ensures buffer { length buffer.new ≡ length buffer.old }
     ensures stays { Stays (F.told folder.old) (F.told folder.new) }
     ensures damaged { IfDamaged result (IsFailedCheck files.now (F.told folder.new)) }
-    ensures untold { ForSome (F.told folder.old).files (λ from. ForEachOfKey key.now (cast_unsigned w64 signature) from (λ state layout unlinked at object node entry. IfDamaged result (λ _. (F.told folder.old).files ≡ None))) }
+    ensures untold { ForSome (F.told folder.old).files (λ from. ForEachOfKey parent.entry.key.now (cast_unsigned w64 parent.entry.signature) from (λ state layout unlinked at object node entry. IfDamaged result (λ _. (F.told folder.old).files ≡ None))) }
     ensures later { F.faults folder.old ≤ F.faults folder.new }
     ensures device { IfDevice result (Rises (F.faults folder.old) (F.faults folder.new)) }
 {
-    match find_part(folder, files, key, signature, number, buffer)? {
+    match find_part(folder, files, parent, number, buffer)? {
         Some(part) => bytes_there(folder, files, part, place, out),
         None => Ok(0),
     }

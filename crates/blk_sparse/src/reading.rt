@@ -16,7 +16,7 @@ ghost use Rattle.blk_sparse.specs.Parts.{ForEachOfKey};
 ghost use Rattle.blk_sparse.specs.SparseObjects.{FindsUsed, ForEachKeptParent, KeepsParentUsed, parts_of, parts_used};
 
 use crate::children::{Parent, read_key};
-use crate::parts::{find_part, use_entry};
+use crate::parts::{ParentName, find_part, use_entry};
 use crate::present::read_present;
 use crate::runs::find_run;
 use blk_disk::BlockFiles;
@@ -66,41 +66,35 @@ pub fn use_parts<F: Folder>(
 {
     let len = read_key(folder, files, parent.entry, name)?;
     let (key, buffer) = name.split_at_mut(LONGEST_KEY as usize);
-    use_covered(
-        folder,
-        files,
-        &key[..len],
-        parent.signature,
-        buffer,
-        offset,
-        count,
-        moment,
-    )
+    let parent = ParentName {
+        key: &key[..len],
+        signature: parent.signature,
+    };
+    use_covered(folder, files, parent, buffer, offset, count, moment)
 }
 
 // Uses the parts of an object with a key that a range covers and that there are.
 fn use_covered<F: Folder>(
     folder: &mut F,
     files: &BlockFiles,
-    key: &[u8],
-    signature: i64,
+    parent: ParentName,
     buffer: &mut [u8],
     offset: u64,
     count: u64,
     moment: u64,
 ) -> Result<(), Fault>
-    requires some { 1 ≤ length key.now }
-    requires short { length key.now ≤ longest_key }
-    requires signature { cast_unsigned w64 signature < signatures }
+    requires some { 1 ≤ length parent.key.now }
+    requires short { length parent.key.now ≤ longest_key }
+    requires signature { cast_unsigned w64 parent.signature < signatures }
     requires buffer { longest_name ≤ length buffer.old }
     requires few { count ≤ part_size }
     requires inside { offset + count ≤ largest_offset }
     requires is_open { ForSome (F.told folder.old).files (IsOpen files.now) }
-    ensures used { OnOk result (ForSome (F.told folder.old).files (λ from. ForEachOfKey key.now (cast_unsigned w64 signature) from (λ state layout unlinked at object node entry. ForSome (F.told folder.new).files (KeepsParentUsed state layout unlinked at object node entry (cast_unsigned w64 signature) (parts_used object offset count) from)))) }
-    ensures stops { ForSome (F.told folder.old).files (λ from. ForEachOfKey key.now (cast_unsigned w64 signature) from (λ state layout unlinked at object node entry. Passes (F.told folder.old) (F.told folder.new) (FindsUsed state (parts_used object offset count)))) }
+    ensures used { OnOk result (ForSome (F.told folder.old).files (λ from. ForEachOfKey parent.entry.key.now (cast_unsigned w64 parent.entry.signature) from (λ state layout unlinked at object node entry. ForSome (F.told folder.new).files (KeepsParentUsed state layout unlinked at object node entry (cast_unsigned w64 parent.entry.signature) (parts_used object offset count) from)))) }
+    ensures stops { ForSome (F.told folder.old).files (λ from. ForEachOfKey parent.entry.key.now (cast_unsigned w64 parent.entry.signature) from (λ state layout unlinked at object node entry. Passes (F.told folder.old) (F.told folder.new) (FindsUsed state (parts_used object offset count)))) }
     ensures is_open { ForSome (F.told folder.new).files (IsOpen files.now) }
     ensures damaged { IfDamaged result (IsFailedCheck files.now (F.told folder.new)) }
-    ensures untold { ForSome (F.told folder.old).files (λ from. ForEachOfKey key.now (cast_unsigned w64 signature) from (λ state layout unlinked at object node entry. IfDamaged result (λ _. (F.told folder.old).files ≡ None))) }
+    ensures untold { ForSome (F.told folder.old).files (λ from. ForEachOfKey parent.entry.key.now (cast_unsigned w64 parent.entry.signature) from (λ state layout unlinked at object node entry. IfDamaged result (λ _. (F.told folder.old).files ≡ None))) }
     ensures silent { (F.told folder.old).files ≡ None → (F.told folder.new).files ≡ None }
     ensures later { F.faults folder.old ≤ F.faults folder.new }
     ensures device { IfDevice result (Rises (F.faults folder.old) (F.faults folder.new)) }
@@ -110,40 +104,39 @@ fn use_covered<F: Folder>(
     }
     let (first, _) = child_of(offset);
     let (last, _) = child_of(offset + count - 1);
-    use_part(folder, files, key, signature, first, buffer, moment)?;
+    use_part(folder, files, parent, first, buffer, moment)?;
     if last == first {
         return Ok(());
     }
-    use_part(folder, files, key, signature, last, buffer, moment)
+    use_part(folder, files, parent, last, buffer, moment)
 }
 
 // Uses a part of an object with a key, if there is the part.
 fn use_part<F: Folder>(
     folder: &mut F,
     files: &BlockFiles,
-    key: &[u8],
-    signature: i64,
+    parent: ParentName,
     number: u32,
     buffer: &mut [u8],
     moment: u64,
 ) -> Result<(), Fault>
-    requires some { 1 ≤ length key.now }
-    requires short { length key.now ≤ longest_key }
-    requires signature { cast_unsigned w64 signature < signatures }
+    requires some { 1 ≤ length parent.key.now }
+    requires short { length parent.key.now ≤ longest_key }
+    requires signature { cast_unsigned w64 parent.signature < signatures }
     requires number { number < part_count }
     requires buffer { longest_name ≤ length buffer.old }
     requires is_open { ForSome (F.told folder.old).files (IsOpen files.now) }
-    ensures used { OnOk result (ForSome (F.told folder.old).files (λ from. ForEachOfKey key.now (cast_unsigned w64 signature) from (λ state layout unlinked at object node entry. ForSome (F.told folder.new).files (KeepsParentUsed state layout unlinked at object node entry (cast_unsigned w64 signature) (parts_of object (existing_parts object (number ∷ []))) from)))) }
-    ensures stops { ForSome (F.told folder.old).files (λ from. ForEachOfKey key.now (cast_unsigned w64 signature) from (λ state layout unlinked at object node entry. Passes (F.told folder.old) (F.told folder.new) (FindsUsed state (parts_of object (existing_parts object (number ∷ [])))))) }
+    ensures used { OnOk result (ForSome (F.told folder.old).files (λ from. ForEachOfKey parent.entry.key.now (cast_unsigned w64 parent.entry.signature) from (λ state layout unlinked at object node entry. ForSome (F.told folder.new).files (KeepsParentUsed state layout unlinked at object node entry (cast_unsigned w64 parent.entry.signature) (parts_of object (existing_parts object (number ∷ []))) from)))) }
+    ensures stops { ForSome (F.told folder.old).files (λ from. ForEachOfKey parent.entry.key.now (cast_unsigned w64 parent.entry.signature) from (λ state layout unlinked at object node entry. Passes (F.told folder.old) (F.told folder.new) (FindsUsed state (parts_of object (existing_parts object (number ∷ [])))))) }
     ensures buffer { length buffer.new ≡ length buffer.old }
     ensures is_open { ForSome (F.told folder.new).files (IsOpen files.now) }
     ensures damaged { IfDamaged result (IsFailedCheck files.now (F.told folder.new)) }
-    ensures untold { ForSome (F.told folder.old).files (λ from. ForEachOfKey key.now (cast_unsigned w64 signature) from (λ state layout unlinked at object node entry. IfDamaged result (λ _. (F.told folder.old).files ≡ None))) }
+    ensures untold { ForSome (F.told folder.old).files (λ from. ForEachOfKey parent.entry.key.now (cast_unsigned w64 parent.entry.signature) from (λ state layout unlinked at object node entry. IfDamaged result (λ _. (F.told folder.old).files ≡ None))) }
     ensures silent { (F.told folder.old).files ≡ None → (F.told folder.new).files ≡ None }
     ensures later { F.faults folder.old ≤ F.faults folder.new }
     ensures device { IfDevice result (Rises (F.faults folder.old) (F.faults folder.new)) }
 {
-    match find_part(folder, files, key, signature, number, buffer)? {
+    match find_part(folder, files, parent, number, buffer)? {
         Some(part) => use_entry(folder, files, part, moment),
         None => Ok(()),
     }

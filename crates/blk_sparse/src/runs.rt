@@ -17,7 +17,7 @@ ghost use Rattle.blk_sparse.specs.SparseObjects.{ForEachKeptParent};
 
 use crate::changing::read_map;
 use crate::children::{Parent, read_key};
-use crate::parts::find_part;
+use crate::parts::{ParentName, find_part};
 use blk_disk::BlockFiles;
 use blk_io::{Fault, Folder};
 use blk_ranges::{LONGEST_KEY, PART_SIZE, child_of};
@@ -67,39 +67,34 @@ pub fn find_run<F: Folder>(
 {
     let len = read_key(folder, files, parent.entry, name)?;
     let (key, buffer) = name.split_at_mut(LONGEST_KEY as usize);
-    run_covered(
-        folder,
-        files,
-        &key[..len],
-        parent.signature,
-        buffer,
-        offset,
-        count,
-    )
+    let parent = ParentName {
+        key: &key[..len],
+        signature: parent.signature,
+    };
+    run_covered(folder, files, parent, buffer, offset, count)
 }
 
 // The first run of an object with a key.
 fn run_covered<F: Folder>(
     folder: &mut F,
     files: &BlockFiles,
-    key: &[u8],
-    signature: i64,
+    parent: ParentName,
     buffer: &mut [u8],
     offset: u64,
     count: u64,
 ) -> Result<Run, Fault>
-    requires some { 1 ≤ length key.now }
-    requires short { length key.now ≤ longest_key }
-    requires signature { cast_unsigned w64 signature < signatures }
+    requires some { 1 ≤ length parent.key.now }
+    requires short { length parent.key.now ≤ longest_key }
+    requires signature { cast_unsigned w64 parent.signature < signatures }
     requires buffer { longest_name ≤ length buffer.old }
     requires few { count ≤ part_size }
     requires inside { offset + count ≤ largest_offset }
     requires is_open { ForSome (F.told folder.old).files (IsOpen files.now) }
-    ensures run { IfOk result (λ run. ForSome (F.told folder.old).files (λ from. ForEachOfKey key.now (cast_unsigned w64 signature) from (λ state layout unlinked number object node entry. (run.start, run.length) ≡ present_run object offset count))) }
+    ensures run { IfOk result (λ run. ForSome (F.told folder.old).files (λ from. ForEachOfKey parent.entry.key.now (cast_unsigned w64 parent.entry.signature) from (λ state layout unlinked number object node entry. (run.start, run.length) ≡ present_run object offset count))) }
     ensures buffer { length buffer.new ≡ length buffer.old }
     ensures stays { Stays (F.told folder.old) (F.told folder.new) }
     ensures damaged { IfDamaged result (IsFailedCheck files.now (F.told folder.new)) }
-    ensures untold { ForSome (F.told folder.old).files (λ from. ForEachOfKey key.now (cast_unsigned w64 signature) from (λ state layout unlinked number object node entry. IfDamaged result (λ _. (F.told folder.old).files ≡ None))) }
+    ensures untold { ForSome (F.told folder.old).files (λ from. ForEachOfKey parent.entry.key.now (cast_unsigned w64 parent.entry.signature) from (λ state layout unlinked number object node entry. IfDamaged result (λ _. (F.told folder.old).files ≡ None))) }
     ensures later { F.faults folder.old ≤ F.faults folder.new }
     ensures device { IfDevice result (Rises (F.faults folder.old) (F.faults folder.new)) }
 {
@@ -111,7 +106,7 @@ fn run_covered<F: Folder>(
     }
     let (first, place) = child_of(offset);
     let cut = (PART_SIZE - place).min(count as u32);
-    let one = run_of_part(folder, files, key, signature, first, buffer, place, cut)?;
+    let one = run_of_part(folder, files, parent, first, buffer, place, cut)?;
     let one = Run {
         start: offset - u64::from(place) + one.start,
         length: one.length,
@@ -120,7 +115,7 @@ fn run_covered<F: Folder>(
         return Ok(one);
     }
     let behind = count as u32 - cut;
-    let two = run_of_part(folder, files, key, signature, first + 1, buffer, 0, behind)?;
+    let two = run_of_part(folder, files, parent, first + 1, buffer, 0, behind)?;
     let border = offset + u64::from(cut);
     let two = Run {
         start: border + two.start,
@@ -159,31 +154,30 @@ fn joined(asked: u64, border: u64, one: Run, two: Run) -> Run
 fn run_of_part<F: Folder>(
     folder: &mut F,
     files: &BlockFiles,
-    key: &[u8],
-    signature: i64,
+    parent: ParentName,
     number: u32,
     buffer: &mut [u8],
     place: u32,
     count: u32,
 ) -> Result<Run, Fault>
-    requires some { 1 ≤ length key.now }
-    requires short { length key.now ≤ longest_key }
-    requires signature { cast_unsigned w64 signature < signatures }
+    requires some { 1 ≤ length parent.key.now }
+    requires short { length parent.key.now ≤ longest_key }
+    requires signature { cast_unsigned w64 parent.signature < signatures }
     requires number { number < part_count }
     requires buffer { longest_name ≤ length buffer.old }
     requires inside { place + count ≤ part_size }
     requires is_open { ForSome (F.told folder.old).files (IsOpen files.now) }
-    ensures run { IfOk result (λ run. ForSome (F.told folder.old).files (λ from. ForEachOfKey key.now (cast_unsigned w64 signature) from (λ state layout unlinked at object node entry. (run.start, run.length) ≡ part_run object number place count))) }
+    ensures run { IfOk result (λ run. ForSome (F.told folder.old).files (λ from. ForEachOfKey parent.entry.key.now (cast_unsigned w64 parent.entry.signature) from (λ state layout unlinked at object node entry. (run.start, run.length) ≡ part_run object number place count))) }
     ensures from { IfOk result (λ run. place ≤ run.start) }
     ensures within { IfOk result (λ run. run.start + run.length ≤ place + count) }
     ensures buffer { length buffer.new ≡ length buffer.old }
     ensures stays { Stays (F.told folder.old) (F.told folder.new) }
     ensures damaged { IfDamaged result (IsFailedCheck files.now (F.told folder.new)) }
-    ensures untold { ForSome (F.told folder.old).files (λ from. ForEachOfKey key.now (cast_unsigned w64 signature) from (λ state layout unlinked at object node entry. IfDamaged result (λ _. (F.told folder.old).files ≡ None))) }
+    ensures untold { ForSome (F.told folder.old).files (λ from. ForEachOfKey parent.entry.key.now (cast_unsigned w64 parent.entry.signature) from (λ state layout unlinked at object node entry. IfDamaged result (λ _. (F.told folder.old).files ≡ None))) }
     ensures later { F.faults folder.old ≤ F.faults folder.new }
     ensures device { IfDevice result (Rises (F.faults folder.old) (F.faults folder.new)) }
 {
-    match find_part(folder, files, key, signature, number, buffer)? {
+    match find_part(folder, files, parent, number, buffer)? {
         Some(part) => {
             let map = read_map(folder, files, part)?;
             let (start, length) = map.present_run(place, place + count);

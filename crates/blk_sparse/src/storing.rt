@@ -22,7 +22,7 @@ ghost use Rattle.blk_sparse.specs.SparseWrites.{AreItemsCounted, CountsAfter, Fo
 use crate::beginning::begin;
 use crate::children::Parent;
 use crate::parts::use_entry;
-use crate::writing::write;
+use crate::writing::{SparseBytes, write};
 use blk_disk::BlockFiles;
 use blk_io::{Fault, Folder};
 use blk_object::{count_more, count_rise};
@@ -33,6 +33,15 @@ use blk_object::{count_more, count_rise};
 pub struct Target {
     pub parent: Parent,
     pub plain: bool,
+}
+
+// How much more is counted in the index.
+#[derive(Clone, Copy)]
+struct Counted {
+    // How many items.
+    entries: u64,
+    // The bytes that these and the items that grow are charged.
+    charge: u64,
 }
 
 /// Writes sparse data to a dirty live object: its main item is used, it becomes sparse where it is plain, the bytes are
@@ -79,17 +88,9 @@ pub fn store_sparse<F: Folder>(
     ensures device { IfDevice result (Rises (F.faults folder.old) (F.faults folder.new)) }
 {
     use_and_begin(folder, files, target, moment)?;
-    write_and_count(
-        folder,
-        files,
-        &target.parent,
-        name,
-        offset,
-        bytes,
-        entries,
-        charge,
-        moment,
-    )
+    let data = SparseBytes { offset, bytes };
+    let more = Counted { entries, charge };
+    write_and_count(folder, files, &target.parent, name, data, more, moment)
 }
 
 // Uses the main item of an object, which becomes sparse where it is plain.
@@ -126,31 +127,29 @@ fn write_and_count<F: Folder>(
     files: &mut BlockFiles,
     parent: &Parent,
     name: &mut [u8],
-    offset: u64,
-    bytes: &[u8],
-    entries: u64,
-    charge: u64,
+    data: SparseBytes,
+    more: Counted,
     moment: u64,
 ) -> Result<(), Fault>
     requires kind { kind_of parent.now.entry ≡ blocks_256 }
     requires stands { IsTrue (stands_among files.old parent.now.entry) }
     requires signature { cast_unsigned w64 parent.now.signature < signatures }
     requires name { longest_key + longest_name ≤ length name.old }
-    requires few { length bytes.now ≤ part_size }
-    requires inside { offset + length bytes.now ≤ largest_offset }
+    requires few { length data.bytes.now ≤ part_size }
+    requires inside { data.offset + length data.bytes.now ≤ largest_offset }
     requires is_open { ForSome (F.told folder.old).files (IsOpen files.old) }
-    ensures counted { OnOk result (ForSome (F.told folder.old).files (λ from. ForEachGrowing (covered_parts offset (length bytes.now)) parent.now.node parent.now.entry (cast_unsigned w64 parent.now.signature) from (λ state layout unlinked number object. (counted : State) (laid : Layout) → CountsAfter counted laid (with_bytes_written state number object offset bytes.now) entries charge from → ForSome (F.told folder.new).files (IsCountedThen (with_bytes_written state number object offset bytes.now) layout unlinked number (with_bytes object offset bytes.now) parent.now.node parent.now.entry (cast_unsigned w64 parent.now.signature) from)))) }
-    ensures stops { ForSome (F.told folder.old).files (λ from. ForEachGrowing (covered_parts offset (length bytes.now)) parent.now.node parent.now.entry (cast_unsigned w64 parent.now.signature) from (λ state layout unlinked number object. Passes (F.told folder.old) (F.told folder.new) (Finds (rest state)))) }
+    ensures counted { OnOk result (ForSome (F.told folder.old).files (λ from. ForEachGrowing (covered_parts data.entry.offset (length data.entry.bytes.now)) parent.now.node parent.now.entry (cast_unsigned w64 parent.now.signature) from (λ state layout unlinked number object. (counted : State) (laid : Layout) → CountsAfter counted laid (with_bytes_written state number object data.entry.offset data.entry.bytes.now) more.entries more.charge from → ForSome (F.told folder.new).files (IsCountedThen (with_bytes_written state number object data.entry.offset data.entry.bytes.now) layout unlinked number (with_bytes object data.entry.offset data.entry.bytes.now) parent.now.node parent.now.entry (cast_unsigned w64 parent.now.signature) from)))) }
+    ensures stops { ForSome (F.told folder.old).files (λ from. ForEachGrowing (covered_parts data.entry.offset (length data.entry.bytes.now)) parent.now.node parent.now.entry (cast_unsigned w64 parent.now.signature) from (λ state layout unlinked number object. Passes (F.told folder.old) (F.told folder.new) (Finds (rest state)))) }
     ensures keeps { KeepsStanding files.old files.new }
     ensures is_open { OnOk result (ForSome (F.told folder.new).files (IsOpen files.new)) }
     ensures damaged { IfDamaged result (IsFailedCheck files.new (F.told folder.new)) }
-    ensures untold { ForSome (F.told folder.old).files (λ from. ForEachGrowing (covered_parts offset (length bytes.now)) parent.now.node parent.now.entry (cast_unsigned w64 parent.now.signature) from (λ state layout unlinked number object. IfDamaged result (λ _. (F.told folder.old).files ≡ None))) }
+    ensures untold { ForSome (F.told folder.old).files (λ from. ForEachGrowing (covered_parts data.entry.offset (length data.entry.bytes.now)) parent.now.node parent.now.entry (cast_unsigned w64 parent.now.signature) from (λ state layout unlinked number object. IfDamaged result (λ _. (F.told folder.old).files ≡ None))) }
     ensures silent { (F.told folder.old).files ≡ None → (F.told folder.new).files ≡ None }
     ensures later { F.faults folder.old ≤ F.faults folder.new }
     ensures device { IfDevice result (Rises (F.faults folder.old) (F.faults folder.new)) }
 {
-    write(folder, files, parent, name, offset, bytes, moment)?;
-    count_items(folder, files, entries, charge)
+    write(folder, files, parent, name, data, moment)?;
+    count_items(folder, files, more.entries, more.charge)
 }
 
 // Counts so many items more in the index, and so much more charge: where no item is new, the sum of the charges alone,

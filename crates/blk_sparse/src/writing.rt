@@ -19,11 +19,31 @@ ghost use Rattle.blk_sparse.specs.Writing.{AreInOrder, ForEachGrowingOfKey, IsPi
 
 use crate::changing::change_part;
 use crate::children::{Parent, read_key};
-use crate::new_part::make_part;
-use crate::parts::find_part;
+use crate::new_part::{PartName, make_part};
+use crate::parts::{ParentName, find_part};
 use blk_disk::BlockFiles;
 use blk_io::{Fault, Folder};
 use blk_ranges::{ChildName, LONGEST_KEY, PART_SIZE, child_name, child_of};
+
+/// Bytes of an object with parts.
+#[derive(Clone, Copy, Debug)]
+pub struct SparseBytes<'a> {
+    /// The offset of the first of them in the object.
+    pub offset: u64,
+    /// The bytes, one after another.
+    pub bytes: &'a [u8],
+}
+
+/// Bytes of one part.
+#[derive(Clone, Copy)]
+pub(crate) struct PartBytes<'a> {
+    /// The number of the part.
+    pub(crate) number: u32,
+    /// The place of the first of them in the part.
+    pub(crate) place: u32,
+    /// The bytes, one after another.
+    pub(crate) bytes: &'a [u8],
+}
 
 // Writes a piece to a part of an object with a key: to the part that there is, or to one that is made.
 pub(crate) fn write_piece<F: Folder>(
@@ -32,9 +52,7 @@ pub(crate) fn write_piece<F: Folder>(
     parent: &Parent,
     key: &[u8],
     buffer: &mut [u8],
-    number: u32,
-    place: u32,
-    piece: &[u8],
+    piece: PartBytes,
     moment: u64,
 ) -> Result<(), Fault>
     requires kind { kind_of parent.now.entry ≡ blocks_256 }
@@ -43,19 +61,19 @@ pub(crate) fn write_piece<F: Folder>(
     requires some_key { 1 ≤ length key.now }
     requires short_key { length key.now ≤ longest_key }
     requires buffer { longest_name ≤ length buffer.old }
-    requires number { number < part_count }
-    requires some { 1 ≤ length piece.now }
-    requires inside { place + length piece.now ≤ part_size }
+    requires number { piece.number < part_count }
+    requires some { 1 ≤ length piece.bytes.now }
+    requires inside { piece.place + length piece.bytes.now ≤ part_size }
     requires is_open { ForSome (F.told folder.old).files (IsOpen files.old) }
 
     // Each state that was kept, with such an object, is kept with the piece written and the part in front, but for the counters.
-    ensures written { OnOk result (ForSome (F.told folder.old).files (λ from. ForEachGrowingOfKey (number ∷ []) key.now parent.now.entry (cast_unsigned w64 parent.now.signature) from (λ state layout unlinked at object node. ForSome (F.told folder.new).files (KeepsParentThen (with_piece_written state at object number place piece.now) layout unlinked at (with_piece object number place piece.now) node parent.now.entry (cast_unsigned w64 parent.now.signature) from)))) }
+    ensures written { OnOk result (ForSome (F.told folder.old).files (λ from. ForEachGrowingOfKey (piece.entry.number ∷ []) key.now parent.now.entry (cast_unsigned w64 parent.now.signature) from (λ state layout unlinked at object node. ForSome (F.told folder.new).files (KeepsParentThen (with_piece_written state at object piece.entry.number piece.entry.place piece.entry.bytes.now) layout unlinked at (with_piece object piece.entry.number piece.entry.place piece.entry.bytes.now) node parent.now.entry (cast_unsigned w64 parent.now.signature) from)))) }
 
     // At each word the old durable contents are recovered: a dirty object isn't durable.
-    ensures stops { ForSome (F.told folder.old).files (λ from. ForEachGrowingOfKey (number ∷ []) key.now parent.now.entry (cast_unsigned w64 parent.now.signature) from (λ state layout unlinked at object node. Passes (F.told folder.old) (F.told folder.new) (Finds (rest state)))) }
+    ensures stops { ForSome (F.told folder.old).files (λ from. ForEachGrowingOfKey (piece.entry.number ∷ []) key.now parent.now.entry (cast_unsigned w64 parent.now.signature) from (λ state layout unlinked at object node. Passes (F.told folder.old) (F.told folder.new) (Finds (rest state)))) }
 
     // Of a part that there is the data comes before its map, and one that is made is whole before its parent's bit is set.
-    ensures ordered { OnOk result (ForSome (F.told folder.old).files (λ from. ForEachGrowingOfKey (number ∷ []) key.now parent.now.entry (cast_unsigned w64 parent.now.signature) from (λ state layout unlinked at object node. IsPieceInOrder files.new state layout unlinked at object parent.now.entry (cast_unsigned w64 parent.now.signature) number place piece.now (F.told folder.old) (F.told folder.new)))) }
+    ensures ordered { OnOk result (ForSome (F.told folder.old).files (λ from. ForEachGrowingOfKey (piece.entry.number ∷ []) key.now parent.now.entry (cast_unsigned w64 parent.now.signature) from (λ state layout unlinked at object node. IsPieceInOrder files.new state layout unlinked at object parent.now.entry (cast_unsigned w64 parent.now.signature) piece.entry.number piece.entry.place piece.entry.bytes.now (F.told folder.old) (F.told folder.new)))) }
 
     ensures buffer { length buffer.new ≡ length buffer.old }
     ensures keeps { KeepsStanding files.old files.new }
@@ -65,29 +83,36 @@ pub(crate) fn write_piece<F: Folder>(
     ensures damaged { IfDamaged result (IsFailedCheck files.new (F.told folder.new)) }
 
     // An observable folder, with such an object, reports no corruption.
-    ensures untold { ForSome (F.told folder.old).files (λ from. ForEachGrowingOfKey (number ∷ []) key.now parent.now.entry (cast_unsigned w64 parent.now.signature) from (λ state layout unlinked at object node. IfDamaged result (λ _. (F.told folder.old).files ≡ None))) }
+    ensures untold { ForSome (F.told folder.old).files (λ from. ForEachGrowingOfKey (piece.entry.number ∷ []) key.now parent.now.entry (cast_unsigned w64 parent.now.signature) from (λ state layout unlinked at object node. IfDamaged result (λ _. (F.told folder.old).files ≡ None))) }
 
     ensures silent { (F.told folder.old).files ≡ None → (F.told folder.new).files ≡ None }
     ensures later { F.faults folder.old ≤ F.faults folder.new }
     ensures device { IfDevice result (Rises (F.faults folder.old) (F.faults folder.new)) }
 {
-    if let Some(part) = find_part(folder, files, key, parent.signature, number, buffer)? {
-        return change_part(folder, files, part, place, piece, moment);
+    let named = ParentName {
+        key,
+        signature: parent.signature,
+    };
+    if let Some(part) = find_part(folder, files, named, piece.number, buffer)? {
+        return change_part(folder, files, part, piece.place, piece.bytes, moment);
     }
-    let len = child_name(key, parent.signature, number, buffer);
+    let len = child_name(key, parent.signature, piece.number, buffer);
     let child = ChildName {
         key_len: key.len(),
         signature: parent.signature,
-        part: number,
+        part: piece.number,
+    };
+    let name = PartName {
+        child,
+        bytes: &buffer[..len],
     };
     make_part(
         folder,
         files,
         parent.entry,
-        &child,
-        &buffer[..len],
-        place,
-        piece,
+        name,
+        piece.place,
+        piece.bytes,
         moment,
     )
 }
@@ -99,8 +124,7 @@ fn write_covered<F: Folder>(
     parent: &Parent,
     key: &[u8],
     buffer: &mut [u8],
-    offset: u64,
-    bytes: &[u8],
+    data: SparseBytes,
     moment: u64,
 ) -> Result<(), Fault>
     requires kind { kind_of parent.now.entry ≡ blocks_256 }
@@ -109,43 +133,45 @@ fn write_covered<F: Folder>(
     requires some_key { 1 ≤ length key.now }
     requires short_key { length key.now ≤ longest_key }
     requires buffer { longest_name ≤ length buffer.old }
-    requires some { 1 ≤ length bytes.now }
-    requires few { length bytes.now ≤ part_size }
-    requires inside { offset + length bytes.now ≤ largest_offset }
+    requires some { 1 ≤ length data.bytes.now }
+    requires few { length data.bytes.now ≤ part_size }
+    requires inside { data.offset + length data.bytes.now ≤ largest_offset }
     requires is_open { ForSome (F.told folder.old).files (IsOpen files.old) }
-    ensures written { OnOk result (ForSome (F.told folder.old).files (λ from. ForEachGrowingOfKey (covered_parts offset (length bytes.now)) key.now parent.now.entry (cast_unsigned w64 parent.now.signature) from (λ state layout unlinked at object node. ForSome (F.told folder.new).files (KeepsParentThen (with_bytes_written state at object offset bytes.now) layout unlinked at (with_bytes object offset bytes.now) node parent.now.entry (cast_unsigned w64 parent.now.signature) from)))) }
-    ensures stops { ForSome (F.told folder.old).files (λ from. ForEachGrowingOfKey (covered_parts offset (length bytes.now)) key.now parent.now.entry (cast_unsigned w64 parent.now.signature) from (λ state layout unlinked at object node. Passes (F.told folder.old) (F.told folder.new) (Finds (rest state)))) }
-    ensures ordered { OnOk result (ForSome (F.told folder.old).files (λ from. ForEachGrowingOfKey (covered_parts offset (length bytes.now)) key.now parent.now.entry (cast_unsigned w64 parent.now.signature) from (λ state layout unlinked at object node. AreInOrder (covered_parts offset (length bytes.now)) state layout unlinked at object parent.now.entry (cast_unsigned w64 parent.now.signature) offset bytes.now (F.told folder.old) (F.told folder.new)))) }
+    ensures written { OnOk result (ForSome (F.told folder.old).files (λ from. ForEachGrowingOfKey (covered_parts data.entry.offset (length data.entry.bytes.now)) key.now parent.now.entry (cast_unsigned w64 parent.now.signature) from (λ state layout unlinked at object node. ForSome (F.told folder.new).files (KeepsParentThen (with_bytes_written state at object data.entry.offset data.entry.bytes.now) layout unlinked at (with_bytes object data.entry.offset data.entry.bytes.now) node parent.now.entry (cast_unsigned w64 parent.now.signature) from)))) }
+    ensures stops { ForSome (F.told folder.old).files (λ from. ForEachGrowingOfKey (covered_parts data.entry.offset (length data.entry.bytes.now)) key.now parent.now.entry (cast_unsigned w64 parent.now.signature) from (λ state layout unlinked at object node. Passes (F.told folder.old) (F.told folder.new) (Finds (rest state)))) }
+    ensures ordered { OnOk result (ForSome (F.told folder.old).files (λ from. ForEachGrowingOfKey (covered_parts data.entry.offset (length data.entry.bytes.now)) key.now parent.now.entry (cast_unsigned w64 parent.now.signature) from (λ state layout unlinked at object node. AreInOrder (covered_parts data.entry.offset (length data.entry.bytes.now)) state layout unlinked at object parent.now.entry (cast_unsigned w64 parent.now.signature) data.entry.offset data.entry.bytes.now (F.told folder.old) (F.told folder.new)))) }
     ensures keeps { KeepsStanding files.old files.new }
     ensures is_open { OnOk result (ForSome (F.told folder.new).files (IsOpen files.new)) }
     ensures damaged { IfDamaged result (IsFailedCheck files.new (F.told folder.new)) }
-    ensures untold { ForSome (F.told folder.old).files (λ from. ForEachGrowingOfKey (covered_parts offset (length bytes.now)) key.now parent.now.entry (cast_unsigned w64 parent.now.signature) from (λ state layout unlinked at object node. IfDamaged result (λ _. (F.told folder.old).files ≡ None))) }
+    ensures untold { ForSome (F.told folder.old).files (λ from. ForEachGrowingOfKey (covered_parts data.entry.offset (length data.entry.bytes.now)) key.now parent.now.entry (cast_unsigned w64 parent.now.signature) from (λ state layout unlinked at object node. IfDamaged result (λ _. (F.told folder.old).files ≡ None))) }
     ensures silent { (F.told folder.old).files ≡ None → (F.told folder.new).files ≡ None }
     ensures later { F.faults folder.old ≤ F.faults folder.new }
     ensures device { IfDevice result (Rises (F.faults folder.old) (F.faults folder.new)) }
 {
+    let SparseBytes { offset, bytes } = data;
     let (number, place) = child_of(offset);
     let left = (PART_SIZE - place) as usize;
     if bytes.len() <= left {
-        return write_piece(
-            folder, files, parent, key, buffer, number, place, bytes, moment,
-        );
+        let piece = PartBytes {
+            number,
+            place,
+            bytes,
+        };
+        return write_piece(folder, files, parent, key, buffer, piece, moment);
     }
     let (front, back) = bytes.split_at(left);
-    write_piece(
-        folder, files, parent, key, buffer, number, place, front, moment,
-    )?;
-    write_piece(
-        folder,
-        files,
-        parent,
-        key,
-        buffer,
-        number + 1,
-        0,
-        back,
-        moment,
-    )
+    let front = PartBytes {
+        number,
+        place,
+        bytes: front,
+    };
+    write_piece(folder, files, parent, key, buffer, front, moment)?;
+    let back = PartBytes {
+        number: number + 1,
+        place: 0,
+        bytes: back,
+    };
+    write_piece(folder, files, parent, key, buffer, back, moment)
 }
 
 /// Writes bytes to an object with parts, which is dirty, from an offset on. Each part that the range covers gets its
@@ -159,26 +185,25 @@ pub fn write<F: Folder>(
     files: &mut BlockFiles,
     parent: &Parent,
     name: &mut [u8],
-    offset: u64,
-    bytes: &[u8],
+    data: SparseBytes,
     moment: u64,
 ) -> Result<(), Fault>
     requires kind { kind_of parent.now.entry ≡ blocks_256 }
     requires stands { IsTrue (stands_among files.old parent.now.entry) }
     requires signature { cast_unsigned w64 parent.now.signature < signatures }
     requires name { longest_key + longest_name ≤ length name.old }
-    requires few { length bytes.now ≤ part_size }
-    requires inside { offset + length bytes.now ≤ largest_offset }
+    requires few { length data.bytes.now ≤ part_size }
+    requires inside { data.offset + length data.bytes.now ≤ largest_offset }
     requires is_open { ForSome (F.told f.old).files (IsOpen files.old) }
 
     // Each state that was kept, with such an object, is kept with the bytes written and the covered parts in front, but for the counters.
-    ensures written { OnOk result (ForSome (F.told f.old).files (λ from. ForEachGrowing (covered_parts offset (length bytes.now)) parent.now.node parent.now.entry (cast_unsigned w64 parent.now.signature) from (λ state layout unlinked number object. ForSome (F.told f.new).files (KeepsParentThen (with_bytes_written state number object offset bytes.now) layout unlinked number (with_bytes object offset bytes.now) parent.now.node parent.now.entry (cast_unsigned w64 parent.now.signature) from)))) }
+    ensures written { OnOk result (ForSome (F.told f.old).files (λ from. ForEachGrowing (covered_parts data.entry.offset (length data.entry.bytes.now)) parent.now.node parent.now.entry (cast_unsigned w64 parent.now.signature) from (λ state layout unlinked number object. ForSome (F.told f.new).files (KeepsParentThen (with_bytes_written state number object data.entry.offset data.entry.bytes.now) layout unlinked number (with_bytes object data.entry.offset data.entry.bytes.now) parent.now.node parent.now.entry (cast_unsigned w64 parent.now.signature) from)))) }
 
     // At each word the old durable contents are recovered: a dirty object isn't durable.
-    ensures stops { ForSome (F.told f.old).files (λ from. ForEachGrowing (covered_parts offset (length bytes.now)) parent.now.node parent.now.entry (cast_unsigned w64 parent.now.signature) from (λ state layout unlinked number object. Passes (F.told f.old) (F.told f.new) (Finds (rest state)))) }
+    ensures stops { ForSome (F.told f.old).files (λ from. ForEachGrowing (covered_parts data.entry.offset (length data.entry.bytes.now)) parent.now.node parent.now.entry (cast_unsigned w64 parent.now.signature) from (λ state layout unlinked number object. Passes (F.told f.old) (F.told f.new) (Finds (rest state)))) }
 
     // The pieces come one after another: of a part that there is the data before its map, and one that is made is whole before its parent's bit is set.
-    ensures ordered { OnOk result (ForSome (F.told f.old).files (λ from. ForEachGrowing (covered_parts offset (length bytes.now)) parent.now.node parent.now.entry (cast_unsigned w64 parent.now.signature) from (λ state layout unlinked number object. AreInOrder (covered_parts offset (length bytes.now)) state layout unlinked number object parent.now.entry (cast_unsigned w64 parent.now.signature) offset bytes.now (F.told f.old) (F.told f.new)))) }
+    ensures ordered { OnOk result (ForSome (F.told f.old).files (λ from. ForEachGrowing (covered_parts data.entry.offset (length data.entry.bytes.now)) parent.now.node parent.now.entry (cast_unsigned w64 parent.now.signature) from (λ state layout unlinked number object. AreInOrder (covered_parts data.entry.offset (length data.entry.bytes.now)) state layout unlinked number object parent.now.entry (cast_unsigned w64 parent.now.signature) data.entry.offset data.entry.bytes.now (F.told f.old) (F.told f.new)))) }
 
     // What was valid still is.
     ensures keeps { KeepsStanding files.old files.new }
@@ -188,16 +213,16 @@ pub fn write<F: Folder>(
     ensures damaged { IfDamaged result (IsFailedCheck files.new (F.told f.new)) }
 
     // An observable folder, with such an object, reports no corruption.
-    ensures untold { ForSome (F.told f.old).files (λ from. ForEachGrowing (covered_parts offset (length bytes.now)) parent.now.node parent.now.entry (cast_unsigned w64 parent.now.signature) from (λ state layout unlinked number object. IfDamaged result (λ _. (F.told f.old).files ≡ None))) }
+    ensures untold { ForSome (F.told f.old).files (λ from. ForEachGrowing (covered_parts data.entry.offset (length data.entry.bytes.now)) parent.now.node parent.now.entry (cast_unsigned w64 parent.now.signature) from (λ state layout unlinked number object. IfDamaged result (λ _. (F.told f.old).files ≡ None))) }
 
     ensures silent { (F.told f.old).files ≡ None → (F.told f.new).files ≡ None }
     ensures later { F.faults f.old ≤ F.faults f.new }
     ensures device { IfDevice result (Rises (F.faults f.old) (F.faults f.new)) }
 {
-    if bytes.is_empty() {
+    if data.bytes.is_empty() {
         return Ok(());
     }
     let len = read_key(f, files, parent.entry, name)?;
     let (key, buffer) = name.split_at_mut(LONGEST_KEY as usize);
-    write_covered(f, files, parent, &key[..len], buffer, offset, bytes, moment)
+    write_covered(f, files, parent, &key[..len], buffer, data, moment)
 }

@@ -20,20 +20,20 @@ pub returns-in_err-found-clause-untold : goal.returns-in_err-found-clause-untold
 returns-in_err-found-clause-untold g c from there state layout unlinked number object node entry p of_key =
     carried c.find.result c.from_residual.result c.in_err-found.field-0.0 (λ _. (g.F.Folder.told c.args.folder.now).files ≡ None) c.in_err-found.was c.from_residual.ensures.1
     (c.find.ensures.untold (λ image is. (c.requires.is_open image is).whole_index) (λ image is. (c.requires.is_open image is).agrees)
-    (λ image is. subst (CanBeSearched _) (some_inj (sym there ∙ is)) (can-find state layout unlinked number object node entry (cast_unsigned w64 c.args.signature) from p _)))
+    (λ image is. subst (CanBeSearched _) (some_inj (sym there ∙ is)) (can-find state layout unlinked number object node entry (cast_unsigned w64 c.args.parent.signature) from p _)))
 
 pub returns-in-Some-clause-part : goal.returns-in-Some-clause-part
 returns-in-Some-clause-part g c from there state layout unlinked number object node entry p of_key =
-    let same = of_z-to_z w64 (cast_unsigned w64 c.args.signature) (let small = c.requires.signature in omega (arith, small)) in
-    (part-found state layout unlinked number object node entry (cast_unsigned w64 c.args.signature) from p c.args.number _
-    (c.child_name-len.ensures.name ∙ ap (λ (s : ℕ). child_name c.args.key.now s c.args.number) same ∙ ap (λ (k : List ℕ). child_name k (cast_unsigned w64 c.args.signature) c.args.number) (sym of_key))
-    (c.child_name-len.ensures.read_back ∙ ap (λ (s : ℕ). Some (record { key = c.args.key.now; signature = s; part = c.args.number })) same ∙ ap (λ (k : List ℕ). Some (record { key = k; signature = cast_unsigned w64 c.args.signature; part = c.args.number })) (sym of_key))
-    c.in_ok-found.field-0 (c.in_ok-found.ensures.found from there (can-find state layout unlinked number object node entry (cast_unsigned w64 c.args.signature) from p _))).0 c.in-Some.found c.in-Some.is
+    let same = of_z-to_z w64 (cast_unsigned w64 c.args.parent.signature) (let small = c.requires.signature in omega (arith, small)) in
+    (part-found state layout unlinked number object node entry (cast_unsigned w64 c.args.parent.signature) from p c.args.number _
+    (c.child_name-len.ensures.name ∙ ap (λ (s : ℕ). child_name c.args.parent.key.now s c.args.number) same ∙ ap (λ (k : List ℕ). child_name k (cast_unsigned w64 c.args.parent.signature) c.args.number) (sym of_key))
+    (c.child_name-len.ensures.read_back ∙ ap (λ (s : ℕ). Some (record { key = c.args.parent.key.now; signature = s; part = c.args.number })) same ∙ ap (λ (k : List ℕ). Some (record { key = k; signature = cast_unsigned w64 c.args.parent.signature; part = c.args.number })) (sym of_key))
+    c.in_ok-found.field-0 (c.in_ok-found.ensures.found from there (can-find state layout unlinked number object node entry (cast_unsigned w64 c.args.parent.signature) from p _))).0 c.in-Some.found c.in-Some.is
 
 pub returns-in-None-clause-part : goal.returns-in-None-clause-part
 returns-in-None-clause-part g c from there state layout unlinked number object node entry p of_key =
-    let same = of_z-to_z w64 (cast_unsigned w64 c.args.signature) (let small = c.requires.signature in omega (arith, small)) in
-    (part-found state layout unlinked number object node entry (cast_unsigned w64 c.args.signature) from p c.args.number _
-    (c.child_name-len.ensures.name ∙ ap (λ (s : ℕ). child_name c.args.key.now s c.args.number) same ∙ ap (λ (k : List ℕ). child_name k (cast_unsigned w64 c.args.signature) c.args.number) (sym of_key))
-    (c.child_name-len.ensures.read_back ∙ ap (λ (s : ℕ). Some (record { key = c.args.key.now; signature = s; part = c.args.number })) same ∙ ap (λ (k : List ℕ). Some (record { key = k; signature = cast_unsigned w64 c.args.signature; part = c.args.number })) (sym of_key))
-    c.in_ok-found.field-0 (c.in_ok-found.ensures.found from there (can-find state layout unlinked number object node entry (cast_unsigned w64 c.args.signature) from p _))).1 c.in-None.is
+    let same = of_z-to_z w64 (cast_unsigned w64 c.args.parent.signature) (let small = c.requires.signature in omega (arith, small)) in
+    (part-found state layout unlinked number object node entry (cast_unsigned w64 c.args.parent.signature) from p c.args.number _
+    (c.child_name-len.ensures.name ∙ ap (λ (s : ℕ). child_name c.args.parent.key.now s c.args.number) same ∙ ap (λ (k : List ℕ). child_name k (cast_unsigned w64 c.args.parent.signature) c.args.number) (sym of_key))
+    (c.child_name-len.ensures.read_back ∙ ap (λ (s : ℕ). Some (record { key = c.args.parent.key.now; signature = s; part = c.args.number })) same ∙ ap (λ (k : List ℕ). Some (record { key = k; signature = cast_unsigned w64 c.args.parent.signature; part = c.args.number })) (sym of_key))
+    c.in_ok-found.field-0 (c.in_ok-found.ensures.found from there (can-find state layout unlinked number object node entry (cast_unsigned w64 c.args.parent.signature) from p _))).1 c.in-None.is

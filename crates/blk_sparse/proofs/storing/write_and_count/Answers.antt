@@ -9,19 +9,19 @@ pub returns-clause-counted : goal.returns-clause-counted
 returns-clause-counted g c =
     on_ok_weaker c.count_items.result
     (λ more from there state layout unlinked number object can counted laid after.
-    count-ends c.args.offset c.args.bytes.now (g.F.Folder.told c.args.folder.now) (g.F.Folder.told c.write.new.f) (g.F.Folder.told c.count_items.new.folder) from there state layout unlinked number object c.args.parent.now.node c.args.parent.now.entry (cast_unsigned w64 c.args.parent.now.signature) can
+    count-ends c.args.data.offset c.args.data.bytes.now (g.F.Folder.told c.args.folder.now) (g.F.Folder.told c.write.new.f) (g.F.Folder.told c.count_items.new.folder) from there state layout unlinked number object c.args.parent.now.node c.args.parent.now.entry (cast_unsigned w64 c.args.parent.now.signature) can
     (c.write.ensures.stops from there state layout unlinked number object can) (c.in_ok-write.ensures.written from there state layout unlinked number object can)
-    c.count_items.ensures.stops c.args.entries c.args.charge more counted laid after)
+    c.count_items.ensures.stops c.args.more.entries c.args.more.charge more counted laid after)
     c.count_items.ensures.counted
 
 pub returns-clause-stops : goal.returns-clause-stops
 returns-clause-stops g c from there state layout unlinked number object can =
-    count-passes c.args.offset c.args.bytes.now (g.F.Folder.told c.args.folder.now) (g.F.Folder.told c.write.new.f) (g.F.Folder.told c.count_items.new.folder) from there state layout unlinked number object c.args.parent.now.node c.args.parent.now.entry (cast_unsigned w64 c.args.parent.now.signature) can
+    count-passes c.args.data.offset c.args.data.bytes.now (g.F.Folder.told c.args.folder.now) (g.F.Folder.told c.write.new.f) (g.F.Folder.told c.count_items.new.folder) from there state layout unlinked number object c.args.parent.now.node c.args.parent.now.entry (cast_unsigned w64 c.args.parent.now.signature) can
     (c.write.ensures.stops from there state layout unlinked number object can) (c.in_ok-write.ensures.written from there state layout unlinked number object can) c.count_items.ensures.stops
 
 pub returns-clause-untold : goal.returns-clause-untold
 returns-clause-untold g c from there state layout unlinked number object can =
-    count-untold c.args.offset c.args.bytes.now (g.F.Folder.told c.args.folder.now) (g.F.Folder.told c.write.new.f) (g.F.Folder.told c.count_items.new.folder) from there state layout unlinked number object c.args.parent.now.node c.args.parent.now.entry (cast_unsigned w64 c.args.parent.now.signature) can
+    count-untold c.args.data.offset c.args.data.bytes.now (g.F.Folder.told c.args.folder.now) (g.F.Folder.told c.write.new.f) (g.F.Folder.told c.count_items.new.folder) from there state layout unlinked number object c.args.parent.now.node c.args.parent.now.entry (cast_unsigned w64 c.args.parent.now.signature) can
     (c.write.ensures.stops from there state layout unlinked number object can) (c.in_ok-write.ensures.written from there state layout unlinked number object can) c.count_items.result c.count_items.ensures.untold
 
 pub returns-in_err-write-clause-untold : goal.returns-in_err-write-clause-untold

@@ -18,15 +18,15 @@ use Rattle.blk_sparse.proofs.writing.write.Goals as goal
 
 pub returns-then-is_empty-clause-written : goal.returns-then-is_empty-clause-written
 returns-then-is_empty-clause-written g c from there state layout unlinked number object can image now =
-    none-written state layout unlinked number object c.args.parent.now.node c.args.parent.now.entry (cast_unsigned w64 c.args.parent.now.signature) from c.args.offset c.args.bytes.now can (eqb-true (length c.args.bytes.now) 0 (sym c.is_empty.ensures ∙ c.if-is_empty.true)) image (some_inj (sym now ∙ there))
+    none-written state layout unlinked number object c.args.parent.now.node c.args.parent.now.entry (cast_unsigned w64 c.args.parent.now.signature) from c.args.data.offset c.args.data.bytes.now can (eqb-true (length c.args.data.bytes.now) 0 (sym c.is_empty.ensures ∙ c.if-is_empty.true)) image (some_inj (sym now ∙ there))
 
 pub returns-then-is_empty-clause-stops : goal.returns-then-is_empty-clause-stops
 returns-then-is_empty-clause-stops g c from there state layout unlinked number object can =
-    stays-passes (g.F.Folder.told c.args.f.now) (g.F.Folder.told c.args.f.now) from (Finds (rest state)) there refl (covered-finds state layout unlinked number object c.args.parent.now.node c.args.parent.now.entry (cast_unsigned w64 c.args.parent.now.signature) from c.args.offset c.args.bytes.now can)
+    stays-passes (g.F.Folder.told c.args.f.now) (g.F.Folder.told c.args.f.now) from (Finds (rest state)) there refl (covered-finds state layout unlinked number object c.args.parent.now.node c.args.parent.now.entry (cast_unsigned w64 c.args.parent.now.signature) from c.args.data.offset c.args.data.bytes.now can)
 
 pub returns-in_err-len-clause-stops : goal.returns-in_err-len-clause-stops
 returns-in_err-len-clause-stops g c from there state layout unlinked number object can =
-    stays-passes (g.F.Folder.told c.args.f.now) (g.F.Folder.told c.read_key.new.folder) from (Finds (rest state)) there c.in_err-len.ensures.stays (covered-finds state layout unlinked number object c.args.parent.now.node c.args.parent.now.entry (cast_unsigned w64 c.args.parent.now.signature) from c.args.offset c.args.bytes.now can)
+    stays-passes (g.F.Folder.told c.args.f.now) (g.F.Folder.told c.read_key.new.folder) from (Finds (rest state)) there c.in_err-len.ensures.stays (covered-finds state layout unlinked number object c.args.parent.now.node c.args.parent.now.entry (cast_unsigned w64 c.args.parent.now.signature) from c.args.data.offset c.args.data.bytes.now can)
 
 pub returns-in_err-len-clause-untold : goal.returns-in_err-len-clause-untold
 returns-in_err-len-clause-untold g c from there state layout unlinked number object can =
@@ -39,7 +39,7 @@ write_covered-requires-clause-is_open g c image is =
 
 pub returns-then-is_empty-clause-ordered : goal.returns-then-is_empty-clause-ordered
 returns-then-is_empty-clause-ordered g c from there state layout unlinked number object can =
-    order-none state layout unlinked number object c.args.parent.now.entry (cast_unsigned w64 c.args.parent.now.signature) c.args.offset c.args.bytes.now (g.F.Folder.told c.args.f.now) (eqb-true (length c.args.bytes.now) 0 (sym c.is_empty.ensures ∙ c.if-is_empty.true))
+    order-none state layout unlinked number object c.args.parent.now.entry (cast_unsigned w64 c.args.parent.now.signature) c.args.data.offset c.args.data.bytes.now (g.F.Folder.told c.args.f.now) (eqb-true (length c.args.data.bytes.now) 0 (sym c.is_empty.ensures ∙ c.if-is_empty.true))
 
 pub returns-clause-written : goal.returns-clause-written
 returns-clause-written g c = on_ok_weaker c.write_covered.result
@@ -54,7 +54,7 @@ returns-clause-ordered g c = on_ok_weaker c.write_covered.result
     (λ ends from there state layout unlinked number object can.
     let at = stays-there (g.F.Folder.told c.args.f.now) (g.F.Folder.told c.read_key.new.folder) from there c.in_ok-len.ensures.stays in
     let same = key-same state layout unlinked number object c.args.parent.now.node c.args.parent.now.entry (cast_unsigned w64 c.args.parent.now.signature) from can.parent c.in_ok-len.len c.read_key.new.name c.split_at_mut-key.result.0.now c.split_at_mut-key.ensures.front c.in_ok-len.ensures.short (c.in_ok-len.ensures.key from there) in
-    subst (λ (t : Told). AreInOrder (covered_parts c.args.offset (length c.args.bytes.now)) state layout unlinked number object c.args.parent.now.entry (cast_unsigned w64 c.args.parent.now.signature) c.args.offset c.args.bytes.now t (g.F.Folder.told c.write_covered.new.folder)) c.in_ok-len.ensures.stays
+    subst (λ (t : Told). AreInOrder (covered_parts c.args.data.offset (length c.args.data.bytes.now)) state layout unlinked number object c.args.parent.now.entry (cast_unsigned w64 c.args.parent.now.signature) c.args.data.offset c.args.data.bytes.now t (g.F.Folder.told c.write_covered.new.folder)) c.in_ok-len.ensures.stays
     (ends from at state layout unlinked number object c.args.parent.now.node can same))
     c.write_covered.ensures.ordered
 
