@@ -46,9 +46,9 @@ IsAskedToWrite state layout moment handle stream offset cut bytes (asked.Refused
 IsAskedToWrite state layout moment handle stream offset cut bytes (asked.Stream found) = MayBeWritten state layout moment handle stream offset cut bytes found
 
 -- where a stream is found nothing early refuses the Write
-abbrev pub GoesOn : (early : Option Refusal) → Asked → Type 0
-GoesOn early (asked.Refused why) = Unit {0}
-GoesOn early (asked.Stream found) = early ≡ None
+abbrev pub IsNotRefusedEarly : (early : Option Refusal) → Asked → Type 0
+IsNotRefusedEarly early (asked.Refused why) = Unit {0}
+IsNotRefusedEarly early (asked.Stream found) = early ≡ None
 
 -- The end.
 

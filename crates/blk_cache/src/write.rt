@@ -23,7 +23,7 @@ ghost use Rattle.blk_cache.specs.CacheKeeping.{KeepsState};
 ghost use Rattle.blk_cache.specs.CommandClauses.{IsRefused, KeepsAny};
 ghost use Rattle.blk_evict.specs.RoomPrinting.{FailsWhereItRose};
 ghost use Rattle.blk_cache.specs.Stepping.{SaysEvicted, SaysPrefix};
-ghost use Rattle.blk_cache.specs.Writing.{CanGetBytes, CountsRise, ForEachToUse, GoesOn, IsAskedToWrite, IsReadyToWrite, IsReadyToWriteSome, IsUsedAndCounted, KeepsToWrite, early_write_refusal};
+ghost use Rattle.blk_cache.specs.Writing.{CanGetBytes, CountsRise, ForEachToUse, IsAskedToWrite, IsNotRefusedEarly, IsReadyToWrite, IsReadyToWriteSome, IsUsedAndCounted, KeepsToWrite, early_write_refusal};
 
 use crate::asking::{Asked, NamedStream};
 use crate::cache::Cache;
@@ -205,7 +205,7 @@ impl Cache {
 
         // What the names, the stream and the length tell is refused on every folder, and where a stream is found they tell nothing.
         ensures refuses { IfSome (early_write_refusal self.now handle stream offset (length bytes.now)) (λ why. result ≡ Ok (asked.Refused why)) }
-        ensures goes_on { IfOk result (GoesOn (early_write_refusal self.now handle stream offset (length bytes.now))) }
+        ensures goes_on { IfOk result (IsNotRefusedEarly (early_write_refusal self.now handle stream offset (length bytes.now))) }
         ensures stays { Stays (F.told folder.old) (F.told folder.new) }
 
         // Corruption is a check that fails on what is read here. An observable folder gives none where the cache keeps a state.
