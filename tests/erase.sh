@@ -597,8 +597,7 @@ for line in "open 0 $first" "write 0 0 64 $longer" "open 1 $second" "write 1 1 0
     read -r -t 20 reply <&"$talk_out"
     replies+="$reply, "
 done
-kill -9 "$talk_id"
-wait "$talk_id" 2>/dev/null
+{ kill -9 "$talk_id" && wait "$talk_id"; } 2>/dev/null
 is 'a session is killed' 'ok, ok 4000, ok, ok 4000, ok, ok 4000, ' "$replies"
 run "$room/dirty" verify
 is 'it leaves three dirty entries, one of them with two parts' '0 5' "$status $(grep -c '^dropped' "$room/said")"
