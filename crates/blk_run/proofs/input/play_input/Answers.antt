@@ -4,7 +4,7 @@ use Rattle.spec_run.specs.Lines.{cut}
 use Rattle.blk_cache.specs.CacheKeeping.{KeepsState}
 use Rattle.blk_run.proofs.Asking.{around}
 use Rattle.blk_run.proofs.InputPlayed.{all_but_one, all_used, input_ended, input_failed, input_handed, last_failed, last_played, no_input, none_taken, piece_failed, piece_played, piece_too_long, some_used, taken_up_to}
-use Rattle.blk_io.proofs.GoingOn.{goes_on}
+use Rattle.blk_io.proofs.GoingOn.{goes_on, stays_on}
 use Rattle.blk_run.proofs.input.play_input.Goals as goal
 
 clash : false ≡ true → ⊥
@@ -17,7 +17,7 @@ loop-n-init g c = record {
   lines = let f = c.requires.first in omega (arith, f);
   buffer = refl;
   later = omega arith;
-  sink = omega arith;
+  sink = stays_on;
   source = omega arith;
 }
 

@@ -3,7 +3,7 @@ use Rattle.blk_cache.specs.CacheKeeping.{KeepsState}
 use Rattle.blk_run.proofs.Parts.{part_handed}
 use Rattle.blk_run.proofs.Asking.{around}
 use Rattle.blk_run.proofs.BytesPlayed.{all_counted, all_played, line_failed, line_played_of, fewer_behind, none_played, rest_holds}
-use Rattle.blk_io.proofs.GoingOn.{goes_on}
+use Rattle.blk_io.proofs.GoingOn.{goes_on, stays_on}
 use Rattle.blk_run.proofs.playing.play_bytes.Goals as goal
 
 pub loop-end-init : goal.loop-end-init
@@ -13,7 +13,7 @@ loop-end-init g c = record {
   lines = omega arith;
   buffer = refl;
   later = omega arith;
-  sink = omega arith;
+  sink = stays_on;
 }
 
 pub returns-in_err-play_line-clause-played : goal.returns-in_err-play_line-clause-played
