@@ -15,6 +15,7 @@ use Rattle.blk_script.specs.Reply.{reply_text}
 use Rattle.law_state.specs.Commands.{ForKept}
 use Rattle.law_state.specs.OneCallLaws.{Names}
 use Rattle.blk_cache.specs.declared.cache.Cache.{Cache}
+use Rattle.blk_cache.specs.declared.read_printing.ReadRange.{ReadRange}
 use Rattle.blk_cache.specs.Asking.{stream_refusal}
 use Rattle.blk_cache.specs.CacheKeeping.{KeepsState}
 use Rattle.blk_cache.specs.Reading.{bytes_there}
@@ -35,6 +36,13 @@ pub record KeepsToRead (cache : Cache) (handle stream offset number : ℕ) (imag
   pub names : Names state handle n object
   pub passes : stream_refusal state handle stream ≡ None
   pub number_is : number ≡ bytes_there (length (stream_of object stream)) offset count
+
+-- the two of a range
+abbrev pub ForRange : Cache → Told → ReadRange → (List ℕ → Type 0) → Type 0
+ForRange cache told range P = ForRead cache told range.handle range.stream range.offset range.number P
+
+abbrev pub KeepsRange : Cache → ReadRange → Image → Type 0
+KeepsRange cache range image = KeepsToRead cache range.handle range.stream range.offset range.number image
 
 -- whether an object has a stream with this number, and so many bytes from an offset on end where a u64 can tell
 abbrev pub can_be_read : (stream offset number : ℕ) → Bool

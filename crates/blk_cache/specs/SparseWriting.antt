@@ -5,7 +5,7 @@ use Rattle.spec_image.specs.Image.{Image}
 use Rattle.blk_model.specs.Effects.{effect}
 use Rattle.blk_model.specs.Items.{part, plain, sparse}
 use Rattle.blk_model.specs.Refusals.{refused}
-use Rattle.blk_model.specs.Request.{to_sparse_write}
+use Rattle.blk_model.specs.Request.{Request, to_sparse_write}
 use Rattle.blk_model.specs.Room.{items, total}
 use Rattle.blk_model.specs.Sizes.{most_items, part_size, parts_index_charge, signatures}
 use Rattle.blk_model.specs.Sparse.{covered_parts}
@@ -20,9 +20,16 @@ use Rattle.blk_sparse.specs.SparseObjects.{with_signature}
 use Rattle.blk_sparse.specs.SparseWrites.{signature_to, sparse_state}
 use Rattle.blk_cache.specs.declared.cache.Cache.{Cache}
 use Rattle.blk_cache.specs.declared.covered.Covered.{Covered}
+use Rattle.blk_cache.specs.declared.sparse_writing.SparseRequest.{SparseRequest}
 use Rattle.blk_cache.specs.CacheKeeping.{KeepsState}
 use Rattle.blk_cache.specs.Covering.{AreCovered}
 use Rattle.blk_cache.specs.Creating.{sum_within}
+
+-- The request.
+
+-- a SparseWrite as the model has it
+abbrev pub sparse_write_of : SparseRequest → Request
+sparse_write_of its = to_sparse_write its.handle its.offset its.bytes.now
 
 -- The object.
 
@@ -59,6 +66,10 @@ pub record KeepsToStore (cache : Cache) (handle offset : ℕ) (bytes : List ℕ)
   pub state : State
   pub kept : KeepsState cache state image
   pub can : CanStore state handle offset bytes target more_bytes more_items
+
+-- the same of a request
+abbrev pub KeepsToStoreFor : Cache → SparseRequest → Target → (more_bytes more_items : ℕ) → Image → Type 0
+KeepsToStoreFor cache its target more_bytes more_items image = KeepsToStore cache its.handle its.offset its.bytes.now target more_bytes more_items image
 
 -- What is counted.
 
@@ -100,6 +111,14 @@ pub record IsReadyToStoreSome (cache : Cache) (handle offset : ℕ) (bytes : Lis
   pub state : State
   pub moment : ℕ
   pub ready : IsReadyToStore cache state moment handle offset bytes target more_bytes more_items image
+
+-- the same of a request
+abbrev pub IsReadyToStoreFor : Cache → State → SparseRequest → Target → (more_bytes more_items : ℕ) → Image → Type 0
+IsReadyToStoreFor cache state its target more_bytes more_items image = IsReadyToStore cache state its.moment its.handle its.offset its.bytes.now target more_bytes more_items image
+
+-- and of some state
+abbrev pub IsReadyToStoreForSome : Cache → SparseRequest → Target → (more_bytes more_items : ℕ) → Image → Type 0
+IsReadyToStoreForSome cache its target more_bytes more_items image = IsReadyToStoreSome cache its.handle its.offset its.bytes.now target more_bytes more_items image
 
 -- Before space is made.
 

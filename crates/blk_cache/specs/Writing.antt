@@ -6,7 +6,7 @@ use Rattle.spec_image.specs.Image.{Image}
 use Rattle.blk_model.specs.Effects.{stream_after, stream_of, written}
 use Rattle.blk_model.specs.Items.{is_sparse, main}
 use Rattle.blk_model.specs.Refusals.{first_refusal, no_room, no_stream, refused}
-use Rattle.blk_model.specs.Request.{to_write}
+use Rattle.blk_model.specs.Request.{Request, to_write}
 use Rattle.blk_model.specs.Room.{total}
 use Rattle.blk_model.specs.Sizes.{longest_stream}
 use Rattle.blk_model.specs.State.{IsValidState, Object, State, object_at}
@@ -24,9 +24,16 @@ use Rattle.blk_cache.specs.declared.asking.Asked.{Asked}
 use Rattle.blk_cache.specs.declared.asking.Asked.TheVariants as asked
 use Rattle.blk_cache.specs.declared.asking.NamedStream.{NamedStream}
 use Rattle.blk_cache.specs.declared.cache.Cache.{Cache}
+use Rattle.blk_cache.specs.declared.write.WriteRequest.{WriteRequest}
 use Rattle.blk_cache.specs.Asking.{IsNamedStream}
 use Rattle.blk_cache.specs.CacheKeeping.{KeepsState}
 use Rattle.blk_cache.specs.Creating.{sum_within}
+
+-- The request.
+
+-- a Write as the model has it
+abbrev pub write_of : WriteRequest → Request
+write_of its = to_write its.handle its.stream its.offset its.cut its.bytes.now
 
 -- Refusals.
 
@@ -34,6 +41,10 @@ use Rattle.blk_cache.specs.Creating.{sum_within}
 abbrev pub early_write_refusal : Cache → (handle stream offset count : ℕ) → Option Refusal
 early_write_refusal cache handle stream offset count =
     first_refusal ((is_none (binding_of cache.handles handle), refusal.BadHandle) ∷ (no_stream stream, refusal.BadStream) ∷ (nat_lt (longest_stream cache.limits.max_bytes) (offset + count), refusal.TooLarge) ∷ [])
+
+-- the same of a request
+abbrev pub early_refusal : Cache → WriteRequest → Option Refusal
+early_refusal cache its = early_write_refusal cache its.handle its.stream its.offset (length its.bytes.now)
 
 -- a stream of an object that a handle names is found, and may be written unless there is no space
 pub record MayBeWritten (state : State) (layout : Layout) (moment handle stream offset : ℕ) (cut : Bool) (bytes : List ℕ) (found : NamedStream) : Type 0 where
@@ -68,7 +79,19 @@ pub record IsReadyToWriteSome (cache : Cache) (handle stream offset : ℕ) (cut 
   pub moment : ℕ
   pub ready : IsReadyToWrite cache state moment handle stream offset cut bytes size image
 
+-- the same of a request
+abbrev pub IsReadyToWriteFor : Cache → State → WriteRequest → (size : ℕ) → Image → Type 0
+IsReadyToWriteFor cache state its size image = IsReadyToWrite cache state its.moment its.handle its.stream its.offset its.cut its.bytes.now size image
+
+-- and of some state
+abbrev pub IsReadyToWriteForSome : Cache → WriteRequest → (size : ℕ) → Image → Type 0
+IsReadyToWriteForSome cache its size image = IsReadyToWriteSome cache its.handle its.stream its.offset its.cut its.bytes.now size image
+
 -- The change.
+
+-- a state with the bytes of a request
+abbrev pub state_written : WriteRequest → State → State
+state_written its state = written its.handle its.stream its.offset its.cut its.bytes.now state
 
 -- the object of a handle is dirty, and can get bytes in a stream, which has so many now: where it gets longer, the state with them is within the limit
 pub record CanGetBytes (state : State) (handle stream offset : ℕ) (cut : Bool) (bytes : List ℕ) (size : ℕ) : Type 0 where
@@ -85,6 +108,14 @@ pub record KeepsToWrite (cache : Cache) (handle stream offset : ℕ) (cut : Bool
   pub state : State
   pub kept : KeepsState cache state image
   pub can : CanGetBytes state handle stream offset cut bytes size
+
+-- the same of a request
+abbrev pub CanGetFor : State → WriteRequest → (size : ℕ) → Type 0
+CanGetFor state its size = CanGetBytes state its.handle its.stream its.offset its.cut its.bytes.now size
+
+-- and of some state
+abbrev pub KeepsToWriteFor : Cache → WriteRequest → (size : ℕ) → Image → Type 0
+KeepsToWriteFor cache its size image = KeepsToWrite cache its.handle its.stream its.offset its.cut its.bytes.now size image
 
 -- The use.
 
