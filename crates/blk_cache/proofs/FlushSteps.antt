@@ -20,6 +20,7 @@ use Rattle.law_state.specs.Commands.{Does, ForKept, MayStop, MayStopAtEach}
 use Rattle.law_state.specs.CommandStates.{IsOpened}
 use Rattle.law_state.specs.OneCallLaws.{Names}
 use Rattle.law_state.proofs.CommandEnding.{flush-passes, flushes-settle, passed}
+use Rattle.law_state.proofs.Stopping.{nothing-stops}
 use Rattle.law_state.proofs.WordStops.{cleaning-stops}
 use Rattle.blk_object.specs.RemovingObjects.{FindsEither}
 use Rattle.blk_cache.specs.declared.cache.Cache.{Cache}
@@ -29,6 +30,7 @@ use Rattle.blk_cache.specs.Marking.{ForEachNamed}
 use Rattle.blk_cache.proofs.BoundObjects.{free-of, number-of}
 use Rattle.blk_cache.proofs.Closes.{within-some}
 use Rattle.blk_cache.proofs.DoomSteps.{IsGivenFor}
+use Rattle.blk_cache.proofs.Refusing.{says-kept}
 
 -- ---- refusals
 
@@ -91,19 +93,39 @@ module _ (cache : Cache) (handle : ℕ) (small : handle < 2 ^ 16) (object : Open
         let one : it.object ≡ its = some_inj (sym it.here ∙ ap (object_at state) same ∙ names.here) in
         it.dirty ∙ ap (λ (o : Object). not o.settled) one ∙ ap not settled
 
-  pub flush-idle : (old now : Told) → IfSome (binding_of cache.handles handle) (λ binding. binding.dirty ≡ false → Stays old now) → ForKept (KeepsState cache) old (λ state. FlushesClean state (to_flush handle) → Stays old now)
-  flush-idle old now idle image there state k flushes = subst (λ (o : Option Binding). IfSome o (λ binding. binding.dirty ≡ false → Stays old now)) given.bound idle (is-clean state image k flushes)
+  marks : object.dirty ≡ b.dirty
+  marks = ap (λ (o : OpenObject). o.dirty) given.same
+
+  -- Of the mark that is given only this is used: where it is that of a dirty object, the object is dirty.
+
+  clean-mark : (dirty : Bool) → (dirty ≡ true → object.dirty ≡ true) → b.dirty ≡ false → b.dirty ≡ dirty
+  clean-mark true only clean = sym marks ∙ only refl
+  clean-mark false only clean = clean
+
+  pub flush-idle : {dirty : Bool} (old now : Told) → IfSome (binding_of cache.handles handle) (λ binding. binding.dirty ≡ dirty → Stays old now) → (dirty ≡ true → object.dirty ≡ true) → ForKept (KeepsState cache) old (λ state. FlushesClean state (to_flush handle) → Stays old now)
+  flush-idle {dirty} old now idle only image there state k flushes =
+      subst (λ (o : Option Binding). IfSome o (λ binding. binding.dirty ≡ dirty → Stays old now)) given.bound idle (clean-mark dirty only (is-clean state image k flushes))
 
   pub flush-refused : object.doomed ≡ true → (moment : ℕ) (state : State) (image : Image) (k : KeepsState cache state image) → refused moment (to_flush handle) state ≡ Some refusal.Doomed
   flush-refused dead moment state image k =
       dead-refused state moment handle (number state image k) (it state image k).object (below state image k) (named state image k) (it state image k).here (is-doomed state image k true dead)
 
   module _ (lives : object.doomed ≡ false) (old now : Told) (moment : ℕ) where
-    pub flush-stops : ForSome old.files (λ from. ForEachNamed cache handle from (λ state number object. Passes old now (FindsEither state (marked state number object true)))) → MayStopAtEach (KeepsState cache) old now moment (to_flush handle)
-    flush-stops stops image here state k =
+    -- a word of the old contents, or of those of the clean object
+    cleaned : ForSome old.files (λ from. ForEachNamed cache handle from (λ state number object. Passes old now (FindsEither state (marked state number object true)))) → MayStopAtEach (KeepsState cache) old now moment (to_flush handle)
+    cleaned stops image here state k =
         let may : (i : Image) → FindsEither state (marked state (number state image k) (it state image k).object true) i → MayStop state moment (to_flush handle) i = λ i finds.
         cleaning-stops state moment handle (number state image k) (it state image k).object i k.kept.entries.valid small (opened state image k lives) finds in
         passes_weaker (stops image here state (number state image k) (it state image k).object k (names state image k)) may may
+
+    pub flush-stops : {dirty : Bool} → IfSome (binding_of cache.handles handle) (λ binding. binding.dirty ≡ dirty → Stays old now) → (dirty ≡ true → object.dirty ≡ true) → ForSome old.files (λ from. ForEachNamed cache handle from (λ state number object. Passes old now (FindsEither state (marked state number object (not dirty))))) → MayStopAtEach (KeepsState cache) old now moment (to_flush handle)
+    flush-stops {dirty} idle only stops = by dirty refl where
+      by : (t : Bool) → dirty ≡ t → MayStopAtEach (KeepsState cache) old now moment (to_flush handle)
+      by true e =
+          nothing-stops (KeepsState cache) (says-kept cache) old now moment (to_flush handle)
+          (subst (λ (o : Option Binding). IfSome o (λ binding. binding.dirty ≡ dirty → Stays old now)) given.bound idle (sym marks ∙ only e ∙ sym e))
+      by false e =
+          cleaned (subst (λ (t : Bool). ForSome old.files (λ from. ForEachNamed cache handle from (λ state number object. Passes old now (FindsEither state (marked state number object (not t)))))) e stops)
 
     pub flush-done : (new : Cache) → ForSome old.files (λ from. ForEachNamed cache handle from (λ state number object. ForSome now.files (KeepsState new (marked state number object true)))) → Does (KeepsState cache) (KeepsState new) old now moment (to_flush handle) answer.Done
     flush-done new done image here state k = record {

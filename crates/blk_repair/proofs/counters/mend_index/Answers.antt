@@ -8,12 +8,9 @@ use Rattle.blk_io.specs.declared.folder.FileId.TheVariants as names
 use Rattle.blk_io.proofs.Carried.{carried, silent_part}
 use Rattle.blk_io.proofs.Shorts.{untold_if}
 use Rattle.blk_repair.specs.Counters.{HasIndexWords, counted_words, crash_place, index_steps, index_words_steps}
-use Rattle.blk_repair.proofs.CounterRuns.{counted, counters-different, crash-leads, index-done, index-leads, index-passes}
+use Rattle.blk_repair.proofs.CounterRuns.{counted, crash-leads, index-done, index-leads, index-passes}
 use Rattle.blk_repair.proofs.Progress.{Progress, begun, ended, now_has, stopped, went_on}
 use Rattle.blk_repair.proofs.counters.mend_index.Goals as goal
-
-pub set_words-requires-clause-different : goal.set_words-requires-clause-different
-set_words-requires-clause-different g c = counters-different c.args.items c.args.bytes c.args.this_id
 
 pub returns-in_err-read_exact-clause-untold : goal.returns-in_err-read_exact-clause-untold
 returns-in_err-read_exact-clause-untold g c =

@@ -33,11 +33,11 @@ returns-then-object-clause-stops g c moment = nothing-stops (KeepsState c.args.s
 
 pub returns-in_err-set_dirty-clause-stops : goal.returns-in_err-set_dirty-clause-stops
 returns-in_err-set_dirty-clause-stops g c moment =
-    flush-stops c.args.self.now c.args.handle (omega (arith, c.ranges.handle.fits)) c.in-Some.object (bound-object c.args.self.now.handles c.args.handle c.object.result c.in-Some.object c.object.ensures.object c.in-Some.is) c.if-object.false (g.F.Folder.told c.args.folder.now) (g.F.Folder.told c.set_dirty.new.folder) moment c.in_err-set_dirty.ensures.stops
+    flush-stops c.args.self.now c.args.handle (omega (arith, c.ranges.handle.fits)) c.in-Some.object (bound-object c.args.self.now.handles c.args.handle c.object.result c.in-Some.object c.object.ensures.object c.in-Some.is) c.if-object.false (g.F.Folder.told c.args.folder.now) (g.F.Folder.told c.set_dirty.new.folder) moment c.in_err-set_dirty.ensures.idle (λ e. cc) c.in_err-set_dirty.ensures.stops
 
 pub returns-in_err-set_dirty-clause-idle : goal.returns-in_err-set_dirty-clause-idle
 returns-in_err-set_dirty-clause-idle g c =
-    flush-idle c.args.self.now c.args.handle (omega (arith, c.ranges.handle.fits)) c.in-Some.object (bound-object c.args.self.now.handles c.args.handle c.object.result c.in-Some.object c.object.ensures.object c.in-Some.is) (g.F.Folder.told c.args.folder.now) (g.F.Folder.told c.set_dirty.new.folder) c.in_err-set_dirty.ensures.idle
+    flush-idle c.args.self.now c.args.handle (omega (arith, c.ranges.handle.fits)) c.in-Some.object (bound-object c.args.self.now.handles c.args.handle c.object.result c.in-Some.object c.object.ensures.object c.in-Some.is) (g.F.Folder.told c.args.folder.now) (g.F.Folder.told c.set_dirty.new.folder) c.in_err-set_dirty.ensures.idle (λ e. cc)
 
 pub returns-in_err-set_dirty-clause-untold : goal.returns-in_err-set_dirty-clause-untold
 returns-in_err-set_dirty-clause-untold g c any =
@@ -49,8 +49,8 @@ returns-clause-does g c moment =
 
 pub returns-clause-stops : goal.returns-clause-stops
 returns-clause-stops g c moment =
-    flush-stops c.args.self.now c.args.handle (omega (arith, c.ranges.handle.fits)) c.in-Some.object (bound-object c.args.self.now.handles c.args.handle c.object.result c.in-Some.object c.object.ensures.object c.in-Some.is) c.if-object.false (g.F.Folder.told c.args.folder.now) (g.F.Folder.told c.set_dirty.new.folder) moment c.in_ok-set_dirty.ensures.stops
+    flush-stops c.args.self.now c.args.handle (omega (arith, c.ranges.handle.fits)) c.in-Some.object (bound-object c.args.self.now.handles c.args.handle c.object.result c.in-Some.object c.object.ensures.object c.in-Some.is) c.if-object.false (g.F.Folder.told c.args.folder.now) (g.F.Folder.told c.set_dirty.new.folder) moment c.in_ok-set_dirty.ensures.idle (λ e. cc) c.in_ok-set_dirty.ensures.stops
 
 pub returns-clause-idle : goal.returns-clause-idle
 returns-clause-idle g c =
-    flush-idle c.args.self.now c.args.handle (omega (arith, c.ranges.handle.fits)) c.in-Some.object (bound-object c.args.self.now.handles c.args.handle c.object.result c.in-Some.object c.object.ensures.object c.in-Some.is) (g.F.Folder.told c.args.folder.now) (g.F.Folder.told c.set_dirty.new.folder) c.in_ok-set_dirty.ensures.idle
+    flush-idle c.args.self.now c.args.handle (omega (arith, c.ranges.handle.fits)) c.in-Some.object (bound-object c.args.self.now.handles c.args.handle c.object.result c.in-Some.object c.object.ensures.object c.in-Some.is) (g.F.Folder.told c.args.folder.now) (g.F.Folder.told c.set_dirty.new.folder) c.in_ok-set_dirty.ensures.idle (λ e. cc)
