@@ -3,7 +3,7 @@ ghost use Rattle.std.specs.Prelude.{◌≡◌, ◌≢◌, ◌⊎◌, ◌≤◌, 
 ghost use Rattle.std.specs.List.{All};
 ghost use Rattle.std.specs.Option.{ForSome};
 ghost use Rattle.spec_image.specs.Image.{Block as block, byte};
-ghost use Rattle.spec_image.specs.Told.{Passes, PassesTo, Rises, Stays};
+ghost use Rattle.spec_image.specs.Told.{Passes, PassesTo, Stays, MayWrite, ReadsOnly};
 ghost use Rattle.spec_format.specs.Address.{block_count, external, file_selector, is_address, kind_of, rankings};
 ghost use Rattle.spec_format.specs.BlockFiles.{is_among, most_files};
 ghost use Rattle.spec_format.specs.Headers.{allocations_of, empty_of};
@@ -45,9 +45,7 @@ fn full_damage<F: Folder>(folder: &mut F, files: &BlockFiles, kind: Kind) -> Res
     requires full { All (HasMostBlocks files.now) (files_of files.now (kind_number kind)) }
     ensures full { IfOk result (IsKindFull files.now (kind_number kind) (F.told folder.old)) }
     ensures cause { ForSome (F.told folder.old).files (Agrees files.now) → IfDamaged result (IsKindFull files.now (kind_number kind) (F.told folder.old)) }
-    ensures stays { Stays (F.told folder.old) (F.told folder.new) }
-    ensures later { F.faults folder.old ≤ F.faults folder.new }
-    ensures device { IfDevice result (Rises (F.faults folder.old) (F.faults folder.new)) }
+    ensures reads { ReadsOnly F.told F.faults folder.old folder.new (IfDevice result) }
 {
     let Some(last) = files.file_at(kind, MOST_FILES - 1) else {
         unreachable!();
@@ -89,12 +87,10 @@ fn new_room<F: Folder>(
     ensures standing { KeepsStanding files.old files.new }
     ensures agrees { OnOk result (ForSome (F.told folder.new).files (Agrees files.new)) }
     ensures stops { ForSome (F.told folder.old).files (λ from. Passes (F.told folder.old) (F.told folder.new) (MakesRoomInProgress files.old (kind_number kind) from)) }
-    ensures silent { (F.told folder.old).files ≡ None → (F.told folder.new).files ≡ None }
+    ensures writes { MayWrite F.told F.faults folder.old folder.new (IfDevice result) }
     ensures cause { IfDamaged result (IsKindFull files.old (kind_number kind) (F.told folder.old)) }
     ensures sixty { IfDamaged result (λ _. All (HasMostBlocks files.old) (files_of files.old (kind_number kind)) × (most_files ≤ length (files_of files.old (kind_number kind)))) }
     ensures unwritten { IfDamaged result (λ _. Stays (F.told folder.old) (F.told folder.new)) }
-    ensures later { F.faults folder.old ≤ F.faults folder.new }
-    ensures device { IfDevice result (Rises (F.faults folder.old) (F.faults folder.new)) }
 {
     if let Some(file) = growing_file(files, kind) {
         let place = grow_room(folder, files, kind, file, count)?;
@@ -136,11 +132,9 @@ fn allocate_new<F: Folder, L: Ledger>(
     ensures allocates { IfOk result (λ addr. ForSome (F.told folder.old).files (λ from. AreCounted files.old (kind_number kind) from → ForSome (F.told folder.new).files (λ image. Allocates files.old from addr image × ExtendsAnd taking_of files.old (kind_number kind) from (file_selector addr) image))) }
     ensures agrees { OnOk result (ForSome (F.told folder.new).files (Agrees files.new)) }
     ensures stops { ForSome (F.told folder.old).files (λ from. AreCounted files.old (kind_number kind) from → PassesTo (F.told folder.old) (F.told folder.new) (λ image. ExtendsInProgress files.old (kind_number kind) from image × StaysWhole from image) (λ image. (ExtendsInProgress files.old (kind_number kind) from image ⊎ ExtendsAndAllocates files.old (kind_number kind) count from image) × StaysWhole from image)) }
-    ensures silent { (F.told folder.old).files ≡ None → (F.told folder.new).files ≡ None }
+    ensures writes { MayWrite F.told F.faults folder.old folder.new (IfDevice result) }
     ensures cause { IfDamaged result (IsRefusal files.old files.new (kind_number kind) count (F.told folder.old) (F.told folder.new)) }
     ensures untold { ForSome (F.told folder.old).files (AreCounted files.old (kind_number kind)) → IfDamaged result (λ _. (F.told folder.old).files ≡ None) }
-    ensures later { F.faults folder.old ≤ F.faults folder.new }
-    ensures device { IfDevice result (Rises (F.faults folder.old) (F.faults folder.new)) }
 {
     let room = new_room(folder, files, kind, count)?;
     let groups = (blocks_in(files, room.file) - room.start) / GROUP;
@@ -203,9 +197,7 @@ pub fn allocate_counted<F: Folder, L: Ledger>(
     // Nothing is written where a check of the counters or hints of an existing file fails, or where all files are full.
     ensures cause { IfDamaged result (IsRefusal files.old files.new (kind_number kind) blocks (F.told f.old) (F.told f.new)) }
     ensures untold { ForSome (F.told f.old).files (AreCounted files.old (kind_number kind)) → IfDamaged result (λ _. (F.told f.old).files ≡ None) }
-    ensures silent { (F.told f.old).files ≡ None → (F.told f.new).files ≡ None }
-    ensures later { F.faults f.old ≤ F.faults f.new }
-    ensures device { IfDevice result (Rises (F.faults f.old) (F.faults f.new)) }
+    ensures writes { MayWrite F.told F.faults f.old f.new (IfDevice result) }
 {
     match find(f, files, kind, blocks, steps)? {
         Some(found) => take(f, files, kind, found),
@@ -255,9 +247,7 @@ fn allocate_from<F: Folder, L: Ledger>(
     // Of a failed check of a file that was there, by its counters and hints, and of full files nothing is written.
     ensures cause { IfDamaged result (IsRefusal files.old files.new (kind_number kind) blocks (F.told folder.old) (F.told folder.new)) }
     ensures untold { ForSome (F.told folder.old).files (AreCounted files.old (kind_number kind)) → IfDamaged result (λ _. (F.told folder.old).files ≡ None) }
-    ensures silent { (F.told folder.old).files ≡ None → (F.told folder.new).files ≡ None }
-    ensures later { F.faults folder.old ≤ F.faults folder.new }
-    ensures device { IfDevice result (Rises (F.faults folder.old) (F.faults folder.new)) }
+    ensures writes { MayWrite F.told F.faults folder.old folder.new (IfDevice result) }
 {
     let mut steps = Steps::<L>::start(blank);
     allocate_counted(folder, files, kind, blocks, &mut steps)
@@ -301,9 +291,7 @@ pub fn allocate<F: Folder>(
     // Of a failed check of a file that was there, by its counters and hints, and of full files nothing is written.
     ensures cause { IfDamaged result (IsRefusal files.old files.new (kind_number kind) blocks (F.told f.old) (F.told f.new)) }
     ensures untold { ForSome (F.told f.old).files (AreCounted files.old (kind_number kind)) → IfDamaged result (λ _. (F.told f.old).files ≡ None) }
-    ensures silent { (F.told f.old).files ≡ None → (F.told f.new).files ≡ None }
-    ensures later { F.faults f.old ≤ F.faults f.new }
-    ensures device { IfDevice result (Rises (F.faults f.old) (F.faults f.new)) }
+    ensures writes { MayWrite F.told F.faults f.old f.new (IfDevice result) }
 {
     allocate_from::<F, Brand>(f, files, kind, blocks, Blank::new(1))
 }

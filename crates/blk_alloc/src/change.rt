@@ -2,7 +2,7 @@
 ghost use Rattle.std.specs.Prelude.{◌≡◌, ◌⊎◌, ◌≤◌, ◌<◌, ◌+◌, ◌/◌, ◌%◌, ◌^◌, None, OnOk};
 ghost use Rattle.std.specs.Option.{ForSome};
 ghost use Rattle.spec_image.specs.Image.{Block as block, length_of};
-ghost use Rattle.spec_image.specs.Told.{PassesTo, Rises, Stays};
+ghost use Rattle.spec_image.specs.Told.{PassesTo, Stays, MayWrite};
 ghost use Rattle.spec_format.specs.BlockFiles.{most_blocks};
 ghost use Rattle.spec_format.specs.Maps.{group_size};
 ghost use Rattle.blk_io.specs.Faults.{IfDamaged, IfDevice};
@@ -33,12 +33,10 @@ pub(crate) fn change<F: Folder>(
     requires word { ForSome (F.told folder.old).files (λ image. IsMapWord image file (start / 32) word) }
     ensures changed { OnOk result (ForSome (F.told folder.old).files (λ from. ForSome (F.told folder.new).files (IsChanged from file start count used))) }
     ensures stops { ForSome (F.told folder.old).files (λ from. PassesTo (F.told folder.old) (F.told folder.new) (IsMapInProgress file from) (λ image. IsMapInProgress file from image ⊎ IsChanged from file start count used image)) }
-    ensures silent { (F.told folder.old).files ≡ None → (F.told folder.new).files ≡ None }
+    ensures writes { MayWrite F.told F.faults folder.old folder.new (IfDevice result) }
     ensures cause { IfDamaged result (IsCause (F.told folder.old) file start count used) }
     ensures unwritten { IfDamaged result (λ _. Stays (F.told folder.old) (F.told folder.new)) }
     ensures untold { IfDamaged result (λ _. ForSome (F.told folder.old).files (λ image. CanChangeMarks image file start count used) → (F.told folder.old).files ≡ None) }
-    ensures later { F.faults folder.old ≤ F.faults folder.new }
-    ensures device { IfDevice result (Rises (F.faults folder.old) (F.faults folder.new)) }
 {
     let plan = Plan::read(folder, file, start, count, used, word)?;
     plan.write(folder, file)?;
@@ -60,12 +58,10 @@ pub(crate) fn read_and_change<F: Folder>(
     requires inside { ForSome (F.told folder.old).files (λ image. start + count ≤ most_blocks) }
     ensures changed { OnOk result (ForSome (F.told folder.old).files (λ from. ForSome (F.told folder.new).files (IsChanged from file start count used))) }
     ensures stops { ForSome (F.told folder.old).files (λ from. PassesTo (F.told folder.old) (F.told folder.new) (IsMapInProgress file from) (λ image. IsMapInProgress file from image ⊎ IsChanged from file start count used image)) }
-    ensures silent { (F.told folder.old).files ≡ None → (F.told folder.new).files ≡ None }
+    ensures writes { MayWrite F.told F.faults folder.old folder.new (IfDevice result) }
     ensures cause { IfDamaged result (IsCause (F.told folder.old) file start count used) }
     ensures unwritten { IfDamaged result (λ _. Stays (F.told folder.old) (F.told folder.new)) }
     ensures untold { IfDamaged result (λ _. ForSome (F.told folder.old).files (λ image. CanChangeMarks image file start count used) → (F.told folder.old).files ≡ None) }
-    ensures later { F.faults folder.old ≤ F.faults folder.new }
-    ensures device { IfDevice result (Rises (F.faults folder.old) (F.faults folder.new)) }
 {
     let at = BlockHead::MAP + 4 * u64::from(start / BITS_OF_WORD);
     let mut bytes = [0u8; 4];

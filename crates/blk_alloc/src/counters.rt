@@ -2,7 +2,7 @@
 ghost use Rattle.std.specs.Prelude.{◌≡◌, ◌≤◌, ◌<◌, ◌+◌, ◌-◌, ◌*◌, ℕ, length, slice_index, IfOk};
 ghost use Rattle.std.specs.Option.{ForSome};
 ghost use Rattle.spec_image.specs.Image.{Block as block, byte};
-ghost use Rattle.spec_image.specs.Told.{Stays, Rises};
+ghost use Rattle.spec_image.specs.Told.{ReadsOnly};
 ghost use Rattle.spec_format.specs.Maps.{group_size};
 ghost use Rattle.blk_io.specs.Faults.{IfDamaged, IfDevice, IsShort};
 
@@ -25,9 +25,7 @@ impl Counters {
     pub(crate) fn read<F: Folder>(folder: &mut F, file: u8) -> Result<Counters, Fault>
         ensures counters { IfOk result (λ counters. ForSome (F.told folder.old).files (λ image. AreCounters (byte image (block file)) counters)) }
         ensures short { IfDamaged result (IsShort (F.told folder.old) (FileId.Block file) 0 80) }
-        ensures stays { Stays (F.told folder.old) (F.told folder.new) }
-        ensures later { F.faults folder.old ≤ F.faults folder.new }
-        ensures device { IfDevice result (Rises (F.faults folder.old) (F.faults folder.new)) }
+        ensures reads { ReadsOnly F.told F.faults folder.old folder.new (IfDevice result) }
     {
         let mut bytes = [0u8; BlockHead::LEN];
         read_exact(folder, FileId::Block(file), 0, &mut bytes)?;

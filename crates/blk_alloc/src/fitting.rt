@@ -2,7 +2,7 @@
 ghost use Rattle.std.specs.Prelude.{◌≡◌, ◌≢◌, ◌≤◌, ◌<◌, ◌+◌, ◌*◌, ◌/◌, ◌%◌, ℕ, min, true, None, IfOk, IfSome, length, slice_index};
 ghost use Rattle.std.specs.Option.{ForSome};
 ghost use Rattle.spec_image.specs.Image.{Block as block, byte};
-ghost use Rattle.spec_image.specs.Told.{Stays, Rises};
+ghost use Rattle.spec_image.specs.Told.{ReadsOnly};
 ghost use Rattle.spec_format.specs.Address.{external};
 ghost use Rattle.spec_format.specs.BlockFiles.{is_among, most_blocks};
 ghost use Rattle.spec_format.specs.Headers.{empty_of, hints_of};
@@ -91,9 +91,7 @@ pub(crate) fn find_by_hint<F: Folder, L: Ledger>(
     ensures once { IfOk result (λ found. ForSome (F.told folder.old).files (λ image. found.place.start / group_size ≡ hints_of (byte image (block blocks.file)) i % groups_of (blocks_of files.now blocks.file) → steps.new ≡ steps.old + 1)) }
     ensures cause { IfDamaged result (IsFittingDamage files.now (kind_number kind) (F.told folder.old)) }
     ensures untold { ForSome (F.told folder.old).files (λ image. Agrees files.now image × EmptyAgrees image blocks.file) → IfDamaged result (λ _. (F.told folder.old).files ≡ None) }
-    ensures stays { Stays (F.told folder.old) (F.told folder.new) }
-    ensures later { F.faults folder.old ≤ F.faults folder.new }
-    ensures device { IfDevice result (Rises (F.faults folder.old) (F.faults folder.new)) }
+    ensures reads { ReadsOnly F.told F.faults folder.old folder.new (IfDevice result) }
 {
     let file = blocks.file;
     let count = blocks.count;
@@ -130,9 +128,7 @@ fn find_in_file<F: Folder, L: Ledger>(
     ensures once { IfOk result (λ found. IfSome found (λ x. ForSome (F.told folder.old).files (λ image. x.place.start / group_size ≡ hints_of (byte image (block file)) x.i % groups_of (blocks_of files.now file) → steps.new ≡ steps.old + 1))) }
     ensures cause { IfDamaged result (IsFittingDamage files.now (kind_number kind) (F.told folder.old)) }
     ensures untold { ForSome (F.told folder.old).files (λ image. Agrees files.now image × EmptyAgrees image file) → IfDamaged result (λ _. (F.told folder.old).files ≡ None) }
-    ensures stays { Stays (F.told folder.old) (F.told folder.new) }
-    ensures later { F.faults folder.old ≤ F.faults folder.new }
-    ensures device { IfDevice result (Rises (F.faults folder.old) (F.faults folder.new)) }
+    ensures reads { ReadsOnly F.told F.faults folder.old folder.new (IfDevice result) }
 {
     let counters = Counters::read(folder, file)?;
     let empty = counters.empty;
@@ -167,9 +163,7 @@ pub(crate) fn find<F: Folder, L: Ledger>(
     ensures once { IfOk result (λ found. IfSome found (λ x. ForSome (F.told folder.old).files (λ image. x.place.start / group_size ≡ hints_of (byte image (block x.place.file)) x.i % groups_of (blocks_of files.now x.place.file) → steps.new ≡ steps.old + 1))) }
     ensures cause { IfDamaged result (IsFittingDamage files.now (kind_number kind) (F.told folder.old)) }
     ensures untold { ForSome (F.told folder.old).files (AreCounted files.now (kind_number kind)) → IfDamaged result (λ _. (F.told folder.old).files ≡ None) }
-    ensures stays { Stays (F.told folder.old) (F.told folder.new) }
-    ensures later { F.faults folder.old ≤ F.faults folder.new }
-    ensures device { IfDevice result (Rises (F.faults folder.old) (F.faults folder.new)) }
+    ensures reads { ReadsOnly F.told F.faults folder.old folder.new (IfDevice result) }
 {
     for k in 0..files.count(kind) {
         let Some(file) = files.file_at(kind, k) else {

@@ -1,7 +1,7 @@
 // Blocks are freed.
-ghost use Rattle.std.specs.Prelude.{◌≡◌, ◌≤◌, false, None, IsTrue, OnOk};
+ghost use Rattle.std.specs.Prelude.{◌≡◌, false, None, IsTrue, OnOk};
 ghost use Rattle.std.specs.Option.{ForSome};
-ghost use Rattle.spec_image.specs.Told.{PassesTo, Rises, Stays};
+ghost use Rattle.spec_image.specs.Told.{PassesTo, Stays, MayWrite};
 ghost use Rattle.spec_format.specs.Address.{block_count, file_selector, first_block};
 ghost use Rattle.blk_io.specs.Faults.{IfDamaged, IfDevice};
 ghost use Rattle.blk_disk.specs.Tables.{Agrees, stands_among};
@@ -34,9 +34,7 @@ pub fn free<F: Folder>(f: &mut F, files: &BlockFiles, addr: Addr) -> Result<(), 
     ensures cause { IfDamaged result (IsCause (F.told f.old) (file_selector addr) (first_block addr) (block_count addr) false) }
     ensures unwritten { IfDamaged result (λ _. Stays (F.told f.old) (F.told f.new)) }
     ensures untold { ForSome (F.told f.old).files (λ image. CanBeFreed image addr) → IfDamaged result (λ _. (F.told f.old).files ≡ None) }
-    ensures silent { (F.told f.old).files ≡ None → (F.told f.new).files ≡ None }
-    ensures later { F.faults f.old ≤ F.faults f.new }
-    ensures device { IfDevice result (Rises (F.faults f.old) (F.faults f.new)) }
+    ensures writes { MayWrite F.told F.faults f.old f.new (IfDevice result) }
 {
     let blocks = blocks_of(addr);
     read_and_change(f, blocks.file, blocks.start, blocks.count, false)

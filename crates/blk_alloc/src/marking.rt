@@ -1,7 +1,7 @@
 // Blocks of a file are marked as used.
-ghost use Rattle.std.specs.Prelude.{◌≡◌, ◌≢◌, ◌⊎◌, ◌≤◌, ◌<◌, ◌/◌, true, None, IfOk, OnOk, IsTrue};
+ghost use Rattle.std.specs.Prelude.{◌≡◌, ◌≢◌, ◌⊎◌, ◌<◌, ◌/◌, true, None, IfOk, OnOk, IsTrue};
 ghost use Rattle.std.specs.Option.{ForSome};
-ghost use Rattle.spec_image.specs.Told.{PassesTo, Rises};
+ghost use Rattle.spec_image.specs.Told.{PassesTo, MayWrite};
 ghost use Rattle.spec_format.specs.Address as address;
 ghost use Rattle.spec_format.specs.Address.{external, rankings};
 ghost use Rattle.blk_addr.specs.Kind.{kind_number};
@@ -46,12 +46,10 @@ pub(crate) fn mark<F: Folder>(
 
     // At each word only the length, the map and the counters of the file have changed, it is no shorter, and updating is 1 until the map and the counters are done.
     ensures stops { ForSome (F.told folder.old).files (λ from. CanBeMarked from place → PassesTo (F.told folder.old) (F.told folder.new) (MarksUsedInProgress place.file from) (λ image. MarksUsedInProgress place.file from image ⊎ (MarksUsed files.old from (address.block_word (kind_number kind) place.file place.start place.count) image × KeepsHints from image))) }
-    ensures silent { (F.told folder.old).files ≡ None → (F.told folder.new).files ≡ None }
+    ensures writes { MayWrite F.told F.faults folder.old folder.new (IfDevice result) }
     ensures place { IsPlace files.new (kind_number kind) place.count place }
     ensures cause { IfDamaged result (IsCause (F.told folder.new) place.file place.start place.count true) }
     ensures untold { IfDamaged result (λ _. ForSome (F.told folder.old).files (λ image. CanBeMarked image place) → (F.told folder.old).files ≡ None) }
-    ensures later { F.faults folder.old ≤ F.faults folder.new }
-    ensures device { IfDevice result (Rises (F.faults folder.old) (F.faults folder.new)) }
 {
     files.fit(folder, place.file)?;
     let addr = Addr::of_blocks(kind, place.file, place.start, place.count);

@@ -1,8 +1,8 @@
 // Words of a header are written where they differ.
-ghost use Rattle.std.specs.Prelude.{◌≡◌, ◌⊎◌, ◌+◌, ◌%◌, ◌<◌, ◌≤◌, ◌^◌, None, length, OnOk, OnErr};
+ghost use Rattle.std.specs.Prelude.{◌≡◌, ◌⊎◌, ◌+◌, ◌%◌, ◌<◌, ◌≤◌, ◌^◌, length, OnOk, OnErr};
 ghost use Rattle.std.specs.Option.{ForSome};
 ghost use Rattle.spec_image.specs.Image.{Block as block, HasRange, byte, length_of};
-ghost use Rattle.spec_image.specs.Told.{Rises, Stays};
+ghost use Rattle.spec_image.specs.Told.{Stays, MayWrite};
 ghost use Rattle.spec_format.specs.Address.{header_size};
 ghost use Rattle.spec_format.specs.Headers.{block_fields_length};
 ghost use Rattle.blk_alloc.specs.Mending.{IsPrefixWritten, AreBytesWritten, KeepsLength, PassesNeeded, StandAt};
@@ -28,9 +28,7 @@ pub(crate) fn mend_word<F: Folder>(
     ensures stops { ForSome (F.told folder.old).files (λ from. StandAt (block file) at old.now 4 from → PassesNeeded (F.told folder.old) (F.told folder.new) (λ image. (image ≡ from) ⊎ AreBytesWritten (block file) at new.now 4 from image)) }
     ensures same { old.now ≡ new.now → Stays (F.told folder.old) (F.told folder.new) }
     ensures long { ForSome (F.told folder.old).files (λ from. ForSome (F.told folder.new).files (KeepsLength (block file) from)) }
-    ensures silent { (F.told folder.old).files ≡ None → (F.told folder.new).files ≡ None }
-    ensures later { F.faults folder.old ≤ F.faults folder.new }
-    ensures failed { OnErr result (Rises (F.faults folder.old) (F.faults folder.new)) }
+    ensures writes { MayWrite F.told F.faults folder.old folder.new (OnErr result) }
 {
     if *old == *new {
         return Ok(());
@@ -54,9 +52,7 @@ pub(crate) fn mend<F: Folder>(
     ensures done { OnOk result (ForSome (F.told folder.old).files (λ from. StandAt (block file) at old.now (length old.now) from → ForSome (F.told folder.new).files (AreBytesWritten (block file) at new.now (length new.now) from))) }
     ensures stops { ForSome (F.told folder.old).files (λ from. StandAt (block file) at old.now (length old.now) from → PassesNeeded (F.told folder.old) (F.told folder.new) (IsPrefixWritten (block file) at new.now from)) }
     ensures long { ForSome (F.told folder.old).files (λ from. ForSome (F.told folder.new).files (KeepsLength (block file) from)) }
-    ensures silent { (F.told folder.old).files ≡ None → (F.told folder.new).files ≡ None }
-    ensures later { F.faults folder.old ≤ F.faults folder.new }
-    ensures failed { OnErr result (Rises (F.faults folder.old) (F.faults folder.new)) }
+    ensures writes { MayWrite F.told F.faults folder.old folder.new (OnErr result) }
 {
     for k in 0..new.len() / 4 {
         let i = 4 * k;
@@ -79,9 +75,7 @@ pub(crate) fn mend_counters<F: Folder>(
     ensures done { OnOk result (ForSome (F.told folder.old).files (λ from. HasReadCounters file fields.now from → ForSome (F.told folder.new).files (λ image. HasTheseCounters (byte image (block file)) allocations empty.now))) }
     ensures stops { ForSome (F.told folder.old).files (λ from. HasReadCounters file fields.now from → PassesNeeded (F.told folder.old) (F.told folder.new) (IsCounting file allocations empty.now from)) }
     ensures long { ForSome (F.told folder.old).files (λ from. ForSome (F.told folder.new).files (KeepsLength (block file) from)) }
-    ensures silent { (F.told folder.old).files ≡ None → (F.told folder.new).files ≡ None }
-    ensures later { F.faults folder.old ≤ F.faults folder.new }
-    ensures failed { OnErr result (Rises (F.faults folder.old) (F.faults folder.new)) }
+    ensures writes { MayWrite F.told F.faults folder.old folder.new (OnErr result) }
 {
     let number = &fields[ALLOCATIONS..ALLOCATIONS + 4];
     mend_word(

@@ -3,7 +3,7 @@ ghost use Rattle.std.specs.Prelude.{◌≡◌, ◌≤◌, ◌<◌, ◌+◌, ◌*
 ghost use Rattle.std.specs.Option.{ForSome};
 ghost use Rattle.spec_image.specs.Image.{Block as block, length_of};
 ghost use Rattle.spec_image.specs.Steps.{word_steps};
-ghost use Rattle.spec_image.specs.Told.{Applies, AppliesPrefix, Stays, Rises};
+ghost use Rattle.spec_image.specs.Told.{Applies, AppliesPrefix, Rises, ReadsOnly};
 ghost use Rattle.spec_format.specs.Maps.{group_size};
 ghost use Rattle.blk_io.specs.Faults.{IfDamaged, IfDevice};
 
@@ -48,9 +48,7 @@ impl Plan {
         ensures runs_fit { IfOk result (λ plan. (i : ℕ) → i < 4 → slice_index plan.counters.empty i < 2 ^ 32) }
         ensures cause { IfDamaged result (IsCause (F.told folder.old) file start count used) }
         ensures untold { IfDamaged result (λ _. ForSome (F.told folder.old).files (λ image. CanChangeMarks image file start count used) → (F.told folder.old).files ≡ None) }
-        ensures stays { Stays (F.told folder.old) (F.told folder.new) }
-        ensures later { F.faults folder.old ≤ F.faults folder.new }
-        ensures device { IfDevice result (Rises (F.faults folder.old) (F.faults folder.new)) }
+        ensures reads { ReadsOnly F.told F.faults folder.old folder.new (IfDevice result) }
     {
         let counters = Counters::read(folder, file)?;
         let at = BlockHead::MAP + 4 * u64::from(start / BITS_OF_WORD);

@@ -3,7 +3,7 @@ ghost use Rattle.std.specs.Prelude.{◌≡◌, ℕ, ◌+◌, ◌/◌, ◌<◌, �
 ghost use Rattle.std.specs.Option.{ForSome};
 ghost use Rattle.spec_image.specs.Bytes.{word_bytes};
 ghost use Rattle.spec_image.specs.Image.{Block as block, length_of};
-ghost use Rattle.spec_image.specs.Told.{Rises, Stays};
+ghost use Rattle.spec_image.specs.Told.{Stays, MayWrite};
 ghost use Rattle.spec_format.specs.Address.{header_size};
 ghost use Rattle.spec_format.specs.BlockFiles.{is_among, max_entries_in};
 ghost use Rattle.spec_format.specs.Headers.{block_fields_length, updating_place};
@@ -43,9 +43,7 @@ fn mend_counts<F: Folder>(
     ensures done { OnOk result (ForSome (F.told folder.old).files (λ from. AreCountsRead file groups map.now fields.now from → ForSome (F.told folder.new).files (λ image. HasMarksOf claims.now image file))) }
     ensures stops { ForSome (F.told folder.old).files (λ from. AreCountsRead file groups map.now fields.now from → PassesNeeded (F.told folder.old) (F.told folder.new) (IsMending claims.now file from)) }
     ensures long { ForSome (F.told folder.old).files (λ from. ForSome (F.told folder.new).files (KeepsLength (block file) from)) }
-    ensures silent { (F.told folder.old).files ≡ None → (F.told folder.new).files ≡ None }
-    ensures later { F.faults folder.old ≤ F.faults folder.new }
-    ensures failed { OnErr result (Rises (F.faults folder.old) (F.faults folder.new)) }
+    ensures writes { MayWrite F.told F.faults folder.old folder.new (OnErr result) }
 {
     let mut bytes = [0u8; MAP_LEN];
     mark_claimed(claims, file, &mut bytes);
@@ -70,9 +68,7 @@ fn mend_marks<F: Folder>(
     requires header { ForSome (F.told folder.old).files (λ image. header_size ≤ length_of image (block file)) }
     ensures done { OnOk result (ForSome (F.told folder.old).files (λ from. AreCountsRead file groups map.now fields.now from → StandAt (block file) updating_place (word_bytes 1) 4 from → ForSome (F.told folder.new).files (λ image. IsRebuilt claims.now image file))) }
     ensures stops { ForSome (F.told folder.old).files (λ from. AreCountsRead file groups map.now fields.now from → StandAt (block file) updating_place (word_bytes 1) 4 from → PassesNeeded (F.told folder.old) (F.told folder.new) (IsMendingToEnd claims.now file from)) }
-    ensures silent { (F.told folder.old).files ≡ None → (F.told folder.new).files ≡ None }
-    ensures later { F.faults folder.old ≤ F.faults folder.new }
-    ensures failed { OnErr result (Rises (F.faults folder.old) (F.faults folder.new)) }
+    ensures writes { MayWrite F.told F.faults folder.old folder.new (OnErr result) }
 {
     mend_counts(folder, claims, file, groups, map, fields)?;
     mend_word(
@@ -101,9 +97,7 @@ fn mend_file<F: Folder>(
     ensures done { OnOk result (ForSome (F.told folder.old).files (λ from. groups ≡ groups_of (max_entries_in from file) → AreHeaderBytes from file map.now fields.now → ForSome (F.told folder.new).files (λ image. IsRebuilt claims.now image file))) }
     ensures stops { ForSome (F.told folder.old).files (λ from. groups ≡ groups_of (max_entries_in from file) → AreHeaderBytes from file map.now fields.now → PassesNeeded (F.told folder.old) (F.told folder.new) (RemakesInProgress claims.now file from)) }
     ensures clean { ForSome (F.told folder.old).files (λ from. groups ≡ groups_of (max_entries_in from file) → AreHeaderBytes from file map.now fields.now → IsRebuilt claims.now from file → Stays (F.told folder.old) (F.told folder.new)) }
-    ensures silent { (F.told folder.old).files ≡ None → (F.told folder.new).files ≡ None }
-    ensures later { F.faults folder.old ≤ F.faults folder.new }
-    ensures failed { OnErr result (Rises (F.faults folder.old) (F.faults folder.new)) }
+    ensures writes { MayWrite F.told F.faults folder.old folder.new (OnErr result) }
 {
     let updating = &fields[UPDATING..UPDATING + 4];
     if is_right(claims, file, groups, map, fields) {
@@ -134,9 +128,7 @@ fn remake<F: Folder>(folder: &mut F, claims: &Claims, file: u8, groups: u32) -> 
     ensures clean { ForSome (F.told folder.old).files (λ from. groups ≡ groups_of (max_entries_in from file) → IsRebuilt claims.now from file → Stays (F.told folder.old) (F.told folder.new)) }
     ensures cause { IfDamaged result (IsShortRead (F.told folder.new) file) }
     ensures untold { IfDamaged result (λ _. (F.told folder.old).files ≡ None) }
-    ensures silent { (F.told folder.old).files ≡ None → (F.told folder.new).files ≡ None }
-    ensures later { F.faults folder.old ≤ F.faults folder.new }
-    ensures device { IfDevice result (Rises (F.faults folder.old) (F.faults folder.new)) }
+    ensures writes { MayWrite F.told F.faults folder.old folder.new (IfDevice result) }
 {
     let mut map = [0u8; MAP_LEN];
     read_exact(folder, FileId::Block(file), BlockHead::MAP, &mut map)?;
@@ -165,9 +157,7 @@ fn rebuild_file<F: Folder>(
     ensures clean { ForSome (F.told folder.old).files (λ from. HasItsBlocks files.old file → IsRebuilt claims.now from file → Stays (F.told folder.old) (F.told folder.new)) }
     ensures cause { IfDamaged result (IsShortRead (F.told folder.new) file) }
     ensures untold { IfDamaged result (λ _. (F.told folder.old).files ≡ None) }
-    ensures silent { (F.told folder.old).files ≡ None → (F.told folder.new).files ≡ None }
-    ensures later { F.faults folder.old ≤ F.faults folder.new }
-    ensures device { IfDevice result (Rises (F.faults folder.old) (F.faults folder.new)) }
+    ensures writes { MayWrite F.told F.faults folder.old folder.new (IfDevice result) }
 {
     files.fit(folder, file)?;
     let groups = blocks_in(files, file) / GROUP;
@@ -200,9 +190,7 @@ pub fn rebuild<F: Folder>(f: &mut F, files: &mut BlockFiles, claims: &Claims) ->
 
     ensures cause { IfDamaged result (IsShortReadOf (F.told f.new) (all_files files.old)) }
     ensures untold { IfDamaged result (λ _. (F.told f.old).files ≡ None) }
-    ensures silent { (F.told f.old).files ≡ None → (F.told f.new).files ≡ None }
-    ensures later { F.faults f.old ≤ F.faults f.new }
-    ensures device { IfDevice result (Rises (F.faults f.old) (F.faults f.new)) }
+    ensures writes { MayWrite F.told F.faults f.old f.new (IfDevice result) }
 {
     for number in 0..BLOCK_FILES {
         let file = number as u8;

@@ -2,7 +2,7 @@
 ghost use Rattle.std.specs.Prelude.{◌≡◌, ◌≢◌, ◌≤◌, ◌<◌, ◌+◌, ◌*◌, ◌/◌, ◌%◌, ℕ, true, None, IfOk, IfSome};
 ghost use Rattle.std.specs.Option.{ForSome};
 ghost use Rattle.spec_image.specs.Bytes.{word_bytes};
-ghost use Rattle.spec_image.specs.Told.{Stays, Rises};
+ghost use Rattle.spec_image.specs.Told.{ReadsOnly};
 ghost use Rattle.spec_format.specs.BlockFiles.{is_among};
 ghost use Rattle.spec_format.specs.Maps as maps;
 ghost use Rattle.spec_format.specs.Maps.{group_size, groups_of, is_block_marked};
@@ -88,9 +88,7 @@ pub(crate) fn first_met<F: Folder, L: Ledger>(
     ensures once { IfOk result (λ found. IfSome found (λ group. ForSome (F.told folder.old).files (λ image. 8 * group.number + group.place ≡ hint % groups_of (blocks_of files.now file) → steps.new ≡ steps.old + 1))) }
     ensures cause { IfDamaged result (IsShortSearch files.now file (F.told folder.old)) }
     ensures untold { ForSome (F.told folder.old).files (Agrees files.now) → IfDamaged result (λ _. (F.told folder.old).files ≡ None) }
-    ensures stays { Stays (F.told folder.old) (F.told folder.new) }
-    ensures later { F.faults folder.old ≤ F.faults folder.new }
-    ensures device { IfDevice result (Rises (F.faults folder.old) (F.faults folder.new)) }
+    ensures reads { ReadsOnly F.told F.faults folder.old folder.new (IfDevice result) }
 {
     let Some(blocks) = files.max_entries(file) else {
         unreachable!();

@@ -1,7 +1,7 @@
 // Blocks that were found are taken.
-ghost use Rattle.std.specs.Prelude.{◌≡◌, ◌≢◌, ◌⊎◌, ◌≤◌, ◌<◌, ◌/◌, true, None, IfOk, OnOk, IsTrue};
+ghost use Rattle.std.specs.Prelude.{◌≡◌, ◌≢◌, ◌⊎◌, ◌<◌, ◌/◌, true, None, IfOk, OnOk, IsTrue};
 ghost use Rattle.std.specs.Option.{ForSome};
-ghost use Rattle.spec_image.specs.Told.{PassesTo, Rises};
+ghost use Rattle.spec_image.specs.Told.{PassesTo, MayWrite};
 ghost use Rattle.spec_format.specs.Address as address;
 ghost use Rattle.spec_format.specs.Address.{external, rankings};
 ghost use Rattle.spec_format.specs.Maps.{group_size};
@@ -47,12 +47,10 @@ pub(crate) fn take<F: Folder>(
 
     // At each word only the length, the hint, the map and the counters of the file have changed, it is no shorter, and updating is 1 until the map and the counters are done.
     ensures stops { ForSome (F.told folder.old).files (λ from. CanBeMarked from found.place → PassesTo (F.told folder.old) (F.told folder.new) (MarksUsedInProgress found.place.file from) (λ image. MarksUsedInProgress found.place.file from image ⊎ (MarksUsed files.old from (address.block_word (kind_number kind) found.place.file found.place.start found.place.count) image × HasHintAmong found.place.file found.i (found.place.start / group_size) from image))) }
-    ensures silent { (F.told folder.old).files ≡ None → (F.told folder.new).files ≡ None }
+    ensures writes { MayWrite F.told F.faults folder.old folder.new (IfDevice result) }
     ensures place { IsPlace files.new (kind_number kind) found.place.count found.place }
     ensures cause { IfDamaged result (IsCause (F.told folder.new) found.place.file found.place.start found.place.count true) }
     ensures untold { IfDamaged result (λ _. ForSome (F.told folder.old).files (λ image. CanBeMarked image found.place) → (F.told folder.old).files ≡ None) }
-    ensures later { F.faults folder.old ≤ F.faults folder.new }
-    ensures device { IfDevice result (Rises (F.faults folder.old) (F.faults folder.new)) }
 {
     set_hint(folder, found.place.file, found.i, found.place.start / GROUP)?;
     mark(folder, files, kind, found.place, found.word)

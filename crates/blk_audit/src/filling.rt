@@ -2,7 +2,7 @@
 ghost use Rattle.std.specs.Prelude.{◌≡◌, ◌+◌, ◌*◌, ◌≤◌, ◌<◌, ◌++◌, length, None, OnOk};
 ghost use Rattle.std.specs.Option.{ForSome};
 ghost use Rattle.spec_image.specs.Image.{Block as block, HasRange, byte};
-ghost use Rattle.spec_image.specs.Told.{Rises, Stays};
+ghost use Rattle.spec_image.specs.Told.{ReadsOnly};
 ghost use Rattle.spec_format.specs.Address.{header_size};
 ghost use Rattle.spec_format.specs.Records.{node_size};
 ghost use Rattle.blk_audit.specs.Faults.{IfScanDamaged, IfScanDevice, IsShortOfNodes};
@@ -61,11 +61,9 @@ fn read_piece<F: Folder>(
     requires size { length bytes.old ≡ node_size * count }
     ensures nodes { OnOk result (ForSome (F.told folder.old).files (λ image. nodes.new.items ≡ nodes.old.items ++ nodes_from (byte image (block file)) (header_size + first * node_size) count)) }
     ensures checked { OnOk result (ForSome (F.told folder.old).files (λ image. 0 < count → HasRange image (block file) (header_size + first * node_size) (node_size * count))) }
-    ensures stays { Stays (F.told folder.old) (F.told folder.new) }
+    ensures reads { ReadsOnly F.told F.faults folder.old folder.new (IfScanDevice result) }
     ensures damaged { IfScanDamaged result (IsShortOfNodes (F.told folder.new) file) }
     ensures untold { ForSome (F.told folder.new).files (λ image. HasRange image (block file) (header_size + first * node_size) (node_size * count)) → IfScanDamaged result (λ _. (F.told folder.new).files ≡ None) }
-    ensures later { F.faults folder.old ≤ F.faults folder.new }
-    ensures device { IfScanDevice result (Rises (F.faults folder.old) (F.faults folder.new)) }
 {
     let at = BlockHead::HEADER_LEN + u64::from(first) * NodeView::SIZE as u64;
     read_exact(folder, FileId::Block(file), at, bytes)?;
@@ -83,11 +81,9 @@ pub(crate) fn read_file<F: Folder>(
     requires few { count ≤ 65536 }
     ensures nodes { OnOk result (ForSome (F.told folder.old).files (λ image. nodes.new.items ≡ nodes.old.items ++ nodes_from (byte image (block file)) header_size count)) }
     ensures checked { OnOk result (ForSome (F.told folder.old).files (λ image. 0 < count → HasRange image (block file) header_size (node_size * count))) }
-    ensures stays { Stays (F.told folder.old) (F.told folder.new) }
+    ensures reads { ReadsOnly F.told F.faults folder.old folder.new (IfScanDevice result) }
     ensures damaged { IfScanDamaged result (IsShortOfNodes (F.told folder.new) file) }
     ensures untold { ForSome (F.told folder.new).files (λ image. 0 < count → HasRange image (block file) header_size (node_size * count)) → IfScanDamaged result (λ _. (F.told folder.new).files ≡ None) }
-    ensures later { F.faults folder.old ≤ F.faults folder.new }
-    ensures device { IfScanDevice result (Rises (F.faults folder.old) (F.faults folder.new)) }
 {
     let mut buffer = [0u8; NodeView::SIZE * NODES_OF_PIECE];
     let mut first: u32 = 0;

@@ -2,7 +2,7 @@
 ghost use Rattle.std.specs.Prelude.{◌≡◌, ◌≤◌, ℕ, IfOk, IfSome, IsTrue, MatchOption, None, OnOk, false, length, slice_get};
 ghost use Rattle.std.specs.Option.{ForSome};
 ghost use Rattle.spec_image.specs.Image.{Image};
-ghost use Rattle.spec_image.specs.Told.{Rises, Stays};
+ghost use Rattle.spec_image.specs.Told.{ReadsOnly};
 ghost use Rattle.spec_format.specs.Address.{blocks_256, kind_of};
 ghost use Rattle.blk_io.specs.Faults.{IfDamaged, IfDevice};
 ghost use Rattle.blk_disk.specs.Tables.{Agrees, stands_among};
@@ -64,11 +64,9 @@ impl Lists {
         requires kind { kind_of entry ≡ blocks_256 }
         requires stands { IsTrue (stands_among files.now entry) }
         ensures said { IfOk result (λ said. ForSome (F.told folder.old).files (λ image. AreListsOf image self.now → IsSaidBy image entry said)) }
-        ensures stays { Stays (F.told folder.old) (F.told folder.new) }
+        ensures reads { ReadsOnly F.told F.faults folder.old folder.new (IfDevice result) }
         ensures damaged { IfDamaged result (IsRecordDamage files.now (F.told folder.new)) }
         ensures untold { ForSome (F.told folder.new).files (Agrees files.now) → IfDamaged result (λ _. (F.told folder.new).files ≡ None) }
-        ensures later { F.faults folder.old ≤ F.faults folder.new }
-        ensures device { IfDevice result (Rises (F.faults folder.old) (F.faults folder.new)) }
     {
         record_of(folder, files, &self.records, entry)
     }

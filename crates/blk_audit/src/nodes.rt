@@ -1,7 +1,7 @@
 // The nodes of a folder, as they were read.
-ghost use Rattle.std.specs.Prelude.{◌≡◌, ◌≢◌, ℕ, ◌<◌, ◌≤◌, ◌==◌, if◌then◌else◌, None, Some, IfSome, OnOk, length};
+ghost use Rattle.std.specs.Prelude.{◌≡◌, ◌≢◌, ℕ, ◌<◌, ◌==◌, if◌then◌else◌, None, Some, IfSome, OnOk, length};
 ghost use Rattle.std.specs.Option.{ForSome};
-ghost use Rattle.spec_image.specs.Told.{Rises, Stays};
+ghost use Rattle.spec_image.specs.Told.{ReadsOnly};
 ghost use Rattle.blk_disk.specs.Tables.{Agrees};
 ghost use Rattle.blk_audit.specs.Faults.{IfScanDamaged, IfScanDevice, IsNodesDamage};
 ghost use Rattle.blk_audit.specs.Pieces.{file_numbers};
@@ -62,11 +62,9 @@ impl Nodes {
         ensures others { OnOk result (ForSome (F.told folder.old).files (λ image. (n : ℕ) → n ≢ file → AreNodesFilled files.now image self.old n → AreNodesFilled files.now image self.new n)) }
         ensures counted { OnOk result (CountStands files.now self.new file) }
         ensures others_counted { OnOk result ((n : ℕ) → n ≢ file → CountStands files.now self.old n → CountStands files.now self.new n) }
-        ensures stays { Stays (F.told folder.old) (F.told folder.new) }
+        ensures reads { ReadsOnly F.told F.faults folder.old folder.new (IfScanDevice result) }
         ensures damaged { IfScanDamaged result (IsNodesDamage (F.told folder.new)) }
         ensures untold { ForSome (F.told folder.new).files (Agrees files.now) → IfScanDamaged result (λ _. (F.told folder.new).files ≡ None) }
-        ensures later { F.faults folder.old ≤ F.faults folder.new }
-        ensures device { IfScanDevice result (Rises (F.faults folder.old) (F.faults folder.new)) }
     {
         let count = count_there(files, file);
         let Ok(begin) = u32::try_from(self.nodes.as_slice().len()) else {

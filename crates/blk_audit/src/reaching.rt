@@ -2,7 +2,7 @@
 ghost use Rattle.std.specs.Prelude.{◌≡◌, ◌<◌, ◌≤◌, ◌+◌, ◌++◌, [], ◌∷◌, IfOk, OnOk, None, false, length, slice_get};
 ghost use Rattle.std.specs.Option.{ForSome};
 ghost use Rattle.spec_image.specs.Image.{HasRange, Index as index};
-ghost use Rattle.spec_image.specs.Told.{Rises, Stays};
+ghost use Rattle.spec_image.specs.Told.{ReadsOnly};
 ghost use Rattle.spec_format.specs.Address.{blocks_256, kind_of};
 ghost use Rattle.spec_format.specs.BlockFiles.{is_among};
 ghost use Rattle.spec_format.specs.Headers.{place_of_bucket, table_length};
@@ -163,14 +163,11 @@ pub fn chains<F: Folder>(
     ensures stand { IfOk result (λ reached. RecordsStand files.now (words_reached reached)) }
     ensures ends { IfOk result HasBuckets }
     ensures checked { IfOk result (λ reached. ForSome (F.told folder.old).files (λ image. AreChainsThere files.now image (words_reached reached))) }
-    ensures stays { Stays (F.told folder.old) (F.told folder.new) }
+    ensures reads { ReadsOnly F.told F.faults folder.old folder.new (IfScanDevice result) }
 
     // An observable folder reports corruption only where its index is too short or the block files don't agree with it.
     ensures damaged { IfScanDamaged result (IsChainsDamage files.now (F.told folder.new)) }
     ensures untold { ForSome (F.told folder.old).files (IsOpen files.now) → IfScanDamaged result (λ _. (F.told folder.old).files ≡ None) }
-
-    ensures later { F.faults folder.old ≤ F.faults folder.new }
-    ensures device { IfScanDevice result (Rises (F.faults folder.old) (F.faults folder.new)) }
 {
     let records = read_records(alloc, folder, files, named)?;
     chains_over(alloc, folder, files, &records)
@@ -190,11 +187,9 @@ pub(crate) fn chains_over<F: Folder>(
     ensures stand { IfOk result (λ reached. RecordsStand files.now (words_reached reached)) }
     ensures ends { IfOk result HasBuckets }
     ensures checked { IfOk result (λ reached. ForSome (F.told folder.old).files (λ image. AreChainsThere files.now image (words_reached reached))) }
-    ensures stays { Stays (F.told folder.old) (F.told folder.new) }
+    ensures reads { ReadsOnly F.told F.faults folder.old folder.new (IfScanDevice result) }
     ensures damaged { IfScanDamaged result (IsChainsDamage files.now (F.told folder.new)) }
     ensures untold { ForSome (F.told folder.old).files (IsOpen files.now) → IfScanDamaged result (λ _. (F.told folder.old).files ≡ None) }
-    ensures later { F.faults folder.old ≤ F.faults folder.new }
-    ensures device { IfScanDevice result (Rises (F.faults folder.old) (F.faults folder.new)) }
 {
     let mut reached = Reached::none(alloc);
     for piece in 0..PIECES {
@@ -225,11 +220,9 @@ fn follow_piece<F: Folder>(
     ensures reached { OnOk result (ForSome (F.told folder.old).files (λ image. Agrees files.now image → AreFirstReached (store_of image) (first + buckets_of_piece) reached.new)) }
     ensures stand { OnOk result (RecordsStand files.now (words_reached reached.new)) }
     ensures many { OnOk result (length reached.new.ends.items ≡ first + buckets_of_piece) }
-    ensures stays { Stays (F.told folder.old) (F.told folder.new) }
+    ensures reads { ReadsOnly F.told F.faults folder.old folder.new (IfScanDevice result) }
     ensures damaged { IfScanDamaged result (IsChainsDamage files.now (F.told folder.new)) }
     ensures untold { ForSome (F.told folder.new).files (IsOpen files.now) → IfScanDamaged result (λ _. (F.told folder.new).files ≡ None) }
-    ensures later { F.faults folder.old ≤ F.faults folder.new }
-    ensures device { IfScanDevice result (Rises (F.faults folder.old) (F.faults folder.new)) }
 {
     let mut table = [0u32; BUCKETS_OF_PIECE];
     buckets(folder, first, &mut table)?;
@@ -259,11 +252,9 @@ fn follow_all<F: Folder>(
     ensures reached { OnOk result (ForSome (F.told folder.old).files (λ image. Agrees files.now image → AreFirstReached (store_of image) (first + length table.now) reached.new)) }
     ensures stand { OnOk result (RecordsStand files.now (words_reached reached.new)) }
     ensures many { OnOk result (length reached.new.ends.items ≡ first + length table.now) }
-    ensures stays { Stays (F.told folder.old) (F.told folder.new) }
+    ensures reads { ReadsOnly F.told F.faults folder.old folder.new (IfScanDevice result) }
     ensures damaged { IfScanDamaged result (IsRecordDamage files.now (F.told folder.new)) }
     ensures untold { ForSome (F.told folder.new).files (Agrees files.now) → IfScanDamaged result (λ _. (F.told folder.new).files ≡ None) }
-    ensures later { F.faults folder.old ≤ F.faults folder.new }
-    ensures device { IfScanDevice result (Rises (F.faults folder.old) (F.faults folder.new)) }
 {
     for i in 0..table.len() {
         let bucket = u32::from(first) + i as u32;
@@ -297,11 +288,9 @@ fn follow<F: Folder>(
     ensures end { IfOk result (λ end. ForSome (F.told folder.old).files (λ image. Agrees files.now image → end ≡ (chain_from (store_of image) bucket most_records [] start).end)) }
     ensures stand { OnOk result (RecordsStand files.now (words_reached reached.new)) }
     ensures ends { OnOk result (KeepsEnds reached.old reached.new) }
-    ensures stays { Stays (F.told folder.old) (F.told folder.new) }
+    ensures reads { ReadsOnly F.told F.faults folder.old folder.new (IfScanDevice result) }
     ensures damaged { IfScanDamaged result (IsRecordDamage files.now (F.told folder.new)) }
     ensures untold { ForSome (F.told folder.new).files (Agrees files.now) → IfScanDamaged result (λ _. (F.told folder.new).files ≡ None) }
-    ensures later { F.faults folder.old ≤ F.faults folder.new }
-    ensures device { IfScanDevice result (Rises (F.faults folder.old) (F.faults folder.new)) }
 {
     let mut word = start;
     for i in 0..MOST_RECORDS {
@@ -334,11 +323,9 @@ fn reach<F: Folder>(
     ensures checked { OnOk result (ForSome (F.told folder.old).files (λ image. HasEntry files.now image word)) }
     ensures taken { IfOk result (λ next. ForSome (F.told folder.old).files (λ image. IsStepTaken files.now image (words_reached reached.old) word (words_reached reached.new) next)) }
     ensures step { IfOk result (λ next. ForSome (F.told folder.old).files (λ image. Agrees files.now image → IsReach (store_of image) bucket (words_reached reached.old) word (words_reached reached.new) next)) }
-    ensures stays { Stays (F.told folder.old) (F.told folder.new) }
+    ensures reads { ReadsOnly F.told F.faults folder.old folder.new (IfScanDevice result) }
     ensures damaged { IfScanDamaged result (IsRecordDamage files.now (F.told folder.new)) }
     ensures untold { ForSome (F.told folder.new).files (Agrees files.now) → IfScanDamaged result (λ _. (F.told folder.new).files ≡ None) }
-    ensures later { F.faults folder.old ≤ F.faults folder.new }
-    ensures device { IfScanDevice result (Rises (F.faults folder.old) (F.faults folder.new)) }
 {
     let Some(addr) = files.entry(word) else {
         return Ok(None);

@@ -1,7 +1,7 @@
 // All nodes of a folder.
-ghost use Rattle.std.specs.Prelude.{◌≡◌, ◌≤◌, None, IfOk, OnOk};
+ghost use Rattle.std.specs.Prelude.{◌≡◌, None, IfOk, OnOk};
 ghost use Rattle.std.specs.Option.{ForSome};
-ghost use Rattle.spec_image.specs.Told.{Rises, Stays};
+ghost use Rattle.spec_image.specs.Told.{ReadsOnly};
 ghost use Rattle.blk_audit.specs.Faults.{IfScanDamaged, IfScanDevice, IsNodesDamage};
 ghost use Rattle.blk_disk.specs.Tables.{Agrees};
 ghost use Rattle.blk_audit.specs.Filled.{CountsStand};
@@ -23,11 +23,9 @@ pub(crate) fn read_nodes<F: Folder>(
     ensures nodes { IfOk result (λ nodes. ForSome (F.told folder.old).files (λ image. Agrees files.now image → AreNodesOf image nodes)) }
     ensures checked { OnOk result (ForSome (F.told folder.old).files (HasNodes files.now)) }
     ensures counted { IfOk result (CountsStand files.now) }
-    ensures stays { Stays (F.told folder.old) (F.told folder.new) }
+    ensures reads { ReadsOnly F.told F.faults folder.old folder.new (IfScanDevice result) }
     ensures damaged { IfScanDamaged result (IsNodesDamage (F.told folder.new)) }
     ensures untold { ForSome (F.told folder.old).files (Agrees files.now) → IfScanDamaged result (λ _. (F.told folder.old).files ≡ None) }
-    ensures later { F.faults folder.old ≤ F.faults folder.new }
-    ensures device { IfScanDevice result (Rises (F.faults folder.old) (F.faults folder.new)) }
 {
     let mut nodes = Nodes::none(alloc);
     for n in 0..BLOCK_FILES as u32 {

@@ -4,7 +4,7 @@ ghost use Rattle.std.specs.List.{list_any, range_with_len};
 ghost use Rattle.std.specs.Option.{ForSome};
 ghost use Rattle.spec_image.specs.Bytes.{range_at};
 ghost use Rattle.spec_image.specs.Image.{AreBytes, Block as block, HasRange, Image, byte};
-ghost use Rattle.spec_image.specs.Told.{Rises, Stays};
+ghost use Rattle.spec_image.specs.Told.{ReadsOnly};
 ghost use Rattle.spec_format.specs.Address.{blocks_256, header_size, kind_of};
 ghost use Rattle.spec_format.specs.Claims.{BlockOf};
 ghost use Rattle.spec_format.specs.Records.{entry_size};
@@ -132,11 +132,9 @@ impl Records {
     ) -> Result<(), ScanFault>
         requires inside { first + blocks_of_piece ≤ 65536 }
         ensures records { OnOk result (ForSome (F.told folder.old).files (λ image. AreRecordsOf image self.old → AreRecordsOf image self.new)) }
-        ensures stays { Stays (F.told folder.old) (F.told folder.new) }
+        ensures reads { ReadsOnly F.told F.faults folder.old folder.new (IfScanDevice result) }
         ensures damaged { IfScanDamaged result (IsRecordsDamage (F.told folder.new)) }
         ensures untold { ForSome (F.told folder.new).files (λ image. HasRange image (block file) (header_size + first * record_block_size) piece_length) → IfScanDamaged result (λ _. (F.told folder.new).files ≡ None) }
-        ensures later { F.faults folder.old ≤ F.faults folder.new }
-        ensures device { IfScanDevice result (Rises (F.faults folder.old) (F.faults folder.new)) }
     {
         if !has_named(named, file, first) {
             return Ok(());
@@ -157,11 +155,9 @@ impl Records {
         file: u8,
     ) -> Result<(), ScanFault>
         ensures records { OnOk result (ForSome (F.told folder.old).files (λ image. AreRecordsOf image self.old → AreRecordsOf image self.new)) }
-        ensures stays { Stays (F.told folder.old) (F.told folder.new) }
+        ensures reads { ReadsOnly F.told F.faults folder.old folder.new (IfScanDevice result) }
         ensures damaged { IfScanDamaged result (IsRecordsDamage (F.told folder.new)) }
         ensures untold { ForSome (F.told folder.new).files (Agrees files.now) → IfScanDamaged result (λ _. (F.told folder.new).files ≡ None) }
-        ensures later { F.faults folder.old ≤ F.faults folder.new }
-        ensures device { IfScanDevice result (Rises (F.faults folder.old) (F.faults folder.new)) }
     {
         for piece in 0..PIECES {
             let first = piece * BLOCKS_OF_PIECE;
@@ -191,11 +187,9 @@ pub(crate) fn read_records<F: Folder>(
     named: &Claims,
 ) -> Result<Records, ScanFault>
     ensures records { IfOk result (λ records. ForSome (F.told folder.old).files (λ image. AreRecordsOf image records)) }
-    ensures stays { Stays (F.told folder.old) (F.told folder.new) }
+    ensures reads { ReadsOnly F.told F.faults folder.old folder.new (IfScanDevice result) }
     ensures damaged { IfScanDamaged result (IsRecordsDamage (F.told folder.new)) }
     ensures untold { ForSome (F.told folder.new).files (Agrees files.now) → IfScanDamaged result (λ _. (F.told folder.new).files ≡ None) }
-    ensures later { F.faults folder.old ≤ F.faults folder.new }
-    ensures device { IfScanDevice result (Rises (F.faults folder.old) (F.faults folder.new)) }
 {
     let mut records = Records {
         placed: Vec::new(alloc),
@@ -216,11 +210,9 @@ pub(crate) fn record_of<F: Folder>(
     requires kind { kind_of addr ≡ blocks_256 }
     requires stands { IsTrue (stands_among files.now addr) }
     ensures said { IfOk result (λ said. ForSome (F.told folder.old).files (λ image. AreRecordsOf image records.now → IsSaidBy image addr said)) }
-    ensures stays { Stays (F.told folder.old) (F.told folder.new) }
+    ensures reads { ReadsOnly F.told F.faults folder.old folder.new (IfDevice result) }
     ensures damaged { IfDamaged result (IsRecordDamage files.now (F.told folder.new)) }
     ensures untold { ForSome (F.told folder.new).files (Agrees files.now) → IfDamaged result (λ _. (F.told folder.new).files ≡ None) }
-    ensures later { F.faults folder.old ≤ F.faults folder.new }
-    ensures device { IfDevice result (Rises (F.faults folder.old) (F.faults folder.new)) }
 {
     match records.get(addr) {
         Some(said) => Ok(said),
@@ -237,11 +229,9 @@ fn read_record<F: Folder>(
     requires kind { kind_of addr ≡ blocks_256 }
     requires stands { IsTrue (stands_among files.now addr) }
     ensures said { IfOk result (λ said. ForSome (F.told folder.old).files (λ image. IsSaidBy image addr said)) }
-    ensures stays { Stays (F.told folder.old) (F.told folder.new) }
+    ensures reads { ReadsOnly F.told F.faults folder.old folder.new (IfDevice result) }
     ensures damaged { IfDamaged result (IsRecordDamage files.now (F.told folder.new)) }
     ensures untold { ForSome (F.told folder.new).files (Agrees files.now) → IfDamaged result (λ _. (F.told folder.new).files ≡ None) }
-    ensures later { F.faults folder.old ≤ F.faults folder.new }
-    ensures device { IfDevice result (Rises (F.faults folder.old) (F.faults folder.new)) }
 {
     let words = read_words(folder, files, addr)?;
     Ok(ReadRecord {

@@ -1,7 +1,7 @@
 // The LRU list and the chains of a folder, read together.
-ghost use Rattle.std.specs.Prelude.{◌≡◌, ◌≤◌, None, IfOk};
+ghost use Rattle.std.specs.Prelude.{◌≡◌, None, IfOk};
 ghost use Rattle.std.specs.Option.{ForSome};
-ghost use Rattle.spec_image.specs.Told.{Rises, Stays};
+ghost use Rattle.spec_image.specs.Told.{ReadsOnly};
 ghost use Rattle.spec_format.specs.Headers.{table_length};
 ghost use Rattle.spec_folder.specs.ListImages.{completed_walk};
 ghost use Rattle.spec_folder.specs.View.{store_of};
@@ -55,14 +55,11 @@ pub fn read_lists<F: Folder>(
     ensures checked { IfOk result (λ lists. ForSome (F.told folder.old).files (λ image. HasLruList files.now image × AreChainsThere files.now image (words_reached lists.reached))) }
     ensures lists { IfOk result (λ lists. ForSome (F.told folder.old).files (λ image. Agrees files.now image → AreListsOf image lists)) }
     ensures stand { IfOk result (AreListsAmong files.now) }
-    ensures stays { Stays (F.told folder.old) (F.told folder.new) }
+    ensures reads { ReadsOnly F.told F.faults folder.old folder.new (IfScanDevice result) }
 
     // An observable folder reports corruption only where its index is too short or the block files don't agree with it.
     ensures damaged { IfScanDamaged result (IsListsDamage files.now (F.told folder.new)) }
     ensures untold { ForSome (F.told folder.old).files (IsOpen files.now) → IfScanDamaged result (λ _. (F.told folder.old).files ≡ None) }
-
-    ensures later { F.faults folder.old ≤ F.faults folder.new }
-    ensures device { IfScanDevice result (Rises (F.faults folder.old) (F.faults folder.new)) }
 {
     let nodes = read_nodes(alloc, folder, files)?;
     let walked = walk_over(alloc, folder, files, &nodes)?;

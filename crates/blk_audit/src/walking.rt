@@ -1,7 +1,7 @@
 // The walk of a folder.
-ghost use Rattle.std.specs.Prelude.{◌≡◌, ◌≤◌, None, IfOk, OnOk};
+ghost use Rattle.std.specs.Prelude.{◌≡◌, None, IfOk, OnOk};
 ghost use Rattle.std.specs.Option.{ForSome};
-ghost use Rattle.spec_image.specs.Told.{Rises, Stays};
+ghost use Rattle.spec_image.specs.Told.{ReadsOnly};
 ghost use Rattle.blk_audit.specs.Faults.{IfScanDamaged, IfScanDevice, IsWalkDamage};
 ghost use Rattle.spec_folder.specs.ListImages.{completed_walk};
 ghost use Rattle.blk_disk.specs.Open.{IsOpen};
@@ -35,14 +35,11 @@ pub fn walk<F: Folder>(
     ensures met { IfOk result AreMet }
     ensures stand { IfOk result (λ walked. NodesStand files.now (nodes_walked walked)) }
     ensures checked { OnOk result (ForSome (F.told folder.old).files (HasLruList files.now)) }
-    ensures stays { Stays (F.told folder.old) (F.told folder.new) }
+    ensures reads { ReadsOnly F.told F.faults folder.old folder.new (IfScanDevice result) }
 
     // An observable folder reports corruption only where its index is too short or the block files don't agree with it.
     ensures damaged { IfScanDamaged result (IsWalkDamage files.now (F.told folder.new)) }
     ensures untold { ForSome (F.told folder.old).files (IsOpen files.now) → IfScanDamaged result (λ _. (F.told folder.old).files ≡ None) }
-
-    ensures later { F.faults folder.old ≤ F.faults folder.new }
-    ensures device { IfScanDevice result (Rises (F.faults folder.old) (F.faults folder.new)) }
 {
     let nodes = read_nodes(alloc, folder, files)?;
     walk_over(alloc, folder, files, &nodes)
@@ -61,11 +58,9 @@ pub(crate) fn walk_over<F: Folder>(
     ensures met { IfOk result AreMet }
     ensures stand { IfOk result (λ walked. NodesStand files.now (nodes_walked walked)) }
     ensures checked { OnOk result (ForSome (F.told folder.old).files (HasEnds files.now)) }
-    ensures stays { Stays (F.told folder.old) (F.told folder.new) }
+    ensures reads { ReadsOnly F.told F.faults folder.old folder.new (IfScanDevice result) }
     ensures damaged { IfScanDamaged result (IsWalkDamage files.now (F.told folder.new)) }
     ensures untold { ForSome (F.told folder.old).files (IsOpen files.now) → IfScanDamaged result (λ _. (F.told folder.old).files ≡ None) }
-    ensures later { F.faults folder.old ≤ F.faults folder.new }
-    ensures device { IfScanDevice result (Rises (F.faults folder.old) (F.faults folder.new)) }
 {
     let head = word(folder, IndexHead::HEADS)?;
     let plan = pending(folder, files)?;

@@ -1,7 +1,7 @@
 // A live object is doomed in a folder.
 ghost use Rattle.std.specs.Prelude.{◌≡◌, ◌≤◌, ℕ, IfOk, IfSome, IsTrue, List, None, OnOk, Some, false, length, true};
 ghost use Rattle.std.specs.Option.{ForSome};
-ghost use Rattle.spec_image.specs.Told.{Passes, Rises, Stays};
+ghost use Rattle.spec_image.specs.Told.{Passes, MayWrite, ReadsOnly};
 ghost use Rattle.blk_io.specs.Faults.{IfDamaged, IfDevice};
 ghost use Rattle.blk_model.specs.Effects.{doomed};
 ghost use Rattle.blk_model.specs.Sizes.{longest_key};
@@ -54,11 +54,9 @@ pub fn find_target<F: Folder>(
     ensures stands { IfOk result (λ answer. IfSome answer (λ target. IsTrue (stands_among files.now target.found.entry))) }
     ensures kind_before { IfOk result (λ answer. IfSome answer (λ target. IfSome target.found.before (λ before. kind_of before ≡ blocks_256))) }
     ensures stands_before { IfOk result (λ answer. IfSome answer (λ target. IfSome target.found.before (λ before. IsTrue (stands_among files.now before)))) }
-    ensures stays { Stays (F.told folder.old) (F.told folder.new) }
+    ensures reads { ReadsOnly F.told F.faults folder.old folder.new (IfDevice result) }
     ensures damaged { IfDamaged result (IsLookUpDamage files.now (F.told folder.old) key.now) }
     ensures untold { ForSome (F.told folder.old).files (IsOpen files.now) → ForSome (F.told folder.old).files KeepsSomeState → IfDamaged result (λ _. (F.told folder.old).files ≡ None) }
-    ensures later { F.faults folder.old ≤ F.faults folder.new }
-    ensures device { IfDevice result (Rises (F.faults folder.old) (F.faults folder.new)) }
 {
     let Some(found) = find(folder, files, key, false)? else {
         return Ok(None);
@@ -92,9 +90,7 @@ pub fn doom_named<F: Folder>(
     ensures is_open { ForSome (F.told folder.new).files (IsOpen files.now) }
     ensures damaged { IfDamaged result (IsFailedCheck files.now (F.told folder.new)) }
     ensures untold { ForSome (F.told folder.old).files (λ from. ForEachOpenAt node entry from (λ state layout number object. IfDamaged result (λ _. (F.told folder.old).files ≡ None))) }
-    ensures silent { (F.told folder.old).files ≡ None → (F.told folder.new).files ≡ None }
-    ensures later { F.faults folder.old ≤ F.faults folder.new }
-    ensures device { IfDevice result (Rises (F.faults folder.old) (F.faults folder.new)) }
+    ensures writes { MayWrite F.told F.faults folder.old folder.new (IfDevice result) }
 {
     let named = read_name(folder, files, entry, name)?;
     let (key, buffer) = name.split_at_mut(named.len);
@@ -142,9 +138,7 @@ pub fn doom_target<F: Folder>(
     ensures is_open { ForSome (F.told folder.new).files (IsOpen files.now) }
     ensures damaged { IfDamaged result (IsFailedCheck files.now (F.told folder.new)) }
     ensures untold { ForSome (F.told folder.old).files (λ from. ForEachWithKey is_held key.now target.now from (λ state layout number object. IfDamaged result (λ _. (F.told folder.old).files ≡ None))) }
-    ensures silent { (F.told folder.old).files ≡ None → (F.told folder.new).files ≡ None }
-    ensures later { F.faults folder.old ≤ F.faults folder.new }
-    ensures device { IfDevice result (Rises (F.faults folder.old) (F.faults folder.new)) }
+    ensures writes { MayWrite F.told F.faults folder.old folder.new (IfDevice result) }
 {
     if has_index(target.kind) {
         doom_with_index(folder, files, target, key, buffer, is_held)
@@ -179,9 +173,7 @@ fn doom_without_index<F: Folder>(
     ensures is_open { ForSome (F.told folder.new).files (IsOpen files.now) }
     ensures damaged { IfDamaged result (IsFailedCheck files.now (F.told folder.new)) }
     ensures untold { ForSome (F.told folder.old).files (λ from. ForEachDoomTarget is_held target.now from (λ state layout number object. IfDamaged result (λ _. (F.told folder.old).files ≡ None))) }
-    ensures silent { (F.told folder.old).files ≡ None → (F.told folder.new).files ≡ None }
-    ensures later { F.faults folder.old ≤ F.faults folder.new }
-    ensures device { IfDevice result (Rises (F.faults folder.old) (F.faults folder.new)) }
+    ensures writes { MayWrite F.told F.faults folder.old folder.new (IfDevice result) }
 {
     if is_held {
         doom_plain(folder, files, &target.found, target.node, target.charge)?;
@@ -216,9 +208,7 @@ fn doom_with_index<F: Folder>(
     ensures is_open { ForSome (F.told folder.new).files (IsOpen files.now) }
     ensures damaged { IfDamaged result (IsFailedCheck files.now (F.told folder.new)) }
     ensures untold { ForSome (F.told folder.old).files (λ from. ForEachWithKey is_held key.now target.now from (λ state layout number object. IfDamaged result (λ _. (F.told folder.old).files ≡ None))) }
-    ensures silent { (F.told folder.old).files ≡ None → (F.told folder.new).files ≡ None }
-    ensures later { F.faults folder.old ≤ F.faults folder.new }
-    ensures device { IfDevice result (Rises (F.faults folder.old) (F.faults folder.new)) }
+    ensures writes { MayWrite F.told F.faults folder.old folder.new (IfDevice result) }
 {
     if is_held {
         let charge = target.charge;
@@ -261,9 +251,7 @@ fn remove_with_index<F: Folder>(
     ensures is_open { ForSome (F.told folder.new).files (IsOpen files.now) }
     ensures damaged { IfDamaged result (IsFailedCheck files.now (F.told folder.new)) }
     ensures untold { ForSome (F.told folder.old).files (λ from. ForEachParent key.now node found.now.entry found.now.before from (λ state layout unlinked number object. IfDamaged result (λ _. (F.told folder.old).files ≡ None))) }
-    ensures silent { (F.told folder.old).files ≡ None → (F.told folder.new).files ≡ None }
-    ensures later { F.faults folder.old ≤ F.faults folder.new }
-    ensures device { IfDevice result (Rises (F.faults folder.old) (F.faults folder.new)) }
+    ensures writes { MayWrite F.told F.faults folder.old folder.new (IfDevice result) }
 {
     let owned = read_owned(folder, files, found.entry)?;
     remove_parent_with(folder, files, found, node, key, &owned, buffer, &mut |_| ())

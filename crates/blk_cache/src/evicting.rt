@@ -1,7 +1,7 @@
 // Groups are evicted until there is enough.
-ghost use Rattle.std.specs.Prelude.{◌≡◌, ◌≤◌, ◌+◌, [], ◌∷◌, IfOk, IsTrue, None, OnOk, true};
+ghost use Rattle.std.specs.Prelude.{◌≡◌, ◌+◌, [], ◌∷◌, IfOk, IsTrue, None, OnOk, true};
 ghost use Rattle.std.specs.Option.{ForSome};
-ghost use Rattle.spec_image.specs.Told.{Passes, Rises};
+ghost use Rattle.spec_image.specs.Told.{Passes, MayWrite};
 ghost use Rattle.blk_io.specs.Faults.{IfDamaged, IfDevice};
 ghost use Rattle.blk_io.specs.Streams.{Appends, GoesOn};
 ghost use Rattle.blk_model.specs.Room.{evicted_until, without};
@@ -57,10 +57,8 @@ impl Cache {
 
         // An observable folder reports no corruption where the cache keeps a state, in which these parts are covered.
         ensures untold { ForSome (F.told folder.old).files (KeepsCovered self.old parts.now) → IfDamaged result (λ _. (F.told folder.old).files ≡ None) }
-        ensures silent { (F.told folder.old).files ≡ None → (F.told folder.new).files ≡ None }
-        ensures later { F.faults folder.old ≤ F.faults folder.new }
+        ensures writes { MayWrite F.told F.faults folder.old folder.new (IfDevice result) }
         ensures sink_later { GoesOn K.is K.faults out.old out.new }
-        ensures device { IfDevice result (Rises (F.faults folder.old) (F.faults folder.new)) }
     {
         let before = self.items;
         self.evict_groups(folder, out, failed, goal, parts)?;
@@ -88,10 +86,8 @@ impl Cache {
         ensures is_open { ForSome (F.told folder.new).files (IsOpen self.new.files) }
         ensures damaged { IfDamaged result (IsFailedCheck self.new.files (F.told folder.new)) }
         ensures untold { ForSome (F.told folder.old).files (KeepsCovered self.old parts.now) → IfDamaged result (λ _. (F.told folder.old).files ≡ None) }
-        ensures silent { (F.told folder.old).files ≡ None → (F.told folder.new).files ≡ None }
-        ensures later { F.faults folder.old ≤ F.faults folder.new }
+        ensures writes { MayWrite F.told F.faults folder.old folder.new (IfDevice result) }
         ensures sink_later { GoesOn K.is K.faults out.old out.new }
-        ensures device { IfDevice result (Rises (F.faults folder.old) (F.faults folder.new)) }
     {
         let most = self.items;
         let mut behind = None;
@@ -131,10 +127,8 @@ impl Cache {
         ensures is_open { ForSome (F.told folder.new).files (IsOpen self.new.files) }
         ensures damaged { IfDamaged result (IsFailedCheck self.new.files (F.told folder.new)) }
         ensures untold { ForSome (F.told folder.old).files (KeepsThatMayGo self.old found.now) → IfDamaged result (λ _. (F.told folder.old).files ≡ None) }
-        ensures silent { (F.told folder.old).files ≡ None → (F.told folder.new).files ≡ None }
-        ensures later { F.faults folder.old ≤ F.faults folder.new }
+        ensures writes { MayWrite F.told F.faults folder.old folder.new (IfDevice result) }
         ensures sink_later { GoesOn K.is K.faults out.old out.new }
-        ensures device { IfDevice result (Rises (F.faults folder.old) (F.faults folder.new)) }
     {
         let gone = evict_group(folder, &self.files, &mut self.name, out, failed, found)?;
         self.items = self.items.saturating_sub(gone.items);

@@ -1,7 +1,7 @@
 // The command Flush.
-ghost use Rattle.std.specs.Prelude.{◌≡◌, ◌≤◌, ℕ, IfOk, IfSome, None, Ok};
+ghost use Rattle.std.specs.Prelude.{◌≡◌, ℕ, IfOk, IfSome, None, Ok};
 ghost use Rattle.std.specs.Option.{ForSome};
-ghost use Rattle.spec_image.specs.Told.{Rises, Stays};
+ghost use Rattle.spec_image.specs.Told.{Stays, MayWrite};
 ghost use Rattle.blk_io.specs.Faults.{IfDamaged, IfDevice};
 ghost use Rattle.blk_model.specs.Request.{to_flush};
 ghost use Rattle.blk_model.specs.declared.Answer.TheVariants as answer;
@@ -45,9 +45,7 @@ impl Cache {
 
         // An observable folder reports no corruption where the cache keeps a state.
         ensures untold { ForSome (F.told folder.old).files (KeepsAny self.old) → IfDamaged result (λ _. (F.told folder.old).files ≡ None) }
-        ensures silent { (F.told folder.old).files ≡ None → (F.told folder.new).files ≡ None }
-        ensures later { F.faults folder.old ≤ F.faults folder.new }
-        ensures device { IfDevice result (Rises (F.faults folder.old) (F.faults folder.new)) }
+        ensures writes { MayWrite F.told F.faults folder.old folder.new (IfDevice result) }
     {
         let Some(object) = self.handles.object(handle) else {
             return Ok(Answer::Refused(Refusal::BadHandle));

@@ -1,8 +1,8 @@
 // The command List, and the rows that it shows.
-ghost use Rattle.std.specs.Prelude.{◌≡◌, ◌≤◌, ℕ, IfOk, None, OnOk};
+ghost use Rattle.std.specs.Prelude.{◌≡◌, ℕ, IfOk, None, OnOk};
 ghost use Rattle.std.specs.List.{flat_map};
 ghost use Rattle.std.specs.Option.{ForSome};
-ghost use Rattle.spec_image.specs.Told.{Rises, Stays};
+ghost use Rattle.spec_image.specs.Told.{ReadsOnly};
 ghost use Rattle.blk_io.specs.Faults.{IfDamaged, IfDevice, IsShort};
 ghost use Rattle.blk_io.specs.Streams.{GoesOn};
 ghost use Rattle.blk_io.specs.declared.folder.FileId.TheVariants as names;
@@ -27,15 +27,13 @@ impl Cache {
     /// How many items the LRU list has, by one folder call. Nothing is written, and nothing is refused.
     pub(crate) fn list<F: Folder>(&self, folder: &mut F) -> Result<Answer, Fault>
         ensures does { (moment : ℕ) → IfOk result (λ answer. Does (KeepsState self.now) (KeepsState self.now) (F.told folder.old) (F.told folder.new) moment to_list answer) }
-        ensures stays { Stays (F.told folder.old) (F.told folder.new) }
+        ensures reads { ReadsOnly F.told F.faults folder.old folder.new (IfDevice result) }
         ensures passes { IfOk result (λ given. IsRefused given → ⊥) }
 
         // Too few bytes, which an observable folder doesn't give where the cache keeps a state.
         ensures damaged { IfDamaged result (IsShort (F.told folder.old) names.Index IndexHead.SIZES 4) }
         ensures cause { IfDamaged result (IsFailedCheck self.now.files (F.told folder.new)) }
         ensures untold { ForSome (F.told folder.old).files (KeepsAny self.now) → IfDamaged result (λ _. (F.told folder.old).files ≡ None) }
-        ensures later { F.faults folder.old ≤ F.faults folder.new }
-        ensures device { IfDevice result (Rises (F.faults folder.old) (F.faults folder.new)) }
     {
         let count = word(folder, IndexHead::SIZES)?;
         Ok(Answer::Listed(u64::from(count)))
@@ -56,12 +54,10 @@ impl Cache {
         ensures part { ForKept (KeepsState self.old) (F.told folder.old) (λ state. PrintsInPart failed.old (K.written out.old) (K.written out.new) (flat_map row_line (rows state))) }
         ensures failed { FailsWhereItRose failed.old failed.new (K.faults out.old) (K.faults out.new) }
         ensures others { OnlyRoomChanges self.old self.new }
-        ensures stays { Stays (F.told folder.old) (F.told folder.new) }
+        ensures reads { ReadsOnly F.told F.faults folder.old folder.new (IfDevice result) }
         ensures damaged { IfDamaged result (IsFailedCheck self.new.files (F.told folder.new)) }
         ensures untold { ForSome (F.told folder.old).files (KeepsAny self.old) → IfDamaged result (λ _. (F.told folder.old).files ≡ None) }
-        ensures later { F.faults folder.old ≤ F.faults folder.new }
         ensures later_out { GoesOn K.is K.faults out.old out.new }
-        ensures device { IfDevice result (Rises (F.faults folder.old) (F.faults folder.new)) }
     {
         print_items(folder, &self.files, &mut self.name, out, failed)
     }

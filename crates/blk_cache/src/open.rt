@@ -1,7 +1,7 @@
 // The command Open.
-ghost use Rattle.std.specs.Prelude.{◌≡◌, ◌≤◌, ◌<◌, ◌^◌, IfOk, IfSome, IsTrue, None, Ok, Some, false, slice_set};
+ghost use Rattle.std.specs.Prelude.{◌≡◌, ◌<◌, ◌^◌, IfOk, IfSome, IsTrue, None, Ok, Some, false, slice_set};
 ghost use Rattle.std.specs.Option.{ForSome};
-ghost use Rattle.spec_image.specs.Told.{Rises, Stays};
+ghost use Rattle.spec_image.specs.Told.{Stays, MayWrite};
 ghost use Rattle.blk_io.specs.Faults.{IfDamaged, IfDevice};
 ghost use Rattle.blk_model.specs.Request.{to_open};
 ghost use Rattle.blk_model.specs.Sizes.{handle_names};
@@ -53,9 +53,7 @@ impl Cache {
         ensures damaged { IfDamaged result (IsOpenDamage self.old.files (F.told folder.old) (F.told folder.new) key.now) }
         ensures cause { IfDamaged result (IsFailedCheck self.new.files (F.told folder.new)) }
         ensures untold { ForSome (F.told folder.old).files (KeepsAny self.old) → IfDamaged result (λ _. (F.told folder.old).files ≡ None) }
-        ensures silent { (F.told folder.old).files ≡ None → (F.told folder.new).files ≡ None }
-        ensures later { F.faults folder.old ≤ F.faults folder.new }
-        ensures device { IfDevice result (Rises (F.faults folder.old) (F.faults folder.new)) }
+        ensures writes { MayWrite F.told F.faults folder.old folder.new (IfDevice result) }
     {
         if let Some(why) = self.refuses_open(handle, key) {
             return Ok(Answer::Refused(why));

@@ -1,8 +1,8 @@
 // A folder is opened: it is made or checked, and repaired by what it holds.
-ghost use Rattle.std.specs.Prelude.{◌≡◌, ◌≤◌, IfOk, None, OnOk, Some};
+ghost use Rattle.std.specs.Prelude.{◌≡◌, IfOk, None, OnOk, Some};
 ghost use Rattle.std.specs.Option.{ForSome};
 ghost use Rattle.spec_image.specs.Image.{Index as index, byte};
-ghost use Rattle.spec_image.specs.Told.{Rises, Stays};
+ghost use Rattle.spec_image.specs.Told.{Stays, MayWrite};
 ghost use Rattle.spec_format.specs.BlockFiles.{first_damage, IsWellFormed};
 ghost use Rattle.spec_format.specs.Headers.{HasWholeIndex, IsUnfinished, create_time_of};
 ghost use Rattle.blk_io.specs.Faults.{IfDamaged, IfDevice, damage_of};
@@ -49,9 +49,7 @@ pub(crate) fn open_folder<F: Folder>(
     ensures first { IfOpenDamaged result (λ damage. ForSome (F.told folder.old).files (IsFirstDamage damage)) }
     ensures unwritten { IfOpenDamaged result (λ _. ForSome (F.told folder.old).files (λ _. Stays (F.told folder.old) (F.told folder.new))) }
     ensures memory { IfOpenMemory result (Stays (F.told folder.old) (F.told folder.new)) }
-    ensures silent { (F.told folder.old).files ≡ None → (F.told folder.new).files ≡ None }
-    ensures later { F.faults folder.old ≤ F.faults folder.new }
-    ensures device { IfOpenDevice result (Rises (F.faults folder.old) (F.faults folder.new)) }
+    ensures writes { MayWrite F.told F.faults folder.old folder.new (IfOpenDevice result) }
 {
     match look(folder)? {
         Start::Unfinished => Ok(open_new(alloc, folder, moment)?),
@@ -68,9 +66,7 @@ fn open_new<F: Folder>(alloc: Global, folder: &mut F, moment: u64) -> Result<Ope
     ensures last { OnOk result (ForSome (F.told folder.old).files (λ from. OpensFolder from (F.told folder.old) (F.told folder.new))) }
     ensures damaged { IfDamaged result (IsOpeningDamage (F.told folder.new)) }
     ensures untold { IfDamaged result (λ _. (F.told folder.old).files ≡ None) }
-    ensures silent { (F.told folder.old).files ≡ None → (F.told folder.new).files ≡ None }
-    ensures later { F.faults folder.old ≤ F.faults folder.new }
-    ensures device { IfDevice result (Rises (F.faults folder.old) (F.faults folder.new)) }
+    ensures writes { MayWrite F.told F.faults folder.old folder.new (IfDevice result) }
 {
     make(folder, moment)?;
     open_made(alloc, folder)
@@ -85,9 +81,7 @@ fn open_made<F: Folder>(alloc: Global, folder: &mut F) -> Result<Opened, Fault>
     ensures last { OnOk result (ForSome (F.told folder.old).files (λ from. IsJustMade from → EndsWithCrashWord (F.told folder.old) (F.told folder.new) (IsMidRepair from) (StandsOpened from))) }
     ensures damaged { IfDamaged result (IsOpeningDamage (F.told folder.new)) }
     ensures untold { ForSome (F.told folder.old).files IsJustMade → IfDamaged result (λ _. (F.told folder.old).files ≡ None) }
-    ensures silent { (F.told folder.old).files ≡ None → (F.told folder.new).files ≡ None }
-    ensures later { F.faults folder.old ≤ F.faults folder.new }
-    ensures device { IfDevice result (Rises (F.faults folder.old) (F.faults folder.new)) }
+    ensures writes { MayWrite F.told F.faults folder.old folder.new (IfDevice result) }
 {
     let files = BlockFiles::load(folder)?;
     mend(folder, files, &Scan::empty(alloc))
@@ -104,9 +98,7 @@ fn open_finished<F: Folder>(alloc: Global, folder: &mut F) -> Result<Opened, Ope
     ensures first { IfOpenDamaged result (λ damage. ForSome (F.told folder.old).files (λ from. IsFinished from → first_damage from ≡ Some (damage_of damage))) }
     ensures unwritten { IfOpenDamaged result (λ _. ForSome (F.told folder.old).files (λ from. IsFinished from → Stays (F.told folder.old) (F.told folder.new))) }
     ensures memory { IfOpenMemory result (Stays (F.told folder.old) (F.told folder.new)) }
-    ensures silent { (F.told folder.old).files ≡ None → (F.told folder.new).files ≡ None }
-    ensures later { F.faults folder.old ≤ F.faults folder.new }
-    ensures device { IfOpenDevice result (Rises (F.faults folder.old) (F.faults folder.new)) }
+    ensures writes { MayWrite F.told F.faults folder.old folder.new (IfOpenDevice result) }
 {
     let files = BlockFiles::load(folder)?;
     open_loaded(alloc, folder, files)
@@ -125,9 +117,7 @@ fn open_loaded<F: Folder>(
     ensures damaged { IfOpenDamaged result (IsOpeningDamage (F.told folder.new)) }
     ensures untold { ForSome (F.told folder.old).files IsWellFormed → IfOpenDamaged result (λ _. (F.told folder.old).files ≡ None) }
     ensures memory { IfOpenMemory result (Stays (F.told folder.old) (F.told folder.new)) }
-    ensures silent { (F.told folder.old).files ≡ None → (F.told folder.new).files ≡ None }
-    ensures later { F.faults folder.old ≤ F.faults folder.new }
-    ensures device { IfOpenDevice result (Rises (F.faults folder.old) (F.faults folder.new)) }
+    ensures writes { MayWrite F.told F.faults folder.old folder.new (IfOpenDevice result) }
 {
     let scan = scan_files(alloc, folder, &files)?;
     Ok(mend(folder, files, &scan)?)
@@ -143,9 +133,7 @@ fn mend<F: Folder>(folder: &mut F, files: BlockFiles, scan: &Scan) -> Result<Ope
     ensures last { OnOk result (ForSome (F.told folder.old).files (λ from. IsRepairable scan.now from → EndsWithCrashWord (F.told folder.old) (F.told folder.new) (IsMidRepair from) (StandsOpened from))) }
     ensures damaged { IfDamaged result (IsOpeningDamage (F.told folder.new)) }
     ensures untold { ForSome (F.told folder.old).files (IsRepairable scan.now) → IfDamaged result (λ _. (F.told folder.old).files ≡ None) }
-    ensures silent { (F.told folder.old).files ≡ None → (F.told folder.new).files ≡ None }
-    ensures later { F.faults folder.old ≤ F.faults folder.new }
-    ensures device { IfDevice result (Rises (F.faults folder.old) (F.faults folder.new)) }
+    ensures writes { MayWrite F.told F.faults folder.old folder.new (IfDevice result) }
 {
     let mut files = files;
     repair(folder, &mut files, scan)?;

@@ -1,7 +1,7 @@
 // The command Read.
-ghost use Rattle.std.specs.Prelude.{◌≡◌, ◌≤◌, IfOk, IfSome, IsTrue, None, Ok, false};
+ghost use Rattle.std.specs.Prelude.{◌≡◌, IfOk, IfSome, IsTrue, None, Ok, false};
 ghost use Rattle.std.specs.Option.{ForSome};
-ghost use Rattle.spec_image.specs.Told.{Rises, Stays};
+ghost use Rattle.spec_image.specs.Told.{Stays, MayWrite};
 ghost use Rattle.blk_io.specs.Faults.{IfDamaged, IfDevice};
 ghost use Rattle.blk_model.specs.Request.{to_read};
 ghost use Rattle.blk_model.specs.declared.Answer.TheVariants as answer;
@@ -53,9 +53,7 @@ impl Cache {
         ensures damaged { IfDamaged result (IsCommandReadDamage self.now.handles self.now.files (F.told folder.old) (F.told folder.new) handle) }
         ensures cause { IfDamaged result (IsFailedCheck self.now.files (F.told folder.new)) }
         ensures untold { ForSome (F.told folder.old).files (KeepsAny self.now) → IfDamaged result (λ _. (F.told folder.old).files ≡ None) }
-        ensures silent { (F.told folder.old).files ≡ None → (F.told folder.new).files ≡ None }
-        ensures later { F.faults folder.old ≤ F.faults folder.new }
-        ensures device { IfDevice result (Rises (F.faults folder.old) (F.faults folder.new)) }
+        ensures writes { MayWrite F.told F.faults folder.old folder.new (IfDevice result) }
     {
         let asked = self.ask_stream(folder, handle, stream)?;
         match asked {
@@ -81,9 +79,7 @@ fn use_item<F: Folder>(
     ensures is_open { ForSome (F.told folder.new).files (IsOpen files.now) }
     ensures damaged { IfDamaged result (IsTouchDamage object.now.node files.now (F.told folder.old) (F.told folder.new)) }
     ensures untold { ForSome (F.told folder.old).files (λ image. object.now.doomed ≡ false → IsListed object.now.node image) → IfDamaged result (λ _. (F.told folder.old).files ≡ None) }
-    ensures silent { (F.told folder.old).files ≡ None → (F.told folder.new).files ≡ None }
-    ensures later { F.faults folder.old ≤ F.faults folder.new }
-    ensures device { IfDevice result (Rises (F.faults folder.old) (F.faults folder.new)) }
+    ensures writes { MayWrite F.told F.faults folder.old folder.new (IfDevice result) }
 {
     if object.doomed {
         Ok(())

@@ -1,7 +1,7 @@
 // The bytes of a Read are printed.
-ghost use Rattle.std.specs.Prelude.{◌≡◌, ◌≤◌, ◌<◌, None, OnOk};
+ghost use Rattle.std.specs.Prelude.{◌≡◌, ◌<◌, None, OnOk};
 ghost use Rattle.std.specs.Option.{ForSome};
-ghost use Rattle.spec_image.specs.Told.{Rises, Stays};
+ghost use Rattle.spec_image.specs.Told.{ReadsOnly};
 ghost use Rattle.blk_io.specs.Faults.{IfDamaged, IfDevice};
 ghost use Rattle.blk_io.specs.Streams.{GoesOn};
 ghost use Rattle.blk_object.specs.FailedChecks.{IsFailedCheck};
@@ -32,14 +32,12 @@ impl Cache {
         ensures printed { OnOk result (ForRead self.now (F.told folder.old) handle stream offset number (PrintsUnlessFailed failed.old failed.new (K.written out.old) (K.written out.new))) }
         ensures part { ForRead self.now (F.told folder.old) handle stream offset number (PrintsInPart failed.old (K.written out.old) (K.written out.new)) }
         ensures failed { FailsWhereItRose failed.old failed.new (K.faults out.old) (K.faults out.new) }
-        ensures stays { Stays (F.told folder.old) (F.told folder.new) }
+        ensures reads { ReadsOnly F.told F.faults folder.old folder.new (IfDevice result) }
 
         // An observable folder reports no corruption where the cache keeps a state with so many bytes.
         ensures damaged { IfDamaged result (IsFailedCheck self.now.files (F.told folder.new)) }
         ensures untold { ForSome (F.told folder.old).files (KeepsToRead self.now handle stream offset number) → IfDamaged result (λ _. (F.told folder.old).files ≡ None) }
-        ensures later { F.faults folder.old ≤ F.faults folder.new }
         ensures later_out { GoesOn K.is K.faults out.old out.new }
-        ensures device { IfDevice result (Rises (F.faults folder.old) (F.faults folder.new)) }
     {
         let Some(object) = self.handles.object(handle) else {
             return Ok(());

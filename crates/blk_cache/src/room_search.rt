@@ -1,7 +1,7 @@
 // The last item of the LRU list that isn't pinned.
-ghost use Rattle.std.specs.Prelude.{◌≡◌, ◌≤◌, ◌||◌, IfOk, IfSome, IsTrue, List, None};
+ghost use Rattle.std.specs.Prelude.{◌≡◌, ◌||◌, IfOk, IfSome, IsTrue, List, None};
 ghost use Rattle.std.specs.Option.{ForSome};
-ghost use Rattle.spec_image.specs.Told.{Rises, Stays};
+ghost use Rattle.spec_image.specs.Told.{ReadsOnly};
 ghost use Rattle.blk_io.specs.Faults.{IfDamaged, IfDevice};
 ghost use Rattle.blk_model.specs.Items.{Item};
 ghost use Rattle.blk_model.specs.State.{State};
@@ -42,16 +42,13 @@ impl Cache {
         ensures node_stands { IfOk result (λ found. IfSome found (λ item. IsTrue (is_node_among self.now.files item.node))) }
         ensures record_stands { IfOk result (λ found. IfSome found (λ item. IsTrue (is_record_among self.now.files item.entry))) }
         ensures next_stands { IfOk result (λ found. IfSome found (λ item. IfSome item.behind (λ node. IsTrue (is_node_among self.now.files node)))) }
-        ensures stays { Stays (F.told folder.old) (F.told folder.new) }
+        ensures reads { ReadsOnly F.told F.faults folder.old folder.new (IfDevice result) }
 
         // Corruption is a check that fails on what is read here; nothing is written after it.
         ensures damaged { IfDamaged result (IsFailedCheck self.now.files (F.told folder.new)) }
 
         // An observable folder reports no corruption where the cache keeps a state.
         ensures untold { ForSome (F.told folder.old).files (KeepsPinnedFrom self.now parts.now behind) → IfDamaged result (λ _. (F.told folder.old).files ≡ None) }
-
-        ensures later { F.faults folder.old ≤ F.faults folder.new }
-        ensures device { IfDevice result (Rises (F.faults folder.old) (F.faults folder.new)) }
     {
         let mut behind = behind;
         for _ in 0..MOST_NODES + 1 {

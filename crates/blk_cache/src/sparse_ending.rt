@@ -1,7 +1,7 @@
 // The end of a SparseWrite: its object is dirty, and then the bytes are stored and counted.
 ghost use Rattle.std.specs.Prelude.{◌≡◌, ◌≤◌, ◌<◌, ◌+◌, IfOk, IsSome, None, OnOk, length};
 ghost use Rattle.std.specs.Option.{ForSome};
-ghost use Rattle.spec_image.specs.Told.{Passes, Rises};
+ghost use Rattle.spec_image.specs.Told.{Passes, MayWrite};
 ghost use Rattle.blk_io.specs.Faults.{IfDamaged, IfDevice};
 ghost use Rattle.blk_model.specs.Holding.{rest};
 ghost use Rattle.blk_model.specs.Request.{to_sparse_write};
@@ -57,9 +57,7 @@ impl Cache {
         ensures is_open { OnOk result (ForSome (F.told folder.new).files (IsOpen self.new.files)) }
         ensures damaged { IfDamaged result (IsFailedCheck self.new.files (F.told folder.new)) }
         ensures untold { ForSome (F.told folder.old).files (IsReadyToStoreSome self.old handle offset bytes.now target.now more_bytes more_items) → IfDamaged result (λ _. (F.told folder.old).files ≡ None) }
-        ensures silent { (F.told folder.old).files ≡ None → (F.told folder.new).files ≡ None }
-        ensures later { F.faults folder.old ≤ F.faults folder.new }
-        ensures device { IfDevice result (Rises (F.faults folder.old) (F.faults folder.new)) }
+        ensures writes { MayWrite F.told F.faults folder.old folder.new (IfDevice result) }
     {
         self.set_dirty(folder, handle, true)?;
         self.store_to_dirty(
@@ -98,9 +96,7 @@ impl Cache {
         ensures is_open { OnOk result (ForSome (F.told folder.new).files (IsOpen self.new.files)) }
         ensures damaged { IfDamaged result (IsFailedCheck self.new.files (F.told folder.new)) }
         ensures untold { ForSome (F.told folder.old).files (KeepsToStore self.old handle offset bytes.now target.now more_bytes more_items) → IfDamaged result (λ _. (F.told folder.old).files ≡ None) }
-        ensures silent { (F.told folder.old).files ≡ None → (F.told folder.new).files ≡ None }
-        ensures later { F.faults folder.old ≤ F.faults folder.new }
-        ensures device { IfDevice result (Rises (F.faults folder.old) (F.faults folder.new)) }
+        ensures writes { MayWrite F.told F.faults folder.old folder.new (IfDevice result) }
     {
         let Some(object) = self.handles.object(handle) else {
             unreachable!();

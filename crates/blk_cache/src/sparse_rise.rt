@@ -1,7 +1,7 @@
 // What a SparseWrite adds, measured before space is made for it.
 ghost use Rattle.std.specs.Prelude.{◌≡◌, ◌≤◌, ◌<◌, ◌+◌, ◌^◌, ℕ, IfOk, IsTrue, List, None, length};
 ghost use Rattle.std.specs.Option.{ForSome};
-ghost use Rattle.spec_image.specs.Told.{Rises, Stays};
+ghost use Rattle.spec_image.specs.Told.{ReadsOnly};
 ghost use Rattle.blk_io.specs.Faults.{IfDamaged, IfDevice};
 ghost use Rattle.blk_model.specs.Sizes.{largest_offset, part_size, signatures};
 ghost use Rattle.blk_model.specs.State.{State};
@@ -49,14 +49,12 @@ impl Cache {
 
         // In each state that is kept, where a handle names the object, it is what the bytes raise.
         ensures rises { IfOk result (λ rise. ForSome (F.told folder.old).files (λ image. (state : State) (k : KeepsState self.old state image) (moment handle : ℕ) (bytes : List ℕ) → length bytes ≡ count → IsTargetNamed state k.layout moment handle offset count target.now → IsRise state k.layout moment handle offset bytes rise)) }
-        ensures stays { Stays (F.told folder.old) (F.told folder.new) }
+        ensures reads { ReadsOnly F.told F.faults folder.old folder.new (IfDevice result) }
         ensures others { OnlyRoomChanges self.old self.new }
 
         // Corruption is a check that fails on what is read here. An observable folder gives none where the cache keeps such a state.
         ensures damaged { IfDamaged result (IsFailedCheck self.new.files (F.told folder.new)) }
         ensures untold { ForSome (F.told folder.old).files (λ image. (state : State) (k : KeepsState self.old state image) (moment handle : ℕ) → IsTargetNamed state k.layout moment handle offset count target.now → IfDamaged result (λ _. (F.told folder.old).files ≡ None)) }
-        ensures later { F.faults folder.old ≤ F.faults folder.new }
-        ensures device { IfDevice result (Rises (F.faults folder.old) (F.faults folder.new)) }
     {
         let found = self.measure_parts(folder, target, offset, count)?;
         Ok(rise_of(target, &found))
@@ -78,12 +76,10 @@ impl Cache {
         requires is_open { ForSome (F.told folder.old).files (IsOpen self.old.files) }
         ensures measured { IfOk result (λ found. ForSome (F.told folder.old).files (λ image. (state : State) (k : KeepsState self.old state image) (moment handle : ℕ) → (is : IsTargetNamed state k.layout moment handle offset count target.now) → IsMeasured k.layout (with_signature is.its.object (signature_to target.now)) (signature_to target.now) offset count found)) }
         ensures light { IfOk result (λ found. found.bytes < 2 ^ 36) }
-        ensures stays { Stays (F.told folder.old) (F.told folder.new) }
+        ensures reads { ReadsOnly F.told F.faults folder.old folder.new (IfDevice result) }
         ensures others { OnlyRoomChanges self.old self.new }
         ensures damaged { IfDamaged result (IsFailedCheck self.new.files (F.told folder.new)) }
         ensures untold { ForSome (F.told folder.old).files (λ image. (state : State) (k : KeepsState self.old state image) (moment handle : ℕ) → IsTargetNamed state k.layout moment handle offset count target.now → IfDamaged result (λ _. (F.told folder.old).files ≡ None)) }
-        ensures later { F.faults folder.old ≤ F.faults folder.new }
-        ensures device { IfDevice result (Rises (F.faults folder.old) (F.faults folder.new)) }
     {
         if target.plain {
             return measure_plain(

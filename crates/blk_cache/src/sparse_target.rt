@@ -1,7 +1,7 @@
 // The object that gets sparse data.
-ghost use Rattle.std.specs.Prelude.{◌≡◌, ◌≤◌, IfOk, IfSome, None, Ok, length};
+ghost use Rattle.std.specs.Prelude.{◌≡◌, IfOk, IfSome, None, Ok, length};
 ghost use Rattle.std.specs.Option.{ForSome};
-ghost use Rattle.spec_image.specs.Told.{Rises, Stays};
+ghost use Rattle.spec_image.specs.Told.{ReadsOnly};
 ghost use Rattle.blk_io.specs.Faults.{IfDamaged, IfDevice};
 ghost use Rattle.blk_model.specs.State.{State};
 ghost use Rattle.blk_object.specs.FailedChecks.{IsFailedCheck};
@@ -45,13 +45,11 @@ impl Cache {
 
         // On every folder.
         ensures finds { IfOk result (FindsTarget self.now.files (early_sparse_refusal self.now.handles handle offset (length bytes.now)) offset (length bytes.now)) }
-        ensures stays { Stays (F.told folder.old) (F.told folder.new) }
+        ensures reads { ReadsOnly F.told F.faults folder.old folder.new (IfDevice result) }
 
         // Corruption is a check that fails on what is read here. An observable folder gives none where the cache keeps a state.
         ensures damaged { IfDamaged result (IsFailedCheck self.now.files (F.told folder.new)) }
         ensures untold { ForSome (F.told folder.old).files (KeepsAny self.now) → IfDamaged result (λ _. (F.told folder.old).files ≡ None) }
-        ensures later { F.faults folder.old ≤ F.faults folder.new }
-        ensures device { IfDevice result (Rises (F.faults folder.old) (F.faults folder.new)) }
     {
         let asked = self.ask_sparse(folder, handle, offset, bytes.len() as u64)?;
         Ok(asked_target(asked, moment))

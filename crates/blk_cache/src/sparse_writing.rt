@@ -1,7 +1,7 @@
 // The command SparseWrite.
 ghost use Rattle.std.specs.Prelude.{◌≡◌, ◌≤◌, ◌<◌, ◌+◌, ◌^◌, ℕ, [], IfOk, IfSome, IsSome, IsTrue, None, Ok, OnOk, length};
 ghost use Rattle.std.specs.Option.{ForSome};
-ghost use Rattle.spec_image.specs.Told.{Rises, Stays};
+ghost use Rattle.spec_image.specs.Told.{Stays, MayWrite};
 ghost use Rattle.blk_io.specs.Faults.{IfDamaged, IfDevice};
 ghost use Rattle.blk_io.specs.Streams.{GoesOn};
 ghost use Rattle.blk_model.specs.Request.{to_sparse_write};
@@ -72,10 +72,8 @@ impl Cache {
         // Corruption is a check that fails on what is read here; nothing is written after it. An observable folder gives none where the cache keeps a state.
         ensures damaged { IfDamaged result (IsFailedCheck self.new.files (F.told folder.new)) }
         ensures untold { ForSome (F.told folder.old).files (KeepsAny self.old) → IfDamaged result (λ _. (F.told folder.old).files ≡ None) }
-        ensures silent { (F.told folder.old).files ≡ None → (F.told folder.new).files ≡ None }
-        ensures later { F.faults folder.old ≤ F.faults folder.new }
+        ensures writes { MayWrite F.told F.faults folder.old folder.new (IfDevice result) }
         ensures sink_later { GoesOn K.is K.faults out.old out.new }
-        ensures device { IfDevice result (Rises (F.faults folder.old) (F.faults folder.new)) }
     {
         let asked = self.ask_target(folder, handle, offset, bytes, moment)?;
         match asked {
@@ -124,10 +122,8 @@ impl Cache {
         ensures mark { self.new.mark ≡ self.old.mark }
         ensures damaged { IfDamaged result (IsFailedCheck self.new.files (F.told folder.new)) }
         ensures untold { NamesTarget self.old (F.told folder.old) moment handle offset (length bytes.now) target.now → ForSome (F.told folder.old).files (KeepsAny self.old) → IfDamaged result (λ _. (F.told folder.old).files ≡ None) }
-        ensures silent { (F.told folder.old).files ≡ None → (F.told folder.new).files ≡ None }
-        ensures later { F.faults folder.old ≤ F.faults folder.new }
+        ensures writes { MayWrite F.told F.faults folder.old folder.new (IfDevice result) }
         ensures sink_later { GoesOn K.is K.faults out.old out.new }
-        ensures device { IfDevice result (Rises (F.faults folder.old) (F.faults folder.new)) }
     {
         if bytes.is_empty() {
             return self.use_target(folder, target, moment);
@@ -174,10 +170,8 @@ impl Cache {
         ensures mark { self.new.mark ≡ self.old.mark }
         ensures damaged { IfDamaged result (IsFailedCheck self.new.files (F.told folder.new)) }
         ensures untold { NamesTarget self.old (F.told folder.old) moment handle offset (length bytes.now) target.now → ForSome (F.told folder.old).files (KeepsAny self.old) → IfDamaged result (λ _. (F.told folder.old).files ≡ None) }
-        ensures silent { (F.told folder.old).files ≡ None → (F.told folder.new).files ≡ None }
-        ensures later { F.faults folder.old ≤ F.faults folder.new }
+        ensures writes { MayWrite F.told F.faults folder.old folder.new (IfDevice result) }
         ensures sink_later { GoesOn K.is K.faults out.old out.new }
-        ensures device { IfDevice result (Rises (F.faults folder.old) (F.faults folder.new)) }
     {
         let rise = self.measure_rise(folder, target, offset, bytes.len() as u64)?;
         self.write_where_room(
@@ -225,10 +219,8 @@ impl Cache {
         ensures mark { self.new.mark ≡ self.old.mark }
         ensures damaged { IfDamaged result (IsFailedCheck self.new.files (F.told folder.new)) }
         ensures untold { AsksToStore self.old (F.told folder.old) moment handle offset bytes.now target.now rise.now → ForSome (F.told folder.old).files (KeepsAny self.old) → IfDamaged result (λ _. (F.told folder.old).files ≡ None) }
-        ensures silent { (F.told folder.old).files ≡ None → (F.told folder.new).files ≡ None }
-        ensures later { F.faults folder.old ≤ F.faults folder.new }
+        ensures writes { MayWrite F.told F.faults folder.old folder.new (IfDevice result) }
         ensures sink_later { GoesOn K.is K.faults out.old out.new }
-        ensures device { IfDevice result (Rises (F.faults folder.old) (F.faults folder.new)) }
     {
         if self.is_full(rise.bytes, rise.items, &rise.parts) {
             return Ok(Answer::Refused(Refusal::Full));
@@ -278,10 +270,8 @@ impl Cache {
         ensures mark { self.new.mark ≡ self.old.mark }
         ensures damaged { IfDamaged result (IsFailedCheck self.new.files (F.told folder.new)) }
         ensures untold { HasRoomToStore self.old (F.told folder.old) moment handle offset bytes.now target.now rise.now → ForSome (F.told folder.old).files (KeepsAny self.old) → IfDamaged result (λ _. (F.told folder.old).files ≡ None) }
-        ensures silent { (F.told folder.old).files ≡ None → (F.told folder.new).files ≡ None }
-        ensures later { F.faults folder.old ≤ F.faults folder.new }
+        ensures writes { MayWrite F.told F.faults folder.old folder.new (IfDevice result) }
         ensures sink_later { GoesOn K.is K.faults out.old out.new }
-        ensures device { IfDevice result (Rises (F.faults folder.old) (F.faults folder.new)) }
     {
         // That what is kept is within the limits of its types is known once it is read.
         let _bytes = self.kept_bytes();
@@ -314,9 +304,7 @@ impl Cache {
         ensures is_open { ForSome (F.told folder.new).files (IsOpen self.now.files) }
         ensures damaged { IfDamaged result (IsFailedCheck self.now.files (F.told folder.new)) }
         ensures untold { (handle offset : ℕ) → NamesTarget self.now (F.told folder.old) moment handle offset 0 target.now → ForSome (F.told folder.old).files (KeepsAny self.now) → IfDamaged result (λ _. (F.told folder.old).files ≡ None) }
-        ensures silent { (F.told folder.old).files ≡ None → (F.told folder.new).files ≡ None }
-        ensures later { F.faults folder.old ≤ F.faults folder.new }
-        ensures device { IfDevice result (Rises (F.faults folder.old) (F.faults folder.new)) }
+        ensures writes { MayWrite F.told F.faults folder.old folder.new (IfDevice result) }
     {
         touch(folder, &self.files, target.parent.node, moment)?;
         Ok(Answer::Wrote(0))

@@ -1,8 +1,8 @@
 // A cache is opened.
-ghost use Rattle.std.specs.Prelude.{◌≡◌, ◌≤◌, IfOk, None, OnOk};
+ghost use Rattle.std.specs.Prelude.{◌≡◌, IfOk, OnOk};
 ghost use Rattle.std.specs.Option.{ForSome};
 ghost use Rattle.spec_image.specs.Image.{Index as index, byte};
-ghost use Rattle.spec_image.specs.Told.{Rises, Stays};
+ghost use Rattle.spec_image.specs.Told.{Stays, MayWrite};
 ghost use Rattle.blk_model.specs.Bounds.{bounds_of};
 ghost use Rattle.blk_model.specs.Holding.{open_state};
 ghost use Rattle.spec_format.specs.Headers.{IsUnfinished, this_id_of};
@@ -58,9 +58,7 @@ impl Cache {
         ensures unwritten { IfOpenDamaged result (λ _. ForSome (F.told f.old).files (λ _. Stays (F.told f.old) (F.told f.new))) }
         ensures memory { IfOpenMemory result (Stays (F.told f.old) (F.told f.new)) }
 
-        ensures silent { (F.told f.old).files ≡ None → (F.told f.new).files ≡ None }
-        ensures later { F.faults f.old ≤ F.faults f.new }
-        ensures device { IfOpenDevice result (Rises (F.faults f.old) (F.faults f.new)) }
+        ensures writes { MayWrite F.told F.faults f.old f.new (IfOpenDevice result) }
     {
         let names = take_memory(alloc)?;
         let opened = open_folder(alloc, f, moment)?;

@@ -1,7 +1,7 @@
 // The command Trim.
-ghost use Rattle.std.specs.Prelude.{◌≡◌, ◌≤◌, ℕ, IfOk, None, OnOk};
+ghost use Rattle.std.specs.Prelude.{◌≡◌, ℕ, IfOk, None, OnOk};
 ghost use Rattle.std.specs.Option.{ForSome};
-ghost use Rattle.spec_image.specs.Told.{Rises};
+ghost use Rattle.spec_image.specs.Told.{MayWrite};
 ghost use Rattle.blk_io.specs.Faults.{IfDamaged, IfDevice};
 ghost use Rattle.blk_io.specs.Streams.{GoesOn};
 ghost use Rattle.blk_model.specs.Request.{to_trim};
@@ -50,10 +50,8 @@ impl Cache {
 
         // An observable folder reports no corruption where the cache keeps a state.
         ensures untold { ForSome (F.told folder.old).files (KeepsAny self.old) → IfDamaged result (λ _. (F.told folder.old).files ≡ None) }
-        ensures silent { (F.told folder.old).files ≡ None → (F.told folder.new).files ≡ None }
-        ensures later { F.faults folder.old ≤ F.faults folder.new }
+        ensures writes { MayWrite F.told F.faults folder.old folder.new (IfDevice result) }
         ensures sink_later { GoesOn K.is K.faults out.old out.new }
-        ensures device { IfDevice result (Rises (F.faults folder.old) (F.faults folder.new)) }
     {
         let count = self.evict_until(folder, out, failed, &Goal::Bytes(bytes), &Covered::none())?;
         Ok(Answer::Trimmed(count))

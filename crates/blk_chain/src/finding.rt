@@ -1,8 +1,8 @@
 // Records that are found by their keys.
-ghost use Rattle.std.specs.Prelude.{◌≡◌, ◌≢◌, ◌↔◌, ◌≤◌, IfOk, IfSome, IsOk, IsTrue, None, OnOk, true, length};
+ghost use Rattle.std.specs.Prelude.{◌≡◌, ◌≢◌, ◌↔◌, IfOk, IfSome, IsOk, IsTrue, None, OnOk, true, length};
 ghost use Rattle.std.specs.Option.{ForSome};
 ghost use Rattle.spec_image.specs.Image.{HasRange, Index as index};
-ghost use Rattle.spec_image.specs.Told.{Rises, Stays};
+ghost use Rattle.spec_image.specs.Told.{ReadsOnly};
 ghost use Rattle.spec_format.specs.Address.{blocks_256, kind_of};
 ghost use Rattle.spec_format.specs.Hash.{hash as hash_of};
 ghost use Rattle.spec_format.specs.Headers.{HasWholeIndex, place_of_bucket};
@@ -77,14 +77,11 @@ pub fn find<F: Folder>(
     ensures kind_before { IfOk result (λ answer. IfSome answer (λ found. IfSome found.before (λ before. kind_of before ≡ blocks_256))) }
     ensures stands_before { IfOk result (λ answer. IfSome answer (λ found. IfSome found.before (λ before. IsTrue (stands_among files.now before)))) }
     ensures linked { IfOk result (λ answer. IfSome answer (λ found. ForSome (F.told f.old).files (λ image. CanBeSearched key.now image → CanBeUnlinked found.entry found.before image))) }
-    ensures stays { Stays (F.told f.old) (F.told f.new) }
+    ensures reads { ReadsOnly F.told F.faults f.old f.new (IfDevice result) }
 
     // An observable folder reports corruption only for a chain that can't be searched.
     ensures damaged { IfDamaged result (IsSearchDamage files.now (F.told f.old) key.now child) }
     ensures untold { ForSome (F.told f.old).files HasWholeIndex → ForSome (F.told f.old).files (Agrees files.now) → ForSome (F.told f.old).files (CanBeSearched key.now) → IfDamaged result (λ _. (F.told f.old).files ≡ None) }
-
-    ensures later { F.faults f.old ≤ F.faults f.new }
-    ensures device { IfDevice result (Rises (F.faults f.old) (F.faults f.new)) }
 {
     let hash = super_fast_hash(key);
     let word = bucket(f, (hash % IndexHead::BUCKETS) as u16)?;
@@ -112,11 +109,9 @@ fn search<F: Folder>(
     ensures kind_before { IfOk result (λ answer. IfSome answer (λ found. IfSome found.before (λ before. kind_of before ≡ blocks_256))) }
     ensures stands_before { IfOk result (λ answer. IfSome answer (λ found. IfSome found.before (λ before. IsTrue (stands_among files.now before)))) }
     ensures linked { IfOk result (λ answer. IfSome answer (λ found. ForSome (F.told folder.old).files (λ image. CanBeSearched key.now image → CanBeUnlinked found.entry found.before image))) }
-    ensures stays { Stays (F.told folder.old) (F.told folder.new) }
+    ensures reads { ReadsOnly F.told F.faults folder.old folder.new (IfDevice result) }
     ensures damaged { IfDamaged result (IsChainDamage files.now (F.told folder.old) key.now sought.now.child) }
     ensures untold { ForSome (F.told folder.old).files (Agrees files.now) → ForSome (F.told folder.old).files (CanBeSearched key.now) → IfDamaged result (λ _. (F.told folder.old).files ≡ None) }
-    ensures later { F.faults folder.old ≤ F.faults folder.new }
-    ensures device { IfDevice result (Rises (F.faults folder.old) (F.faults folder.new)) }
 {
     let mut link = front;
     let mut left = MOST_RECORDS;
@@ -152,11 +147,9 @@ fn look_at<F: Folder>(
     requires named_before { StandsBefore files.now link.now.before }
     ensures step { IfOk result (λ step. ForSome (F.told folder.old).files (IsSearchStep files.now key.now sought.now.child link.now.word step)) }
     ensures stands { IfOk result (IsStepAt files.now link.now.word) }
-    ensures stays { Stays (F.told folder.old) (F.told folder.new) }
+    ensures reads { ReadsOnly F.told F.faults folder.old folder.new (IfDevice result) }
     ensures damaged { IfDamaged result (IsChainDamage files.now (F.told folder.old) key.now sought.now.child) }
     ensures untold { ForSome (F.told folder.old).files (Agrees files.now) → ForSome (F.told folder.old).files (IsKeyed link.now.word) → IfDamaged result (λ _. (F.told folder.old).files ≡ None) }
-    ensures later { F.faults folder.old ≤ F.faults folder.new }
-    ensures device { IfDevice result (Rises (F.faults folder.old) (F.faults folder.new)) }
 {
     let entry = record_of(files, sought.hash, link)?;
     let head = read_head(folder, files, entry)?;
@@ -183,11 +176,9 @@ fn is_sought<F: Folder>(
     requires stands { IsTrue (stands_among files.now entry) }
     requires head { ForSome (F.told folder.old).files (λ image. IsRecordHead image entry head.now) }
     ensures sought { IfOk result (λ same. ForSome (F.told folder.old).files (λ image. IsTrue same ↔ IsSought key.now sought.now.child entry image)) }
-    ensures stays { Stays (F.told folder.old) (F.told folder.new) }
+    ensures reads { ReadsOnly F.told F.faults folder.old folder.new (IfDevice result) }
     ensures damaged { IfDamaged result (IsPlaceDamage files.now (F.told folder.old) entry (length key.now) head.now.long_key) }
     ensures untold { ForSome (F.told folder.old).files (CanBeRead files.now entry) → IfDamaged result (λ _. (F.told folder.old).files ≡ None) }
-    ensures later { F.faults folder.old ≤ F.faults folder.new }
-    ensures device { IfDevice result (Rises (F.faults folder.old) (F.faults folder.new)) }
 {
     if head.hash != sought.hash {
         return Ok(false);

@@ -5,7 +5,7 @@ ghost use Rattle.spec_image.specs.Bytes.{range_at};
 ghost use Rattle.spec_image.specs.Image.{Block as block, HasRange, byte};
 ghost use Rattle.spec_image.specs.Steps.{words};
 ghost use Rattle.spec_image.specs.Footprint.{SameOutside, range};
-ghost use Rattle.spec_image.specs.Told.{Applies, AppliesPrefix, Passes, Rises, Stays};
+ghost use Rattle.spec_image.specs.Told.{Applies, AppliesPrefix, Passes, Rises, ReadsOnly};
 ghost use Rattle.spec_format.specs.Address.{file_selector, place, byte_size};
 ghost use Rattle.blk_io.specs.Faults.{IfDamaged, IfDevice, IsShort};
 ghost use Rattle.blk_disk.specs.Tables.{Agrees, stands_among};
@@ -32,14 +32,11 @@ impl BlockFiles {
         requires inside { at + length out.old ≤ byte_size addr }
         ensures bytes { OnOk result (ForSome (F.told f.old).files (λ image. out.new ≡ range_at (byte image (block (file_selector addr))) (place addr + at) (length out.old))) }
         ensures checked { OnOk result (ForSome (F.told f.old).files (λ image. HasRange image (block (file_selector addr)) (place addr + at) (length out.old) ⊎ (length out.old ≡ 0))) }
-        ensures stays { Stays (F.told f.old) (F.told f.new) }
+        ensures reads { ReadsOnly F.told F.faults f.old f.new (IfDevice result) }
 
         // Too few bytes, which an observable folder gives only where the block files don't agree with it.
         ensures short { IfDamaged result (IsShort (F.told f.old) (FileId.Block (file_selector addr)) (place addr + at) (length out.old)) }
         ensures untold { ForSome (F.told f.old).files (Agrees self.now) → IfDamaged result (λ _. (F.told f.old).files ≡ None) }
-
-        ensures later { F.faults f.old ≤ F.faults f.new }
-        ensures device { IfDevice result (Rises (F.faults f.old) (F.faults f.new)) }
     {
         read_exact(f, file_of(addr), place_of(addr) + u64::from(at), out)
     }

@@ -4,7 +4,7 @@ ghost use Rattle.std.specs.Option.{ForSome, option_map};
 ghost use Rattle.spec_image.specs.Bytes.{content, word_at};
 ghost use Rattle.spec_image.specs.Checks.{first_of};
 ghost use Rattle.spec_image.specs.Image.{Block as block_file};
-ghost use Rattle.spec_image.specs.Told.{Stays, Rises};
+ghost use Rattle.spec_image.specs.Told.{ReadsOnly};
 ghost use Rattle.spec_format.specs.Address as address;
 ghost use Rattle.spec_format.specs.Address.{external};
 ghost use Rattle.spec_format.specs.BlockFiles as block_files;
@@ -82,9 +82,7 @@ impl BlockFiles {
         ensures count { IfOk result (λ head. IsTrue (block_files.is_block_count head.blocks)) }
         ensures read { ForSome (F.told folder.old).files (λ image. ReadsAs self.now image (kind_number kind) n result) }
         ensures cause { IfDamaged result (IsHeaderDamage (F.told folder.old) self.now (kind_number kind) n) }
-        ensures stays { Stays (F.told folder.old) (F.told folder.new) }
-        ensures later { F.faults folder.old ≤ F.faults folder.new }
-        ensures device { IfDevice result (Rises (F.faults folder.old) (F.faults folder.new)) }
+        ensures reads { ReadsOnly F.told F.faults folder.old folder.new (IfDevice result) }
     {
         let mut window = [0u8; BlockHead::LEN];
         let file = FileId::Block(n);

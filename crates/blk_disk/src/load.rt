@@ -1,7 +1,7 @@
 // The block files of a folder are loaded, one along the links after another.
-ghost use Rattle.std.specs.Prelude.{◌≡◌, ◌≢◌, ◌+◌, ◌-◌, ◌<◌, ◌≤◌, [], length, OnOk, IfOk, Some, None, false};
+ghost use Rattle.std.specs.Prelude.{◌≡◌, ◌≢◌, ◌+◌, ◌-◌, ◌<◌, [], length, OnOk, IfOk, Some, None, false};
 ghost use Rattle.std.specs.Option.{ForSome};
-ghost use Rattle.spec_image.specs.Told.{Stays, Rises};
+ghost use Rattle.spec_image.specs.Told.{ReadsOnly};
 ghost use Rattle.spec_format.specs.Address.{external};
 ghost use Rattle.spec_format.specs.BlockFiles.{first_block_damage, is_among, most_files};
 ghost use Rattle.blk_addr.specs.Kind.{kind_number};
@@ -24,9 +24,7 @@ impl BlockFiles {
         // The cause of a failed check, which holds for an opaque folder too.
         ensures cause { IfDamaged result (IsLoadDamage (F.told f.old)) }
 
-        ensures stays { Stays (F.told f.old) (F.told f.new) }
-        ensures later { F.faults f.old ≤ F.faults f.new }
-        ensures device { IfDevice result (Rises (F.faults f.old) (F.faults f.new)) }
+        ensures reads { ReadsOnly F.told F.faults f.old f.new (IfDevice result) }
     {
         let mut files = BlockFiles::none();
         files.follow(f, Kind::Rankings)?;
@@ -47,9 +45,7 @@ impl BlockFiles {
         ensures others { OnOk result (KeepsOthers self.old self.new (kind_number kind)) }
         ensures damaged { IfDamaged result (λ damage. ForSome (F.told folder.old).files (λ image. first_block_damage image ≡ Some (damage_of damage))) }
         ensures cause { IfDamaged result (IsLoadDamage (F.told folder.old)) }
-        ensures stays { Stays (F.told folder.old) (F.told folder.new) }
-        ensures later { F.faults folder.old ≤ F.faults folder.new }
-        ensures device { IfDevice result (Rises (F.faults folder.old) (F.faults folder.new)) }
+        ensures reads { ReadsOnly F.told F.faults folder.old folder.new (IfDevice result) }
     {
         let mut next = Some(first_file(kind));
         while let Some(n) = next {
@@ -73,9 +69,7 @@ impl BlockFiles {
         ensures others { OnOk result (KeepsOthers self.old self.new (kind_number kind)) }
         ensures damaged { IfDamaged result (λ damage. ForSome (F.told folder.old).files (λ image. first_block_damage image ≡ Some (damage_of damage))) }
         ensures cause { IfDamaged result (IsHeaderDamage (F.told folder.old) self.old (kind_number kind) n) }
-        ensures stays { Stays (F.told folder.old) (F.told folder.new) }
-        ensures later { F.faults folder.old ≤ F.faults folder.new }
-        ensures device { IfDevice result (Rises (F.faults folder.old) (F.faults folder.new)) }
+        ensures reads { ReadsOnly F.told F.faults folder.old folder.new (IfDevice result) }
     {
         let head = self.read_head(folder, kind, n)?;
         self.join(kind, n, head.blocks, head.size);

@@ -1,9 +1,9 @@
 // The words of a map.
-ghost use Rattle.std.specs.Prelude.{◌≡◌, ◌<◌, ◌≤◌, ◌+◌, ◌*◌, IsTrue, None, IfOk, OnOk, length};
+ghost use Rattle.std.specs.Prelude.{◌≡◌, ◌<◌, ◌+◌, ◌*◌, IsTrue, None, IfOk, OnOk, length};
 ghost use Rattle.std.specs.Option.{ForSome};
 ghost use Rattle.spec_image.specs.Bytes.{range_at, word_bytes};
 ghost use Rattle.spec_image.specs.Image.{Block as block, HasRange, byte};
-ghost use Rattle.spec_image.specs.Told.{Rises, Stays};
+ghost use Rattle.spec_image.specs.Told.{ReadsOnly};
 ghost use Rattle.spec_format.specs.BlockFiles.{is_among};
 ghost use Rattle.spec_format.specs.Maps.{map_place};
 ghost use Rattle.blk_io.specs.Faults.{IfDamaged, IfDevice, IsShort};
@@ -32,14 +32,11 @@ impl BlockFiles {
         ensures word { IfOk result (λ w. ForSome (F.told f.old).files (λ image. word_bytes w ≡ range_at (byte image (block file)) (map_place + 4 * number) 4)) }
         ensures inside { OnOk result (ForSome (F.told f.old).files (λ image. HasRange image (block file) (map_place + 4 * number) 4)) }
         ensures counts { steps.new ≡ steps.old + 1 }
-        ensures stays { Stays (F.told f.old) (F.told f.new) }
+        ensures reads { ReadsOnly F.told F.faults f.old f.new (IfDevice result) }
 
         // Too few bytes, which an observable folder gives only where the block files don't agree with it.
         ensures short { IfDamaged result (IsShort (F.told f.old) (FileId.Block file) (map_place + 4 * number) 4) }
         ensures untold { ForSome (F.told f.old).files (Agrees self.now) → IfDamaged result (λ _. (F.told f.old).files ≡ None) }
-
-        ensures later { F.faults f.old ≤ F.faults f.new }
-        ensures device { IfDevice result (Rises (F.faults f.old) (F.faults f.new)) }
     {
         steps.tick();
         let at = BlockHead::MAP + 4 * u64::from(number);

@@ -2,7 +2,7 @@
 ghost use Rattle.std.specs.Prelude.{[], ◌≡◌, ◌+◌, ◌^◌, ◌<◌, ◌≤◌, IsTrue, None, OnErr, OnOk, length};
 ghost use Rattle.std.specs.Option.{ForSome};
 ghost use Rattle.spec_image.specs.Steps.{with_words};
-ghost use Rattle.spec_image.specs.Told.{Applies, AppliesPrefix, MakesPartOf, Passes, Rises, Stays};
+ghost use Rattle.spec_image.specs.Told.{Applies, AppliesPrefix, MakesPartOf, Passes, Rises, Stays, ReadsOnly};
 ghost use Rattle.spec_format.specs.Address.{place};
 ghost use Rattle.spec_format.specs.Records as records;
 ghost use Rattle.blk_addr.specs.Kind.{kind_number};
@@ -89,11 +89,9 @@ impl BlockFiles {
         requires size { length bytes.old ≡ record_size addr }
         ensures bytes { OnOk result (ForSome (F.told folder.old).files (λ image. bytes.new ≡ record_at image addr)) }
         ensures checked { OnOk result (ForSome (F.told folder.old).files (RecordChecks addr)) }
-        ensures stays { Stays (F.told folder.old) (F.told folder.new) }
+        ensures reads { ReadsOnly F.told F.faults folder.old folder.new (IfDevice result) }
         ensures damaged { IfDamaged result (IsFailedRecord (F.told folder.old) addr (record_size addr)) }
         ensures untold { ForSome (F.told folder.old).files (Agrees self.now) → ForSome (F.told folder.old).files (RecordChecks addr) → IfDamaged result (λ _. (F.told folder.old).files ≡ None) }
-        ensures later { F.faults folder.old ≤ F.faults folder.new }
-        ensures device { IfDevice result (Rises (F.faults folder.old) (F.faults folder.new)) }
     {
         self.read_block(folder, addr, 0, bytes)?;
         let Some(found) = wrong_seal(addr.kind(), bytes) else {

@@ -1,7 +1,7 @@
 // Keys that are compared with those of entry records.
 ghost use Rattle.std.specs.Prelude.{◌≡◌, ◌≤◌, ◌↔◌, IfOk, IsTrue, None, OnOk, Some, length};
 ghost use Rattle.std.specs.Option.{ForSome};
-ghost use Rattle.spec_image.specs.Told.{Rises, Stays};
+ghost use Rattle.spec_image.specs.Told.{ReadsOnly};
 ghost use Rattle.spec_format.specs.Address.{blocks_256, kind_of};
 ghost use Rattle.spec_folder.specs.View.{entry_at};
 ghost use Rattle.blk_io.specs.Faults.{IfDamaged, IfDevice};
@@ -41,14 +41,11 @@ pub fn key_equals<F: Folder>(
     ensures checked { OnOk result (ForSome (F.told f.old).files (HasRecord entry)) }
     ensures placed { OnOk result (ForSome (F.told f.old).files (λ image. (entry_at image entry).hash ≡ hash_of key.now → (entry_at image entry).key_len ≡ length key.now → HasKeyPlace files.now entry image)) }
     ensures there { IfOk result (λ same. IsTrue same → ForSome (F.told f.old).files (HasKeyBytes entry 0 (length key.now))) }
-    ensures stays { Stays (F.told f.old) (F.told f.new) }
+    ensures reads { ReadsOnly F.told F.faults f.old f.new (IfDevice result) }
 
     // An observable folder reports corruption only where the record doesn't check or has no key to read.
     ensures damaged { IfDamaged result (IsKeyDamage files.now (F.told f.old) entry (length key.now)) }
     ensures untold { ForSome (F.told f.old).files (CanBeRead files.now entry) → IfDamaged result (λ _. (F.told f.old).files ≡ None) }
-
-    ensures later { F.faults f.old ≤ F.faults f.new }
-    ensures device { IfDevice result (Rises (F.faults f.old) (F.faults f.new)) }
 {
     let head = read_head(f, files, entry)?;
     if head.hash != super_fast_hash(key) {
@@ -80,14 +77,11 @@ pub fn key_is<F: Folder>(
     // Where the length is the key's, the key has a place; where it is the same, its bytes are in the file.
     ensures placed { OnOk result (head.now.key_len ≡ length key.now → IsPlaced files.now entry head.now.key_len head.now.long_key) }
     ensures there { IfOk result (λ same. IsTrue same → ForSome (F.told folder.old).files (HasData (key_address entry head.now.key_len head.now.long_key) (bytes_before head.now.key_len) (length key.now))) }
-    ensures stays { Stays (F.told folder.old) (F.told folder.new) }
+    ensures reads { ReadsOnly F.told F.faults folder.old folder.new (IfDevice result) }
 
     // An observable folder reports corruption only where the record has no key to read, or the words are others.
     ensures damaged { IfDamaged result (IsPlaceDamage files.now (F.told folder.old) entry (length key.now) head.now.long_key) }
     ensures untold { ForSome (F.told folder.old).files (CanBeRead files.now entry) → ForSome (F.told folder.old).files (λ image. IsRecordHead image entry head.now) → IfDamaged result (λ _. (F.told folder.old).files ≡ None) }
-
-    ensures later { F.faults folder.old ≤ F.faults folder.new }
-    ensures device { IfDevice result (Rises (F.faults folder.old) (F.faults folder.new)) }
 {
     if head.key_len as usize != key.len() {
         return Ok(false);
@@ -109,9 +103,7 @@ fn data_is<F: Folder>(
     ensures short { IfDamaged result (IsCutPiece (F.told folder.old) addr at (length bytes.now)) }
     ensures there { IfOk result (λ same. IsTrue same → ForSome (F.told folder.old).files (HasData addr at (length bytes.now))) }
     ensures untold { ForSome (F.told folder.old).files (Agrees files.now) → ForSome (F.told folder.old).files (IsInFile addr at (length bytes.now)) → IfDamaged result (λ _. (F.told folder.old).files ≡ None) }
-    ensures stays { Stays (F.told folder.old) (F.told folder.new) }
-    ensures later { F.faults folder.old ≤ F.faults folder.new }
-    ensures device { IfDevice result (Rises (F.faults folder.old) (F.faults folder.new)) }
+    ensures reads { ReadsOnly F.told F.faults folder.old folder.new (IfDevice result) }
 {
     let mut place = at;
     let mut rest = bytes;
@@ -140,9 +132,7 @@ fn piece_is<F: Folder>(
     ensures short { IfDamaged result (IsCut (F.told folder.old) addr at (length bytes.now)) }
     ensures there { IfOk result (λ same. IsTrue same → ForSome (F.told folder.old).files (HasData addr at (length bytes.now))) }
     ensures untold { ForSome (F.told folder.old).files (Agrees files.now) → ForSome (F.told folder.old).files (IsInFile addr at (length bytes.now)) → IfDamaged result (λ _. (F.told folder.old).files ≡ None) }
-    ensures stays { Stays (F.told folder.old) (F.told folder.new) }
-    ensures later { F.faults folder.old ≤ F.faults folder.new }
-    ensures device { IfDevice result (Rises (F.faults folder.old) (F.faults folder.new)) }
+    ensures reads { ReadsOnly F.told F.faults folder.old folder.new (IfDevice result) }
 {
     let mut buffer = [0u8; PIECE];
     let piece = &mut buffer[..bytes.len()];

@@ -2,7 +2,7 @@
 ghost use Rattle.std.specs.Prelude.{◌≡◌, ◌+◌, ◌≤◌, ◌==◌, None, OnErr, OnOk, length};
 ghost use Rattle.std.specs.Option.{ForSome};
 ghost use Rattle.spec_image.specs.Footprint.{SameOutside};
-ghost use Rattle.spec_image.specs.Told.{Applies, AppliesPrefix, Passes, Rises, Stays};
+ghost use Rattle.spec_image.specs.Told.{Applies, AppliesPrefix, Passes, Rises, ReadsOnly};
 ghost use Rattle.spec_format.specs.Address.{kind_of};
 ghost use Rattle.blk_addr.specs.Kind.{kind_number};
 ghost use Rattle.blk_io.specs.Faults.{IfDamaged, IfDevice};
@@ -29,14 +29,11 @@ pub fn read_data<F: Folder>(
     requires inside { IsInside files.now addr at (length out.old) }
     ensures bytes { OnOk result (ForSome (F.told folder.old).files (λ image. out.new ≡ data_at image addr at (length out.old))) }
     ensures checked { OnOk result (ForSome (F.told folder.old).files (HasData addr at (length out.old))) }
-    ensures stays { Stays (F.told folder.old) (F.told folder.new) }
+    ensures reads { ReadsOnly F.told F.faults folder.old folder.new (IfDevice result) }
 
     // Too few bytes, which an observable folder gives only where its external file is too short.
     ensures short { IfDamaged result (IsCut (F.told folder.old) addr at (length out.old)) }
     ensures untold { ForSome (F.told folder.old).files (Agrees files.now) → ForSome (F.told folder.old).files (IsInFile addr at (length out.old)) → IfDamaged result (λ _. (F.told folder.old).files ≡ None) }
-
-    ensures later { F.faults folder.old ≤ F.faults folder.new }
-    ensures device { IfDevice result (Rises (F.faults folder.old) (F.faults folder.new)) }
 {
     if is_of(addr, Kind::External) {
         blk_external::read(folder, addr, u64::from(at), out)

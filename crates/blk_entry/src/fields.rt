@@ -1,8 +1,8 @@
 // The words of entry records.
-ghost use Rattle.std.specs.Prelude.{◌≡◌, ◌+◌, ◌≤◌, IfOk, IsTrue, None, OnOk, true};
+ghost use Rattle.std.specs.Prelude.{◌≡◌, ◌+◌, IfOk, IsTrue, None, OnOk, true};
 ghost use Rattle.std.specs.Option.{ForSome};
 ghost use Rattle.spec_image.specs.Image.{Block as block, HasRange, word};
-ghost use Rattle.spec_image.specs.Told.{Rises, Stays};
+ghost use Rattle.spec_image.specs.Told.{ReadsOnly};
 ghost use Rattle.spec_format.specs.Address.{blocks_256, file_selector, kind_of, place, rankings};
 ghost use Rattle.spec_format.specs.Records.{entry_size};
 ghost use Rattle.spec_folder.specs.View.{entry_at};
@@ -28,14 +28,11 @@ pub fn field<F: Folder>(f: &mut F, files: &BlockFiles, entry: Addr, at: u32) -> 
     requires place { IsField entry_size at }
     ensures value { IfOk result (λ v. ForSome (F.told f.old).files (λ image. v ≡ word image (block (file_selector entry)) (place entry + at))) }
     ensures checked { OnOk result (ForSome (F.told f.old).files (λ image. HasRange image (block (file_selector entry)) (place entry + at) 4)) }
-    ensures stays { Stays (F.told f.old) (F.told f.new) }
+    ensures reads { ReadsOnly F.told F.faults f.old f.new (IfDevice result) }
 
     // Too few bytes, which an observable folder gives only where the block files don't agree with it.
     ensures short { IfDamaged result (IsShort (F.told f.old) (FileId.Block (file_selector entry)) (place entry + at) 4) }
     ensures untold { ForSome (F.told f.old).files (Agrees files.now) → IfDamaged result (λ _. (F.told f.old).files ≡ None) }
-
-    ensures later { F.faults f.old ≤ F.faults f.new }
-    ensures device { IfDevice result (Rises (F.faults f.old) (F.faults f.new)) }
 {
     let mut word = [0u8; 4];
     files.read_block(f, entry, at, &mut word)?;
@@ -53,14 +50,11 @@ pub fn node_of<F: Folder>(folder: &mut F, files: &BlockFiles, entry: Addr) -> Re
     ensures kind { IfOk result (λ node. kind_of node ≡ rankings) }
     ensures stands { IfOk result (λ node. IsTrue (stands_among files.now node)) }
     ensures checked { OnOk result (ForSome (F.told folder.old).files (λ image. HasRange image (block (file_selector entry)) (place entry + node_place) 4)) }
-    ensures stays { Stays (F.told folder.old) (F.told folder.new) }
+    ensures reads { ReadsOnly F.told F.faults folder.old folder.new (IfDevice result) }
 
     // An observable folder reports corruption only where the word is of no node that is there.
     ensures damaged { IfDamaged result (IsNodeWordDamage files.now (F.told folder.old) (FileId.Block (file_selector entry)) (place entry + node_place)) }
     ensures untold { ForSome (F.told folder.old).files (Agrees files.now) → ForSome (F.told folder.old).files (λ image. is_node_among files.now (entry_at image entry).rankings_node ≡ true) → IfDamaged result (λ _. (F.told folder.old).files ≡ None) }
-
-    ensures later { F.faults folder.old ≤ F.faults folder.new }
-    ensures device { IfDevice result (Rises (F.faults folder.old) (F.faults folder.new)) }
 {
     let word = field(folder, files, entry, EntryView::NODE)?;
     match files.node(word) {

@@ -2,7 +2,7 @@
 ghost use Rattle.std.specs.Prelude.{◌≡◌, ◌+◌, ◌%◌, ◌≤◌, ◌<◌, min, IfOk, IsOk, IsTrue, None, OnOk, false, true, length};
 ghost use Rattle.std.specs.Option.{ForSome};
 ghost use Rattle.spec_image.specs.Bytes.{content, words_at};
-ghost use Rattle.spec_image.specs.Told.{Rises, Stays};
+ghost use Rattle.spec_image.specs.Told.{ReadsOnly};
 ghost use Rattle.blk_record.specs.Views.{entry_window};
 ghost use Rattle.spec_format.specs.Address.{blocks_256, is_address, kind_of, place};
 ghost use Rattle.spec_format.specs.Records.{entry_size};
@@ -80,14 +80,11 @@ pub fn key_piece<F: Folder>(
     ensures checked { OnOk result (ForSome (F.told f.old).files (HasRecord entry)) }
     ensures placed { OnOk result (ForSome (F.told f.old).files (HasKeyPlace files.now entry)) }
     ensures there { IfOk result (λ n. ForSome (F.told f.old).files (λ image. HasKeyBytes entry (min at (entry_at image entry).key_len) n image)) }
-    ensures stays { Stays (F.told f.old) (F.told f.new) }
+    ensures reads { ReadsOnly F.told F.faults f.old f.new (IfDevice result) }
 
     // An observable folder reports corruption only where the record doesn't check or has no key to read.
     ensures damaged { IfDamaged result (keys.IsPartDamage files.now (F.told f.old) entry at (length out.old)) }
     ensures untold { ForSome (F.told f.old).files (CanBeRead files.now entry) → IfDamaged result (λ _. (F.told f.old).files ≡ None) }
-
-    ensures later { F.faults f.old ≤ F.faults f.new }
-    ensures device { IfDevice result (Rises (F.faults f.old) (F.faults f.new)) }
 {
     let head = read_head(f, files, entry)?;
     let key = key_place(files, entry, head)?;
@@ -106,14 +103,11 @@ pub fn read_head<F: Folder>(folder: &mut F, files: &BlockFiles, entry: Addr) -> 
     requires stands { IsTrue (stands_among files.now entry) }
     ensures head { IfOk result (λ head. ForSome (F.told folder.old).files (λ image. IsRecordHead image entry head)) }
     ensures checked { OnOk result (ForSome (F.told folder.old).files (HasRecord entry)) }
-    ensures stays { Stays (F.told folder.old) (F.told folder.new) }
+    ensures reads { ReadsOnly F.told F.faults folder.old folder.new (IfDevice result) }
 
     // An observable folder reports corruption only for a record that doesn't check.
     ensures damaged { IfDamaged result (IsHeadDamage (F.told folder.old) entry) }
     ensures untold { ForSome (F.told folder.old).files (Agrees files.now) → ForSome (F.told folder.old).files (RecordChecks entry) → IfDamaged result (λ _. (F.told folder.old).files ≡ None) }
-
-    ensures later { F.faults folder.old ≤ F.faults folder.new }
-    ensures device { IfDevice result (Rises (F.faults folder.old) (F.faults folder.new)) }
 {
     let mut window = [0u8; EntryView::SIZE];
     files.read_block(folder, entry, 0, &mut window)?;

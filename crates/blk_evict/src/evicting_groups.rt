@@ -1,7 +1,7 @@
 // A group goes out of a folder, and is printed.
 ghost use Rattle.std.specs.Prelude.{◌≡◌, ◌≤◌, ◌<◌, ◌^◌, ◌+◌, [], ◌∷◌, All, IfOk, IfSome, IsTrue, None, OnOk, length, true};
 ghost use Rattle.std.specs.Option.{ForSome};
-ghost use Rattle.spec_image.specs.Told.{Passes, Rises, Stays};
+ghost use Rattle.spec_image.specs.Told.{Passes, MayWrite, ReadsOnly};
 ghost use Rattle.blk_io.specs.Faults.{IfDamaged, IfDevice};
 ghost use Rattle.blk_io.specs.Streams.{Appends, GoesOn};
 ghost use Rattle.blk_model.specs.Effects.{doomed};
@@ -63,10 +63,8 @@ pub fn evict_group<F: Folder, K: Sink>(
     ensures is_open { ForSome (F.told folder.new).files (IsOpen files.now) }
     ensures damaged { IfDamaged result (IsFailedCheck files.now (F.told folder.new)) }
     ensures untold { ForSome (F.told folder.old).files (λ from. ForEachGoing found.now from (λ state layout group. IfDamaged result (λ _. (F.told folder.old).files ≡ None))) }
-    ensures silent { (F.told folder.old).files ≡ None → (F.told folder.new).files ≡ None }
-    ensures later { F.faults folder.old ≤ F.faults folder.new }
+    ensures writes { MayWrite F.told F.faults folder.old folder.new (IfDevice result) }
     ensures sink_later { GoesOn K.is K.faults out.old out.new }
-    ensures device { IfDevice result (Rises (F.faults folder.old) (F.faults folder.new)) }
 {
     let named = read_name(folder, files, found.entry, name)?;
     match named.kind {
@@ -108,10 +106,8 @@ fn evict_plain<F: Folder, K: Sink>(
     ensures is_open { ForSome (F.told folder.new).files (IsOpen files.now) }
     ensures damaged { ForSome (F.told folder.old).files (IsItemName found.now.entry key.now) → IfDamaged result (IsFailedCheck files.now (F.told folder.new)) }
     ensures untold { ForSome (F.told folder.old).files (λ from. IsOwnedBy found.now.entry owned.now from → ForEachOfKind found.now EntryKind.Plain key.now from (λ state layout group. IfDamaged result (λ _. (F.told folder.old).files ≡ None))) }
-    ensures silent { (F.told folder.old).files ≡ None → (F.told folder.new).files ≡ None }
-    ensures later { F.faults folder.old ≤ F.faults folder.new }
+    ensures writes { MayWrite F.told F.faults folder.old folder.new (IfDevice result) }
     ensures sink_later { GoesOn K.is K.faults out.old out.new }
-    ensures device { IfDevice result (Rises (F.faults folder.old) (F.faults folder.new)) }
 {
     say_evicted(out, failed, key);
     remove_alone(folder, files, key, false, owned, found)
@@ -140,10 +136,8 @@ fn evict_part<F: Folder, K: Sink>(
     ensures is_open { ForSome (F.told folder.new).files (IsOpen files.now) }
     ensures damaged { ForSome (F.told folder.old).files (IsItemName found.now.entry name.now) → IfDamaged result (IsFailedCheck files.now (F.told folder.new)) }
     ensures untold { ForSome (F.told folder.old).files (λ from. IsOwnedBy found.now.entry owned.now from → ForEachOfKind found.now EntryKind.Part name.now from (λ state layout group. IfDamaged result (λ _. (F.told folder.old).files ≡ None))) }
-    ensures silent { (F.told folder.old).files ≡ None → (F.told folder.new).files ≡ None }
-    ensures later { F.faults folder.old ≤ F.faults folder.new }
+    ensures writes { MayWrite F.told F.faults folder.old folder.new (IfDevice result) }
     ensures sink_later { GoesOn K.is K.faults out.old out.new }
-    ensures device { IfDevice result (Rises (F.faults folder.old) (F.faults folder.new)) }
 {
     let Some(child) = read_child_name(name) else {
         return Err(record_damage(found.entry, EntryView::FLAGS, CHILD));
@@ -179,10 +173,8 @@ fn evict_parent<F: Folder, K: Sink>(
     ensures is_open { ForSome (F.told folder.new).files (IsOpen files.now) }
     ensures damaged { ForSome (F.told folder.old).files (IsItemName found.now.entry key.now) → IfDamaged result (IsFailedCheck files.now (F.told folder.new)) }
     ensures untold { ForSome (F.told folder.old).files (λ from. IsOwnedBy found.now.entry owned.now from → ForEachOfKind found.now EntryKind.Parent key.now from (λ state layout group. IfDamaged result (λ _. (F.told folder.old).files ≡ None))) }
-    ensures silent { (F.told folder.old).files ≡ None → (F.told folder.new).files ≡ None }
-    ensures later { F.faults folder.old ≤ F.faults folder.new }
+    ensures writes { MayWrite F.told F.faults folder.old folder.new (IfDevice result) }
     ensures sink_later { GoesOn K.is K.faults out.old out.new }
-    ensures device { IfDevice result (Rises (F.faults folder.old) (F.faults folder.new)) }
 {
     if is_no_key(key) {
         let len = key.len() as u32;
@@ -236,10 +228,8 @@ fn remove_parent<F: Folder, K: Sink>(
     ensures is_open { ForSome (F.told folder.new).files (IsOpen files.now) }
     ensures damaged { IfDamaged result (IsFailedCheck files.now (F.told folder.new)) }
     ensures untold { ForSome (F.told folder.old).files (λ from. IsOwnedBy at.now.entry owned.now from → ForEachParent key.now node at.now.entry at.now.before from (λ state layout unlinked number object. IfDamaged result (λ _. (F.told folder.old).files ≡ None))) }
-    ensures silent { (F.told folder.old).files ≡ None → (F.told folder.new).files ≡ None }
-    ensures later { F.faults folder.old ≤ F.faults folder.new }
+    ensures writes { MayWrite F.told F.faults folder.old folder.new (IfDevice result) }
     ensures sink_later { GoesOn K.is K.faults out.old out.new }
-    ensures device { IfDevice result (Rises (F.faults folder.old) (F.faults folder.new)) }
 {
     let mut say = |number: u32| say_evicted_part(out, failed, key, u64::from(number));
     remove_parent_with(folder, files, at, node, key, owned, buffer, &mut say)
@@ -273,9 +263,7 @@ fn remove_alone<F: Folder>(
     ensures is_open { ForSome (F.told folder.new).files (IsOpen files.now) }
     ensures damaged { ForSome (F.told folder.old).files (IsItemName found.now.entry name.now) → IfDamaged result (IsFailedCheck files.now (F.told folder.new)) }
     ensures untold { ForSome (F.told folder.old).files (λ from. IsOwnedBy found.now.entry owned.now from → ForEachOfKind found.now (alone_kind is_child) name.now from (λ state layout group. IfDamaged result (λ _. (F.told folder.old).files ≡ None))) }
-    ensures silent { (F.told folder.old).files ≡ None → (F.told folder.new).files ≡ None }
-    ensures later { F.faults folder.old ≤ F.faults folder.new }
-    ensures device { IfDevice result (Rises (F.faults folder.old) (F.faults folder.new)) }
+    ensures writes { MayWrite F.told F.faults folder.old folder.new (IfDevice result) }
 {
     let at = find_listed(folder, files, name, is_child, found.entry)?;
     remove_read(folder, files, &at, found.node, owned)?;
@@ -301,11 +289,9 @@ pub fn find_listed<F: Folder>(
     ensures stands { IfOk result (λ at. IsTrue (stands_among files.now at.entry)) }
     ensures kind_before { IfOk result (λ at. IfSome at.before (λ before. kind_of before ≡ blocks_256)) }
     ensures stands_before { IfOk result (λ at. IfSome at.before (λ before. IsTrue (stands_among files.now before))) }
-    ensures stays { Stays (F.told folder.old) (F.told folder.new) }
+    ensures reads { ReadsOnly F.told F.faults folder.old folder.new (IfDevice result) }
     ensures damaged { ForSome (F.told folder.old).files (IsItemName entry name.now) → IfDamaged result (IsFailedCheck files.now (F.told folder.new)) }
     ensures untold { ForSome (F.told folder.old).files (IsOpen files.now) → ForSome (F.told folder.old).files (λ image. ForEachListed name.now is_child image (λ state layout item was. IfDamaged result (λ _. (F.told folder.old).files ≡ None))) }
-    ensures later { F.faults folder.old ≤ F.faults folder.new }
-    ensures device { IfDevice result (Rises (F.faults folder.old) (F.faults folder.new)) }
 {
     match find(folder, files, name, is_child)? {
         Some(at) => Ok(at),

@@ -1,7 +1,7 @@
 // What an item is, by its record: its kind, and its key or name.
 ghost use Rattle.std.specs.Prelude.{◌≡◌, ◌≤◌, ◌<◌, ◌^◌, All, IfOk, IsTrue, None, length, take};
 ghost use Rattle.std.specs.Option.{ForSome};
-ghost use Rattle.spec_image.specs.Told.{Rises, Stays};
+ghost use Rattle.spec_image.specs.Told.{ReadsOnly};
 ghost use Rattle.blk_io.specs.Faults.{IfDamaged, IfDevice};
 ghost use Rattle.spec_folder.specs.Loads.{Loaded};
 ghost use Rattle.blk_disk.specs.Tables.{Agrees, is_record_among};
@@ -56,11 +56,9 @@ pub fn read_name<F: Folder>(
     ensures places { IfOk result (λ named. All (IsPlaceAmong files.now) named.owned.places) }
     ensures light { IfOk result (λ named. named.owned.charge < 2 ^ 34) }
     ensures within { IfOk result (λ named. named.len ≤ length buffer.old) }
-    ensures stays { Stays (F.told folder.old) (F.told folder.new) }
+    ensures reads { ReadsOnly F.told F.faults folder.old folder.new (IfDevice result) }
     ensures damaged { IfDamaged result (IsFailedCheck files.now (F.told folder.new)) }
     ensures untold { ForSome (F.told folder.old).files (Agrees files.now) → ForSome (F.told folder.old).files (λ image. (loaded : Loaded) × LoadsWith entry loaded image) → IfDamaged result (λ _. (F.told folder.old).files ≡ None) }
-    ensures later { F.faults folder.old ≤ F.faults folder.new }
-    ensures device { IfDevice result (Rises (F.faults folder.old) (F.faults folder.new)) }
 {
     let owned = read_owned(folder, files, entry)?;
     let len = key_piece(folder, files, entry, 0, buffer)?;

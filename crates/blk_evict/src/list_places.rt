@@ -1,7 +1,7 @@
 // Places of the LRU list: the node in front of one, and an item that may be evicted.
-ghost use Rattle.std.specs.Prelude.{◌≡◌, ◌≤◌, ℕ, IfOk, IfSome, IsTrue, List, None};
+ghost use Rattle.std.specs.Prelude.{◌≡◌, ℕ, IfOk, IfSome, IsTrue, List, None};
 ghost use Rattle.std.specs.Option.{ForSome};
-ghost use Rattle.spec_image.specs.Told.{Rises, Stays};
+ghost use Rattle.spec_image.specs.Told.{ReadsOnly};
 ghost use Rattle.blk_io.specs.Faults.{IfDamaged, IfDevice};
 ghost use Rattle.blk_lru.specs.Lists.{last_node_of};
 ghost use Rattle.blk_disk.specs.Open.{IsOpen};
@@ -34,11 +34,9 @@ pub fn in_front<F: Folder>(
     ensures node { IfOk result (λ node. ForSome (F.told folder.old).files (λ image. Agrees files.now image → (front : List ℕ) → AreInPrefix front behind.now image → node ≡ last_node_of front)) }
     ensures word { IfOk result (λ found. ForSome (F.told folder.old).files (λ image. GoesTo NodeView.PREV image behind.now found)) }
     ensures stands { IfOk result (λ node. IfSome node (λ n. IsTrue (is_node_among files.now n))) }
-    ensures stays { Stays (F.told folder.old) (F.told folder.new) }
+    ensures reads { ReadsOnly F.told F.faults folder.old folder.new (IfDevice result) }
     ensures damaged { IfDamaged result (IsFailedCheck files.now (F.told folder.new)) }
     ensures untold { ForSome (F.told folder.old).files (IsOpen files.now) → ForSome (F.told folder.old).files (IsPlaceInList behind.now) → IfDamaged result (λ _. (F.told folder.old).files ≡ None) }
-    ensures later { F.faults folder.old ≤ F.faults folder.new }
-    ensures device { IfDevice result (Rises (F.faults folder.old) (F.faults folder.new)) }
 {
     match *behind {
         Some(node) => before(folder, files, node),

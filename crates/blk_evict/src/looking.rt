@@ -1,7 +1,7 @@
 // The live object of a key, as it is found in the folder.
-ghost use Rattle.std.specs.Prelude.{◌≡◌, ◌≤◌, ◌<◌, ℕ, IfOk, IfSome, IsTrue, List, None, true};
+ghost use Rattle.std.specs.Prelude.{◌≡◌, ◌<◌, ℕ, IfOk, IfSome, IsTrue, List, None, true};
 ghost use Rattle.std.specs.Option.{ForSome};
-ghost use Rattle.spec_image.specs.Told.{Rises, Stays};
+ghost use Rattle.spec_image.specs.Told.{ReadsOnly};
 ghost use Rattle.spec_format.specs.Address.{blocks_256, kind_of};
 ghost use Rattle.blk_io.specs.Faults.{IfDamaged, IfDevice};
 ghost use Rattle.blk_model.specs.State.{State};
@@ -52,11 +52,9 @@ pub fn find_live<F: Folder>(
     ensures live { IfOk result (λ answer. ForSome (F.told folder.old).files (λ image. (state : State) (layout : Layout) (unlinked : List ℕ) → KeepsUncounted state layout unlinked image → IsLive state layout key.now answer)) }
     ensures names { IfOk result (λ answer. IfSome answer (λ live. IsTrue (is_record_among files.now live.entry))) }
     ensures stands { IfOk result (λ answer. IfSome answer (λ live. IsTrue (is_node_among files.now live.node))) }
-    ensures stays { Stays (F.told folder.old) (F.told folder.new) }
+    ensures reads { ReadsOnly F.told F.faults folder.old folder.new (IfDevice result) }
     ensures damaged { IfDamaged result (IsLookUpDamage files.now (F.told folder.old) key.now) }
     ensures untold { ForSome (F.told folder.old).files (IsOpen files.now) → ForSome (F.told folder.old).files KeepsSomeState → IfDamaged result (λ _. (F.told folder.old).files ≡ None) }
-    ensures later { F.faults folder.old ≤ F.faults folder.new }
-    ensures device { IfDevice result (Rises (F.faults folder.old) (F.faults folder.new)) }
 {
     let Some(found) = find(folder, files, key, false)? else {
         return Ok(None);
@@ -77,11 +75,9 @@ pub fn read_said<F: Folder>(folder: &mut F, files: &BlockFiles, entry: Addr) -> 
     ensures kind { IfOk result (λ said. ForSome (F.told folder.old).files (λ image. said.kind ≡ kind_said (entry_at image entry).flags)) }
     ensures charge { IfOk result (λ said. ForSome (F.told folder.old).files (λ image. said.charge ≡ charge_at image entry)) }
     ensures stands { IfOk result (λ said. IsTrue (is_node_among files.now said.node)) }
-    ensures stays { Stays (F.told folder.old) (F.told folder.new) }
+    ensures reads { ReadsOnly F.told F.faults folder.old folder.new (IfDevice result) }
     ensures damaged { IfDamaged result (IsEntryDamage files.now (F.told folder.old) entry) }
     ensures untold { ForSome (F.told folder.old).files (Agrees files.now) → ForSome (F.told folder.old).files (λ image. (loaded : Loaded) × LoadsWith entry loaded image) → ForSome (F.told folder.old).files (λ image. is_node_among files.now (entry_at image entry).rankings_node ≡ true) → IfDamaged result (λ _. (F.told folder.old).files ≡ None) }
-    ensures later { F.faults folder.old ≤ F.faults folder.new }
-    ensures device { IfDevice result (Rises (F.faults folder.old) (F.faults folder.new)) }
 {
     let head = read_head(folder, files, entry)?;
     let Some(node) = files.node(head.node) else {
@@ -100,11 +96,9 @@ pub fn read_said<F: Folder>(folder: &mut F, files: &BlockFiles, entry: Addr) -> 
 pub fn read_charge<F: Folder>(folder: &mut F, files: &BlockFiles, entry: Addr) -> Result<u64, Fault>
     requires names { IsTrue (is_record_among files.now entry) }
     ensures charge { IfOk result (λ charge. ForSome (F.told folder.old).files (λ image. charge ≡ charge_at image entry)) }
-    ensures stays { Stays (F.told folder.old) (F.told folder.new) }
+    ensures reads { ReadsOnly F.told F.faults folder.old folder.new (IfDevice result) }
     ensures damaged { IfDamaged result (IsHeadDamage (F.told folder.old) entry) }
     ensures untold { ForSome (F.told folder.old).files (Agrees files.now) → ForSome (F.told folder.old).files (λ image. (loaded : Loaded) × LoadsWith entry loaded image) → IfDamaged result (λ _. (F.told folder.old).files ≡ None) }
-    ensures later { F.faults folder.old ≤ F.faults folder.new }
-    ensures device { IfDevice result (Rises (F.faults folder.old) (F.faults folder.new)) }
 {
     let head = read_head(folder, files, entry)?;
     Ok(charge_of_head(&head))

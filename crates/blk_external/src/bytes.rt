@@ -4,7 +4,7 @@ ghost use Rattle.std.specs.Option.{ForSome};
 ghost use Rattle.spec_image.specs.Bytes.{range_at, spliced, resized};
 ghost use Rattle.spec_image.specs.Image.{HasRange, bytes_of, byte};
 ghost use Rattle.spec_image.specs.Steps.{SetLength, Delete, words};
-ghost use Rattle.spec_image.specs.Told.{Applies, AppliesPrefix, Stays, Passes, Rises};
+ghost use Rattle.spec_image.specs.Told.{Applies, AppliesPrefix, Stays, Passes, Rises, ReadsOnly};
 ghost use Rattle.spec_image.specs.Footprint.{range, whole};
 ghost use Rattle.spec_format.specs.Address.{kind_of, external, external_number};
 ghost use Rattle.blk_io.specs.FileNames.{file_of};
@@ -23,14 +23,11 @@ pub fn read<F: Folder>(f: &mut F, addr: Addr, at: u64, out: &mut [u8]) -> Result
     requires kind { kind_of addr ≡ external }
     ensures bytes { OnOk result (ForSome (F.told f.old).files (λ image. out.new ≡ range_at (byte image (named_file addr)) at (length out.old))) }
     ensures checked { OnOk result (ForSome (F.told f.old).files (λ image. HasRange image (named_file addr) at (length out.old) ⊎ (length out.old ≡ 0))) }
-    ensures stays { Stays (F.told f.old) (F.told f.new) }
+    ensures reads { ReadsOnly F.told F.faults f.old f.new (IfDevice result) }
 
     // Too few bytes, which an observable folder gives only where the file is too short.
     ensures few { IfDamaged result (IsFew (F.told f.old) (external_number addr) at (length out.old)) }
     ensures untold { ForSome (F.told f.old).files (λ image. HasRange image (named_file addr) at (length out.old)) → IfDamaged result (λ _. (F.told f.old).files ≡ None) }
-
-    ensures later { F.faults f.old ≤ F.faults f.new }
-    ensures device { IfDevice result (Rises (F.faults f.old) (F.faults f.new)) }
 {
     let file = name_of(addr);
     let given = f.read_at(file, at, out)?;

@@ -1,7 +1,7 @@
 // An external file is made, with the first free number.
 ghost use Rattle.std.specs.Prelude.{◌≡◌, ◌⊎◌, ◌+◌, ◌≤◌, ◌<◌, None, OnOk, OnErr, IfOk};
 ghost use Rattle.std.specs.Option.{ForSome};
-ghost use Rattle.spec_image.specs.Told.{Applies, AppliesPrefix, Stays, Passes, Rises};
+ghost use Rattle.spec_image.specs.Told.{Applies, AppliesPrefix, Stays, Passes, Rises, ReadsOnly};
 ghost use Rattle.spec_format.specs.Address.{kind_of, external, external_number};
 ghost use Rattle.spec_format.specs.Headers.{HasWholeIndex};
 ghost use Rattle.blk_io.specs.Faults.{IfDamaged, IfDevice, IsShort};
@@ -61,9 +61,7 @@ fn full(last: u32) -> Damage
 fn first_free<F: Folder>(folder: &mut F, last: u32) -> Result<Option<u32>, Failed>
     ensures number { IfOk result (λ found. ForSome found IsNumber) }
     ensures first { IfOk result (λ found. ForSome (F.told folder.old).files (λ image. IsSearched image last found)) }
-    ensures stays { Stays (F.told folder.old) (F.told folder.new) }
-    ensures later { F.faults folder.old ≤ F.faults folder.new }
-    ensures failed { OnErr result (Rises (F.faults folder.old) (F.faults folder.new)) }
+    ensures reads { ReadsOnly F.told F.faults folder.old folder.new (OnErr result) }
 {
     let end = last.min(LAST_EXTERNAL) + 1;
     match least_free(folder, end, LAST_EXTERNAL + 1)? {
@@ -80,9 +78,7 @@ pub(crate) fn least_free<F: Folder>(
 ) -> Result<Option<u32>, Failed>
     ensures within { IfOk result (λ found. ForSome found (λ n. (low ≤ n) × (n < end))) }
     ensures least { IfOk result (λ found. ForSome (F.told folder.old).files (λ image. IsLeastExternal image low end found)) }
-    ensures stays { Stays (F.told folder.old) (F.told folder.new) }
-    ensures later { F.faults folder.old ≤ F.faults folder.new }
-    ensures failed { OnErr result (Rises (F.faults folder.old) (F.faults folder.new)) }
+    ensures reads { ReadsOnly F.told F.faults folder.old folder.new (OnErr result) }
 {
     for number in low..end {
         if folder.length(FileId::External(number))?.is_none() {

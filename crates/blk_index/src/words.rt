@@ -5,7 +5,7 @@ ghost use Rattle.spec_image.specs.Bytes.{long_at};
 ghost use Rattle.spec_image.specs.Footprint.{SameOutside, one_word};
 ghost use Rattle.spec_image.specs.Image.{HasRange, byte, word, Index as index};
 ghost use Rattle.spec_image.specs.Steps.{word_step};
-ghost use Rattle.spec_image.specs.Told.{Applies, AppliesPrefix, Passes, Stays, Rises};
+ghost use Rattle.spec_image.specs.Told.{Applies, AppliesPrefix, Passes, Rises, ReadsOnly};
 ghost use Rattle.spec_format.specs.Headers.{HasWholeIndex, bucket_of, place_of_bucket, header_length, table_length};
 ghost use Rattle.blk_io.specs.Faults.{IfDamaged, IfDevice, IsShort};
 ghost use Rattle.blk_index.specs.Table.{AreBuckets, buckets_of_piece};
@@ -28,14 +28,11 @@ pub fn word<F: Folder>(f: &mut F, at: u64) -> Result<u32, Fault>
     requires inside { at < header_length }
     ensures word { IfOk result (λ w. ForSome (F.told f.old).files (λ image. w ≡ word image index at)) }
     ensures checked { OnOk result (ForSome (F.told f.old).files (λ image. HasRange image index at 4)) }
-    ensures stays { Stays (F.told f.old) (F.told f.new) }
+    ensures reads { ReadsOnly F.told F.faults f.old f.new (IfDevice result) }
 
     // Too few bytes, which an observable folder gives only where the index is too short.
     ensures short { IfDamaged result (IsShort (F.told f.old) FileId.Index at 4) }
     ensures untold { ForSome (F.told f.old).files HasWholeIndex → IfDamaged result (λ _. (F.told f.old).files ≡ None) }
-
-    ensures later { F.faults f.old ≤ F.faults f.new }
-    ensures device { IfDevice result (Rises (F.faults f.old) (F.faults f.new)) }
 {
     read_word(f, FileId::Index, at)
 }
@@ -48,14 +45,11 @@ pub fn long<F: Folder>(folder: &mut F, at: u64) -> Result<u64, Fault>
     requires inside { at + 8 ≤ header_length }
     ensures number { IfOk result (λ n. ForSome (F.told folder.old).files (λ image. n ≡ long_at (byte image index) at)) }
     ensures checked { OnOk result (ForSome (F.told folder.old).files (λ image. HasRange image index at 8)) }
-    ensures stays { Stays (F.told folder.old) (F.told folder.new) }
+    ensures reads { ReadsOnly F.told F.faults folder.old folder.new (IfDevice result) }
 
     // Too few bytes, which an observable folder gives only where the index is too short.
     ensures short { IfDamaged result (IsShort (F.told folder.old) FileId.Index at 8) }
     ensures untold { ForSome (F.told folder.old).files HasWholeIndex → IfDamaged result (λ _. (F.told folder.old).files ≡ None) }
-
-    ensures later { F.faults folder.old ≤ F.faults folder.new }
-    ensures device { IfDevice result (Rises (F.faults folder.old) (F.faults folder.new)) }
 {
     let mut bytes = [0u8; 8];
     read_exact(folder, FileId::Index, at, &mut bytes)?;
@@ -68,14 +62,11 @@ pub fn long<F: Folder>(folder: &mut F, at: u64) -> Result<u64, Fault>
 pub fn bucket<F: Folder>(f: &mut F, number: u16) -> Result<u32, Fault>
     ensures word { IfOk result (λ w. ForSome (F.told f.old).files (λ image. w ≡ bucket_of (byte image index) number)) }
     ensures checked { OnOk result (ForSome (F.told f.old).files (λ image. HasRange image index (place_of_bucket number) 4)) }
-    ensures stays { Stays (F.told f.old) (F.told f.new) }
+    ensures reads { ReadsOnly F.told F.faults f.old f.new (IfDevice result) }
 
     // Too few bytes, which an observable folder gives only where the index is too short.
     ensures short { IfDamaged result (IsShort (F.told f.old) FileId.Index (place_of_bucket number) 4) }
     ensures untold { ForSome (F.told f.old).files HasWholeIndex → IfDamaged result (λ _. (F.told f.old).files ≡ None) }
-
-    ensures later { F.faults f.old ≤ F.faults f.new }
-    ensures device { IfDevice result (Rises (F.faults f.old) (F.faults f.new)) }
 {
     read_word(f, FileId::Index, IndexHead::TABLE + 4 * u64::from(number))
 }
@@ -89,14 +80,11 @@ pub fn buckets<F: Folder>(folder: &mut F, first: u16, out: &mut [u32]) -> Result
     requires inside { first + length out.old ≤ table_length }
     ensures words { OnOk result (ForSome (F.told folder.old).files (λ image. AreBuckets image first out.new)) }
     ensures checked { OnOk result (ForSome (F.told folder.old).files (λ image. HasRange image index (place_of_bucket first) (4 * length out.old) ⊎ (length out.old ≡ 0))) }
-    ensures stays { Stays (F.told folder.old) (F.told folder.new) }
+    ensures reads { ReadsOnly F.told F.faults folder.old folder.new (IfDevice result) }
 
     // Too few bytes, which an observable folder gives only where the index is too short.
     ensures short { IfDamaged result (IsShort (F.told folder.old) FileId.Index (place_of_bucket first) (4 * length out.old)) }
     ensures untold { ForSome (F.told folder.old).files HasWholeIndex → IfDamaged result (λ _. (F.told folder.old).files ≡ None) }
-
-    ensures later { F.faults folder.old ≤ F.faults folder.new }
-    ensures device { IfDevice result (Rises (F.faults folder.old) (F.faults folder.new)) }
 {
     let mut window = [0u8; PIECE];
     let bytes = &mut window[..4 * out.len()];
@@ -115,11 +103,9 @@ fn read_piece<F: Folder>(
     requires size { length bytes.old ≡ 4 * length out.old }
     ensures words { OnOk result (ForSome (F.told folder.old).files (λ image. AreBuckets image first out.new)) }
     ensures checked { OnOk result (ForSome (F.told folder.old).files (λ image. HasRange image index (place_of_bucket first) (4 * length out.old) ⊎ (length out.old ≡ 0))) }
-    ensures stays { Stays (F.told folder.old) (F.told folder.new) }
+    ensures reads { ReadsOnly F.told F.faults folder.old folder.new (IfDevice result) }
     ensures short { IfDamaged result (IsShort (F.told folder.old) FileId.Index (place_of_bucket first) (4 * length out.old)) }
     ensures untold { ForSome (F.told folder.old).files HasWholeIndex → IfDamaged result (λ _. (F.told folder.old).files ≡ None) }
-    ensures later { F.faults folder.old ≤ F.faults folder.new }
-    ensures device { IfDevice result (Rises (F.faults folder.old) (F.faults folder.new)) }
 {
     let at = IndexHead::TABLE + 4 * u64::from(first);
     read_exact(folder, FileId::Index, at, bytes)?;

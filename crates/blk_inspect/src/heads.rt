@@ -1,8 +1,8 @@
 // The words of headers and of records are read.
-ghost use Rattle.std.specs.Prelude.{◌≡◌, ◌≤◌, IfOk, None, map};
+ghost use Rattle.std.specs.Prelude.{◌≡◌, IfOk, None, map};
 ghost use Rattle.std.specs.Option.{ForSome};
 ghost use Rattle.spec_image.specs.Bytes.{content};
-ghost use Rattle.spec_image.specs.Told.{Rises, Stays};
+ghost use Rattle.spec_image.specs.Told.{ReadsOnly};
 ghost use Rattle.spec_format.specs.Headers.{HasWholeIndex};
 ghost use Rattle.spec_format.specs.Records.{entry_in};
 ghost use Rattle.blk_record.specs.Views.{entry_window};
@@ -31,11 +31,9 @@ const STATE: usize = EntryView::STATE as usize;
 /// Reads the words of the index, by one folder call.
 pub(crate) fn read_index<F: Folder>(alloc: Global, folder: &mut F) -> Result<Findings, ScanFault>
     ensures found { IfOk result (λ findings. ForSome (F.told folder.old).files (λ image. findings_text findings ≡ index_text image)) }
-    ensures stays { Stays (F.told folder.old) (F.told folder.new) }
+    ensures reads { ReadsOnly F.told F.faults folder.old folder.new (IfScanDevice result) }
     ensures damaged { IfScanDamaged result (IsFileHeadDamage (F.told folder.new)) }
     ensures untold { ForSome (F.told folder.old).files HasWholeIndex → IfScanDamaged result (λ _. (F.told folder.old).files ≡ None) }
-    ensures later { F.faults folder.old ≤ F.faults folder.new }
-    ensures device { IfScanDevice result (Rises (F.faults folder.old) (F.faults folder.new)) }
 {
     let mut window = [0u8; IndexHead::LEN];
     read_exact(folder, FileId::Index, 0, &mut window)?;
@@ -85,11 +83,9 @@ pub(crate) fn read_file<F: Folder>(
     file: u8,
 ) -> Result<Findings, ScanFault>
     ensures found { IfOk result (λ findings. ForSome (F.told folder.old).files (λ image. Agrees files.now image → findings_text findings ≡ file_text file image)) }
-    ensures stays { Stays (F.told folder.old) (F.told folder.new) }
+    ensures reads { ReadsOnly F.told F.faults folder.old folder.new (IfScanDevice result) }
     ensures damaged { IfScanDamaged result (IsFileHeadDamage (F.told folder.new)) }
     ensures untold { ForSome (F.told folder.old).files (Agrees files.now) → IfScanDamaged result (λ _. (F.told folder.old).files ≡ None) }
-    ensures later { F.faults folder.old ≤ F.faults folder.new }
-    ensures device { IfScanDevice result (Rises (F.faults folder.old) (F.faults folder.new)) }
 {
     if files.max_entries(file).is_none() {
         return Ok(Findings::Nothing);
@@ -136,11 +132,9 @@ pub(crate) fn read_record<F: Folder>(
     word: u32,
 ) -> Result<Findings, ScanFault>
     ensures found { IfOk result (λ findings. ForSome (F.told folder.old).files (λ image. Agrees files.now image → findings_text findings ≡ record_text word image)) }
-    ensures stays { Stays (F.told folder.old) (F.told folder.new) }
+    ensures reads { ReadsOnly F.told F.faults folder.old folder.new (IfScanDevice result) }
     ensures damaged { IfScanDamaged result (IsRecordDamage files.now (F.told folder.new)) }
     ensures untold { ForSome (F.told folder.old).files (Agrees files.now) → IfScanDamaged result (λ _. (F.told folder.old).files ≡ None) }
-    ensures later { F.faults folder.old ≤ F.faults folder.new }
-    ensures device { IfScanDevice result (Rises (F.faults folder.old) (F.faults folder.new)) }
 {
     let Some(entry) = files.entry(word) else {
         return Ok(Findings::Nothing);

@@ -1,8 +1,8 @@
 // A folder is inspected and verified.
-ghost use Rattle.std.specs.Prelude.{◌≡◌, ◌≤◌};
+ghost use Rattle.std.specs.Prelude.{◌≡◌};
 ghost use Rattle.blk_io.specs.Streams.{GoesOn};
 ghost use Rattle.std.specs.Option.{ForSome};
-ghost use Rattle.spec_image.specs.Told.{Rises, Stays};
+ghost use Rattle.spec_image.specs.Told.{Rises, ReadsOnly};
 ghost use Rattle.blk_inspect.specs.Inspecting.{AnswersFor, IfInspectDamaged, IfInspectDevice, IfInspectSink, IsInspectDamage, PrintsAt, UnlessSink};
 ghost use Rattle.blk_inspect.specs.Texts.{inspect_text, verify_text};
 
@@ -53,14 +53,12 @@ pub fn inspect<F: Folder, K: Sink>(
     // When out of memory, and where the folder fails or is corrupt, nothing is printed.
     ensures unprinted { UnlessSink result (K.written out.new ≡ K.written out.old) }
 
-    ensures stays { Stays (F.told f.old) (F.told f.new) }
+    ensures reads { ReadsOnly F.told F.faults f.old f.new (IfInspectDevice result) }
 
     // The cause of a failed check, which holds for an opaque folder too.
     ensures cause { IfInspectDamaged result (IsInspectDamage (F.told f.old)) }
 
-    ensures later { F.faults f.old ≤ F.faults f.new }
     ensures sink_later { GoesOn K.is K.faults out.old out.new }
-    ensures device { IfInspectDevice result (Rises (F.faults f.old) (F.faults f.new)) }
     ensures sink { IfInspectSink result (Rises (K.faults out.old) (K.faults out.new)) }
 {
     let findings = find(alloc, f, &Question::OfPart(*part))?;
@@ -88,14 +86,12 @@ pub fn verify<F: Folder, K: Sink>(alloc: Global, f: &mut F, out: &mut K) -> Resu
     // When out of memory, and where the folder fails or is corrupt, nothing is printed.
     ensures unprinted { UnlessSink result (K.written out.new ≡ K.written out.old) }
 
-    ensures stays { Stays (F.told f.old) (F.told f.new) }
+    ensures reads { ReadsOnly F.told F.faults f.old f.new (IfInspectDevice result) }
 
     // The cause of a failed check, which holds for an opaque folder too.
     ensures cause { IfInspectDamaged result (IsInspectDamage (F.told f.old)) }
 
-    ensures later { F.faults f.old ≤ F.faults f.new }
     ensures sink_later { GoesOn K.is K.faults out.old out.new }
-    ensures device { IfInspectDevice result (Rises (F.faults f.old) (F.faults f.new)) }
     ensures sink { IfInspectSink result (Rises (K.faults out.old) (K.faults out.new)) }
 {
     let findings = find(alloc, f, &Question::Verdict)?;

@@ -3,7 +3,7 @@ ghost use Rattle.std.specs.Prelude.{◌≡◌, ◌≤◌, ◌<◌, ◌++◌, ◌
 ghost use Rattle.std.specs.List.{cons_option};
 ghost use Rattle.std.specs.Option.{ForSome, option_map};
 ghost use Rattle.spec_image.specs.Image.{Image};
-ghost use Rattle.spec_image.specs.Told.{Rises, Stays};
+ghost use Rattle.spec_image.specs.Told.{ReadsOnly};
 ghost use Rattle.blk_disk.specs.Open.{IsOpen};
 ghost use Rattle.blk_disk.specs.Tables.{Agrees};
 ghost use Rattle.blk_audit.specs.BucketEnds as shown;
@@ -29,11 +29,9 @@ pub(crate) fn read_list<F: Folder>(
     files: &BlockFiles,
 ) -> Result<Findings, ScanFault>
     ensures found { IfOk result (λ findings. ForSome (F.told folder.old).files (λ image. Agrees files.now image → findings_text findings ≡ list_text image)) }
-    ensures stays { Stays (F.told folder.old) (F.told folder.new) }
+    ensures reads { ReadsOnly F.told F.faults folder.old folder.new (IfScanDevice result) }
     ensures damaged { IfScanDamaged result (IsListsDamage files.now (F.told folder.new)) }
     ensures untold { ForSome (F.told folder.old).files (IsOpen files.now) → IfScanDamaged result (λ _. (F.told folder.old).files ≡ None) }
-    ensures later { F.faults folder.old ≤ F.faults folder.new }
-    ensures device { IfScanDevice result (Rises (F.faults folder.old) (F.faults folder.new)) }
 {
     let lists = read_lists(alloc, folder, files)?;
     let rows = node_rows(alloc, &lists)?;
@@ -73,11 +71,9 @@ pub(crate) fn read_chain<F: Folder>(
     bucket: u16,
 ) -> Result<Findings, ScanFault>
     ensures found { IfOk result (λ findings. ForSome (F.told folder.old).files (λ image. Agrees files.now image → findings_text findings ≡ chain_text bucket image)) }
-    ensures stays { Stays (F.told folder.old) (F.told folder.new) }
+    ensures reads { ReadsOnly F.told F.faults folder.old folder.new (IfScanDevice result) }
     ensures damaged { IfScanDamaged result (IsListsDamage files.now (F.told folder.new)) }
     ensures untold { ForSome (F.told folder.old).files (IsOpen files.now) → IfScanDamaged result (λ _. (F.told folder.old).files ≡ None) }
-    ensures later { F.faults folder.old ≤ F.faults folder.new }
-    ensures device { IfScanDevice result (Rises (F.faults folder.old) (F.faults folder.new)) }
 {
     let lists = read_lists(alloc, folder, files)?;
     let rows = record_rows(
@@ -124,11 +120,9 @@ fn record_rows<F: Folder>(
 ) -> Result<Vec<RecordRow>, ScanFault>
     requires stand { RecordsStand files.now entries.now }
     ensures rows { IfOk result (λ rows. ForSome (F.told folder.old).files (λ image. AreListsOf image lists.now → rows.items ≡ map (record_row_at image) entries.now)) }
-    ensures stays { Stays (F.told folder.old) (F.told folder.new) }
+    ensures reads { ReadsOnly F.told F.faults folder.old folder.new (IfScanDevice result) }
     ensures damaged { IfScanDamaged result (IsRecordDamage files.now (F.told folder.new)) }
     ensures untold { ForSome (F.told folder.old).files (Agrees files.now) → IfScanDamaged result (λ _. (F.told folder.old).files ≡ None) }
-    ensures later { F.faults folder.old ≤ F.faults folder.new }
-    ensures device { IfScanDevice result (Rises (F.faults folder.old) (F.faults folder.new)) }
 {
     let mut rows = Vec::new(alloc);
     for entry in entries {

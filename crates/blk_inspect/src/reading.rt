@@ -1,7 +1,7 @@
 // What is asked of a folder is read.
-ghost use Rattle.std.specs.Prelude.{◌≡◌, ◌≤◌, IfOk, None, Some};
+ghost use Rattle.std.specs.Prelude.{◌≡◌, IfOk, None, Some};
 ghost use Rattle.std.specs.Option.{ForSome};
-ghost use Rattle.spec_image.specs.Told.{Rises, Stays};
+ghost use Rattle.spec_image.specs.Told.{ReadsOnly};
 ghost use Rattle.spec_format.specs.BlockFiles.{first_block_damage};
 ghost use Rattle.spec_format.specs.Headers.{HasWholeIndex};
 ghost use Rattle.blk_io.specs.Faults.{damage_of};
@@ -46,16 +46,13 @@ pub(crate) fn find<F: Folder>(
 ) -> Result<Findings, ScanFault>
     ensures found { IfOk result (λ findings. ForSome (F.told folder.old).files (λ image. findings_text findings ≡ question_text question.now image)) }
     ensures checked { IfOk result (λ _. ForSome (F.told folder.old).files IsUsable) }
-    ensures stays { Stays (F.told folder.old) (F.told folder.new) }
+    ensures reads { ReadsOnly F.told F.faults folder.old folder.new (IfScanDevice result) }
 
     // An observable folder reports corruption only where a check of its headers fails: the first that does.
     ensures damaged { IfScanDamaged result (λ damage. ForSome (F.told folder.old).files (IsDamagedFirst damage)) }
 
     // The cause of a failed check, which holds for an opaque folder too.
     ensures cause { IfScanDamaged result (IsInspectDamage (F.told folder.old)) }
-
-    ensures later { F.faults folder.old ≤ F.faults folder.new }
-    ensures device { IfScanDevice result (Rises (F.faults folder.old) (F.faults folder.new)) }
 {
     match look(folder)? {
         Start::Unfinished => Ok(Findings::Unfinished),
@@ -71,11 +68,9 @@ fn find_finished<F: Folder>(
 ) -> Result<Findings, ScanFault>
     ensures found { IfOk result (λ findings. ForSome (F.told folder.old).files (λ image. HasWholeIndex image → findings_text findings ≡ finished_text question.now image)) }
     ensures checked { IfOk result (λ _. ForSome (F.told folder.old).files (λ image. first_block_damage image ≡ None)) }
-    ensures stays { Stays (F.told folder.old) (F.told folder.new) }
+    ensures reads { ReadsOnly F.told F.faults folder.old folder.new (IfScanDevice result) }
     ensures damaged { IfScanDamaged result (λ damage. ForSome (F.told folder.old).files (λ image. HasWholeIndex image → first_block_damage image ≡ Some (damage_of damage))) }
     ensures cause { IfScanDamaged result (IsFinishedDamage (F.told folder.old)) }
-    ensures later { F.faults folder.old ≤ F.faults folder.new }
-    ensures device { IfScanDevice result (Rises (F.faults folder.old) (F.faults folder.new)) }
 {
     let files = BlockFiles::load(folder)?;
     read(alloc, folder, &files, question)
@@ -89,11 +84,9 @@ fn read<F: Folder>(
     question: &Question,
 ) -> Result<Findings, ScanFault>
     ensures found { IfOk result (λ findings. ForSome (F.told folder.old).files (λ image. IsOpen files.now image → findings_text findings ≡ finished_text question.now image)) }
-    ensures stays { Stays (F.told folder.old) (F.told folder.new) }
+    ensures reads { ReadsOnly F.told F.faults folder.old folder.new (IfScanDevice result) }
     ensures damaged { IfScanDamaged result (IsInspectReadDamage files.now (F.told folder.new)) }
     ensures untold { ForSome (F.told folder.old).files (IsOpen files.now) → IfScanDamaged result (λ _. (F.told folder.old).files ≡ None) }
-    ensures later { F.faults folder.old ≤ F.faults folder.new }
-    ensures device { IfScanDevice result (Rises (F.faults folder.old) (F.faults folder.new)) }
 {
     match question {
         Question::OfPart(part) => read_part(alloc, folder, files, part),
@@ -109,11 +102,9 @@ fn read_part<F: Folder>(
     part: &Part,
 ) -> Result<Findings, ScanFault>
     ensures found { IfOk result (λ findings. ForSome (F.told folder.old).files (λ image. IsOpen files.now image → findings_text findings ≡ part_text part.now image)) }
-    ensures stays { Stays (F.told folder.old) (F.told folder.new) }
+    ensures reads { ReadsOnly F.told F.faults folder.old folder.new (IfScanDevice result) }
     ensures damaged { IfScanDamaged result (IsInspectReadDamage files.now (F.told folder.new)) }
     ensures untold { ForSome (F.told folder.old).files (IsOpen files.now) → IfScanDamaged result (λ _. (F.told folder.old).files ≡ None) }
-    ensures later { F.faults folder.old ≤ F.faults folder.new }
-    ensures device { IfScanDevice result (Rises (F.faults folder.old) (F.faults folder.new)) }
 {
     match *part {
         Part::Index => read_index(alloc, folder),
@@ -143,11 +134,9 @@ fn read_verdict<F: Folder>(
     files: &BlockFiles,
 ) -> Result<Findings, ScanFault>
     ensures found { IfOk result (λ findings. ForSome (F.told folder.old).files (λ image. IsOpen files.now image → findings_text findings ≡ verdict_text image)) }
-    ensures stays { Stays (F.told folder.old) (F.told folder.new) }
+    ensures reads { ReadsOnly F.told F.faults folder.old folder.new (IfScanDevice result) }
     ensures damaged { IfScanDamaged result (IsInspectReadDamage files.now (F.told folder.new)) }
     ensures untold { ForSome (F.told folder.old).files (IsOpen files.now) → IfScanDamaged result (λ _. (F.told folder.old).files ≡ None) }
-    ensures later { F.faults folder.old ≤ F.faults folder.new }
-    ensures device { IfScanDevice result (Rises (F.faults folder.old) (F.faults folder.new)) }
 {
     let scan = scan_files(alloc, folder, files)?;
     Ok(Findings::Verdict(scan))

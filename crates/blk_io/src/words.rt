@@ -4,7 +4,7 @@ ghost use Rattle.std.specs.Option.{ForSome};
 ghost use Rattle.spec_image.specs.Bytes.{range_at, word_bytes};
 ghost use Rattle.spec_image.specs.Image.{HasRange, byte, word};
 ghost use Rattle.spec_image.specs.Steps.{word_step, word_steps};
-ghost use Rattle.spec_image.specs.Told.{Applies, AppliesPrefix, Stays, Rises};
+ghost use Rattle.spec_image.specs.Told.{Applies, AppliesPrefix, Rises, ReadsOnly};
 ghost use Rattle.blk_io.specs.FileNames.{file_of};
 ghost use Rattle.blk_io.specs.Faults.{IfDamaged, IfDevice, IsShort};
 ghost use Rattle.blk_io.specs.Neighbours.{AreSideBySide, run_from};
@@ -150,9 +150,7 @@ pub fn read_exact<F: Folder>(
     ensures bytes { OnOk result (ForSome (F.told folder.old).files (λ image. out.new ≡ range_at (byte image (file_of file)) at (length out.old))) }
     ensures inside { OnOk result (ForSome (F.told folder.old).files (λ image. HasRange image (file_of file) at (length out.old) ⊎ (length out.old ≡ 0))) }
     ensures short { IfDamaged result (IsShort (F.told folder.old) file at (length out.old)) }
-    ensures stays { Stays (F.told folder.old) (F.told folder.new) }
-    ensures later { F.faults folder.old ≤ F.faults folder.new }
-    ensures device { IfDevice result (Rises (F.faults folder.old) (F.faults folder.new)) }
+    ensures reads { ReadsOnly F.told F.faults folder.old folder.new (IfDevice result) }
 {
     let n = folder.read_at(file, at, out)?;
     if n < out.len() {
@@ -167,9 +165,7 @@ pub fn read_word<F: Folder>(folder: &mut F, file: FileId, at: u64) -> Result<u32
     ensures word { IfOk result (λ w. ForSome (F.told folder.old).files (λ image. w ≡ word image (file_of file) at)) }
     ensures inside { OnOk result (ForSome (F.told folder.old).files (λ image. HasRange image (file_of file) at 4)) }
     ensures short { IfDamaged result (IsShort (F.told folder.old) file at 4) }
-    ensures stays { Stays (F.told folder.old) (F.told folder.new) }
-    ensures later { F.faults folder.old ≤ F.faults folder.new }
-    ensures device { IfDevice result (Rises (F.faults folder.old) (F.faults folder.new)) }
+    ensures reads { ReadsOnly F.told F.faults folder.old folder.new (IfDevice result) }
 {
     let mut word = [0u8; 4];
     read_exact(folder, file, at, &mut word)?;

@@ -1,7 +1,7 @@
 // Changes of the LRU list, each a transaction.
 ghost use Rattle.std.specs.Prelude.{◌≡◌, ◌≢◌, ◌++◌, ◌∷◌, ◌≤◌, ℕ, List, IfOk, IfSome, IsTrue, None, OnOk, Some, true};
 ghost use Rattle.std.specs.Option.{ForSome};
-ghost use Rattle.spec_image.specs.Told.{Applies, MakesPartOf, Passes, Rises, Stays};
+ghost use Rattle.spec_image.specs.Told.{Applies, MakesPartOf, Passes, Rises, ReadsOnly};
 ghost use Rattle.spec_format.specs.Sealed.{sealed_steps};
 ghost use Rattle.spec_folder.specs.Completion.{insert, move, remove as removal};
 ghost use Rattle.spec_folder.specs.ListPlans.{touch_writes, writes_of};
@@ -216,11 +216,9 @@ fn neighbours<F: Folder>(
     requires agrees { ForSome (F.told folder.old).files (Agrees files.now) }
     ensures words { IfOk result (λ neighbours. ForSome (F.told folder.old).files (λ image. AreBeside ((list_of image).next node) ((list_of image).prev node) (Some neighbours))) }
     ensures stand { IfOk result (StandBeside files.now) }
-    ensures stays { Stays (F.told folder.old) (F.told folder.new) }
+    ensures reads { ReadsOnly F.told F.faults folder.old folder.new (IfDevice result) }
     ensures damaged { IfDamaged result (IsNeighbourDamage node files.now (F.told folder.old) (F.told folder.new)) }
     ensures untold { ForSome (F.told folder.old).files (IsListed node) → IfDamaged result (λ _. (F.told folder.old).files ≡ None) }
-    ensures later { F.faults folder.old ≤ F.faults folder.new }
-    ensures device { IfDevice result (Rises (F.faults folder.old) (F.faults folder.new)) }
 {
     let next = link(folder, files, node, NodeView::NEXT)?;
     let prev = link(folder, files, node, NodeView::PREV)?;

@@ -1,7 +1,7 @@
 // The operation in flight, completed.
 ghost use Rattle.std.specs.Prelude.{◌≡◌, ◌≤◌, None, IfOk, IfSome, OnOk, map, true};
 ghost use Rattle.std.specs.Option.{ForSome};
-ghost use Rattle.spec_image.specs.Told.{Applies, MakesPartOf, Passes, Rises, Stays};
+ghost use Rattle.spec_image.specs.Told.{Applies, MakesPartOf, Passes, Rises, ReadsOnly};
 ghost use Rattle.spec_folder.specs.ListPlans.{completion_writes};
 ghost use Rattle.spec_folder.specs.View.{list_of};
 ghost use Rattle.spec_folder.specs.ListSteps.{AreOf, AllWriteWords, Seals};
@@ -77,14 +77,11 @@ pub fn pending<F: Folder>(folder: &mut F, files: &BlockFiles) -> Result<Plan, Fa
     ensures plan { IfOk result (λ plan. ForSome (F.told folder.old).files (λ image. Agrees files.now image → map meant plan.items ≡ completion_writes (list_of image))) }
     ensures stand { IfOk result (λ plan. AreOf (λ n. is_node_among files.now n ≡ true) (map meant plan.items)) }
     ensures checked { OnOk result (ForSome (F.told folder.old).files (HasFlight files.now)) }
-    ensures stays { Stays (F.told folder.old) (F.told folder.new) }
+    ensures reads { ReadsOnly F.told F.faults folder.old folder.new (IfDevice result) }
 
     // Too few bytes, which an observable folder gives only where its index is too short or the block files don't agree with it.
     ensures damaged { IfDamaged result (IsPendingDamage files.now (F.told folder.new)) }
     ensures untold { ForSome (F.told folder.old).files (IsOpen files.now) → IfDamaged result (λ _. (F.told folder.old).files ≡ None) }
-
-    ensures later { F.faults folder.old ≤ F.faults folder.new }
-    ensures device { IfDevice result (Rises (F.faults folder.old) (F.faults folder.new)) }
 {
     let transaction = word(folder, TRANSACTION)?;
     if transaction == 0 {
@@ -106,11 +103,9 @@ fn in_flight<F: Folder>(
     ensures found { IfOk result (λ found. ForSome (F.told folder.old).files (λ image. FindsInFlight (list_among files.now image) found)) }
     ensures stand { IfOk result (λ found. IfSome found (AreNodes files.now)) }
     ensures checked { OnOk result (ForSome (F.told folder.old).files (HasNodeInFlight files.now)) }
-    ensures stays { Stays (F.told folder.old) (F.told folder.new) }
+    ensures reads { ReadsOnly F.told F.faults folder.old folder.new (IfDevice result) }
     ensures damaged { IfDamaged result (IsPendingDamage files.now (F.told folder.new)) }
     ensures untold { ForSome (F.told folder.old).files (IsOpen files.now) → IfDamaged result (λ _. (F.told folder.old).files ≡ None) }
-    ensures later { F.faults folder.old ≤ F.faults folder.new }
-    ensures device { IfDevice result (Rises (F.faults folder.old) (F.faults folder.new)) }
 {
     let Some(links) = checked(folder, files, transaction)? else {
         return Ok(None);
@@ -132,11 +127,9 @@ fn counting<F: Folder>(
     ensures found { IfOk result (λ found. ForSome (F.told folder.old).files (λ image. FindsInFlight (list_among files.now image) found)) }
     ensures stand { IfOk result (λ found. IfSome found (AreNodes files.now)) }
     ensures checked { OnOk result (ForSome (F.told folder.old).files (HasOperands files.now)) }
-    ensures stays { Stays (F.told folder.old) (F.told folder.new) }
+    ensures reads { ReadsOnly F.told F.faults folder.old folder.new (IfDevice result) }
     ensures damaged { IfDamaged result (IsPendingDamage files.now (F.told folder.new)) }
     ensures untold { ForSome (F.told folder.old).files (IsOpen files.now) → IfDamaged result (λ _. (F.told folder.old).files ≡ None) }
-    ensures later { F.faults folder.old ≤ F.faults folder.new }
-    ensures device { IfDevice result (Rises (F.faults folder.old) (F.faults folder.new)) }
 {
     let node = links.node;
     match code {
@@ -173,11 +166,9 @@ fn usable_head<F: Folder>(folder: &mut F, files: &BlockFiles) -> Result<Usable<O
     ensures found { IfOk result (λ found. ForSome (F.told folder.old).files (λ image. FindsHead (list_among files.now image) found)) }
     ensures stand { IfOk result (FoundHeadStands files.now) }
     ensures checked { OnOk result (ForSome (F.told folder.old).files (HasHead files.now)) }
-    ensures stays { Stays (F.told folder.old) (F.told folder.new) }
+    ensures reads { ReadsOnly F.told F.faults folder.old folder.new (IfDevice result) }
     ensures damaged { IfDamaged result (IsPendingDamage files.now (F.told folder.new)) }
     ensures untold { ForSome (F.told folder.old).files (IsOpen files.now) → IfDamaged result (λ _. (F.told folder.old).files ≡ None) }
-    ensures later { F.faults folder.old ≤ F.faults folder.new }
-    ensures device { IfDevice result (Rises (F.faults folder.old) (F.faults folder.new)) }
 {
     let head = word(folder, HEAD)?;
     if head == 0 {
@@ -200,11 +191,9 @@ fn usable_links<F: Folder>(
     ensures found { IfOk result (λ found. ForSome (F.told folder.old).files (λ image. FindsNeighbours (list_among files.now image) (list_among files.now image).transaction found)) }
     ensures stand { IfOk result (FoundNeighboursStand files.now) }
     ensures checked { OnOk result (ForSome (F.told folder.old).files (λ image. HasNeighbours files.now image (list_among files.now image).transaction)) }
-    ensures stays { Stays (F.told folder.old) (F.told folder.new) }
+    ensures reads { ReadsOnly F.told F.faults folder.old folder.new (IfDevice result) }
     ensures damaged { IfDamaged result (IsShortNode files.now (F.told folder.new)) }
     ensures untold { ForSome (F.told folder.old).files (Agrees files.now) → IfDamaged result (λ _. (F.told folder.old).files ≡ None) }
-    ensures later { F.faults folder.old ≤ F.faults folder.new }
-    ensures device { IfDevice result (Rises (F.faults folder.old) (F.faults folder.new)) }
 {
     if links.next == 0 {
         return Ok(Usable::Counts(None));

@@ -1,7 +1,7 @@
 // The end of the LRU list.
 ghost use Rattle.std.specs.Prelude.{◌≡◌, ◌≤◌, IfOk, IfSome, None, OnOk, map, true};
 ghost use Rattle.std.specs.Option.{ForSome};
-ghost use Rattle.spec_image.specs.Told.{Applies, MakesPartOf, Rises, Stays};
+ghost use Rattle.spec_image.specs.Told.{Applies, MakesPartOf, Rises, ReadsOnly};
 ghost use Rattle.spec_folder.specs.ListPlans.{ending_writes, front_of};
 ghost use Rattle.spec_folder.specs.ListSteps.{AllWriteWords, AreOf, Seals, steps_of_writes};
 ghost use Rattle.spec_folder.specs.ListImages.{CanBeMade};
@@ -62,11 +62,9 @@ fn ending_of<F: Folder>(
     ensures plan { IfOk result (λ plan. ForSome (F.told folder.old).files (λ image. Agrees files.now image → map meant plan.items ≡ ending_writes (list_of image) last)) }
     ensures stand { IfOk result (λ plan. AreOf (λ n. is_node_among files.now n ≡ true) (map meant plan.items)) }
     ensures words { IfOk result (λ plan. AllWriteWords (map meant plan.items)) }
-    ensures stays { Stays (F.told folder.old) (F.told folder.new) }
+    ensures reads { ReadsOnly F.told F.faults folder.old folder.new (IfDevice result) }
     ensures damaged { IfDamaged result (IsEndReadDamage last (F.told folder.old)) }
     ensures untold { ForSome (F.told folder.old).files (IsOpen files.now) → IfDamaged result (λ _. (F.told folder.old).files ≡ None) }
-    ensures later { F.faults folder.old ≤ F.faults folder.new }
-    ensures device { IfDevice result (Rises (F.faults folder.old) (F.faults folder.new)) }
 {
     let front = front_word(folder, files, last)?;
     let tail = word(folder, TAIL)?;
@@ -81,11 +79,9 @@ fn front_word<F: Folder>(
 ) -> Result<u32, Fault>
     requires stands { IfSome last (λ node. is_node_among files.now node ≡ true) }
     ensures word { IfOk result (λ front. ForSome (F.told folder.old).files (λ image. Agrees files.now image → front ≡ front_of (list_of image) last)) }
-    ensures stays { Stays (F.told folder.old) (F.told folder.new) }
+    ensures reads { ReadsOnly F.told F.faults folder.old folder.new (IfDevice result) }
     ensures damaged { IfDamaged result (IsFrontDamage last (F.told folder.old)) }
     ensures untold { ForSome (F.told folder.old).files (IsOpen files.now) → IfDamaged result (λ _. (F.told folder.old).files ≡ None) }
-    ensures later { F.faults folder.old ≤ F.faults folder.new }
-    ensures device { IfDevice result (Rises (F.faults folder.old) (F.faults folder.new)) }
 {
     match last {
         Some(node) => link_word(folder, files, node, NodeView::NEXT),

@@ -1,9 +1,9 @@
 // Words that name nodes, and the links of nodes.
-ghost use Rattle.std.specs.Prelude.{◌≡◌, ◌+◌, ◌≤◌, IfOk, IfSome, IsTrue, None, OnOk, Some, if◌then◌else◌, length, true};
+ghost use Rattle.std.specs.Prelude.{◌≡◌, ◌+◌, IfOk, IfSome, IsTrue, None, OnOk, Some, if◌then◌else◌, length, true};
 ghost use Rattle.std.specs.Option.{ForSome};
 ghost use Rattle.spec_image.specs.Bytes.{content, word_at};
 ghost use Rattle.spec_image.specs.Image.{Block as block, HasRange};
-ghost use Rattle.spec_image.specs.Told.{Rises, Stays};
+ghost use Rattle.spec_image.specs.Told.{ReadsOnly};
 ghost use Rattle.spec_format.specs.Address.{file_selector, place};
 ghost use Rattle.spec_format.specs.Records.{checks, node_seal_place, node_size};
 ghost use Rattle.blk_io.specs.declared.folder.FileId.TheVariants as names;
@@ -37,11 +37,9 @@ pub(crate) fn link<F: Folder>(
     ensures word { IfOk result (λ found. ForSome (F.told folder.old).files (λ image. found ≡ link_at image node at)) }
     ensures stands { IfOk result (λ found. IsTrue (is_node_among files.now found)) }
     ensures checked { OnOk result (ForSome (F.told folder.old).files (λ image. HasRange image (block (file_selector node)) (place node + at) 4)) }
-    ensures stays { Stays (F.told folder.old) (F.told folder.new) }
+    ensures reads { ReadsOnly F.told F.faults folder.old folder.new (IfDevice result) }
     ensures damaged { IfDamaged result (IsNodeLinkDamage node at files.now (F.told folder.old)) }
     ensures untold { ForSome (F.told folder.old).files (Agrees files.now) → ForSome (F.told folder.old).files (λ image. is_node_among files.now (link_at image node at) ≡ true) → IfDamaged result (λ _. (F.told folder.old).files ≡ None) }
-    ensures later { F.faults folder.old ≤ F.faults folder.new }
-    ensures device { IfDevice result (Rises (F.faults folder.old) (F.faults folder.new)) }
 {
     let mut bytes = [0u8; 4];
     files.read_block(folder, node, at, &mut bytes)?;
@@ -66,11 +64,9 @@ pub(crate) fn link_word<F: Folder>(
     requires stands { is_node_among files.now node ≡ true }
     requires place { IsLinkPlace at }
     ensures word { IfOk result (λ found. ForSome (F.told folder.old).files (λ image. found ≡ link_at image node at)) }
-    ensures stays { Stays (F.told folder.old) (F.told folder.new) }
+    ensures reads { ReadsOnly F.told F.faults folder.old folder.new (IfDevice result) }
     ensures damaged { IfDamaged result (IsShort (F.told folder.old) (names.Block (file_selector node)) (place node + at) 4) }
     ensures untold { ForSome (F.told folder.old).files (Agrees files.now) → IfDamaged result (λ _. (F.told folder.old).files ≡ None) }
-    ensures later { F.faults folder.old ≤ F.faults folder.new }
-    ensures device { IfDevice result (Rises (F.faults folder.old) (F.faults folder.new)) }
 {
     let mut bytes = [0u8; 4];
     files.read_block(folder, node, at, &mut bytes)?;
@@ -86,11 +82,9 @@ pub(crate) fn checked<F: Folder>(
     ensures found { IfOk result (λ found. ForSome (F.told folder.old).files (λ image. FindsNode (list_among files.now image) word found)) }
     ensures stands { IfOk result (λ found. IfSome found (λ links. is_node_among files.now links.node ≡ true)) }
     ensures checked { OnOk result (ForSome (F.told folder.old).files (λ image. HasNode files.now image word)) }
-    ensures stays { Stays (F.told folder.old) (F.told folder.new) }
+    ensures reads { ReadsOnly F.told F.faults folder.old folder.new (IfDevice result) }
     ensures damaged { IfDamaged result (IsShortNode files.now (F.told folder.new)) }
     ensures untold { ForSome (F.told folder.old).files (Agrees files.now) → IfDamaged result (λ _. (F.told folder.old).files ≡ None) }
-    ensures later { F.faults folder.old ≤ F.faults folder.new }
-    ensures device { IfDevice result (Rises (F.faults folder.old) (F.faults folder.new)) }
 {
     let Some(node) = files.node(word) else {
         return Ok(None);

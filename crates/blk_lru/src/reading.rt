@@ -1,8 +1,8 @@
 // The order of the LRU list.
-ghost use Rattle.std.specs.Prelude.{◌≡◌, ◌+◌, ◌++◌, ◌∷◌, ◌≤◌, ◌<◌, ◌%◌, ◌==◌, ℕ, List, IfOk, IfSome, IsTrue, None, OnOk, Some, if◌then◌else◌};
+ghost use Rattle.std.specs.Prelude.{◌≡◌, ◌+◌, ◌++◌, ◌∷◌, ◌<◌, ◌%◌, ◌==◌, ℕ, List, IfOk, IfSome, IsTrue, None, OnOk, Some, if◌then◌else◌};
 ghost use Rattle.std.specs.Option.{ForSome};
 ghost use Rattle.spec_image.specs.Image.{word as image_word, Block as block, Index as index, HasRange};
-ghost use Rattle.spec_image.specs.Told.{Rises, Stays};
+ghost use Rattle.spec_image.specs.Told.{ReadsOnly};
 ghost use Rattle.spec_format.specs.Address.{file_selector, place};
 ghost use Rattle.spec_format.specs.Headers.{header_length, HasWholeIndex};
 ghost use Rattle.spec_folder.specs.View.{list_of};
@@ -39,14 +39,11 @@ pub fn first<F: Folder>(f: &mut F, files: &BlockFiles) -> Result<Option<Addr>, F
     ensures word { IfOk result (λ node. ForSome (F.told f.old).files (λ image. word_or_zero node ≡ (list_of image).head)) }
     ensures stands { IfOk result (λ node. IfSome node (λ n. IsTrue (is_node_among files.now n))) }
     ensures checked { OnOk result (ForSome (F.told f.old).files (λ image. HasRange image index IndexHead.HEADS 4)) }
-    ensures stays { Stays (F.told f.old) (F.told f.new) }
+    ensures reads { ReadsOnly F.told F.faults f.old f.new (IfDevice result) }
 
     // Too few bytes, or a word that names no node, which no observable folder gives whose list is idle.
     ensures damaged { IfDamaged result (IsListHeadDamage files.now (F.told f.old)) }
     ensures untold { ForSome (F.told f.old).files HasWholeIndex → ForSome (F.told f.old).files (Agrees files.now) → ForSome (F.told f.old).files IsListAtRest → IfDamaged result (λ _. (F.told f.old).files ≡ None) }
-
-    ensures later { F.faults f.old ≤ F.faults f.new }
-    ensures device { IfDevice result (Rises (F.faults f.old) (F.faults f.new)) }
 {
     end_of_list(f, files, HEAD)
 }
@@ -59,14 +56,11 @@ pub fn last<F: Folder>(f: &mut F, files: &BlockFiles) -> Result<Option<Addr>, Fa
     ensures word { IfOk result (λ node. ForSome (F.told f.old).files (λ image. word_or_zero node ≡ (list_of image).tail)) }
     ensures stands { IfOk result (λ node. IfSome node (λ n. IsTrue (is_node_among files.now n))) }
     ensures checked { OnOk result (ForSome (F.told f.old).files (λ image. HasRange image index IndexHead.TAILS 4)) }
-    ensures stays { Stays (F.told f.old) (F.told f.new) }
+    ensures reads { ReadsOnly F.told F.faults f.old f.new (IfDevice result) }
 
     // Too few bytes, or a word that names no node, which no observable folder gives whose list is idle.
     ensures damaged { IfDamaged result (IsListTailDamage files.now (F.told f.old)) }
     ensures untold { ForSome (F.told f.old).files HasWholeIndex → ForSome (F.told f.old).files (Agrees files.now) → ForSome (F.told f.old).files IsListAtRest → IfDamaged result (λ _. (F.told f.old).files ≡ None) }
-
-    ensures later { F.faults f.old ≤ F.faults f.new }
-    ensures device { IfDevice result (Rises (F.faults f.old) (F.faults f.new)) }
 {
     end_of_list(f, files, TAIL)
 }
@@ -80,14 +74,11 @@ pub fn before<F: Folder>(f: &mut F, files: &BlockFiles, node: Addr) -> Result<Op
     ensures word { IfOk result (λ found. ForSome (F.told f.old).files (λ image. found ≡ (if link_at image node NodeView.PREV == node then None else Some (link_at image node NodeView.PREV)))) }
     ensures stands { IfOk result (λ found. IfSome found (λ n. IsTrue (is_node_among files.now n))) }
     ensures checked { OnOk result (ForSome (F.told f.old).files (λ image. HasRange image (block (file_selector node)) (place node + NodeView.PREV) 4)) }
-    ensures stays { Stays (F.told f.old) (F.told f.new) }
+    ensures reads { ReadsOnly F.told F.faults f.old f.new (IfDevice result) }
 
     // Too few bytes, or a word that names no node, which no observable folder gives in whose list the node is.
     ensures damaged { IfDamaged result (IsNodeLinkDamage node NodeView.PREV files.now (F.told f.old)) }
     ensures untold { ForSome (F.told f.old).files (Agrees files.now) → ForSome (F.told f.old).files (IsListed node) → IfDamaged result (λ _. (F.told f.old).files ≡ None) }
-
-    ensures later { F.faults f.old ≤ F.faults f.new }
-    ensures device { IfDevice result (Rises (F.faults f.old) (F.faults f.new)) }
 {
     let other = link(f, files, node, NodeView::PREV)?;
     Ok(unless_same(node, other))
@@ -102,14 +93,11 @@ pub fn after<F: Folder>(f: &mut F, files: &BlockFiles, node: Addr) -> Result<Opt
     ensures word { IfOk result (λ found. ForSome (F.told f.old).files (λ image. found ≡ (if link_at image node NodeView.NEXT == node then None else Some (link_at image node NodeView.NEXT)))) }
     ensures stands { IfOk result (λ found. IfSome found (λ n. IsTrue (is_node_among files.now n))) }
     ensures checked { OnOk result (ForSome (F.told f.old).files (λ image. HasRange image (block (file_selector node)) (place node + NodeView.NEXT) 4)) }
-    ensures stays { Stays (F.told f.old) (F.told f.new) }
+    ensures reads { ReadsOnly F.told F.faults f.old f.new (IfDevice result) }
 
     // Too few bytes, or a word that names no node, which no observable folder gives in whose list the node is.
     ensures damaged { IfDamaged result (IsNodeLinkDamage node NodeView.NEXT files.now (F.told f.old)) }
     ensures untold { ForSome (F.told f.old).files (Agrees files.now) → ForSome (F.told f.old).files (IsListed node) → IfDamaged result (λ _. (F.told f.old).files ≡ None) }
-
-    ensures later { F.faults f.old ≤ F.faults f.new }
-    ensures device { IfDevice result (Rises (F.faults f.old) (F.faults f.new)) }
 {
     let other = link(f, files, node, NodeView::NEXT)?;
     Ok(unless_same(node, other))
@@ -133,11 +121,9 @@ pub(crate) fn end_of_list<F: Folder>(
     ensures node { IfOk result (λ node. ForSome (F.told folder.old).files (λ image. node ≡ (if image_word image index at == 0 then None else Some (image_word image index at)))) }
     ensures stands { IfOk result (λ node. IfSome node (λ n. IsTrue (is_node_among files.now n))) }
     ensures checked { OnOk result (ForSome (F.told folder.old).files (λ image. HasRange image index at 4)) }
-    ensures stays { Stays (F.told folder.old) (F.told folder.new) }
+    ensures reads { ReadsOnly F.told F.faults folder.old folder.new (IfDevice result) }
     ensures damaged { IfDamaged result (IsNodeWordDamage files.now (F.told folder.old) names.Index at) }
     ensures untold { ForSome (F.told folder.old).files HasWholeIndex → ForSome (F.told folder.old).files (λ image. IsNodeOrNone files.now (image_word image index at)) → IfDamaged result (λ _. (F.told folder.old).files ≡ None) }
-    ensures later { F.faults folder.old ≤ F.faults folder.new }
-    ensures device { IfDevice result (Rises (F.faults folder.old) (F.faults folder.new)) }
 {
     let found = word(folder, at)?;
     if found == 0 {

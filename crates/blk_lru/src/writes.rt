@@ -3,7 +3,7 @@ ghost use Rattle.std.specs.Prelude.{◌≡◌, ◌<◌, ◌≤◌, ◌%◌, [], 
 ghost use Rattle.std.specs.Option.{ForSome};
 ghost use Rattle.spec_image.specs.Image.{Index as index};
 ghost use Rattle.spec_image.specs.Steps.{word_step};
-ghost use Rattle.spec_image.specs.Told.{Applies, AppliesPrefix, MakesPartOf, Rises};
+ghost use Rattle.spec_image.specs.Told.{Applies, AppliesPrefix, MakesPartOf, Rises, MayWrite};
 ghost use Rattle.spec_format.specs.Headers.{header_length, HasWholeIndex};
 ghost use Rattle.spec_format.specs.Sealed.{sealed_steps};
 ghost use Rattle.spec_folder.specs.View.{list_of};
@@ -122,9 +122,7 @@ fn set_index<F: Folder>(folder: &mut F, at: u64, word: u32) -> Result<(), Fault>
     ensures steps { OnOk result (Applies (F.told folder.old) (F.told folder.new) (word_step index at word)) }
     ensures prefix { AppliesPrefix (F.told folder.old) (F.told folder.new) (word_step index at word) }
     ensures damaged { IfDamaged result (λ _. ⊥) }
-    ensures silent { (F.told folder.old).files ≡ None → (F.told folder.new).files ≡ None }
-    ensures later { F.faults folder.old ≤ F.faults folder.new }
-    ensures device { IfDevice result (Rises (F.faults folder.old) (F.faults folder.new)) }
+    ensures writes { MayWrite F.told F.faults folder.old folder.new (IfDevice result) }
 {
     set_word(folder, at, word)?;
     Ok(())

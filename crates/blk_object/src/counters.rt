@@ -1,7 +1,7 @@
 // The counters of the index, which count the entries and their charges.
-ghost use Rattle.std.specs.Prelude.{◌≡◌, ◌≤◌, ◌<◌, ◌+◌, ◌/◌, ◌%◌, ◌^◌, [], None, IfOk, OnErr, OnOk};
+ghost use Rattle.std.specs.Prelude.{◌≡◌, ◌<◌, ◌+◌, ◌/◌, ◌%◌, ◌^◌, [], None, IfOk, OnErr, OnOk};
 ghost use Rattle.std.specs.Option.{ForSome};
-ghost use Rattle.spec_image.specs.Told.{Passes, Rises, Stays};
+ghost use Rattle.spec_image.specs.Told.{Passes, MayWrite, ReadsOnly};
 ghost use Rattle.spec_format.specs.Headers.{HasWholeIndex, num_bytes64_place};
 ghost use Rattle.blk_io.specs.Faults.{IfDamaged, IfDevice};
 ghost use Rattle.blk_disk.specs.Open.{IsOpen};
@@ -32,11 +32,9 @@ pub(crate) struct Counters {
 /// Reads the counters of the index.
 pub(crate) fn read_counters<F: Folder>(folder: &mut F) -> Result<Counters, Fault>
     ensures read { IfOk result (λ counters. ForSome (F.told folder.old).files (AreIndexCounters counters)) }
-    ensures stays { Stays (F.told folder.old) (F.told folder.new) }
+    ensures reads { ReadsOnly F.told F.faults folder.old folder.new (IfDevice result) }
     ensures damaged { IfDamaged result (ReadsTooFew (F.told folder.new)) }
     ensures untold { ForSome (F.told folder.old).files HasWholeIndex → IfDamaged result (λ _. (F.told folder.old).files ≡ None) }
-    ensures later { F.faults folder.old ≤ F.faults folder.new }
-    ensures device { IfDevice result (Rises (F.faults folder.old) (F.faults folder.new)) }
 {
     let entries = word(folder, IndexHead::NUM_ENTRIES)?;
     let bytes = long(folder, IndexHead::NUM_BYTES64)?;
@@ -59,9 +57,7 @@ pub(crate) fn count_entry<F: Folder>(
     ensures written { OnOk result (ForSome (F.told folder.old).files (λ from. ForSome (F.told folder.new).files (AreCountersWritten ((counters.now.entries + 1) % 2 ^ 32) ((counters.now.bytes + charge) % 2 ^ 64) ((counters.now.size + 1) % 2 ^ 32) from))) }
     ensures stops { ForSome (F.told folder.old).files (λ from. Passes (F.told folder.old) (F.told folder.new) (KeepsWith [] [] from)) }
     ensures is_open { ForSome (F.told folder.new).files (IsOpen files.now) }
-    ensures silent { (F.told folder.old).files ≡ None → (F.told folder.new).files ≡ None }
-    ensures later { F.faults folder.old ≤ F.faults folder.new }
-    ensures failed { OnErr result (Rises (F.faults folder.old) (F.faults folder.new)) }
+    ensures writes { MayWrite F.told F.faults folder.old folder.new (OnErr result) }
 {
     let entries = counters.entries.wrapping_add(1);
     let bytes = counters.bytes.wrapping_add(charge);
@@ -79,9 +75,7 @@ pub fn count_less<F: Folder>(folder: &mut F, files: &BlockFiles, charge: u64) ->
     ensures is_open { ForSome (F.told folder.new).files (IsOpen files.now) }
     ensures damaged { IfDamaged result (IsFailedCheck files.now (F.told folder.new)) }
     ensures untold { IfDamaged result (λ _. (F.told folder.old).files ≡ None) }
-    ensures silent { (F.told folder.old).files ≡ None → (F.told folder.new).files ≡ None }
-    ensures later { F.faults folder.old ≤ F.faults folder.new }
-    ensures device { IfDevice result (Rises (F.faults folder.old) (F.faults folder.new)) }
+    ensures writes { MayWrite F.told F.faults folder.old folder.new (IfDevice result) }
 {
     let counters = read_counters(folder)?;
     let entries = counters.entries.wrapping_sub(1);
@@ -105,9 +99,7 @@ pub fn count_more<F: Folder>(
     ensures is_open { ForSome (F.told folder.new).files (IsOpen files.now) }
     ensures damaged { IfDamaged result (IsFailedCheck files.now (F.told folder.new)) }
     ensures untold { IfDamaged result (λ _. (F.told folder.old).files ≡ None) }
-    ensures silent { (F.told folder.old).files ≡ None → (F.told folder.new).files ≡ None }
-    ensures later { F.faults folder.old ≤ F.faults folder.new }
-    ensures device { IfDevice result (Rises (F.faults folder.old) (F.faults folder.new)) }
+    ensures writes { MayWrite F.told F.faults folder.old folder.new (IfDevice result) }
 {
     let counters = read_counters(folder)?;
     let more = (entries % WORD_VALUES) as u32;
@@ -132,9 +124,7 @@ pub fn count_rise<F: Folder>(
     ensures is_open { ForSome (F.told folder.new).files (IsOpen files.now) }
     ensures damaged { IfDamaged result (IsFailedCheck files.now (F.told folder.new)) }
     ensures untold { IfDamaged result (λ _. (F.told folder.old).files ≡ None) }
-    ensures silent { (F.told folder.old).files ≡ None → (F.told folder.new).files ≡ None }
-    ensures later { F.faults folder.old ≤ F.faults folder.new }
-    ensures device { IfDevice result (Rises (F.faults folder.old) (F.faults folder.new)) }
+    ensures writes { MayWrite F.told F.faults folder.old folder.new (IfDevice result) }
 {
     let bytes = long(folder, IndexHead::NUM_BYTES64)?;
     let risen = rise(bytes, less, more);
@@ -170,9 +160,7 @@ fn set_bytes<F: Folder>(folder: &mut F, files: &BlockFiles, bytes: u64) -> Resul
     ensures written { OnOk result (ForSome (F.told folder.old).files (λ from. ForSome (F.told folder.new).files (IsIndexLong num_bytes64_place bytes from))) }
     ensures stops { ForSome (F.told folder.old).files (λ from. Passes (F.told folder.old) (F.told folder.new) (KeepsWith [] [] from)) }
     ensures is_open { ForSome (F.told folder.new).files (IsOpen files.now) }
-    ensures silent { (F.told folder.old).files ≡ None → (F.told folder.new).files ≡ None }
-    ensures later { F.faults folder.old ≤ F.faults folder.new }
-    ensures failed { OnErr result (Rises (F.faults folder.old) (F.faults folder.new)) }
+    ensures writes { MayWrite F.told F.faults folder.old folder.new (OnErr result) }
 {
     // The block files are asked for by the contract alone: what they say of the folder is known once they are named.
     let _files = files;
@@ -201,9 +189,7 @@ fn set_counters<F: Folder>(
     ensures stops { ForSome (F.told folder.old).files (λ from. Passes (F.told folder.old) (F.told folder.new) (KeepsWith [] [] from)) }
     ensures stops_out { ForSome (F.told folder.old).files (λ from. Passes (F.told folder.old) (F.told folder.new) (KeepsOut from)) }
     ensures is_open { ForSome (F.told folder.new).files (IsOpen files.now) }
-    ensures silent { (F.told folder.old).files ≡ None → (F.told folder.new).files ≡ None }
-    ensures later { F.faults folder.old ≤ F.faults folder.new }
-    ensures failed { OnErr result (Rises (F.faults folder.old) (F.faults folder.new)) }
+    ensures writes { MayWrite F.told F.faults folder.old folder.new (OnErr result) }
 {
     // The block files are asked for by the contract alone: what they say of the folder is known once they are named.
     let _files = files;

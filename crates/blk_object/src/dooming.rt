@@ -1,7 +1,7 @@
 // An object that a handle names is doomed.
-ghost use Rattle.std.specs.Prelude.{◌≡◌, ◌≤◌, IfSome, IsTrue, None, OnOk, Some};
+ghost use Rattle.std.specs.Prelude.{◌≡◌, IfSome, IsTrue, None, OnOk, Some};
 ghost use Rattle.std.specs.Option.{ForSome};
-ghost use Rattle.spec_image.specs.Told.{Passes, Rises};
+ghost use Rattle.spec_image.specs.Told.{Passes, MayWrite};
 ghost use Rattle.blk_model.specs.Effects.{doomed};
 ghost use Rattle.blk_model.specs.Holding.{rest};
 ghost use Rattle.spec_format.specs.Address.{blocks_256, kind_of};
@@ -49,9 +49,7 @@ pub fn doom_record<F: Folder>(folder: &mut F, files: &BlockFiles, entry: Addr) -
     // An observable folder, with such an object, reports no corruption.
     ensures untold { ForSome (F.told folder.old).files (λ from. ForEachOut entry from (λ state layout number object loaded chains unlinked. IfDamaged result (λ _. (F.told folder.old).files ≡ None))) }
 
-    ensures silent { (F.told folder.old).files ≡ None → (F.told folder.new).files ≡ None }
-    ensures later { F.faults folder.old ≤ F.faults folder.new }
-    ensures device { IfDevice result (Rises (F.faults folder.old) (F.faults folder.new)) }
+    ensures writes { MayWrite F.told F.faults folder.old folder.new (IfDevice result) }
 {
     files.update_sealed(folder, entry, &[(EntryView::STATE, DOOMED)])
 }
@@ -93,9 +91,7 @@ pub fn doom_plain<F: Folder>(
     // An observable folder, with such an object, reports no corruption.
     ensures untold { ForSome (F.told folder.old).files (λ from. ForEachHeld node found.now.entry found.now.before from (λ state layout unlinked number object loaded. IfDamaged result (λ _. (F.told folder.old).files ≡ None))) }
 
-    ensures silent { (F.told folder.old).files ≡ None → (F.told folder.new).files ≡ None }
-    ensures later { F.faults folder.old ≤ F.faults folder.new }
-    ensures device { IfDevice result (Rises (F.faults folder.old) (F.faults folder.new)) }
+    ensures writes { MayWrite F.told F.faults folder.old folder.new (IfDevice result) }
 {
     hold_out(folder, files, found, node)?;
     count_less(folder, files, charge)
@@ -119,9 +115,7 @@ fn hold_out<F: Folder>(
     ensures is_open { ForSome (F.told folder.new).files (IsOpen files.now) }
     ensures damaged { IfDamaged result (IsFailedCheck files.now (F.told folder.new)) }
     ensures untold { ForSome (F.told folder.old).files (λ from. ForEachHeld node found.now.entry found.now.before from (λ state layout unlinked number object loaded. IfDamaged result (λ _. (F.told folder.old).files ≡ None))) }
-    ensures silent { (F.told folder.old).files ≡ None → (F.told folder.new).files ≡ None }
-    ensures later { F.faults folder.old ≤ F.faults folder.new }
-    ensures device { IfDevice result (Rises (F.faults folder.old) (F.faults folder.new)) }
+    ensures writes { MayWrite F.told F.faults folder.old folder.new (IfDevice result) }
 {
     take_out(folder, files, found, node)?;
     doom_record(folder, files, found.entry)

@@ -1,7 +1,7 @@
 // An object is ended that no handle names any more.
-ghost use Rattle.std.specs.Prelude.{◌≡◌, ◌≤◌, IsTrue, None, false, true};
+ghost use Rattle.std.specs.Prelude.{◌≡◌, IsTrue, None, false, true};
 ghost use Rattle.std.specs.Option.{ForSome};
-ghost use Rattle.spec_image.specs.Told.{Rises};
+ghost use Rattle.spec_image.specs.Told.{MayWrite};
 ghost use Rattle.spec_format.specs.Sealed.{record_size};
 ghost use Rattle.spec_folder.specs.View.{list_of};
 ghost use Rattle.blk_io.specs.Faults.{IfDamaged, IfDevice};
@@ -35,9 +35,7 @@ pub fn end_object<F: Folder>(
     ensures is_open { ForSome (F.told folder.new).files (IsOpen files.now) }
     ensures damaged { IfDamaged result (IsFailedCheck files.now (F.told folder.new)) }
     ensures untold { ForSome (F.told folder.old).files (MayEndObject object.now.doomed object.now.entry object.now.node) → IfDamaged result (λ _. (F.told folder.old).files ≡ None) }
-    ensures silent { (F.told folder.old).files ≡ None → (F.told folder.new).files ≡ None }
-    ensures later { F.faults folder.old ≤ F.faults folder.new }
-    ensures device { IfDevice result (Rises (F.faults folder.old) (F.faults folder.new)) }
+    ensures writes { MayWrite F.told F.faults folder.old folder.new (IfDevice result) }
 {
     if object.doomed {
         free_entry(folder, files, object.entry)
@@ -54,9 +52,7 @@ fn free_entry<F: Folder>(folder: &mut F, files: &BlockFiles, entry: Addr) -> Res
     ensures is_open { ForSome (F.told folder.new).files (IsOpen files.now) }
     ensures damaged { IfDamaged result (IsFailedCheck files.now (F.told folder.new)) }
     ensures untold { ForSome (F.told folder.old).files (HasFreeable entry) → IfDamaged result (λ _. (F.told folder.old).files ≡ None) }
-    ensures silent { (F.told folder.old).files ≡ None → (F.told folder.new).files ≡ None }
-    ensures later { F.faults folder.old ≤ F.faults folder.new }
-    ensures device { IfDevice result (Rises (F.faults folder.old) (F.faults folder.new)) }
+    ensures writes { MayWrite F.told F.faults folder.old folder.new (IfDevice result) }
 {
     let owned = read_owned(folder, files, entry)?;
     free_owned(folder, files, &owned)
@@ -71,9 +67,7 @@ fn clean<F: Folder>(folder: &mut F, files: &BlockFiles, object: &OpenObject) -> 
     ensures damaged { IfDamaged result (IsFailedRecord (F.told folder.old) object.now.node (record_size object.now.node)) }
     ensures cause { IfDamaged result (IsFailedCheck files.now (F.told folder.new)) }
     ensures untold { ForSome (F.told folder.old).files (λ image. (list_of image).checks object.now.node ≡ true) → IfDamaged result (λ _. (F.told folder.old).files ≡ None) }
-    ensures silent { (F.told folder.old).files ≡ None → (F.told folder.new).files ≡ None }
-    ensures later { F.faults folder.old ≤ F.faults folder.new }
-    ensures device { IfDevice result (Rises (F.faults folder.old) (F.faults folder.new)) }
+    ensures writes { MayWrite F.told F.faults folder.old folder.new (IfDevice result) }
 {
     if object.dirty {
         set_dirty_word(folder, files, object.node, 0)

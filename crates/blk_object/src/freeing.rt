@@ -1,7 +1,7 @@
 // The places of an object that is gone are freed.
-ghost use Rattle.std.specs.Prelude.{◌≡◌, ◌≤◌, ◌==◌, ◌∷◌, [], All, None, OnErr, OnOk, Some, true};
+ghost use Rattle.std.specs.Prelude.{◌≡◌, ◌==◌, ◌∷◌, [], All, None, OnErr, OnOk, Some, true};
 ghost use Rattle.std.specs.Option.{ForSome};
-ghost use Rattle.spec_image.specs.Told.{Passes, Rises};
+ghost use Rattle.spec_image.specs.Told.{Passes, MayWrite};
 ghost use Rattle.spec_format.specs.Address.{external, kind_of};
 ghost use Rattle.spec_format.specs.BlockFiles.{stands_in, IsWellFormed};
 ghost use Rattle.blk_io.specs.Faults.{IfDamaged, IfDevice};
@@ -40,9 +40,7 @@ pub fn free_places<F: Folder>(
     // An observable folder reports corruption only for a place that is somebody's.
     ensures untold { ForSome (F.told folder.old).files (AreFreeable (words_at places.now)) → IfDamaged result (λ _. (F.told folder.old).files ≡ None) }
 
-    ensures silent { (F.told folder.old).files ≡ None → (F.told folder.new).files ≡ None }
-    ensures later { F.faults folder.old ≤ F.faults folder.new }
-    ensures device { IfDevice result (Rises (F.faults folder.old) (F.faults folder.new)) }
+    ensures writes { MayWrite F.told F.faults folder.old folder.new (IfDevice result) }
 {
     for place in places {
         free_if_any(folder, files, *place)?;
@@ -63,10 +61,8 @@ fn free_if_any<F: Folder>(
     ensures is_open { ForSome (F.told folder.new).files (IsOpen files.now) }
     ensures damaged { IfDamaged result (IsFailedCheck files.now (F.told folder.new)) }
     ensures untold { ForSome (F.told folder.old).files (AreFreeable (words_at (place ∷ []))) → IfDamaged result (λ _. (F.told folder.old).files ≡ None) }
-    ensures silent { (F.told folder.old).files ≡ None → (F.told folder.new).files ≡ None }
+    ensures writes { MayWrite F.told F.faults folder.old folder.new (IfDevice result) }
     ensures back { (F.told folder.new).files ≡ None → (F.told folder.old).files ≡ None }
-    ensures later { F.faults folder.old ≤ F.faults folder.new }
-    ensures device { IfDevice result (Rises (F.faults folder.old) (F.faults folder.new)) }
 {
     match place {
         Some(addr) => free_place(folder, files, addr),
@@ -83,9 +79,7 @@ fn free_place<F: Folder>(folder: &mut F, files: &BlockFiles, place: Addr) -> Res
     ensures is_open { ForSome (F.told folder.new).files (IsOpen files.now) }
     ensures damaged { IfDamaged result (IsFailedCheck files.now (F.told folder.new)) }
     ensures untold { ForSome (F.told folder.old).files (MayBeFreed place) → IfDamaged result (λ _. (F.told folder.old).files ≡ None) }
-    ensures silent { (F.told folder.old).files ≡ None → (F.told folder.new).files ≡ None }
-    ensures later { F.faults folder.old ≤ F.faults folder.new }
-    ensures device { IfDevice result (Rises (F.faults folder.old) (F.faults folder.new)) }
+    ensures writes { MayWrite F.told F.faults folder.old folder.new (IfDevice result) }
 {
     if is_external(place) {
         delete_file(folder, files, place)?;
@@ -109,9 +103,7 @@ fn delete_file<F: Folder>(folder: &mut F, files: &BlockFiles, place: Addr) -> Re
     ensures freed { OnOk result (ForSome (F.told folder.old).files (λ from. IsWellFormed from → stands_in from place ≡ true → ForSome (F.told folder.new).files (RemovesPlace place from))) }
     ensures stops { ForSome (F.told folder.old).files (λ from. Passes (F.told folder.old) (F.told folder.new) (IsPlaceGoing place from)) }
     ensures is_open { ForSome (F.told folder.new).files (IsOpen files.now) }
-    ensures silent { (F.told folder.old).files ≡ None → (F.told folder.new).files ≡ None }
-    ensures later { F.faults folder.old ≤ F.faults folder.new }
-    ensures failed { OnErr result (Rises (F.faults folder.old) (F.faults folder.new)) }
+    ensures writes { MayWrite F.told F.faults folder.old folder.new (OnErr result) }
 {
     // The block files are asked for by the contract alone: what they say of the folder is known once they are named.
     let _files = files;

@@ -1,7 +1,7 @@
 // The parts of a key in the LRU list.
 ghost use Rattle.std.specs.Prelude.{◌≡◌, ◌≤◌, ◌<◌, IfOk, IfSome, IsTrue, None, length};
 ghost use Rattle.std.specs.Option.{ForSome};
-ghost use Rattle.spec_image.specs.Told.{Rises, Stays};
+ghost use Rattle.spec_image.specs.Told.{ReadsOnly};
 ghost use Rattle.blk_model.specs.Sizes.{part_count};
 ghost use Rattle.spec_format.specs.Address.{blocks_256, kind_of};
 ghost use Rattle.spec_format.specs.Names.{read_name};
@@ -61,16 +61,13 @@ pub fn next_part<F: Folder>(
     // And its node names that record.
     ensures contents { IfOk result (λ found. IfSome found (λ part. ForSome (F.told folder.old).files (λ image. part.entry ≡ (node_at image part.node).contents))) }
 
-    ensures stays { Stays (F.told folder.old) (F.told folder.new) }
+    ensures reads { ReadsOnly F.told F.faults folder.old folder.new (IfDevice result) }
 
     // Corruption is a check that fails on what is read here; nothing is written after it.
     ensures damaged { IfDamaged result (IsFailedCheck files.now (F.told folder.new)) }
 
     // An observable folder, in which a state is so, reports no corruption.
     ensures untold { ForSome (F.told folder.old).files (λ image. ForEachSearch from image (λ layout items. IfDamaged result (λ _. (F.told folder.old).files ≡ None))) }
-
-    ensures later { F.faults folder.old ≤ F.faults folder.new }
-    ensures device { IfDevice result (Rises (F.faults folder.old) (F.faults folder.new)) }
 {
     let mut last = from;
     let mut next = node_behind(folder, files, from)?;
@@ -100,11 +97,9 @@ fn node_behind<F: Folder>(
     ensures node { IfOk result (λ node. ForSome (F.told folder.old).files (λ image. ForEachSearch from image (λ layout items. node ≡ first_node layout items))) }
     ensures word { IfOk result (λ node. ForSome (F.told folder.old).files (λ image. GoesTo NodeView.NEXT image from node)) }
     ensures stands { IfOk result (λ node. IfSome node (λ n. IsTrue (is_node_among files.now n))) }
-    ensures stays { Stays (F.told folder.old) (F.told folder.new) }
+    ensures reads { ReadsOnly F.told F.faults folder.old folder.new (IfDevice result) }
     ensures damaged { IfDamaged result (IsFailedCheck files.now (F.told folder.new)) }
     ensures untold { ForSome (F.told folder.old).files (λ image. ForEachSearch from image (λ layout items. IfDamaged result (λ _. (F.told folder.old).files ≡ None))) }
-    ensures later { F.faults folder.old ≤ F.faults folder.new }
-    ensures device { IfDevice result (Rises (F.faults folder.old) (F.faults folder.new)) }
 {
     match from {
         Some(node) => after(folder, files, node),
@@ -126,11 +121,9 @@ fn part_at<F: Folder>(
     ensures there { IfOk result (λ found. IfSome found (IsPartThere files.now)) }
     ensures named { IfOk result (λ found. IfSome found (λ part. ForSome (F.told folder.old).files (SaysPart part.entry key.now part.number))) }
     ensures contents { IfOk result (λ found. IfSome found (λ part. ForSome (F.told folder.old).files (λ image. part.entry ≡ (node_at image part.node).contents))) }
-    ensures stays { Stays (F.told folder.old) (F.told folder.new) }
+    ensures reads { ReadsOnly F.told F.faults folder.old folder.new (IfDevice result) }
     ensures damaged { IfDamaged result (IsFailedCheck files.now (F.told folder.new)) }
     ensures untold { ForSome (F.told folder.old).files (Agrees files.now) → ForSome (F.told folder.old).files (λ image. (loaded : Loaded) × LoadsAt node loaded image) → IfDamaged result (λ _. (F.told folder.old).files ≡ None) }
-    ensures later { F.faults folder.old ≤ F.faults folder.new }
-    ensures device { IfDevice result (Rises (F.faults folder.old) (F.faults folder.new)) }
 {
     let entry = entry_named(folder, files, node)?;
     match number_of(folder, files, key, entry, buffer)? {
@@ -151,11 +144,9 @@ pub fn entry_named<F: Folder>(folder: &mut F, files: &BlockFiles, node: Addr) ->
     ensures entry { IfOk result (λ entry. ForSome (F.told folder.old).files (λ image. entry ≡ (node_at image node).contents)) }
     ensures kind { IfOk result (λ entry. kind_of entry ≡ blocks_256) }
     ensures stands { IfOk result (λ entry. IsTrue (stands_among files.now entry)) }
-    ensures stays { Stays (F.told folder.old) (F.told folder.new) }
+    ensures reads { ReadsOnly F.told F.faults folder.old folder.new (IfDevice result) }
     ensures damaged { IfDamaged result (IsFailedCheck files.now (F.told folder.new)) }
     ensures untold { ForSome (F.told folder.old).files (Agrees files.now) → ForSome (F.told folder.old).files (λ image. (loaded : Loaded) × LoadsAt node loaded image) → IfDamaged result (λ _. (F.told folder.old).files ≡ None) }
-    ensures later { F.faults folder.old ≤ F.faults folder.new }
-    ensures device { IfDevice result (Rises (F.faults folder.old) (F.faults folder.new)) }
 {
     let mut bytes = [0u8; 4];
     files.read_block(folder, node, NodeView::CONTENTS, &mut bytes)?;
@@ -180,11 +171,9 @@ fn number_of<F: Folder>(
     ensures number { IfOk result (λ number. ForSome (F.told folder.old).files (λ image. (loaded : Loaded) → LoadsWith entry loaded image → number ≡ part_number key.now loaded.role)) }
     ensures small { IfOk result (λ number. IfSome number (λ n. n < part_count)) }
     ensures named { IfOk result (λ number. IfSome number (λ n. ForSome (F.told folder.old).files (SaysPart entry key.now n))) }
-    ensures stays { Stays (F.told folder.old) (F.told folder.new) }
+    ensures reads { ReadsOnly F.told F.faults folder.old folder.new (IfDevice result) }
     ensures damaged { IfDamaged result (IsFailedCheck files.now (F.told folder.new)) }
     ensures untold { ForSome (F.told folder.old).files (Agrees files.now) → ForSome (F.told folder.old).files (λ image. (loaded : Loaded) × LoadsWith entry loaded image) → IfDamaged result (λ _. (F.told folder.old).files ≡ None) }
-    ensures later { F.faults folder.old ≤ F.faults folder.new }
-    ensures device { IfDevice result (Rises (F.faults folder.old) (F.faults folder.new)) }
 {
     let head = read_head(folder, files, entry)?;
     if head.flags != CHILD {

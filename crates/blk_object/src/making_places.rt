@@ -2,7 +2,7 @@
 ghost use Rattle.std.specs.Prelude.{◌≡◌, ◌≢◌, ◌+◌, ◌==◌, ◌<◌, ◌≤◌, [], ◌∷◌, true, false, None, Some, IfOk, OnOk, IsTrue, nat_le};
 ghost use Rattle.std.specs.Option.{ForSome};
 ghost use Rattle.spec_image.specs.Image.{External as external_file, length_of};
-ghost use Rattle.spec_image.specs.Told.{Passes, Rises, Stays};
+ghost use Rattle.spec_image.specs.Told.{Passes, MayWrite, ReadsOnly};
 ghost use Rattle.spec_format.specs.Address.{block_count, blocks_256, external, external_number, file_selector, first_block, is_address, kind_of, rankings};
 ghost use Rattle.spec_format.specs.Headers.{HasWholeIndex};
 ghost use Rattle.spec_format.specs.Maps.{group_size};
@@ -57,9 +57,7 @@ pub fn take_places<F: Folder>(
     ensures stops { ForSome (F.told folder.old).files (λ from. LeavesRoom 3 from → Passes (F.told folder.old) (F.told folder.new) (StillFinds [] from)) }
     ensures damaged { IfDamaged result (IsFailedCheck files.new (F.told folder.new)) }
     ensures untold { ForSome (F.told folder.old).files (LeavesRoom 3) → IfDamaged result (λ _. (F.told folder.old).files ≡ None) }
-    ensures silent { (F.told folder.old).files ≡ None → (F.told folder.new).files ≡ None }
-    ensures later { F.faults folder.old ≤ F.faults folder.new }
-    ensures device { IfDevice result (Rises (F.faults folder.old) (F.faults folder.new)) }
+    ensures writes { MayWrite F.told F.faults folder.old folder.new (IfDevice result) }
 {
     let entry = take_blocks(folder, files, Kind::B256, entry_blocks(key_len))?;
     let node = take_blocks(folder, files, Kind::Rankings, 1)?;
@@ -88,9 +86,7 @@ fn take_long_key<F: Folder>(
     ensures stops { ForSome (F.told folder.old).files (λ from. LeavesRoom 1 from → Passes (F.told folder.old) (F.told folder.new) (StillFinds [] from)) }
     ensures damaged { IfDamaged result (IsFailedCheck files.new (F.told folder.new)) }
     ensures untold { ForSome (F.told folder.old).files (LeavesRoom 1) → IfDamaged result (λ _. (F.told folder.old).files ≡ None) }
-    ensures silent { (F.told folder.old).files ≡ None → (F.told folder.new).files ≡ None }
-    ensures later { F.faults folder.old ≤ F.faults folder.new }
-    ensures device { IfDevice result (Rises (F.faults folder.old) (F.faults folder.new)) }
+    ensures writes { MayWrite F.told F.faults folder.old folder.new (IfDevice result) }
 {
     if key_len <= LONGEST_SHORT_KEY {
         return Ok(None);
@@ -111,9 +107,7 @@ fn take_storage<F: Folder>(folder: &mut F, files: &mut BlockFiles, size: u32) ->
     ensures stops { ForSome (F.told folder.old).files (λ from. LeavesRoom 1 from → Passes (F.told folder.old) (F.told folder.new) (StillFinds [] from)) }
     ensures damaged { IfDamaged result (IsFailedCheck files.new (F.told folder.new)) }
     ensures untold { ForSome (F.told folder.old).files (LeavesRoom 1) → IfDamaged result (λ _. (F.told folder.old).files ≡ None) }
-    ensures silent { (F.told folder.old).files ≡ None → (F.told folder.new).files ≡ None }
-    ensures later { F.faults folder.old ≤ F.faults folder.new }
-    ensures device { IfDevice result (Rises (F.faults folder.old) (F.faults folder.new)) }
+    ensures writes { MayWrite F.told F.faults folder.old folder.new (IfDevice result) }
 {
     let kind = kind_for(size);
     if is_external(kind) {
@@ -150,9 +144,7 @@ fn take_blocks<F: Folder>(
     ensures stops { ForSome (F.told folder.old).files (λ from. LeavesRoom 1 from → Passes (F.told folder.old) (F.told folder.new) (StillFinds [] from)) }
     ensures damaged { IfDamaged result (IsFailedCheck files.new (F.told folder.new)) }
     ensures untold { ForSome (F.told folder.old).files (LeavesRoom 1) → IfDamaged result (λ _. (F.told folder.old).files ≡ None) }
-    ensures silent { (F.told folder.old).files ≡ None → (F.told folder.new).files ≡ None }
-    ensures later { F.faults folder.old ≤ F.faults folder.new }
-    ensures device { IfDevice result (Rises (F.faults folder.old) (F.faults folder.new)) }
+    ensures writes { MayWrite F.told F.faults folder.old folder.new (IfDevice result) }
 {
     let addr = allocate(folder, files, kind, count)?;
     check_index(folder)?;
@@ -170,9 +162,7 @@ fn take_file<F: Folder>(folder: &mut F, files: &BlockFiles, size: u32) -> Result
     ensures stops { ForSome (F.told folder.old).files (λ from. LeavesRoom 1 from → Passes (F.told folder.old) (F.told folder.new) (StillFinds [] from)) }
     ensures damaged { IfDamaged result (IsFailedCheck files.now (F.told folder.new)) }
     ensures untold { ForSome (F.told folder.old).files (LeavesRoom 1) → IfDamaged result (λ _. (F.told folder.old).files ≡ None) }
-    ensures silent { (F.told folder.old).files ≡ None → (F.told folder.new).files ≡ None }
-    ensures later { F.faults folder.old ≤ F.faults folder.new }
-    ensures device { IfDevice result (Rises (F.faults folder.old) (F.faults folder.new)) }
+    ensures writes { MayWrite F.told F.faults folder.old folder.new (IfDevice result) }
 {
     let addr = create(folder)?;
     // Read for the proof alone, which learns from it that the word is a valid address.
@@ -184,11 +174,9 @@ fn take_file<F: Folder>(folder: &mut F, files: &BlockFiles, size: u32) -> Result
 /// Looks whether the index has its length still: where the maps aren't right, an allocation doesn't promise it.
 pub fn check_index<F: Folder>(folder: &mut F) -> Result<(), Fault>
     ensures whole { OnOk result (ForSome (F.told folder.old).files HasWholeIndex) }
-    ensures stays { Stays (F.told folder.old) (F.told folder.new) }
+    ensures reads { ReadsOnly F.told F.faults folder.old folder.new (IfDevice result) }
     ensures damaged { IfDamaged result (HasOtherLength (F.told folder.new)) }
     ensures untold { ForSome (F.told folder.old).files HasWholeIndex → IfDamaged result (λ _. (F.told folder.old).files ≡ None) }
-    ensures later { F.faults folder.old ≤ F.faults folder.new }
-    ensures device { IfDevice result (Rises (F.faults folder.old) (F.faults folder.new)) }
 {
     let length = folder.length(FileId::Index)?.unwrap_or(0);
     if length != IndexHead::INDEX_LEN {

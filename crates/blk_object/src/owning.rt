@@ -1,7 +1,7 @@
 // The places that an entry has.
-ghost use Rattle.std.specs.Prelude.{◌≡◌, ◌≤◌, ◌<◌, ◌+◌, ◌^◌, ◌==◌, All, IfOk, IsOk, IsTrue, None, OnOk, Some, false, true, slice_index, if◌then◌else◌};
+ghost use Rattle.std.specs.Prelude.{◌≡◌, ◌<◌, ◌+◌, ◌^◌, ◌==◌, All, IfOk, IsOk, IsTrue, None, OnOk, Some, false, true, slice_index, if◌then◌else◌};
 ghost use Rattle.std.specs.Option.{ForSome};
-ghost use Rattle.spec_image.specs.Told.{Passes, Rises, Stays};
+ghost use Rattle.spec_image.specs.Told.{Passes, MayWrite, ReadsOnly};
 ghost use Rattle.spec_format.specs.Address.{blocks_256, kind_of};
 ghost use Rattle.spec_format.specs.Records.{entry_size};
 ghost use Rattle.spec_folder.specs.Found.{charge_of};
@@ -52,16 +52,13 @@ pub fn read_owned<F: Folder>(
     ensures flags { IfOk result (λ owned. ForSome (F.told folder.old).files (λ image. owned.flags ≡ (entry_at image entry).flags)) }
     ensures there { IfOk result (λ owned. All (IsPlaceAmong files.now) owned.places) }
 
-    ensures stays { Stays (F.told folder.old) (F.told folder.new) }
+    ensures reads { ReadsOnly F.told F.faults folder.old folder.new (IfDevice result) }
 
     // Corruption is a check that fails on what is read here; nothing is written after it.
     ensures damaged { IfDamaged result (IsFailedCheck files.now (F.told folder.new)) }
 
     // An observable folder reports corruption only where no entry lies there with this record.
     ensures untold { ForSome (F.told folder.old).files (Agrees files.now) → ForSome (F.told folder.old).files (λ image. (loaded : Loaded) × LoadsWith entry loaded image) → IfDamaged result (λ _. (F.told folder.old).files ≡ None) }
-
-    ensures later { F.faults folder.old ≤ F.faults folder.new }
-    ensures device { IfDevice result (Rises (F.faults folder.old) (F.faults folder.new)) }
 {
     let head = read_head(folder, files, entry)?;
     let node = place_of(files, entry, EntryView::NODE, head.node)?;
@@ -93,9 +90,7 @@ pub fn free_owned<F: Folder>(folder: &mut F, files: &BlockFiles, owned: &Owned) 
     // An observable folder reports corruption only for a place that is somebody's.
     ensures untold { ForSome (F.told folder.old).files (AreFreeable (words_at owned.now.places)) → IfDamaged result (λ _. (F.told folder.old).files ≡ None) }
 
-    ensures silent { (F.told folder.old).files ≡ None → (F.told folder.new).files ≡ None }
-    ensures later { F.faults folder.old ≤ F.faults folder.new }
-    ensures device { IfDevice result (Rises (F.faults folder.old) (F.faults folder.new)) }
+    ensures writes { MayWrite F.told F.faults folder.old folder.new (IfDevice result) }
 {
     free_places(folder, files, &owned.places)
 }

@@ -1,7 +1,7 @@
 // An item that goes alone is removed.
-ghost use Rattle.std.specs.Prelude.{◌≡◌, ◌≤◌, ◌<◌, ◌^◌, All, IfOk, IfSome, IsTrue, None, OnOk};
+ghost use Rattle.std.specs.Prelude.{◌≡◌, ◌<◌, ◌^◌, All, IfOk, IfSome, IsTrue, None, OnOk};
 ghost use Rattle.std.specs.Option.{ForSome};
-ghost use Rattle.spec_image.specs.Told.{Passes, Rises};
+ghost use Rattle.spec_image.specs.Told.{Passes, MayWrite};
 ghost use Rattle.spec_format.specs.Address.{blocks_256, kind_of};
 ghost use Rattle.spec_folder.specs.Found.{charge_of};
 ghost use Rattle.spec_folder.specs.Loads.{Loaded};
@@ -61,9 +61,7 @@ pub fn remove_item<F: Folder>(
     // An observable folder, with such an item in a state that is kept and counted, reports no corruption.
     ensures untold { ForSome (F.told folder.old).files (λ from. ForEachAlone node found.now.entry found.now.before from (λ state after layout unlinked. IfDamaged result (λ _. (F.told folder.old).files ≡ None))) }
 
-    ensures silent { (F.told folder.old).files ≡ None → (F.told folder.new).files ≡ None }
-    ensures later { F.faults folder.old ≤ F.faults folder.new }
-    ensures device { IfDevice result (Rises (F.faults folder.old) (F.faults folder.new)) }
+    ensures writes { MayWrite F.told F.faults folder.old folder.new (IfDevice result) }
 {
     let owned = read_owned(folder, files, found.entry)?;
     remove_read(folder, files, found, node, &owned)?;
@@ -103,9 +101,7 @@ pub fn remove_read<F: Folder>(
     // An observable folder, with such an item in a state that is kept and counted, reports no corruption.
     ensures untold { ForSome (F.told folder.old).files (λ from. IsOwnedBy found.now.entry owned.now from → ForEachAlone node found.now.entry found.now.before from (λ state after layout unlinked. IfDamaged result (λ _. (F.told folder.old).files ≡ None))) }
 
-    ensures silent { (F.told folder.old).files ≡ None → (F.told folder.new).files ≡ None }
-    ensures later { F.faults folder.old ≤ F.faults folder.new }
-    ensures device { IfDevice result (Rises (F.faults folder.old) (F.faults folder.new)) }
+    ensures writes { MayWrite F.told F.faults folder.old folder.new (IfDevice result) }
 {
     take_read(folder, files, found, node, owned)?;
     count_less(folder, files, owned.charge)
@@ -134,9 +130,7 @@ pub(crate) fn take_away<F: Folder>(
     ensures damaged { IfDamaged result (IsFailedCheck files.now (F.told folder.new)) }
     ensures untold { ForSome (F.told folder.old).files (λ from. ForEachAlone node found.now.entry found.now.before from (λ state after layout unlinked. IfDamaged result (λ _. (F.told folder.old).files ≡ None))) }
     ensures untold_out { ForSome (F.told folder.old).files (λ from. ForEachNext node found.now.entry found.now.before from (λ state layout keep chains unlinked item. IfDamaged result (λ _. (F.told folder.old).files ≡ None))) }
-    ensures silent { (F.told folder.old).files ≡ None → (F.told folder.new).files ≡ None }
-    ensures later { F.faults folder.old ≤ F.faults folder.new }
-    ensures device { IfDevice result (Rises (F.faults folder.old) (F.faults folder.new)) }
+    ensures writes { MayWrite F.told F.faults folder.old folder.new (IfDevice result) }
 {
     let read = read_owned(folder, files, found.entry)?;
     take_read(folder, files, found, node, &read)?;
@@ -166,9 +160,7 @@ fn take_read<F: Folder>(
     ensures damaged { IfDamaged result (IsFailedCheck files.now (F.told folder.new)) }
     ensures untold { ForSome (F.told folder.old).files (λ from. IsOwnedBy found.now.entry owned.now from → ForEachAlone node found.now.entry found.now.before from (λ state after layout unlinked. IfDamaged result (λ _. (F.told folder.old).files ≡ None))) }
     ensures untold_out { ForSome (F.told folder.old).files (λ from. IsOwnedBy found.now.entry owned.now from → ForEachNext node found.now.entry found.now.before from (λ state layout keep chains unlinked item. IfDamaged result (λ _. (F.told folder.old).files ≡ None))) }
-    ensures silent { (F.told folder.old).files ≡ None → (F.told folder.new).files ≡ None }
-    ensures later { F.faults folder.old ≤ F.faults folder.new }
-    ensures device { IfDevice result (Rises (F.faults folder.old) (F.faults folder.new)) }
+    ensures writes { MayWrite F.told F.faults folder.old folder.new (IfDevice result) }
 {
     take_out(folder, files, found, node)?;
     free_owned(folder, files, owned)

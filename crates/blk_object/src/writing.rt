@@ -1,7 +1,7 @@
 // A stream of an open object is written.
 ghost use Rattle.std.specs.Prelude.{◌≡◌, ◌≤◌, ◌⊎◌, ◌<◌, ◌+◌, IsTrue, None, OnOk, length};
 ghost use Rattle.std.specs.Option.{ForSome};
-ghost use Rattle.spec_image.specs.Told.{Passes, Rises, Stays};
+ghost use Rattle.spec_image.specs.Told.{Passes, MayWrite, ReadsOnly};
 ghost use Rattle.blk_model.specs.Holding.{rest};
 ghost use Rattle.spec_format.specs.Address.{blocks_256, kind_of};
 ghost use Rattle.spec_folder.specs.Entries.{most_stream_bytes};
@@ -72,9 +72,7 @@ pub fn write_object<F: Folder>(
     ensures untold { ForSome (F.told folder.old).files (λ from. ForEachUnsettled entry stream offset cut bytes.now from (λ state layout unlinked number object was. IfDamaged result (λ _. (F.told folder.old).files ≡ None))) }
     ensures part_untold { ForSome (F.told folder.old).files (λ from. ForEachPartUnsettled entry stream offset cut bytes.now from (λ state layout unlinked number object n value was role. IfDamaged result (λ _. (F.told folder.old).files ≡ None))) }
 
-    ensures silent { (F.told folder.old).files ≡ None → (F.told folder.new).files ≡ None }
-    ensures later { F.faults folder.old ≤ F.faults folder.new }
-    ensures device { IfDevice result (Rises (F.faults folder.old) (F.faults folder.new)) }
+    ensures writes { MayWrite F.told F.faults folder.old folder.new (IfDevice result) }
 {
     check_stream(folder, files, entry, stream)?;
     write(folder, files, entry, stream, offset, cut, bytes)?;
@@ -92,11 +90,9 @@ fn check_stream<F: Folder>(
     requires kind { kind_of entry ≡ blocks_256 }
     requires stands { IsTrue (stands_among files.now entry) }
     ensures there { OnOk result (ForSome (F.told folder.old).files (λ image. IsInFile (address_word image entry stream) 0 (size_word image entry stream) image)) }
-    ensures stays { Stays (F.told folder.old) (F.told folder.new) }
+    ensures reads { ReadsOnly F.told F.faults folder.old folder.new (IfDevice result) }
     ensures damaged { IfDamaged result (IsFailedCheck files.now (F.told folder.new)) }
     ensures untold { ForSome (F.told folder.old).files (Agrees files.now) → ForSome (F.told folder.old).files (HasStreamThere entry stream) → IfDamaged result (λ _. (F.told folder.old).files ≡ None) }
-    ensures later { F.faults folder.old ≤ F.faults folder.new }
-    ensures device { IfDevice result (Rises (F.faults folder.old) (F.faults folder.new)) }
 {
     let head = read_head(folder, files, entry)?;
     let size = head.sizes[usize::from(stream)];
@@ -126,11 +122,9 @@ fn unplaced(entry: Addr, stream: u8, size: u32, word: u32) -> Fault
 // Looks whether so many bytes are in an external file; of blocks nothing is asked.
 fn check_length<F: Folder>(folder: &mut F, addr: Addr, size: u32) -> Result<(), Fault>
     ensures there { OnOk result (ForSome (F.told folder.old).files (IsInFile addr 0 size)) }
-    ensures stays { Stays (F.told folder.old) (F.told folder.new) }
+    ensures reads { ReadsOnly F.told F.faults folder.old folder.new (IfDevice result) }
     ensures damaged { IfDamaged result (ReadsTooFew (F.told folder.new)) }
     ensures untold { ForSome (F.told folder.old).files (IsInFile addr 0 size) → IfDamaged result (λ _. (F.told folder.old).files ≡ None) }
-    ensures later { F.faults folder.old ≤ F.faults folder.new }
-    ensures device { IfDevice result (Rises (F.faults folder.old) (F.faults folder.new)) }
 {
     if !is_external(addr) {
         return Ok(());

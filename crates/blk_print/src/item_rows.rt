@@ -2,7 +2,7 @@
 ghost use Rattle.std.specs.Prelude.{◌≡◌, ◌≤◌, IsTrue, None, OnErr, OnOk, length};
 ghost use Rattle.std.specs.List.{flat_map};
 ghost use Rattle.std.specs.Option.{ForSome};
-ghost use Rattle.spec_image.specs.Told.{Rises, Stays};
+ghost use Rattle.spec_image.specs.Told.{ReadsOnly};
 ghost use Rattle.blk_io.specs.Faults.{IfDamaged, IfDevice};
 ghost use Rattle.blk_io.specs.Streams.{GoesOn};
 ghost use Rattle.blk_model.specs.Holding.{rows};
@@ -51,12 +51,10 @@ pub fn print_items<F: Folder, K: Sink>(
     ensures ends { OnOk result (ForSome (F.told folder.old).files (WalkEnds files.now NodeView.NEXT None)) }
 
     ensures failed { FailsWhereItRose failed.old failed.new (K.faults out.old) (K.faults out.new) }
-    ensures stays { Stays (F.told folder.old) (F.told folder.new) }
+    ensures reads { ReadsOnly F.told F.faults folder.old folder.new (IfDevice result) }
     ensures damaged { IfDamaged result (IsFailedCheck files.now (F.told folder.new)) }
     ensures untold { ForSome (F.told folder.old).files (HasKeptState files.now) → IfDamaged result (λ _. (F.told folder.old).files ≡ None) }
-    ensures later { F.faults folder.old ≤ F.faults folder.new }
     ensures later_out { GoesOn K.is K.faults out.old out.new }
-    ensures device { IfDevice result (Rises (F.faults folder.old) (F.faults folder.new)) }
 {
     let mut last = None;
     let mut next = first(folder, files)?;
@@ -85,12 +83,10 @@ fn print_row<F: Folder, K: Sink>(
     ensures printed { OnOk result (ForSome (F.told folder.old).files (λ image. (loaded : Loaded) → LoadsAt node loaded image → PrintsUnlessFailed failed.old failed.new (K.written out.old) (K.written out.new) (row_line (row_of_loaded loaded)))) }
     ensures unprinted { OnErr result (K.written out.new ≡ K.written out.old) }
     ensures failed { FailsWhereItRose failed.old failed.new (K.faults out.old) (K.faults out.new) }
-    ensures stays { Stays (F.told folder.old) (F.told folder.new) }
+    ensures reads { ReadsOnly F.told F.faults folder.old folder.new (IfDevice result) }
     ensures damaged { IfDamaged result (IsFailedCheck files.now (F.told folder.new)) }
     ensures untold { ForSome (F.told folder.old).files (Agrees files.now) → ForSome (F.told folder.old).files (λ image. (loaded : Loaded) × LoadsAt node loaded image) → IfDamaged result (λ _. (F.told folder.old).files ≡ None) }
-    ensures later { F.faults folder.old ≤ F.faults folder.new }
     ensures later_out { GoesOn K.is K.faults out.old out.new }
-    ensures device { IfDevice result (Rises (F.faults folder.old) (F.faults folder.new)) }
 {
     let entry = entry_named(folder, files, node)?;
     let head = read_head(folder, files, entry)?;

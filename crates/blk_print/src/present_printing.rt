@@ -1,7 +1,7 @@
 // Bytes of an object with parts are printed, where they are all present.
 ghost use Rattle.std.specs.Prelude.{◌≡◌, ◌≤◌, ◌+◌, IfSome, IsTrue, None, OnOk, length};
 ghost use Rattle.std.specs.Option.{ForSome};
-ghost use Rattle.spec_image.specs.Told.{Rises, Stays};
+ghost use Rattle.spec_image.specs.Told.{ReadsOnly};
 ghost use Rattle.blk_io.specs.Faults.{IfDamaged, IfDevice};
 ghost use Rattle.blk_io.specs.Streams.{GoesOn};
 ghost use Rattle.blk_model.specs.Reply.{gave};
@@ -55,14 +55,12 @@ pub fn print_present<F: Folder, K: Sink>(
     ensures printed { OnOk result (ForSome (F.told folder.old).files (λ image. (p : HasPresent range.now image) → PrintsUnlessFailed failed.old failed.new (K.written out.old) (K.written out.new) (reply_text (gave (sparse_bytes p.object range.now.offset range.now.count))))) }
     ensures part { ForSome (F.told folder.old).files (λ image. (p : HasPresent range.now image) → PrintsInPart failed.old (K.written out.old) (K.written out.new) (reply_text (gave (sparse_bytes p.object range.now.offset range.now.count)))) }
     ensures failed { FailsWhereItRose failed.old failed.new (K.faults out.old) (K.faults out.new) }
-    ensures stays { Stays (F.told folder.old) (F.told folder.new) }
+    ensures reads { ReadsOnly F.told F.faults folder.old folder.new (IfDevice result) }
 
     // Corruption is a check that fails on what is read here. An observable folder, with such an object, gives none.
     ensures damaged { IfDamaged result (IsFailedCheck files.now (F.told folder.new)) }
     ensures untold { ForSome (F.told folder.old).files (HasPresent range.now) → IfDamaged result (λ _. (F.told folder.old).files ≡ None) }
-    ensures later { F.faults folder.old ≤ F.faults folder.new }
     ensures later_out { GoesOn K.is K.faults out.old out.new }
-    ensures device { IfDevice result (Rises (F.faults folder.old) (F.faults folder.new)) }
 {
     if range.count == 0 {
         return print_range(folder, files, out, failed, &stream_range(range.entry, 0, 0));
@@ -97,12 +95,10 @@ fn print_parts<F: Folder, K: Sink>(
     ensures printed { OnOk result (ForSome (F.told folder.old).files (λ image. (p : HasPresent range.now image) → ArePartsFound p.layout p.object range.now.offset range.now.count parts.now → PrintsUnlessFailed failed.old failed.new (K.written out.old) (K.written out.new) (reply_text (gave (sparse_bytes p.object range.now.offset range.now.count))))) }
     ensures part { ForSome (F.told folder.old).files (λ image. (p : HasPresent range.now image) → ArePartsFound p.layout p.object range.now.offset range.now.count parts.now → PrintsInPart failed.old (K.written out.old) (K.written out.new) (reply_text (gave (sparse_bytes p.object range.now.offset range.now.count)))) }
     ensures failed { FailsWhereItRose failed.old failed.new (K.faults out.old) (K.faults out.new) }
-    ensures stays { Stays (F.told folder.old) (F.told folder.new) }
+    ensures reads { ReadsOnly F.told F.faults folder.old folder.new (IfDevice result) }
     ensures damaged { IfDamaged result (IsFailedCheck files.now (F.told folder.new)) }
     ensures untold { ForSome (F.told folder.old).files (λ image. (p : HasPresent range.now image) × ArePartsFound p.layout p.object range.now.offset range.now.count parts.now) → IfDamaged result (λ _. (F.told folder.old).files ≡ None) }
-    ensures later { F.faults folder.old ≤ F.faults folder.new }
     ensures later_out { GoesOn K.is K.faults out.old out.new }
-    ensures device { IfDevice result (Rises (F.faults folder.old) (F.faults folder.new)) }
 {
     let (_, place) = child_of(range.offset);
     let Some(first) = parts.first else {

@@ -2,7 +2,7 @@
 ghost use Rattle.std.specs.Prelude.{◌≡◌, ◌≤◌, ◌<◌, ◌+◌, ◌^◌, ◌++◌, IsTrue, None, OnErr, OnOk, codes, length};
 ghost use Rattle.std.specs.Option.{ForSome};
 ghost use Rattle.hex.specs.Hex.{encode_lower};
-ghost use Rattle.spec_image.specs.Told.{Rises, Stays};
+ghost use Rattle.spec_image.specs.Told.{ReadsOnly};
 ghost use Rattle.blk_io.specs.Faults.{IfDamaged, IfDevice};
 ghost use Rattle.blk_io.specs.Streams.{GoesOn};
 ghost use Rattle.blk_model.specs.Reply.{gave};
@@ -50,12 +50,10 @@ pub fn print_range<F: Folder, K: Sink>(
     ensures printed { OnOk result (ForSome (F.told folder.old).files (λ image. (p : HasBytes files.now range.now image) → PrintsUnlessFailed failed.old failed.new (K.written out.old) (K.written out.new) (reply_text (gave p.bytes)))) }
     ensures part { ForSome (F.told folder.old).files (λ image. (p : HasBytes files.now range.now image) → PrintsInPart failed.old (K.written out.old) (K.written out.new) (reply_text (gave p.bytes))) }
     ensures failed { FailsWhereItRose failed.old failed.new (K.faults out.old) (K.faults out.new) }
-    ensures stays { Stays (F.told folder.old) (F.told folder.new) }
+    ensures reads { ReadsOnly F.told F.faults folder.old folder.new (IfDevice result) }
     ensures damaged { IfDamaged result (IsFailedCheck files.now (F.told folder.new)) }
     ensures untold { ForSome (F.told folder.old).files (HasBytes files.now range.now) → IfDamaged result (λ _. (F.told folder.old).files ≡ None) }
-    ensures later { F.faults folder.old ≤ F.faults folder.new }
     ensures later_out { GoesOn K.is K.faults out.old out.new }
-    ensures device { IfDevice result (Rises (F.faults folder.old) (F.faults folder.new)) }
 {
     say_front(out, failed, range.count);
     print_data(folder, files, out, failed, range)?;
@@ -86,12 +84,10 @@ pub(crate) fn print_ranges<F: Folder, K: Sink>(
     ensures printed { OnOk result (ForSome (F.told folder.old).files (λ image. (p : HasBytes files.now first.now image) (q : HasBytes files.now second.now image) → PrintsUnlessFailed failed.old failed.new (K.written out.old) (K.written out.new) (reply_text (gave (p.bytes ++ q.bytes))))) }
     ensures part { ForSome (F.told folder.old).files (λ image. (p : HasBytes files.now first.now image) (q : HasBytes files.now second.now image) → PrintsInPart failed.old (K.written out.old) (K.written out.new) (reply_text (gave (p.bytes ++ q.bytes)))) }
     ensures failed { FailsWhereItRose failed.old failed.new (K.faults out.old) (K.faults out.new) }
-    ensures stays { Stays (F.told folder.old) (F.told folder.new) }
+    ensures reads { ReadsOnly F.told F.faults folder.old folder.new (IfDevice result) }
     ensures damaged { IfDamaged result (IsFailedCheck files.now (F.told folder.new)) }
     ensures untold { ForSome (F.told folder.old).files (HasBytes files.now first.now) → ForSome (F.told folder.old).files (HasBytes files.now second.now) → IfDamaged result (λ _. (F.told folder.old).files ≡ None) }
-    ensures later { F.faults folder.old ≤ F.faults folder.new }
     ensures later_out { GoesOn K.is K.faults out.old out.new }
-    ensures device { IfDevice result (Rises (F.faults folder.old) (F.faults folder.new)) }
 {
     say_front(out, failed, first.count + second.count);
     print_pieces(folder, files, out, failed, first)?;
@@ -114,12 +110,10 @@ fn print_data<F: Folder, K: Sink>(
     ensures printed { OnOk result (ForSome (F.told folder.old).files (λ image. (p : HasBytes files.now range.now image) → PrintsUnlessFailed failed.old failed.new (K.written out.old) (K.written out.new) (data_text p.bytes))) }
     ensures part { ForSome (F.told folder.old).files (λ image. (p : HasBytes files.now range.now image) → PrintsInPart failed.old (K.written out.old) (K.written out.new) (data_text p.bytes)) }
     ensures failed { FailsWhereItRose failed.old failed.new (K.faults out.old) (K.faults out.new) }
-    ensures stays { Stays (F.told folder.old) (F.told folder.new) }
+    ensures reads { ReadsOnly F.told F.faults folder.old folder.new (IfDevice result) }
     ensures damaged { IfDamaged result (IsFailedCheck files.now (F.told folder.new)) }
     ensures untold { ForSome (F.told folder.old).files (HasBytes files.now range.now) → IfDamaged result (λ _. (F.told folder.old).files ≡ None) }
-    ensures later { F.faults folder.old ≤ F.faults folder.new }
     ensures later_out { GoesOn K.is K.faults out.old out.new }
-    ensures device { IfDevice result (Rises (F.faults folder.old) (F.faults folder.new)) }
 {
     if range.count == 0 {
         say_text(out, failed, b"-");
@@ -142,12 +136,10 @@ fn print_pieces<F: Folder, K: Sink>(
     ensures printed { OnOk result (ForSome (F.told folder.old).files (λ image. (p : HasBytes files.now range.now image) → PrintsUnlessFailed failed.old failed.new (K.written out.old) (K.written out.new) (encode_lower p.bytes))) }
     ensures part { ForSome (F.told folder.old).files (λ image. (p : HasBytes files.now range.now image) → PrintsInPart failed.old (K.written out.old) (K.written out.new) (encode_lower p.bytes)) }
     ensures failed { FailsWhereItRose failed.old failed.new (K.faults out.old) (K.faults out.new) }
-    ensures stays { Stays (F.told folder.old) (F.told folder.new) }
+    ensures reads { ReadsOnly F.told F.faults folder.old folder.new (IfDevice result) }
     ensures damaged { IfDamaged result (IsFailedCheck files.now (F.told folder.new)) }
     ensures untold { ForSome (F.told folder.old).files (HasBytes files.now range.now) → IfDamaged result (λ _. (F.told folder.old).files ≡ None) }
-    ensures later { F.faults folder.old ≤ F.faults folder.new }
     ensures later_out { GoesOn K.is K.faults out.old out.new }
-    ensures device { IfDevice result (Rises (F.faults folder.old) (F.faults folder.new)) }
 {
     let mut done = 0;
     while done < range.count {
@@ -178,12 +170,10 @@ fn print_piece<F: Folder, K: Sink>(
     ensures printed { OnOk result (ForSome (F.told folder.old).files (λ image. (p : HasBytes files.now range.now image) → PrintsUnlessFailed failed.old failed.new (K.written out.old) (K.written out.new) (encode_lower p.bytes))) }
     ensures unprinted { OnErr result (K.written out.new ≡ K.written out.old) }
     ensures failed { FailsWhereItRose failed.old failed.new (K.faults out.old) (K.faults out.new) }
-    ensures stays { Stays (F.told folder.old) (F.told folder.new) }
+    ensures reads { ReadsOnly F.told F.faults folder.old folder.new (IfDevice result) }
     ensures damaged { IfDamaged result (IsFailedCheck files.now (F.told folder.new)) }
     ensures untold { ForSome (F.told folder.old).files (HasBytes files.now range.now) → IfDamaged result (λ _. (F.told folder.old).files ≡ None) }
-    ensures later { F.faults folder.old ≤ F.faults folder.new }
     ensures later_out { GoesOn K.is K.faults out.old out.new }
-    ensures device { IfDevice result (Rises (F.faults folder.old) (F.faults folder.new)) }
 {
     let mut buffer = [0u8; PIECE as usize];
     let piece = &mut buffer[..range.count as usize];
@@ -206,12 +196,10 @@ fn print_through<F: Folder, K: Sink>(
     ensures printed { OnOk result (ForSome (F.told folder.old).files (λ image. (p : HasBytes files.now range.now image) → PrintsUnlessFailed failed.old failed.new (K.written out.old) (K.written out.new) (encode_lower p.bytes))) }
     ensures unprinted { OnErr result (K.written out.new ≡ K.written out.old) }
     ensures failed { FailsWhereItRose failed.old failed.new (K.faults out.old) (K.faults out.new) }
-    ensures stays { Stays (F.told folder.old) (F.told folder.new) }
+    ensures reads { ReadsOnly F.told F.faults folder.old folder.new (IfDevice result) }
     ensures damaged { IfDamaged result (IsFailedCheck files.now (F.told folder.new)) }
     ensures untold { ForSome (F.told folder.old).files (HasBytes files.now range.now) → IfDamaged result (λ _. (F.told folder.old).files ≡ None) }
-    ensures later { F.faults folder.old ≤ F.faults folder.new }
     ensures later_out { GoesOn K.is K.faults out.old out.new }
-    ensures device { IfDevice result (Rises (F.faults folder.old) (F.faults folder.new)) }
 {
     let number = read(
         folder,

@@ -1,7 +1,7 @@
 // Buckets that are made the chains of their kept records.
 ghost use Rattle.std.specs.Prelude.{◌≡◌, ◌≤◌, None, OnOk, All, true};
 ghost use Rattle.std.specs.Option.{ForSome};
-ghost use Rattle.spec_image.specs.Told.{Applies, AppliesPrefix, MakesPartOf, Rises};
+ghost use Rattle.spec_image.specs.Told.{Applies, AppliesPrefix, MakesPartOf, Rises, MayWrite};
 ghost use Rattle.blk_io.specs.Faults.{IfDamaged, IfDevice};
 ghost use Rattle.blk_disk.specs.Tables.{is_record_among};
 ghost use Rattle.blk_disk.specs.Open.{IsOpen};
@@ -30,16 +30,13 @@ pub(crate) fn mend_chain<F: Folder>(
     requires is_open { ForSome (F.told folder.old).files (IsOpen files.now) }
     ensures steps { OnOk result (ForSome (F.told folder.old).files (λ from. IsBucketWord front bucket from → Applies (F.told folder.old) (F.told folder.new) (chain_steps bucket records.now from))) }
     ensures prefix { ForSome (F.told folder.old).files (λ from. IsBucketWord front bucket from → AppliesPrefix (F.told folder.old) (F.told folder.new) (chain_steps bucket records.now from)) }
-    ensures silent { (F.told folder.old).files ≡ None → (F.told folder.new).files ≡ None }
+    ensures writes { MayWrite F.told F.faults folder.old folder.new (IfDevice result) }
     ensures others { OnOk result (ForSome (F.told folder.old).files (λ from. ForSome (F.told folder.new).files (KeepsOtherBuckets bucket from))) }
     ensures is_open { ForSome (F.told folder.new).files (IsOpen files.now) }
 
     // An observable folder reports corruption only where not all of the records check.
     ensures damaged { IfDamaged result (IsFailedLink files.now (F.told folder.new)) }
     ensures untold { ForSome (F.told folder.old).files (AllCheck records.now) → IfDamaged result (λ _. (F.told folder.old).files ≡ None) }
-
-    ensures later { F.faults folder.old ≤ F.faults folder.new }
-    ensures device { IfDevice result (Rises (F.faults folder.old) (F.faults folder.new)) }
 {
     set_front(folder, bucket, front, first_word(records))?;
     link(folder, files, records)

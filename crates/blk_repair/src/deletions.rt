@@ -3,7 +3,7 @@ ghost use Rattle.std.specs.Prelude.{◌≡◌, ◌<◌, ◌≤◌, ℕ, None, So
 ghost use Rattle.std.specs.Option.{ForSome};
 ghost use Rattle.spec_image.specs.Image.{Image, has_file, Block as block, External as external};
 ghost use Rattle.spec_image.specs.Order.{IsBefore, IsNextFile};
-ghost use Rattle.spec_image.specs.Told.{Applies, Rises, Stays};
+ghost use Rattle.spec_image.specs.Told.{Applies, Rises, Stays, ReadsOnly};
 ghost use Rattle.blk_io.specs.FileNames.{file_of};
 ghost use Rattle.spec_folder.specs.Found.{kept};
 ghost use Rattle.spec_folder.specs.Loads.{claims_of_loaded};
@@ -88,9 +88,7 @@ fn next_block<F: Folder>(folder: &mut F, last: u8) -> Result<Option<u8>, Failed>
     ensures after { IfOk result (λ next. ForSome next (λ n. last < n)) }
     ensures next { IfOk result (λ next. ForSome next (λ n. ForSome (F.told folder.old).files (λ image. IsNextFile image (Some (block last)) (Some (block n))))) }
     ensures none { result ≡ Ok None → ForSome (F.told folder.old).files (λ image. (n : ℕ) → last < n → has_file image (block n) ≡ false) }
-    ensures stays { Stays (F.told folder.old) (F.told folder.new) }
-    ensures later { F.faults folder.old ≤ F.faults folder.new }
-    ensures failed { OnErr result (Rises (F.faults folder.old) (F.faults folder.new)) }
+    ensures reads { ReadsOnly F.told F.faults folder.old folder.new (OnErr result) }
 {
     match folder.list(Some(FileId::Block(last)))? {
         Some(FileId::Block(n)) => Ok(Some(n)),
@@ -117,9 +115,7 @@ fn next_external<F: Folder>(folder: &mut F, last: FileId) -> Result<Option<u32>,
     ensures after { IfOk result (λ next. ForSome next (λ number. IsBefore (file_of last) (external number))) }
     ensures next { IfOk result (λ next. ForSome next (λ number. ForSome (F.told folder.old).files (λ image. IsNextFile image (Some (file_of last)) (Some (external number))))) }
     ensures none { result ≡ Ok None → ForSome (F.told folder.old).files (λ image. (number : ℕ) → IsBefore (file_of last) (external number) → has_file image (external number) ≡ false) }
-    ensures stays { Stays (F.told folder.old) (F.told folder.new) }
-    ensures later { F.faults folder.old ≤ F.faults folder.new }
-    ensures failed { OnErr result (Rises (F.faults folder.old) (F.faults folder.new)) }
+    ensures reads { ReadsOnly F.told F.faults folder.old folder.new (OnErr result) }
 {
     match folder.list(Some(last))? {
         Some(FileId::External(number)) => Ok(Some(number)),

@@ -1,8 +1,8 @@
 // The whole repair of a folder.
-ghost use Rattle.std.specs.Prelude.{◌≡◌, ◌≤◌, ◌%◌, ◌^◌, ℕ, None, OnOk, OnErr, All};
+ghost use Rattle.std.specs.Prelude.{◌≡◌, ◌%◌, ◌^◌, ℕ, None, OnOk, OnErr, All};
 ghost use Rattle.std.specs.Option.{ForSome};
 ghost use Rattle.spec_image.specs.Image.{Image, Index as index, byte};
-ghost use Rattle.spec_image.specs.Told.{Applies, Rises, Stays};
+ghost use Rattle.spec_image.specs.Told.{Applies, Stays, MayWrite};
 ghost use Rattle.spec_format.specs.Headers.{this_id_of};
 ghost use Rattle.blk_io.specs.Faults.{IfDamaged, IfDevice};
 ghost use Rattle.blk_disk.specs.Open.{IsOpen};
@@ -73,9 +73,7 @@ pub fn repair<F: Folder>(f: &mut F, files: &mut BlockFiles, scan: &Scan) -> Resu
     ensures damaged { IfDamaged result (IsRepairDamage files.new (F.told f.new)) }
     ensures untold { ForSome (F.told f.old).files (IsRepairable scan.now) → IfDamaged result (λ _. (F.told f.old).files ≡ None) }
 
-    ensures silent { (F.told f.old).files ≡ None → (F.told f.new).files ≡ None }
-    ensures later { F.faults f.old ≤ F.faults f.new }
-    ensures device { IfDevice result (Rises (F.faults f.old) (F.faults f.new)) }
+    ensures writes { MayWrite F.told F.faults f.old f.new (IfDevice result) }
 {
     let this_id = word(f, IndexHead::THIS_ID)?;
     mend_all(f, files, scan, next_id(this_id))
@@ -111,9 +109,7 @@ fn mend_all<F: Folder>(
     ensures clean { OnOk result (ForSome (F.told folder.old).files (λ from. IsRepairable scan.now from → NeedsOnlyWords scan.now from → Applies (F.told folder.old) (F.told folder.new) (counting_steps from this_id from))) }
     ensures damaged { IfDamaged result (IsRepairDamage files.new (F.told folder.new)) }
     ensures untold { ForSome (F.told folder.old).files (IsRepairable scan.now) → IfDamaged result (λ _. (F.told folder.old).files ≡ None) }
-    ensures silent { (F.told folder.old).files ≡ None → (F.told folder.new).files ≡ None }
-    ensures later { F.faults folder.old ≤ F.faults folder.new }
-    ensures device { IfDevice result (Rises (F.faults folder.old) (F.faults folder.new)) }
+    ensures writes { MayWrite F.told F.faults folder.old folder.new (IfDevice result) }
 {
     mend_links(folder, files, scan)?;
     mend_behind(folder, files, scan, this_id)
@@ -139,9 +135,7 @@ fn mend_behind<F: Folder>(
     ensures clean { OnOk result (ForSome (F.told folder.old).files (λ from. (entry : Image) → AreLinksMended scan.now entry from → NeedsOnlyWords scan.now from → Applies (F.told folder.old) (F.told folder.new) (counting_steps entry this_id from))) }
     ensures damaged { IfDamaged result (IsBehindRepairDamage files.new (F.told folder.new)) }
     ensures untold { ForSome (F.told folder.old).files (λ from. (entry : Image) × AreLinksMended scan.now entry from) → IfDamaged result (λ _. (F.told folder.old).files ≡ None) }
-    ensures silent { (F.told folder.old).files ≡ None → (F.told folder.new).files ≡ None }
-    ensures later { F.faults folder.old ≤ F.faults folder.new }
-    ensures device { IfDevice result (Rises (F.faults folder.old) (F.faults folder.new)) }
+    ensures writes { MayWrite F.told F.faults folder.old folder.new (IfDevice result) }
 {
     mend_store(folder, files, scan.claims())?;
     mend_rest(folder, files, scan, this_id)
@@ -164,9 +158,7 @@ fn mend_store<F: Folder>(
     ensures clean { OnOk result (ForSome (F.told folder.old).files (λ from. (entry : Image) → IsNextRebuilt entry claims.now from → HasMendedFiles from → HasOnlyKeptFiles from → Stays (F.told folder.old) (F.told folder.new))) }
     ensures damaged { IfDamaged result (IsShortReadOf (F.told folder.new) (all_files files.new)) }
     ensures untold { IfDamaged result (λ _. (F.told folder.old).files ≡ None) }
-    ensures silent { (F.told folder.old).files ≡ None → (F.told folder.new).files ≡ None }
-    ensures later { F.faults folder.old ≤ F.faults folder.new }
-    ensures device { IfDevice result (Rises (F.faults folder.old) (F.faults folder.new)) }
+    ensures writes { MayWrite F.told F.faults folder.old folder.new (IfDevice result) }
 {
     mend_files(folder, files, claims)?;
     delete_others(folder, files, claims)?;
@@ -185,9 +177,7 @@ fn delete_others<F: Folder>(
     ensures steps { OnOk result (ForSome (F.told folder.old).files (λ from. AppliesOf (DeletesOthers files.now claims.now) from (F.told folder.old) (F.told folder.new))) }
     ensures is_open { ForSome (F.told folder.new).files (IsOpen files.now) }
     ensures clean { OnOk result (ForSome (F.told folder.old).files (λ from. (entry : Image) → IsNextRebuilt entry claims.now from → HasOnlyKeptFiles from → Stays (F.told folder.old) (F.told folder.new))) }
-    ensures silent { (F.told folder.old).files ≡ None → (F.told folder.new).files ≡ None }
-    ensures later { F.faults folder.old ≤ F.faults folder.new }
-    ensures failed { OnErr result (Rises (F.faults folder.old) (F.faults folder.new)) }
+    ensures writes { MayWrite F.told F.faults folder.old folder.new (OnErr result) }
 {
     delete_unlinked(folder, files)?;
     delete_unclaimed(folder, claims)
@@ -204,9 +194,7 @@ fn mend_links<F: Folder>(folder: &mut F, files: &BlockFiles, scan: &Scan) -> Res
     ensures clean { OnOk result (ForSome (F.told folder.old).files (λ from. IsRepairable scan.now from → HasMendedLinks from → Stays (F.told folder.old) (F.told folder.new))) }
     ensures damaged { IfDamaged result (IsLinksRepairDamage files.now (F.told folder.new)) }
     ensures untold { ForSome (F.told folder.old).files (IsRepairable scan.now) → IfDamaged result (λ _. (F.told folder.old).files ≡ None) }
-    ensures silent { (F.told folder.old).files ≡ None → (F.told folder.new).files ≡ None }
-    ensures later { F.faults folder.old ≤ F.faults folder.new }
-    ensures device { IfDevice result (Rises (F.faults folder.old) (F.faults folder.new)) }
+    ensures writes { MayWrite F.told F.faults folder.old folder.new (IfDevice result) }
 {
     mend_list(folder, files, scan.walked_nodes(), scan.kept_nodes())?;
     mend_buckets(folder, files, scan)
@@ -223,9 +211,7 @@ fn mend_buckets<F: Folder>(folder: &mut F, files: &BlockFiles, scan: &Scan) -> R
     ensures clean { OnOk result (ForSome (F.told folder.old).files (λ from. AreBucketsScanned scan.now.chains from → HasMendedLinks from → Stays (F.told folder.old) (F.told folder.new))) }
     ensures damaged { IfDamaged result (IsChainsRepairDamage files.now (F.told folder.new)) }
     ensures untold { ForSome (F.told folder.old).files (AreBucketsScanned scan.now.chains) → IfDamaged result (λ _. (F.told folder.old).files ≡ None) }
-    ensures silent { (F.told folder.old).files ≡ None → (F.told folder.new).files ≡ None }
-    ensures later { F.faults folder.old ≤ F.faults folder.new }
-    ensures device { IfDevice result (Rises (F.faults folder.old) (F.faults folder.new)) }
+    ensures writes { MayWrite F.told F.faults folder.old folder.new (IfDevice result) }
 {
     match scan.chains() {
         Some(chains) => mend_chains(
@@ -256,9 +242,7 @@ fn mend_rest<F: Folder>(
     ensures clean { OnOk result (ForSome (F.told folder.old).files (λ from. (entry : Image) → IsNextFinished scan.now entry from → NeedsOnlyWords scan.now from → Applies (F.told folder.old) (F.told folder.new) (counting_steps entry this_id from))) }
     ensures damaged { IfDamaged result (IsRestRepairDamage files.now (F.told folder.new)) }
     ensures untold { ForSome (F.told folder.old).files (λ from. (entry : Image) × IsNextFinished scan.now entry from) → IfDamaged result (λ _. (F.told folder.old).files ≡ None) }
-    ensures silent { (F.told folder.old).files ≡ None → (F.told folder.new).files ≡ None }
-    ensures later { F.faults folder.old ≤ F.faults folder.new }
-    ensures device { IfDevice result (Rises (F.faults folder.old) (F.faults folder.new)) }
+    ensures writes { MayWrite F.told F.faults folder.old folder.new (IfDevice result) }
 {
     seal_records(folder, files, scan.bare())?;
     let items = low_word(scan.items());

@@ -1,8 +1,8 @@
 // All buckets are made the chains of their kept records.
-ghost use Rattle.std.specs.Prelude.{◌≡◌, ◌<◌, ◌≤◌, None, IfOk, OnOk, All, true, false, length};
+ghost use Rattle.std.specs.Prelude.{◌≡◌, ◌<◌, None, IfOk, OnOk, All, true, false, length};
 ghost use Rattle.std.specs.Option.{ForSome};
 ghost use Rattle.spec_image.specs.Image.{Image};
-ghost use Rattle.spec_image.specs.Told.{Applies, AppliesPrefix, Passes, Rises, Stays};
+ghost use Rattle.spec_image.specs.Told.{Applies, AppliesPrefix, Passes, MayWrite, ReadsOnly};
 ghost use Rattle.spec_format.specs.Headers.{HasWholeIndex, table_length};
 ghost use Rattle.blk_io.specs.Faults.{IfDamaged, IfDevice};
 ghost use Rattle.blk_disk.specs.Open.{IsOpen};
@@ -48,14 +48,11 @@ pub fn mend_chains<F: Folder>(
     ensures stops { ForSome (F.told folder.old).files (λ from. AreChainsScanned records.now ends.now whole.now from → Passes (F.told folder.old) (F.told folder.new) (HoldsTheSame from)) }
 
     ensures is_open { ForSome (F.told folder.new).files (IsOpen files.now) }
-    ensures silent { (F.told folder.old).files ≡ None → (F.told folder.new).files ≡ None }
+    ensures writes { MayWrite F.told F.faults folder.old folder.new (IfDevice result) }
 
     // An observable folder reports corruption only where these aren't its kept records.
     ensures damaged { IfDamaged result (IsChainsRepairDamage files.now (F.told folder.new)) }
     ensures untold { ForSome (F.told folder.old).files (AreChainsScanned records.now ends.now whole.now) → IfDamaged result (λ _. (F.told folder.old).files ≡ None) }
-
-    ensures later { F.faults folder.old ≤ F.faults folder.new }
-    ensures device { IfDevice result (Rises (F.faults folder.old) (F.faults folder.new)) }
 {
     let mut table = [0u32; BUCKETS_OF_PIECE];
     let mut read = 0;
@@ -87,11 +84,9 @@ fn read_piece<F: Folder>(
     ensures size { length table.new ≡ buckets_of_piece }
     ensures fronts { IfOk result (λ now. ForSome (F.told folder.old).files (λ from. AreBucketWords table.old bucket read from → AreBucketWords table.new bucket now from)) }
     ensures reached { IfOk result (λ now. whole ≡ false → bucket < now) }
-    ensures stays { Stays (F.told folder.old) (F.told folder.new) }
+    ensures reads { ReadsOnly F.told F.faults folder.old folder.new (IfDevice result) }
     ensures damaged { IfDamaged result (IsTableDamage (F.told folder.new)) }
     ensures untold { ForSome (F.told folder.old).files HasWholeIndex → IfDamaged result (λ _. (F.told folder.old).files ≡ None) }
-    ensures later { F.faults folder.old ≤ F.faults folder.new }
-    ensures device { IfDevice result (Rises (F.faults folder.old) (F.faults folder.new)) }
 {
     if whole || u32::from(bucket) < read {
         return Ok(read);
@@ -116,11 +111,9 @@ fn mend_bucket<F: Folder>(
     ensures prefix { ForSome (F.told folder.old).files (λ from. (entry : Image) → IsNextBucket entry bucket front records.now whole from → AppliesPrefix (F.told folder.old) (F.told folder.new) (chain_steps bucket records.now from)) }
     ensures others { OnOk result (ForSome (F.told folder.old).files (λ from. ForSome (F.told folder.new).files (KeepsOtherBuckets bucket from))) }
     ensures is_open { ForSome (F.told folder.new).files (IsOpen files.now) }
-    ensures silent { (F.told folder.old).files ≡ None → (F.told folder.new).files ≡ None }
+    ensures writes { MayWrite F.told F.faults folder.old folder.new (IfDevice result) }
     ensures damaged { IfDamaged result (IsFailedLink files.now (F.told folder.new)) }
     ensures untold { ForSome (F.told folder.old).files (AllCheck records.now) → IfDamaged result (λ _. (F.told folder.old).files ≡ None) }
-    ensures later { F.faults folder.old ≤ F.faults folder.new }
-    ensures device { IfDevice result (Rises (F.faults folder.old) (F.faults folder.new)) }
 {
     if whole {
         return Ok(());

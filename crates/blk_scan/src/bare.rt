@@ -1,11 +1,11 @@
 // The nodes and the records of what is kept that have 0 as their seal.
-ghost use Rattle.std.specs.Prelude.{◌≡◌, ◌≤◌, ◌++◌, ℕ, [], ◌∷◌, All, IfOk, None, OnOk, Some, slice_get, true};
+ghost use Rattle.std.specs.Prelude.{◌≡◌, ◌++◌, ℕ, [], ◌∷◌, All, IfOk, None, OnOk, Some, slice_get, true};
 ghost use Rattle.std.specs.BTreeSet.{contains};
 ghost use Rattle.std.specs.List.{filter};
 ghost use Rattle.std.specs.Option.{ForSome};
 ghost use Rattle.std.specs.Ordering.{nat_cmp};
 ghost use Rattle.spec_image.specs.Image.{Image};
-ghost use Rattle.spec_image.specs.Told.{Rises, Stays};
+ghost use Rattle.spec_image.specs.Told.{ReadsOnly};
 ghost use Rattle.spec_folder.specs.Found.{kept};
 ghost use Rattle.blk_disk.specs.declared.tables.BlockFiles.{BlockFiles as Files};
 ghost use Rattle.blk_disk.specs.Tables.{Agrees, is_record_among};
@@ -41,11 +41,9 @@ pub(crate) fn bare_of<F: Folder>(
     ensures bare { IfOk result (λ bare. ForSome (F.told folder.old).files (λ image. Agrees files.now image → AreListsOf image lists.now → AreShown image (kept image) records.now → AreBare image bare.items)) }
     ensures exact { IfOk result (λ bare. ForSome (F.told folder.old).files (λ image. Agrees files.now image → AreListsOf image lists.now → AreShown image (kept image) records.now → bare.items ≡ bare_of_kept image)) }
     ensures stand { IfOk result (λ bare. All (CanBeSealed files.now) bare.items) }
-    ensures stays { Stays (F.told folder.old) (F.told folder.new) }
+    ensures reads { ReadsOnly F.told F.faults folder.old folder.new (IfScanDevice result) }
     ensures damaged { IfScanDamaged result (IsRecordDamage files.now (F.told folder.new)) }
     ensures untold { ForSome (F.told folder.old).files (Agrees files.now) → IfScanDamaged result (λ _. (F.told folder.old).files ≡ None) }
-    ensures later { F.faults folder.old ≤ F.faults folder.new }
-    ensures device { IfScanDevice result (Rises (F.faults folder.old) (F.faults folder.new)) }
 {
     let nodes = nodes_of(alloc, records)?;
     let kept = set_of(alloc, &nodes)?;
@@ -99,11 +97,9 @@ fn add_records<F: Folder>(
 ) -> Result<(), ScanFault>
     ensures added { OnOk result (ForSome (F.told folder.old).files (λ image. AreListsOf image lists.now → All (λ w. is_record_among files.now w ≡ true) entries.now → bare.new.items ≡ bare.old.items ++ filter (is_bare_record image) entries.now)) }
     ensures stand { OnOk result (All (CanBeSealed files.now) bare.old.items → All (CanBeSealed files.now) bare.new.items) }
-    ensures stays { Stays (F.told folder.old) (F.told folder.new) }
+    ensures reads { ReadsOnly F.told F.faults folder.old folder.new (IfScanDevice result) }
     ensures damaged { IfScanDamaged result (IsRecordDamage files.now (F.told folder.new)) }
     ensures untold { ForSome (F.told folder.old).files (Agrees files.now) → IfScanDamaged result (λ _. (F.told folder.old).files ≡ None) }
-    ensures later { F.faults folder.old ≤ F.faults folder.new }
-    ensures device { IfScanDevice result (Rises (F.faults folder.old) (F.faults folder.new)) }
 {
     for i in 0..entries.len() {
         add_record(folder, files, lists, entries[i], bare)?;
@@ -121,11 +117,9 @@ fn add_record<F: Folder>(
 ) -> Result<(), ScanFault>
     ensures added { OnOk result (ForSome (F.told folder.old).files (λ image. AreListsOf image lists.now → is_record_among files.now entry ≡ true → bare.new.items ≡ bare.old.items ++ filter (is_bare_record image) (entry ∷ []))) }
     ensures stand { OnOk result (All (CanBeSealed files.now) bare.old.items → All (CanBeSealed files.now) bare.new.items) }
-    ensures stays { Stays (F.told folder.old) (F.told folder.new) }
+    ensures reads { ReadsOnly F.told F.faults folder.old folder.new (IfScanDevice result) }
     ensures damaged { IfScanDamaged result (IsRecordDamage files.now (F.told folder.new)) }
     ensures untold { ForSome (F.told folder.old).files (Agrees files.now) → IfScanDamaged result (λ _. (F.told folder.old).files ≡ None) }
-    ensures later { F.faults folder.old ≤ F.faults folder.new }
-    ensures device { IfScanDevice result (Rises (F.faults folder.old) (F.faults folder.new)) }
 {
     let Some(standing) = files.entry(entry.word()) else {
         return Ok(());

@@ -2,7 +2,7 @@
 ghost use Rattle.std.specs.Prelude.{◌≡◌, ◌⊎◌, ◌≤◌, IfOk, None, Some, length};
 ghost use Rattle.std.specs.Option.{ForSome};
 ghost use Rattle.spec_image.specs.Image.{Image};
-ghost use Rattle.spec_image.specs.Told.{Rises, Stays};
+ghost use Rattle.spec_image.specs.Told.{ReadsOnly};
 ghost use Rattle.spec_format.specs.BlockFiles.{first_block_damage, first_damage, IsWellFormed};
 ghost use Rattle.spec_format.specs.Headers.{HasWholeIndex, IsUnfinished};
 ghost use Rattle.spec_folder.specs.ListView.{most_nodes};
@@ -47,16 +47,13 @@ pub fn scan_folder<F: Folder>(alloc: Global, folder: &mut F) -> Result<Scan, Sca
     ensures empty { IfOk result (λ scan. ForSome (F.told folder.old).files (λ image. IsUnfinished image → IsEmptyScan scan)) }
     ensures few { IfOk result (λ scan. length scan.walked.items ≤ most_nodes) }
     ensures checked { IfOk result (λ _. ForSome (F.told folder.old).files (λ image. IsUnfinished image ⊎ IsWellFormed image)) }
-    ensures stays { Stays (F.told folder.old) (F.told folder.new) }
+    ensures reads { ReadsOnly F.told F.faults folder.old folder.new (IfScanDevice result) }
 
     // An observable folder reports corruption only where a check of its headers fails: the first that does.
     ensures damaged { IfScanDamaged result (λ damage. ForSome (F.told folder.old).files (λ image. (IsUnfinished image → ⊥) × (first_damage image ≡ Some (damage_of damage)))) }
 
     // The cause of a failed check, which holds for an opaque folder too.
     ensures cause { IfScanDamaged result (IsFolderDamage (F.told folder.old)) }
-
-    ensures later { F.faults folder.old ≤ F.faults folder.new }
-    ensures device { IfScanDevice result (Rises (F.faults folder.old) (F.faults folder.new)) }
 {
     match look(folder)? {
         Start::Unfinished => Ok(Scan::empty(alloc)),
@@ -70,11 +67,9 @@ fn scan_finished<F: Folder>(alloc: Global, folder: &mut F) -> Result<Scan, ScanF
     ensures exact { IfOk result (λ scan. ForSome (F.told folder.old).files (λ image. IsExactScan image scan)) }
     ensures few { IfOk result (λ scan. length scan.walked.items ≤ most_nodes) }
     ensures checked { IfOk result (λ _. ForSome (F.told folder.old).files (λ image. first_block_damage image ≡ None)) }
-    ensures stays { Stays (F.told folder.old) (F.told folder.new) }
+    ensures reads { ReadsOnly F.told F.faults folder.old folder.new (IfScanDevice result) }
     ensures damaged { IfScanDamaged result (λ damage. ForSome (F.told folder.old).files (λ image. HasWholeIndex image → first_block_damage image ≡ Some (damage_of damage))) }
     ensures cause { IfScanDamaged result (IsBlocksDamage (F.told folder.old)) }
-    ensures later { F.faults folder.old ≤ F.faults folder.new }
-    ensures device { IfScanDevice result (Rises (F.faults folder.old) (F.faults folder.new)) }
 {
     let files = BlockFiles::load(folder)?;
     scan_files(alloc, folder, &files)
@@ -95,14 +90,11 @@ pub fn scan_files<F: Folder>(
     ensures exact { IfOk result (λ scan. ForSome (F.told folder.old).files (λ image. Agrees files.now image → IsExactScan image scan)) }
     ensures stand { IfOk result (StandAmong files.now) }
     ensures few { IfOk result (λ scan. length scan.walked.items ≤ most_nodes) }
-    ensures stays { Stays (F.told folder.old) (F.told folder.new) }
+    ensures reads { ReadsOnly F.told F.faults folder.old folder.new (IfScanDevice result) }
 
     // An observable folder reports corruption only where its index is too short or the block files don't agree with it.
     ensures damaged { IfScanDamaged result (IsScanDamage files.now (F.told folder.new)) }
     ensures untold { ForSome (F.told folder.old).files (IsOpen files.now) → IfScanDamaged result (λ _. (F.told folder.old).files ≡ None) }
-
-    ensures later { F.faults folder.old ≤ F.faults folder.new }
-    ensures device { IfScanDevice result (Rises (F.faults folder.old) (F.faults folder.new)) }
 {
     let lists = read_lists(alloc, folder, files)?;
     let judged = judge_nodes(alloc, folder, files, &lists)?;

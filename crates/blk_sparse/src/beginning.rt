@@ -2,7 +2,7 @@
 ghost use Rattle.std.specs.Prelude.{◌≡◌, ◌≤◌, ◌<◌, IfOk, IsTrue, None, OnOk, length};
 ghost use Rattle.std.specs.Int.{cast_unsigned, w64};
 ghost use Rattle.std.specs.Option.{ForSome};
-ghost use Rattle.spec_image.specs.Told.{Passes, Rises, Stays};
+ghost use Rattle.spec_image.specs.Told.{Passes, MayWrite, ReadsOnly};
 ghost use Rattle.blk_model.specs.Holding.{rest};
 ghost use Rattle.blk_model.specs.Sizes.{longest_key, signatures};
 ghost use Rattle.spec_format.specs.Address.{blocks_256, kind_of};
@@ -61,9 +61,7 @@ pub fn begin<F: Folder>(
     // An observable folder, with such an object, reports no corruption.
     ensures untold { ForSome (F.told f.old).files (λ from. ForEachPlain entry from (λ state layout unlinked number object node. IfDamaged result (λ _. (F.told f.old).files ≡ None))) }
 
-    ensures silent { (F.told f.old).files ≡ None → (F.told f.new).files ≡ None }
-    ensures later { F.faults f.old ≤ F.faults f.new }
-    ensures device { IfDevice result (Rises (F.faults f.old) (F.faults f.new)) }
+    ensures writes { MayWrite F.told F.faults f.old f.new (IfDevice result) }
 {
     let key_len = parent_length(f, files, entry)?;
     let mut bytes = [0u8; ParentMap::LEN];
@@ -78,11 +76,9 @@ fn parent_length<F: Folder>(folder: &mut F, files: &BlockFiles, entry: Addr) -> 
     ensures some { IfOk result (λ len. 1 ≤ len) }
     ensures short { IfOk result (λ len. len ≤ longest_key) }
     ensures length { IfOk result (λ len. ForSome (F.told folder.old).files (λ image. len ≡ (entry_at image entry).key_len)) }
-    ensures stays { Stays (F.told folder.old) (F.told folder.new) }
+    ensures reads { ReadsOnly F.told F.faults folder.old folder.new (IfDevice result) }
     ensures damaged { IfDamaged result (IsFailedCheck files.now (F.told folder.new)) }
     ensures untold { ForSome (F.told folder.old).files (Agrees files.now) → ForSome (F.told folder.old).files (HasParentLength entry) → IfDamaged result (λ _. (F.told folder.old).files ≡ None) }
-    ensures later { F.faults folder.old ≤ F.faults folder.new }
-    ensures device { IfDevice result (Rises (F.faults folder.old) (F.faults folder.new)) }
 {
     let head = read_head(folder, files, entry)?;
     if head.key_len == 0 || head.key_len > LONGEST_KEY {
@@ -123,9 +119,7 @@ fn give_index<F: Folder>(
     ensures is_open { OnOk result (ForSome (F.told folder.new).files (IsOpen files.new)) }
     ensures damaged { IfDamaged result (IsFailedCheck files.new (F.told folder.new)) }
     ensures untold { ForSome (F.told folder.old).files (λ from. ForEachPlainWith bytes.now entry from (λ state layout unlinked number object node signature. IfDamaged result (λ _. (F.told folder.old).files ≡ None))) }
-    ensures silent { (F.told folder.old).files ≡ None → (F.told folder.new).files ≡ None }
-    ensures later { F.faults folder.old ≤ F.faults folder.new }
-    ensures device { IfDevice result (Rises (F.faults folder.old) (F.faults folder.new)) }
+    ensures writes { MayWrite F.told F.faults folder.old folder.new (IfDevice result) }
 {
     write_object(folder, files, entry, INDEX, 0, true, bytes)?;
     set_parent(folder, files, entry)
@@ -141,9 +135,7 @@ fn set_parent<F: Folder>(folder: &mut F, files: &BlockFiles, entry: Addr) -> Res
     ensures is_open { ForSome (F.told folder.new).files (IsOpen files.now) }
     ensures damaged { IfDamaged result (IsFailedCheck files.now (F.told folder.new)) }
     ensures untold { ForSome (F.told folder.old).files (λ from. ForEachWithIndex entry from (λ state layout unlinked number object was index. IfDamaged result (λ _. (F.told folder.old).files ≡ None))) }
-    ensures silent { (F.told folder.old).files ≡ None → (F.told folder.new).files ≡ None }
-    ensures later { F.faults folder.old ≤ F.faults folder.new }
-    ensures device { IfDevice result (Rises (F.faults folder.old) (F.faults folder.new)) }
+    ensures writes { MayWrite F.told F.faults folder.old folder.new (IfDevice result) }
 {
     files.update_sealed(folder, entry, &[(EntryView::FLAGS, PARENT)])
 }

@@ -1,7 +1,7 @@
 // A part that there is gets a piece.
 ghost use Rattle.std.specs.Prelude.{◌≡◌, ◌≤◌, ◌<◌, ◌+◌, IfOk, IsTrue, None, OnOk, length};
 ghost use Rattle.std.specs.Option.{ForSome};
-ghost use Rattle.spec_image.specs.Told.{Passes, Rises, Stays};
+ghost use Rattle.spec_image.specs.Told.{Passes, MayWrite, ReadsOnly};
 ghost use Rattle.blk_model.specs.Holding.{rest};
 ghost use Rattle.blk_model.specs.Sizes.{part_size};
 ghost use Rattle.spec_format.specs.Address.{blocks_256, kind_of};
@@ -64,9 +64,7 @@ pub(crate) fn change_part<F: Folder>(
     // An observable folder, with such a part, reports no corruption.
     ensures untold { ForSome (F.told folder.old).files (λ from. ForEachPartThere part from (λ state layout unlinked number object node entry signature n. IfDamaged result (λ _. (F.told folder.old).files ≡ None))) }
 
-    ensures silent { (F.told folder.old).files ≡ None → (F.told folder.new).files ≡ None }
-    ensures later { F.faults folder.old ≤ F.faults folder.new }
-    ensures device { IfDevice result (Rises (F.faults folder.old) (F.faults folder.new)) }
+    ensures writes { MayWrite F.told F.faults folder.old folder.new (IfDevice result) }
 {
     let map = read_map(folder, files, part)?;
     let mut bytes = [0u8; PartMap::LEN];
@@ -85,11 +83,9 @@ pub(crate) fn read_map<F: Folder>(
     requires stands { IsTrue (stands_among files.now part) }
     ensures map { IfOk result (λ map. ForSome (F.told folder.old).files (λ image. (loaded : Loaded) (name : Name) (index : PartIndex) → LoadsWith part loaded image → loaded.role ≡ IsPart name index → index_of map ≡ index)) }
     ensures valid { IfOk result IsPartMap }
-    ensures stays { Stays (F.told folder.old) (F.told folder.new) }
+    ensures reads { ReadsOnly F.told F.faults folder.old folder.new (IfDevice result) }
     ensures damaged { IfDamaged result (IsFailedCheck files.now (F.told folder.new)) }
     ensures untold { ForSome (F.told folder.old).files (Agrees files.now) → ForSome (F.told folder.old).files (LoadsAsPart part) → IfDamaged result (λ _. (F.told folder.old).files ≡ None) }
-    ensures later { F.faults folder.old ≤ F.faults folder.new }
-    ensures device { IfDevice result (Rises (F.faults folder.old) (F.faults folder.new)) }
 {
     let mut bytes = [0u8; PartMap::LEN];
     let len = read(folder, files, part, INDEX, 0, &mut bytes)?;
@@ -133,9 +129,7 @@ fn write_noted<F: Folder>(
     ensures is_open { OnOk result (ForSome (F.told folder.new).files (IsOpen files.new)) }
     ensures damaged { IfDamaged result (IsFailedCheck files.new (F.told folder.new)) }
     ensures untold { ForSome (F.told folder.old).files (λ from. ForEachToBeChanged part place piece.now map.now from (λ state layout unlinked number object node entry signature n. IfDamaged result (λ _. (F.told folder.old).files ≡ None))) }
-    ensures silent { (F.told folder.old).files ≡ None → (F.told folder.new).files ≡ None }
-    ensures later { F.faults folder.old ≤ F.faults folder.new }
-    ensures device { IfDevice result (Rises (F.faults folder.old) (F.faults folder.new)) }
+    ensures writes { MayWrite F.told F.faults folder.old folder.new (IfDevice result) }
 {
     let offset = u64::from(place);
     write_object(folder, files, part, DATA, offset, false, piece)?;

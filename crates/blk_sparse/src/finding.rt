@@ -2,7 +2,7 @@
 ghost use Rattle.std.specs.Prelude.{◌≡◌, ◌≤◌, ◌<◌, ◌+◌, IfOk, IfSome, IsTrue, None, length};
 ghost use Rattle.std.specs.Int.{cast_unsigned, w64};
 ghost use Rattle.std.specs.Option.{ForSome};
-ghost use Rattle.spec_image.specs.Told.{Rises, Stays};
+ghost use Rattle.spec_image.specs.Told.{ReadsOnly};
 ghost use Rattle.blk_model.specs.Sizes.{largest_offset, longest_key, part_size, signatures};
 ghost use Rattle.spec_format.specs.Address.{blocks_256, kind_of};
 ghost use Rattle.spec_format.specs.Names.{longest_name};
@@ -58,14 +58,11 @@ pub fn find_parts<F: Folder>(
     ensures second_kind { IfOk result (λ found. IfSome found.second (λ entry. kind_of entry ≡ blocks_256)) }
     ensures second_stands { IfOk result (λ found. IfSome found.second (λ entry. IsTrue (stands_among files.now entry))) }
 
-    ensures stays { Stays (F.told folder.old) (F.told folder.new) }
+    ensures reads { ReadsOnly F.told F.faults folder.old folder.new (IfDevice result) }
 
     // Corruption is a check that fails on what is read here. An observable folder, with such an object, gives none.
     ensures damaged { IfDamaged result (IsFailedCheck files.now (F.told folder.new)) }
     ensures untold { ForSome (F.told folder.old).files (λ from. ForEachKeptParent parent.now.node parent.now.entry (cast_unsigned w64 parent.now.signature) from (λ state layout unlinked number object. IfDamaged result (λ _. (F.told folder.old).files ≡ None))) }
-
-    ensures later { F.faults folder.old ≤ F.faults folder.new }
-    ensures device { IfDevice result (Rises (F.faults folder.old) (F.faults folder.new)) }
 {
     let len = read_key(folder, files, parent.entry, name)?;
     let (key, buffer) = name.split_at_mut(LONGEST_KEY as usize);
@@ -98,11 +95,9 @@ fn find_covered<F: Folder>(
     ensures first_stands { IfOk result (λ found. IfSome found.first (λ entry. IsTrue (stands_among files.now entry))) }
     ensures second_kind { IfOk result (λ found. IfSome found.second (λ entry. kind_of entry ≡ blocks_256)) }
     ensures second_stands { IfOk result (λ found. IfSome found.second (λ entry. IsTrue (stands_among files.now entry))) }
-    ensures stays { Stays (F.told folder.old) (F.told folder.new) }
+    ensures reads { ReadsOnly F.told F.faults folder.old folder.new (IfDevice result) }
     ensures damaged { IfDamaged result (IsFailedCheck files.now (F.told folder.new)) }
     ensures untold { ForSome (F.told folder.old).files (λ from. ForEachOfKey parent.entry.key.now (cast_unsigned w64 parent.entry.signature) from (λ state layout unlinked at object node entry. IfDamaged result (λ _. (F.told folder.old).files ≡ None))) }
-    ensures later { F.faults folder.old ≤ F.faults folder.new }
-    ensures device { IfDevice result (Rises (F.faults folder.old) (F.faults folder.new)) }
 {
     let (number, place) = child_of(offset);
     let first = find_part(folder, files, parent, number, buffer)?;

@@ -2,7 +2,7 @@
 ghost use Rattle.std.specs.Prelude.{◌≡◌, ◌≤◌, ◌<◌, ◌+◌, ◌^◌, [], IfOk, IsTrue, None, length};
 ghost use Rattle.std.specs.Int.{cast_unsigned, w64};
 ghost use Rattle.std.specs.Option.{ForSome};
-ghost use Rattle.spec_image.specs.Told.{Rises, Stays};
+ghost use Rattle.spec_image.specs.Told.{ReadsOnly};
 ghost use Rattle.blk_model.specs.Sizes.{blocks_index_charge, largest_offset, longest_key, part_count, part_size, signatures};
 ghost use Rattle.spec_format.specs.Address.{blocks_256, kind_of};
 ghost use Rattle.blk_model.specs.State.{Object};
@@ -74,14 +74,11 @@ pub fn measure<F: Folder>(
     requires is_open { ForSome (F.told folder.old).files (IsOpen files.now) }
     ensures measured { IfOk result (λ found. ForSome (F.told folder.old).files (λ from. ForEachParentMeasured parent.now.node parent.now.entry (cast_unsigned w64 parent.now.signature) from (λ layout object. IsMeasured layout object (cast_unsigned w64 parent.now.signature) offset count found))) }
     ensures light { IfOk result (λ found. found.bytes < 2 ^ 36) }
-    ensures stays { Stays (F.told folder.old) (F.told folder.new) }
+    ensures reads { ReadsOnly F.told F.faults folder.old folder.new (IfDevice result) }
 
     // Corruption is a check that fails on what is read here. An observable folder, with such an object, gives none.
     ensures damaged { IfDamaged result (IsFailedCheck files.now (F.told folder.new)) }
     ensures untold { ForSome (F.told folder.old).files (λ from. ForEachParentMeasured parent.now.node parent.now.entry (cast_unsigned w64 parent.now.signature) from (λ layout object. IfDamaged result (λ _. (F.told folder.old).files ≡ None))) }
-
-    ensures later { F.faults folder.old ≤ F.faults folder.new }
-    ensures device { IfDevice result (Rises (F.faults folder.old) (F.faults folder.new)) }
 {
     let len = read_key(folder, files, parent.entry, name)?;
     let (key, buffer) = name.split_at_mut(LONGEST_KEY as usize);
@@ -117,11 +114,9 @@ fn measure_covered<F: Folder>(
     ensures measured { IfOk result (λ found. ForSome (F.told folder.old).files (λ from. ForEachOfKey key.now (cast_unsigned w64 signature) from (λ state layout unlinked at object node entry. IsMeasured layout object (cast_unsigned w64 signature) offset count found))) }
     ensures light { IfOk result (λ found. found.bytes < 2 ^ 36) }
     ensures buffer { length buffer.new ≡ length buffer.old }
-    ensures stays { Stays (F.told folder.old) (F.told folder.new) }
+    ensures reads { ReadsOnly F.told F.faults folder.old folder.new (IfDevice result) }
     ensures damaged { IfDamaged result (IsFailedCheck files.now (F.told folder.new)) }
     ensures untold { ForSome (F.told folder.old).files (λ from. ForEachOfKey key.now (cast_unsigned w64 signature) from (λ state layout unlinked at object node entry. IfDamaged result (λ _. (F.told folder.old).files ≡ None))) }
-    ensures later { F.faults folder.old ≤ F.faults folder.new }
-    ensures device { IfDevice result (Rises (F.faults folder.old) (F.faults folder.new)) }
 {
     let (number, place) = child_of(offset);
     let end = u64::from(place) + count;
@@ -163,11 +158,9 @@ fn measure_piece<F: Folder>(
     ensures measured { IfOk result (λ piece. ForSome (F.told folder.old).files (λ from. ForEachOfKey key.now (cast_unsigned w64 signature) from (λ state layout unlinked at object node entry. IsPieceMeasured layout object (cast_unsigned w64 signature) number end piece))) }
     ensures light { IfOk result (λ piece. piece.charged + piece.bytes < 2 ^ 35) }
     ensures buffer { length buffer.new ≡ length buffer.old }
-    ensures stays { Stays (F.told folder.old) (F.told folder.new) }
+    ensures reads { ReadsOnly F.told F.faults folder.old folder.new (IfDevice result) }
     ensures damaged { IfDamaged result (IsFailedCheck files.now (F.told folder.new)) }
     ensures untold { ForSome (F.told folder.old).files (λ from. ForEachOfKey key.now (cast_unsigned w64 signature) from (λ state layout unlinked at object node entry. IfDamaged result (λ _. (F.told folder.old).files ≡ None))) }
-    ensures later { F.faults folder.old ≤ F.faults folder.new }
-    ensures device { IfDevice result (Rises (F.faults folder.old) (F.faults folder.new)) }
 {
     let parent = ParentName { key, signature };
     match find_part(folder, files, parent, number, buffer)? {
@@ -189,11 +182,9 @@ fn measure_there<F: Folder>(
     requires is_open { ForSome (F.told folder.old).files (IsOpen files.now) }
     ensures measured { IfOk result (λ piece. ForSome (F.told folder.old).files (λ from. ForEachPartMeasured part from (λ layout object signature n. IsPieceMeasured layout object signature n end piece))) }
     ensures light { IfOk result (λ piece. piece.charged + piece.bytes < 2 ^ 35) }
-    ensures stays { Stays (F.told folder.old) (F.told folder.new) }
+    ensures reads { ReadsOnly F.told F.faults folder.old folder.new (IfDevice result) }
     ensures damaged { IfDamaged result (IsFailedCheck files.now (F.told folder.new)) }
     ensures untold { ForSome (F.told folder.old).files (λ from. ForEachPartMeasured part from (λ layout object signature n. IfDamaged result (λ _. (F.told folder.old).files ≡ None))) }
-    ensures later { F.faults folder.old ≤ F.faults folder.new }
-    ensures device { IfDevice result (Rises (F.faults folder.old) (F.faults folder.new)) }
 {
     let node = node_of(folder, files, part)?;
     let head = read_head(folder, files, part)?;
@@ -286,14 +277,11 @@ pub fn measure_plain<F: Folder>(
     requires is_open { ForSome (F.told folder.old).files (IsOpen files.now) }
     ensures measured { IfOk result (λ found. ForSome (F.told folder.old).files (λ from. ForEachPlainMeasured entry from (λ layout object. IsMeasured layout (with_signature object (cast_unsigned w64 signature)) (cast_unsigned w64 signature) offset count found))) }
     ensures light { IfOk result (λ found. found.bytes < 2 ^ 36) }
-    ensures stays { Stays (F.told folder.old) (F.told folder.new) }
+    ensures reads { ReadsOnly F.told F.faults folder.old folder.new (IfDevice result) }
 
     // Corruption is a check that fails on what is read here. An observable folder, with such an object, gives none.
     ensures damaged { IfDamaged result (IsFailedCheck files.now (F.told folder.new)) }
     ensures untold { ForSome (F.told folder.old).files (λ from. ForEachPlainMeasured entry from (λ layout object. IfDamaged result (λ _. (F.told folder.old).files ≡ None))) }
-
-    ensures later { F.faults folder.old ≤ F.faults folder.new }
-    ensures device { IfDevice result (Rises (F.faults folder.old) (F.faults folder.new)) }
 {
     let len = read_key(folder, files, entry, name)?;
     let (key, buffer) = name.split_at_mut(LONGEST_KEY as usize);

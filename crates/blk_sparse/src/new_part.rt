@@ -3,7 +3,7 @@ ghost use Rattle.std.specs.Prelude.{◌≡◌, ◌+◌, ◌^◌, ◌≤◌, ◌<
 ghost use Rattle.std.specs.Int.{cast_unsigned, w64};
 ghost use Rattle.std.specs.Option.{ForSome};
 ghost use Rattle.spec_image.specs.Footprint.{SameOutside};
-ghost use Rattle.spec_image.specs.Told.{Passes, Rises, Stays};
+ghost use Rattle.spec_image.specs.Told.{Passes, MayWrite, ReadsOnly};
 ghost use Rattle.blk_model.specs.Bytes.{overwritten};
 ghost use Rattle.blk_model.specs.Holding.{rest};
 ghost use Rattle.blk_model.specs.Sizes.{longest_key, part_count, part_size, signatures};
@@ -76,9 +76,7 @@ fn take_stream<F: Folder>(
     ensures stops { ForSome (F.told folder.old).files (λ from. LeavesRoom 1 from → Passes (F.told folder.old) (F.told folder.new) (StillFinds [] from)) }
     ensures damaged { IfDamaged result (IsFailedCheck files.new (F.told folder.new)) }
     ensures untold { ForSome (F.told folder.old).files (LeavesRoom 1) → IfDamaged result (λ _. (F.told folder.old).files ≡ None) }
-    ensures silent { (F.told folder.old).files ≡ None → (F.told folder.new).files ≡ None }
-    ensures later { F.faults folder.old ≤ F.faults folder.new }
-    ensures device { IfDevice result (Rises (F.faults folder.old) (F.faults folder.new)) }
+    ensures writes { MayWrite F.told F.faults folder.old folder.new (IfDevice result) }
 {
     let addr = store_new(folder, files, offset, bytes)?;
     // That the word is one of an address is known once it is read.
@@ -113,9 +111,7 @@ fn take_part<F: Folder>(
     ensures stops { ForSome (F.told folder.old).files (λ from. LeavesRoom 5 from → Passes (F.told folder.old) (F.told folder.new) (StillFinds [] from)) }
     ensures damaged { IfDamaged result (IsFailedCheck files.new (F.told folder.new)) }
     ensures untold { ForSome (F.told folder.old).files (LeavesRoom 5) → IfDamaged result (λ _. (F.told folder.old).files ≡ None) }
-    ensures silent { (F.told folder.old).files ≡ None → (F.told folder.new).files ≡ None }
-    ensures later { F.faults folder.old ≤ F.faults folder.new }
-    ensures device { IfDevice result (Rises (F.faults folder.old) (F.faults folder.new)) }
+    ensures writes { MayWrite F.told F.faults folder.old folder.new (IfDevice result) }
 {
     let index = take_stream(folder, files, 0, map)?;
     let stored = take_stream(folder, files, place, piece)?;
@@ -145,9 +141,7 @@ fn write_child<F: Folder>(
     ensures is_open { ForSome (F.told folder.new).files (IsOpen files.now) }
     ensures damaged { IfDamaged result (IsFailedCheck files.now (F.told folder.new)) }
     ensures untold { IfDamaged result (λ _. (F.told folder.old).files ≡ None) }
-    ensures silent { (F.told folder.old).files ≡ None → (F.told folder.new).files ≡ None }
-    ensures later { F.faults folder.old ≤ F.faults folder.new }
-    ensures device { IfDevice result (Rises (F.faults folder.old) (F.faults folder.new)) }
+    ensures writes { MayWrite F.told F.faults folder.old folder.new (IfDevice result) }
 {
     let hash = super_fast_hash(name);
     let next = bucket(folder, (hash % IndexHead::BUCKETS) as u16)?;
@@ -187,9 +181,7 @@ fn name_streams<F: Folder>(
     // The addresses are words, whatever the answer.
     ensures words { (stored < 2 ^ 32) × (index < 2 ^ 32) }
 
-    ensures silent { (F.told folder.old).files ≡ None → (F.told folder.new).files ≡ None }
-    ensures later { F.faults folder.old ≤ F.faults folder.new }
-    ensures device { IfDevice result (Rises (F.faults folder.old) (F.faults folder.new)) }
+    ensures writes { MayWrite F.told F.faults folder.old folder.new (IfDevice result) }
 {
     let changes = [
         (EntryView::DATA_SIZE + 4, size),
@@ -223,9 +215,7 @@ fn write_part<F: Folder>(
     ensures is_open { ForSome (F.told folder.new).files (IsOpen files.now) }
     ensures damaged { IfDamaged result (IsFailedCheck files.now (F.told folder.new)) }
     ensures untold { IfDamaged result (λ _. (F.told folder.old).files ≡ None) }
-    ensures silent { (F.told folder.old).files ≡ None → (F.told folder.new).files ≡ None }
-    ensures later { F.faults folder.old ≤ F.faults folder.new }
-    ensures device { IfDevice result (Rises (F.faults folder.old) (F.faults folder.new)) }
+    ensures writes { MayWrite F.told F.faults folder.old folder.new (IfDevice result) }
 {
     write_child(folder, files, &places.places, name, moment)?;
     name_streams(
@@ -253,9 +243,7 @@ fn list_part<F: Folder>(
     ensures is_open { ForSome (F.told folder.new).files (IsOpen files.now) }
     ensures damaged { IfDamaged result (IsFailedCheck files.now (F.told folder.new)) }
     ensures untold { ForSome (F.told folder.old).files (λ from. ForEachPartToBeListed entry node from (λ state objects layout unlinked key n was seen loaded. IfDamaged result (λ _. (F.told folder.old).files ≡ None))) }
-    ensures silent { (F.told folder.old).files ≡ None → (F.told folder.new).files ≡ None }
-    ensures later { F.faults folder.old ≤ F.faults folder.new }
-    ensures device { IfDevice result (Rises (F.faults folder.old) (F.faults folder.new)) }
+    ensures writes { MayWrite F.told F.faults folder.old folder.new (IfDevice result) }
 {
     insert_front(folder, files, node)?;
     link_front(folder, files, entry)
@@ -267,11 +255,9 @@ fn index_place<F: Folder>(folder: &mut F, files: &BlockFiles, parent: Addr) -> R
     requires stands { IsTrue (stands_among files.now parent) }
     ensures place { IfOk result (λ addr. ForSome (F.told folder.old).files (λ image. addr ≡ address_word image parent 2)) }
     ensures stores { IfOk result (λ addr. stores files.now parent_index_length addr ≡ true) }
-    ensures stays { Stays (F.told folder.old) (F.told folder.new) }
+    ensures reads { ReadsOnly F.told F.faults folder.old folder.new (IfDevice result) }
     ensures damaged { IfDamaged result (IsFailedCheck files.now (F.told folder.new)) }
     ensures untold { ForSome (F.told folder.old).files (Agrees files.now) → ForSome (F.told folder.old).files (HasIndexPlace files.now parent) → IfDamaged result (λ _. (F.told folder.old).files ≡ None) }
-    ensures later { F.faults folder.old ≤ F.faults folder.new }
-    ensures device { IfDevice result (Rises (F.faults folder.old) (F.faults folder.new)) }
 {
     let head = read_head(folder, files, parent)?;
     let word = head.addrs[2];
@@ -300,9 +286,7 @@ fn note_part<F: Folder>(
     ensures is_open { ForSome (F.told folder.new).files (IsOpen files.now) }
     ensures damaged { IfDamaged result (IsFailedCheck files.now (F.told folder.new)) }
     ensures untold { ForSome (F.told folder.old).files (HasIndexPlace files.now parent) → IfDamaged result (λ _. (F.told folder.old).files ≡ None) }
-    ensures silent { (F.told folder.old).files ≡ None → (F.told folder.new).files ≡ None }
-    ensures later { F.faults folder.old ≤ F.faults folder.new }
-    ensures device { IfDevice result (Rises (F.faults folder.old) (F.faults folder.new)) }
+    ensures writes { MayWrite F.told F.faults folder.old folder.new (IfDevice result) }
 {
     let addr = index_place(folder, files, parent)?;
     let at = place_of_part(part);
@@ -378,9 +362,7 @@ pub(crate) fn make_part<F: Folder>(
     // An observable folder, with such an object, reports no corruption.
     ensures untold { ForSome (F.told folder.old).files (λ from. ForEachLacking parent name.entry.child name.entry.bytes.now from (λ state layout unlinked number object node. IfDamaged result (λ _. (F.told folder.old).files ≡ None))) }
 
-    ensures silent { (F.told folder.old).files ≡ None → (F.told folder.new).files ≡ None }
-    ensures later { F.faults folder.old ≤ F.faults folder.new }
-    ensures device { IfDevice result (Rises (F.faults folder.old) (F.faults folder.new)) }
+    ensures writes { MayWrite F.told F.faults folder.old folder.new (IfDevice result) }
 {
     let index = first_index(&name.child, place, piece.len() as u32);
     let places = take_part(folder, files, name.bytes.len() as u32, place, piece, &index)?;

@@ -2,7 +2,7 @@
 ghost use Rattle.std.specs.Prelude.{◌≡◌, ◌≤◌, ◌<◌, ◌+◌, IfOk, IsTrue, None, length, take};
 ghost use Rattle.std.specs.Int.{cast_unsigned, w64};
 ghost use Rattle.std.specs.Option.{ForSome};
-ghost use Rattle.spec_image.specs.Told.{Rises, Stays};
+ghost use Rattle.spec_image.specs.Told.{ReadsOnly};
 ghost use Rattle.blk_model.specs.Sizes.{largest_offset, longest_key, part_count, part_size, signatures};
 ghost use Rattle.blk_model.specs.Sparse.{sparse_bytes};
 ghost use Rattle.spec_format.specs.Address.{blocks_256, kind_of};
@@ -51,7 +51,7 @@ pub fn read_present<F: Folder>(
     ensures within { IfOk result (λ n. n ≤ length out.old) }
     ensures long { length out.new ≡ length out.old }
 
-    ensures stays { Stays (F.told folder.old) (F.told folder.new) }
+    ensures reads { ReadsOnly F.told F.faults folder.old folder.new (IfDevice result) }
     ensures name { length name.new ≡ length name.old }
 
     // Corruption is a check that fails on what is read here; nothing is written after it.
@@ -59,9 +59,6 @@ pub fn read_present<F: Folder>(
 
     // An observable folder, with such an object, reports no corruption.
     ensures untold { ForSome (F.told folder.old).files (λ from. ForEachKeptParent parent.now.node parent.now.entry (cast_unsigned w64 parent.now.signature) from (λ state layout unlinked number object. IfDamaged result (λ _. (F.told folder.old).files ≡ None))) }
-
-    ensures later { F.faults folder.old ≤ F.faults folder.new }
-    ensures device { IfDevice result (Rises (F.faults folder.old) (F.faults folder.new)) }
 {
     let len = read_key(folder, files, parent.entry, name)?;
     let (key, buffer) = name.split_at_mut(LONGEST_KEY as usize);
@@ -92,11 +89,9 @@ fn bytes_covered<F: Folder>(
     ensures within { IfOk result (λ n. n ≤ length out.old) }
     ensures long { length out.new ≡ length out.old }
     ensures buffer { length buffer.new ≡ length buffer.old }
-    ensures stays { Stays (F.told folder.old) (F.told folder.new) }
+    ensures reads { ReadsOnly F.told F.faults folder.old folder.new (IfDevice result) }
     ensures damaged { IfDamaged result (IsFailedCheck files.now (F.told folder.new)) }
     ensures untold { ForSome (F.told folder.old).files (λ from. ForEachOfKey parent.entry.key.now (cast_unsigned w64 parent.entry.signature) from (λ state layout unlinked at object node entry. IfDamaged result (λ _. (F.told folder.old).files ≡ None))) }
-    ensures later { F.faults folder.old ≤ F.faults folder.new }
-    ensures device { IfDevice result (Rises (F.faults folder.old) (F.faults folder.new)) }
 {
     if out.is_empty() {
         return Ok(0);
@@ -133,11 +128,9 @@ fn bytes_of_part<F: Folder>(
     ensures within { IfOk result (λ n. n ≤ length out.old) }
     ensures long { length out.new ≡ length out.old }
     ensures buffer { length buffer.new ≡ length buffer.old }
-    ensures stays { Stays (F.told folder.old) (F.told folder.new) }
+    ensures reads { ReadsOnly F.told F.faults folder.old folder.new (IfDevice result) }
     ensures damaged { IfDamaged result (IsFailedCheck files.now (F.told folder.new)) }
     ensures untold { ForSome (F.told folder.old).files (λ from. ForEachOfKey parent.entry.key.now (cast_unsigned w64 parent.entry.signature) from (λ state layout unlinked at object node entry. IfDamaged result (λ _. (F.told folder.old).files ≡ None))) }
-    ensures later { F.faults folder.old ≤ F.faults folder.new }
-    ensures device { IfDevice result (Rises (F.faults folder.old) (F.faults folder.new)) }
 {
     match find_part(folder, files, parent, number, buffer)? {
         Some(part) => bytes_there(folder, files, part, place, out),
@@ -159,11 +152,9 @@ fn bytes_there<F: Folder>(
     ensures bytes { IfOk result (λ n. ForSome (F.told folder.old).files (λ from. ForEachPartRead part from (λ object number. take n out.new ≡ part_bytes object number place (length out.old)))) }
     ensures within { IfOk result (λ n. n ≤ length out.old) }
     ensures long { length out.new ≡ length out.old }
-    ensures stays { Stays (F.told folder.old) (F.told folder.new) }
+    ensures reads { ReadsOnly F.told F.faults folder.old folder.new (IfDevice result) }
     ensures damaged { IfDamaged result (IsFailedCheck files.now (F.told folder.new)) }
     ensures untold { ForSome (F.told folder.old).files (Agrees files.now) → ForSome (F.told folder.old).files (LoadsAsPart part) → IfDamaged result (λ _. (F.told folder.old).files ≡ None) }
-    ensures later { F.faults folder.old ≤ F.faults folder.new }
-    ensures device { IfDevice result (Rises (F.faults folder.old) (F.faults folder.new)) }
 {
     let map = read_map(folder, files, part)?;
     let (start, len) = map.present_run(place, place + out.len() as u32);

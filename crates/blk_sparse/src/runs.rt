@@ -2,7 +2,7 @@
 ghost use Rattle.std.specs.Prelude.{◌≡◌, ◌≤◌, ◌<◌, ◌+◌, IfOk, IsTrue, None, length};
 ghost use Rattle.std.specs.Int.{cast_unsigned, w64};
 ghost use Rattle.std.specs.Option.{ForSome};
-ghost use Rattle.spec_image.specs.Told.{Rises, Stays};
+ghost use Rattle.spec_image.specs.Told.{ReadsOnly};
 ghost use Rattle.blk_model.specs.Sizes.{largest_offset, longest_key, part_count, part_size, signatures};
 ghost use Rattle.blk_model.specs.Sparse.{present_run};
 ghost use Rattle.spec_format.specs.Address.{blocks_256, kind_of};
@@ -53,7 +53,7 @@ pub fn find_run<F: Folder>(
     // It is that of each object that a kept state has so.
     ensures run { IfOk result (λ run. ForSome (F.told folder.old).files (λ from. ForEachKeptParent parent.now.node parent.now.entry (cast_unsigned w64 parent.now.signature) from (λ state layout unlinked number object. (run.start, run.length) ≡ present_run object offset count))) }
 
-    ensures stays { Stays (F.told folder.old) (F.told folder.new) }
+    ensures reads { ReadsOnly F.told F.faults folder.old folder.new (IfDevice result) }
     ensures name { length name.new ≡ length name.old }
 
     // Corruption is a check that fails on what is read here; nothing is written after it.
@@ -61,9 +61,6 @@ pub fn find_run<F: Folder>(
 
     // An observable folder, with such an object, reports no corruption.
     ensures untold { ForSome (F.told folder.old).files (λ from. ForEachKeptParent parent.now.node parent.now.entry (cast_unsigned w64 parent.now.signature) from (λ state layout unlinked number object. IfDamaged result (λ _. (F.told folder.old).files ≡ None))) }
-
-    ensures later { F.faults folder.old ≤ F.faults folder.new }
-    ensures device { IfDevice result (Rises (F.faults folder.old) (F.faults folder.new)) }
 {
     let len = read_key(folder, files, parent.entry, name)?;
     let (key, buffer) = name.split_at_mut(LONGEST_KEY as usize);
@@ -92,11 +89,9 @@ fn run_covered<F: Folder>(
     requires is_open { ForSome (F.told folder.old).files (IsOpen files.now) }
     ensures run { IfOk result (λ run. ForSome (F.told folder.old).files (λ from. ForEachOfKey parent.entry.key.now (cast_unsigned w64 parent.entry.signature) from (λ state layout unlinked number object node entry. (run.start, run.length) ≡ present_run object offset count))) }
     ensures buffer { length buffer.new ≡ length buffer.old }
-    ensures stays { Stays (F.told folder.old) (F.told folder.new) }
+    ensures reads { ReadsOnly F.told F.faults folder.old folder.new (IfDevice result) }
     ensures damaged { IfDamaged result (IsFailedCheck files.now (F.told folder.new)) }
     ensures untold { ForSome (F.told folder.old).files (λ from. ForEachOfKey parent.entry.key.now (cast_unsigned w64 parent.entry.signature) from (λ state layout unlinked number object node entry. IfDamaged result (λ _. (F.told folder.old).files ≡ None))) }
-    ensures later { F.faults folder.old ≤ F.faults folder.new }
-    ensures device { IfDevice result (Rises (F.faults folder.old) (F.faults folder.new)) }
 {
     if count == 0 {
         return Ok(Run {
@@ -171,11 +166,9 @@ fn run_of_part<F: Folder>(
     ensures from { IfOk result (λ run. place ≤ run.start) }
     ensures within { IfOk result (λ run. run.start + run.length ≤ place + count) }
     ensures buffer { length buffer.new ≡ length buffer.old }
-    ensures stays { Stays (F.told folder.old) (F.told folder.new) }
+    ensures reads { ReadsOnly F.told F.faults folder.old folder.new (IfDevice result) }
     ensures damaged { IfDamaged result (IsFailedCheck files.now (F.told folder.new)) }
     ensures untold { ForSome (F.told folder.old).files (λ from. ForEachOfKey parent.entry.key.now (cast_unsigned w64 parent.entry.signature) from (λ state layout unlinked at object node entry. IfDamaged result (λ _. (F.told folder.old).files ≡ None))) }
-    ensures later { F.faults folder.old ≤ F.faults folder.new }
-    ensures device { IfDevice result (Rises (F.faults folder.old) (F.faults folder.new)) }
 {
     match find_part(folder, files, parent, number, buffer)? {
         Some(part) => {

@@ -1,7 +1,7 @@
 // The record names another place for a stream.
-ghost use Rattle.std.specs.Prelude.{◌≡◌, ◌<◌, ◌≤◌, true, IsTrue, None, OnErr, OnOk, length};
+ghost use Rattle.std.specs.Prelude.{◌≡◌, ◌<◌, true, IsTrue, OnErr, OnOk, length};
 ghost use Rattle.std.specs.Option.{ForSome};
-ghost use Rattle.spec_image.specs.Told.{Passes, Rises};
+ghost use Rattle.spec_image.specs.Told.{Passes, MayWrite};
 ghost use Rattle.spec_format.specs.Address.{blocks_256, kind_of};
 ghost use Rattle.spec_format.specs.Records.{entry_is_sealed, entry_size};
 ghost use Rattle.spec_format.specs.Sealed.{RecordChecks, record_at};
@@ -37,9 +37,7 @@ pub(crate) fn name_place<F: Folder>(
     ensures stops { ForSome (F.told folder.old).files (λ from. bytes.old ≡ record_at from entry → RecordChecks entry from → Passes (F.told folder.old) (F.told folder.new) (NamesInProgress entry stream from)) }
     ensures stages { ForSome (F.told folder.old).files (λ from. bytes.old ≡ record_at from entry → RecordChecks entry from → Passes (F.told folder.old) (F.told folder.new) (NamesShown entry stream from)) }
     ensures agrees { ForSome (F.told folder.new).files (Agrees files.now) }
-    ensures silent { (F.told folder.old).files ≡ None → (F.told folder.new).files ≡ None }
-    ensures later { F.faults folder.old ≤ F.faults folder.new }
-    ensures failed { OnErr result (Rises (F.faults folder.old) (F.faults folder.new)) }
+    ensures writes { MayWrite F.told F.faults folder.old folder.new (OnErr result) }
 {
     files.update_record(
         folder,

@@ -2,7 +2,7 @@
 ghost use Rattle.std.specs.Prelude.{◌≡◌, ◌+◌, ◌≤◌, ◌<◌, None, OnOk, length, unwrap_or};
 ghost use Rattle.std.specs.Option.{ForSome};
 ghost use Rattle.spec_image.specs.Footprint.{SameOutside};
-ghost use Rattle.spec_image.specs.Told.{Applies, MakesPartOf, Passes, Rises};
+ghost use Rattle.spec_image.specs.Told.{Applies, MakesPartOf, Passes, Rises, MayWrite};
 ghost use Rattle.blk_io.specs.Faults.{IfDamaged, IfDevice};
 ghost use Rattle.blk_disk.specs.Tables.{Agrees};
 ghost use Rattle.blk_entry.specs.Keys.{IsCut, IsInFile, IsInside, data_at};
@@ -33,12 +33,10 @@ pub(crate) fn copy<F: Folder>(
     requires to_there { ForSome (F.told folder.old).files (IsInFile to 0 end) }
     ensures copied { OnOk result (ForSome (F.told folder.old).files (λ old. ShareNoData from to → ForSome (F.told folder.new).files (IsCopied from to start end old))) }
     ensures stops { ForSome (F.told folder.old).files (λ old. Passes (F.told folder.old) (F.told folder.new) (SameOutside (span_of to start end) old)) }
-    ensures silent { (F.told folder.old).files ≡ None → (F.told folder.new).files ≡ None }
+    ensures writes { MayWrite F.told F.faults folder.old folder.new (IfDevice result) }
     ensures agrees { ForSome (F.told folder.new).files (Agrees files.now) }
     ensures damaged { IfDamaged result (IsCutPrefix (F.told folder.new) from end) }
     ensures untold { ForSome (F.told folder.old).files (IsInFile from 0 end) → IfDamaged result (λ _. (F.told folder.old).files ≡ None) }
-    ensures later { F.faults folder.old ≤ F.faults folder.new }
-    ensures device { IfDevice result (Rises (F.faults folder.old) (F.faults folder.new)) }
 {
     let mut buffer = [0u8; PIECE as usize];
     let mut at = start;
@@ -94,12 +92,10 @@ pub(crate) fn copy_old<F: Folder>(
     requires there { ForSome (F.told folder.old).files (IsInFile to 0 size) }
     ensures copied { OnOk result (ForSome (F.told folder.old).files (λ from. ShareNoData (unwrap_or old.addr 0) to → ForSome (F.told folder.new).files (AreOldBytes (unwrap_or old.addr 0) to old.size size offset count from))) }
     ensures stops { ForSome (F.told folder.old).files (λ from. Passes (F.told folder.old) (F.told folder.new) (SameOutside (old_spans to old.size size offset count) from)) }
-    ensures silent { (F.told folder.old).files ≡ None → (F.told folder.new).files ≡ None }
+    ensures writes { MayWrite F.told F.faults folder.old folder.new (IfDevice result) }
     ensures agrees { ForSome (F.told folder.new).files (Agrees files.now) }
     ensures damaged { IfDamaged result (IsCutOld (F.told folder.new) old) }
     ensures untold { ForSome (F.told folder.old).files (IsOldThere old) → IfDamaged result (λ _. (F.told folder.old).files ≡ None) }
-    ensures later { F.faults folder.old ≤ F.faults folder.new }
-    ensures device { IfDevice result (Rises (F.faults folder.old) (F.faults folder.new)) }
 {
     let Some(from) = old.addr else {
         return Ok(());

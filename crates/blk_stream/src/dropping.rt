@@ -1,7 +1,7 @@
 // The streams of an entry are dropped.
-ghost use Rattle.std.specs.Prelude.{◌≡◌, ◌<◌, ◌≤◌, IsTrue, None, OnOk, length};
+ghost use Rattle.std.specs.Prelude.{◌≡◌, ◌<◌, IsTrue, None, OnOk, length};
 ghost use Rattle.std.specs.Option.{ForSome};
-ghost use Rattle.spec_image.specs.Told.{Passes, Rises};
+ghost use Rattle.spec_image.specs.Told.{Passes, MayWrite};
 ghost use Rattle.spec_format.specs.Address.{blocks_256, kind_of};
 ghost use Rattle.spec_format.specs.Records.{entry_size};
 ghost use Rattle.spec_format.specs.Sealed.{RecordChecks, record_at};
@@ -38,9 +38,7 @@ pub fn drop_streams<F: Folder>(f: &mut F, files: &BlockFiles, entry: Addr) -> Re
     // An observable folder reports corruption only where the record doesn't check, or a stream isn't stored and allocated alone.
     ensures damaged { IfDamaged result (IsDropDamage files.now (F.told f.old) (F.told f.new) entry) }
     ensures untold { ForSome (F.told f.old).files (StreamsCanBeDropped entry) → IfDamaged result (λ _. (F.told f.old).files ≡ None) }
-    ensures silent { (F.told f.old).files ≡ None → (F.told f.new).files ≡ None }
-    ensures later { F.faults f.old ≤ F.faults f.new }
-    ensures device { IfDevice result (Rises (F.faults f.old) (F.faults f.new)) }
+    ensures writes { MayWrite F.told F.faults f.old f.new (IfDevice result) }
 {
     let mut bytes = [0u8; EntryView::SIZE];
     files.read_record(f, entry, &mut bytes)?;
@@ -70,9 +68,7 @@ fn drop_stream<F: Folder>(
     ensures agrees { ForSome (F.told folder.new).files (Agrees files.now) }
     ensures damaged { IfDamaged result (IsStreamDropDamage files.now (F.told folder.new) entry stream) }
     ensures untold { ForSome (F.told folder.old).files (λ from. bytes.old ≡ record_at from entry × RecordChecks entry from × StreamCanBeDropped files.now entry stream from) → IfDamaged result (λ _. (F.told folder.old).files ≡ None) }
-    ensures silent { (F.told folder.old).files ≡ None → (F.told folder.new).files ≡ None }
-    ensures later { F.faults folder.old ≤ F.faults folder.new }
-    ensures device { IfDevice result (Rises (F.faults folder.old) (F.faults folder.new)) }
+    ensures writes { MayWrite F.told F.faults folder.old folder.new (IfDevice result) }
 {
     let old = stored_in(files, entry, stream, bytes)?;
     let Some(addr) = old.addr else {

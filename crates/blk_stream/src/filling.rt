@@ -2,7 +2,7 @@
 ghost use Rattle.std.specs.Prelude.{◌≡◌, ◌==◌, ◌+◌, ◌≤◌, ◌<◌, None, OnOk, if◌then◌else◌, length, unwrap_or};
 ghost use Rattle.std.specs.Option.{ForSome};
 ghost use Rattle.spec_image.specs.Footprint.{SameOutside};
-ghost use Rattle.spec_image.specs.Told.{Passes, Rises};
+ghost use Rattle.spec_image.specs.Told.{Passes, MayWrite};
 ghost use Rattle.spec_format.specs.Address.{external, kind_of};
 ghost use Rattle.blk_io.specs.Faults.{IfDamaged, IfDevice};
 ghost use Rattle.blk_disk.specs.Tables.{Agrees};
@@ -38,9 +38,7 @@ pub(crate) fn fill<F: Folder>(
     ensures agrees { ForSome (F.told folder.new).files (Agrees files.now) }
     ensures damaged { IfDamaged result (IsCutOld (F.told folder.new) old) }
     ensures untold { ForSome (F.told folder.old).files (IsOldThere old) → ShareNoFile (unwrap_or old.addr 0) addr → IfDamaged result (λ _. (F.told folder.old).files ≡ None) }
-    ensures silent { (F.told folder.old).files ≡ None → (F.told folder.new).files ≡ None }
-    ensures later { F.faults folder.old ≤ F.faults folder.new }
-    ensures device { IfDevice result (Rises (F.faults folder.old) (F.faults folder.new)) }
+    ensures writes { MayWrite F.told F.faults folder.old folder.new (IfDevice result) }
 {
     let start = room_start(addr, old.size);
     extend_data(folder, files, addr, start, size, offset)?;

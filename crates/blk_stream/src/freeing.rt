@@ -1,8 +1,8 @@
 // The place of data is freed.
-ghost use Rattle.std.specs.Prelude.{◌≡◌, ◌≢◌, ◌≤◌, false, IsTrue, None, OnErr, OnOk};
+ghost use Rattle.std.specs.Prelude.{◌≡◌, ◌≢◌, false, IsTrue, None, OnErr, OnOk};
 ghost use Rattle.std.specs.Option.{ForSome};
 ghost use Rattle.spec_image.specs.Footprint.{SameOutside};
-ghost use Rattle.spec_image.specs.Told.{Passes, Rises, Stays};
+ghost use Rattle.spec_image.specs.Told.{Passes, Stays, MayWrite};
 ghost use Rattle.spec_format.specs.Address.{block_count, external, file_selector, first_block, kind_of};
 ghost use Rattle.blk_io.specs.Faults.{IfDamaged, IfDevice};
 ghost use Rattle.blk_disk.specs.Tables.{Agrees, stands_among};
@@ -31,9 +31,7 @@ pub(crate) fn free_place<F: Folder>(
     ensures cause { IfDamaged result (λ damage. (kind_of addr ≢ external) × IsCause (F.told folder.old) (file_selector addr) (first_block addr) (block_count addr) false damage) }
     ensures unwritten { IfDamaged result (λ _. Stays (F.told folder.old) (F.told folder.new)) }
     ensures untold { ForSome (F.told folder.old).files (MayBeFreed addr) → IfDamaged result (λ _. (F.told folder.old).files ≡ None) }
-    ensures silent { (F.told folder.old).files ≡ None → (F.told folder.new).files ≡ None }
-    ensures later { F.faults folder.old ≤ F.faults folder.new }
-    ensures device { IfDevice result (Rises (F.faults folder.old) (F.faults folder.new)) }
+    ensures writes { MayWrite F.told F.faults folder.old folder.new (IfDevice result) }
 {
     if is_of(addr, Kind::External) {
         delete_file(folder, files, addr)?;
@@ -52,9 +50,7 @@ fn delete_file<F: Folder>(folder: &mut F, files: &BlockFiles, addr: Addr) -> Res
     ensures stops { ForSome (F.told folder.old).files (λ from. Passes (F.told folder.old) (F.told folder.new) (SameOutside (freeing_of addr) from)) }
     ensures stages { ForSome (F.told folder.old).files (λ from. Passes (F.told folder.old) (F.told folder.new) (FreesPlaceInProgress addr from)) }
     ensures agrees { ForSome (F.told folder.new).files (Agrees files.now) }
-    ensures silent { (F.told folder.old).files ≡ None → (F.told folder.new).files ≡ None }
-    ensures later { F.faults folder.old ≤ F.faults folder.new }
-    ensures failed { OnErr result (Rises (F.faults folder.old) (F.faults folder.new)) }
+    ensures writes { MayWrite F.told F.faults folder.old folder.new (OnErr result) }
 {
     // The block files are asked for by the contract alone: what they say of the folder is known once they are named.
     let _files = files;

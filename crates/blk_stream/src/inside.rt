@@ -1,7 +1,7 @@
 // A stream is written inside its place.
 ghost use Rattle.std.specs.Prelude.{◌≡◌, ◌≢◌, ◌+◌, ◌≤◌, ◌<◌, IsTrue, OnErr, OnOk, length};
 ghost use Rattle.std.specs.Option.{ForSome};
-ghost use Rattle.spec_image.specs.Told.{Applies, AppliesPrefix, Passes, Rises, Stays};
+ghost use Rattle.spec_image.specs.Told.{Applies, AppliesPrefix, Passes, Rises, ReadsOnly};
 ghost use Rattle.spec_format.specs.Address.{blocks_256, byte_size, external, kind_of};
 ghost use Rattle.spec_format.specs.Records.{entry_size};
 ghost use Rattle.spec_format.specs.Sealed.{RecordChecks, record_at};
@@ -91,9 +91,7 @@ fn erase_end<F: Folder>(
 ) -> Result<(), Failed>
     requires inside { IsInside files.now addr 0 size }
     requires agrees { ForSome (F.told folder.old).files (Agrees files.now) }
-    ensures stays { Stays (F.told folder.old) (F.told folder.new) }
-    ensures later { F.faults folder.old ≤ F.faults folder.new }
-    ensures failed { OnErr result (Rises (F.faults folder.old) (F.faults folder.new)) }
+    ensures reads { ReadsOnly F.told F.faults folder.old folder.new (OnErr result) }
 {
     if size >= old || is_of(addr, Kind::External) || !folder.erases() {
         return Ok(());

@@ -1,7 +1,7 @@
 // A stream gets another place.
 ghost use Rattle.std.specs.Prelude.{ℕ, ◌≡◌, ◌≢◌, ◌+◌, ◌<◌, ◌≤◌, Bool, false, true, IfOk, IsTrue, None, Some, OnOk, length, unwrap_or};
 ghost use Rattle.std.specs.Option.{ForSome};
-ghost use Rattle.spec_image.specs.Told.{Passes, Rises};
+ghost use Rattle.spec_image.specs.Told.{Passes, MayWrite};
 ghost use Rattle.spec_format.specs.Address.{block_count, blocks_256, external, file_selector, first_block, kind_of};
 ghost use Rattle.spec_format.specs.Headers.{HasWholeIndex};
 ghost use Rattle.spec_format.specs.Records.{entry_is_sealed, entry_size};
@@ -57,9 +57,7 @@ pub(crate) fn leave_place<F: Folder>(
     ensures agrees { ForSome (F.told folder.new).files (Agrees files.now) }
     ensures cause { IfDamaged result (λ damage. (kind_of old ≢ external) × IsCause (F.told folder.new) (file_selector old) (first_block old) (block_count old) false damage) }
     ensures untold { ForSome (F.told folder.old).files (λ from. bytes.old ≡ record_at from entry × RecordChecks entry from × MayBeFreed old from) → IfDamaged result (λ _. (F.told folder.old).files ≡ None) }
-    ensures silent { (F.told folder.old).files ≡ None → (F.told folder.new).files ≡ None }
-    ensures later { F.faults folder.old ≤ F.faults folder.new }
-    ensures device { IfDevice result (Rises (F.faults folder.old) (F.faults folder.new)) }
+    ensures writes { MayWrite F.told F.faults folder.old folder.new (IfDevice result) }
 {
     name_place(folder, files, entry, stream, bytes, size, word)?;
     free_place(folder, files, old)
@@ -88,9 +86,7 @@ fn filled_place<F: Folder>(
     ensures stages { ForSome (F.told folder.old).files (λ from. CanBeFilled files.old old size from → Passes (F.told folder.old) (F.told folder.new) (FillsByStage files.old files.new from)) }
     ensures damaged { IfDamaged result (IsFillDamage files.old files.new old size (F.told folder.old) (F.told folder.new)) }
     ensures untold { ForSome (F.told folder.old).files (CanBeFilled files.old old size) → IfDamaged result (λ _. (F.told folder.old).files ≡ None) }
-    ensures silent { (F.told folder.old).files ≡ None → (F.told folder.new).files ≡ None }
-    ensures later { F.faults folder.old ≤ F.faults folder.new }
-    ensures device { IfDevice result (Rises (F.faults folder.old) (F.faults folder.new)) }
+    ensures writes { MayWrite F.told F.faults folder.old folder.new (IfDevice result) }
 {
     if size == 0 {
         return Ok(None);
@@ -132,9 +128,7 @@ pub(crate) fn write_moved<F: Folder>(
     ensures stages { ForSome (F.told folder.old).files (λ from. IsStreamRead record_bytes.old entry stream old.size (unwrap_or old.addr 0) from → CanBeWritten files.old entry stream size from → Passes (F.told folder.old) (F.told folder.new) (WritesByStage files.old files.new entry stream size offset bytes.now from)) }
     ensures damaged { IfDamaged result (IsWriteDamage files.old files.new (F.told folder.old) (F.told folder.new) entry stream) }
     ensures untold { ForSome (F.told folder.old).files (λ from. IsStreamRead record_bytes.old entry stream old.size (unwrap_or old.addr 0) from × CanBeWritten files.old entry stream size from) → IfDamaged result (λ _. (F.told folder.old).files ≡ None) }
-    ensures silent { (F.told folder.old).files ≡ None → (F.told folder.new).files ≡ None }
-    ensures later { F.faults folder.old ≤ F.faults folder.new }
-    ensures device { IfDevice result (Rises (F.faults folder.old) (F.faults folder.new)) }
+    ensures writes { MayWrite F.told F.faults folder.old folder.new (IfDevice result) }
 {
     let place = old.addr;
     let new = filled_place(folder, files, old, size, offset, bytes)?;

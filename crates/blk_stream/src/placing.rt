@@ -1,7 +1,7 @@
 // A new place for data.
-ghost use Rattle.std.specs.Prelude.{◌≡◌, ◌≢◌, ◌==◌, ◌<◌, ◌≤◌, true, IfOk, None, OnOk};
+ghost use Rattle.std.specs.Prelude.{◌≡◌, ◌≢◌, ◌==◌, ◌<◌, true, IfOk, None, OnOk};
 ghost use Rattle.std.specs.Option.{ForSome};
-ghost use Rattle.spec_image.specs.Told.{Passes, Rises};
+ghost use Rattle.spec_image.specs.Told.{Passes, MayWrite};
 ghost use Rattle.spec_format.specs.Address.{external, file_selector, kind_of};
 ghost use Rattle.spec_format.specs.Headers.{HasWholeIndex};
 ghost use Rattle.blk_addr.specs.Kind.{kind_number};
@@ -36,9 +36,7 @@ pub(crate) fn new_place<F: Folder>(
     ensures stages { ForSome (F.told folder.old).files (λ from. CanBePlaced files.old size from → Passes (F.told folder.old) (F.told folder.new) (TakesInProgress from)) }
     ensures cause { IfDamaged result (IsPlaceRefusal files.old files.new size (F.told folder.old) (F.told folder.new)) }
     ensures untold { ForSome (F.told folder.old).files (CanBePlaced files.old size) → IfDamaged result (λ _. (F.told folder.old).files ≡ None) }
-    ensures silent { (F.told folder.old).files ≡ None → (F.told folder.new).files ≡ None }
-    ensures later { F.faults folder.old ≤ F.faults folder.new }
-    ensures device { IfDevice result (Rises (F.faults folder.old) (F.faults folder.new)) }
+    ensures writes { MayWrite F.told F.faults folder.old folder.new (IfDevice result) }
 {
     let kind = kind_for(size);
     if is_external(kind) {

@@ -1,7 +1,7 @@
 // The bytes of a stream are read.
 ghost use Rattle.std.specs.Prelude.{◌≡◌, ◌≤◌, ◌<◌, min, IfOk, IsTrue, None, OnOk, length};
 ghost use Rattle.std.specs.Option.{ForSome};
-ghost use Rattle.spec_image.specs.Told.{Rises, Stays};
+ghost use Rattle.spec_image.specs.Told.{ReadsOnly};
 ghost use Rattle.spec_format.specs.Address.{blocks_256, kind_of};
 ghost use Rattle.spec_folder.specs.Entries.{stream as stream_in};
 ghost use Rattle.blk_io.specs.Faults.{IfDamaged, IfDevice};
@@ -42,14 +42,11 @@ pub fn read<F: Folder>(
     ensures checked { OnOk result (ForSome (F.told f.old).files (HasRecord entry)) }
     ensures placed { OnOk result (ForSome (F.told f.old).files (HasStreamPlace files.now entry stream)) }
     ensures there { IfOk result (λ n. ForSome (F.told f.old).files (λ image. HasData (address_word image entry stream) (min offset (size_word image entry stream)) n image)) }
-    ensures stays { Stays (F.told f.old) (F.told f.new) }
+    ensures reads { ReadsOnly F.told F.faults f.old f.new (IfDevice result) }
 
     // An observable folder reports corruption only where the record doesn't check or has no three streams.
     ensures damaged { IfDamaged result (IsReadDamage files.now (F.told f.old) entry stream offset (length out.old)) }
     ensures untold { ForSome (F.told f.old).files (StreamsCanBeRead files.now entry) → IfDamaged result (λ _. (F.told f.old).files ≡ None) }
-
-    ensures later { F.faults f.old ≤ F.faults f.new }
-    ensures device { IfDevice result (Rises (F.faults f.old) (F.faults f.new)) }
 {
     let head = read_head(f, files, entry)?;
     let size = head.sizes[usize::from(stream)];

@@ -1,7 +1,7 @@
 // A new place gets the bytes of a new stream.
 ghost use Rattle.std.specs.Prelude.{◌≡◌, ◌+◌, ◌≤◌, [], true, IfOk, None, OnOk, Some, length};
 ghost use Rattle.std.specs.Option.{ForSome};
-ghost use Rattle.spec_image.specs.Told.{Passes, Rises};
+ghost use Rattle.spec_image.specs.Told.{Passes, MayWrite};
 ghost use Rattle.blk_model.specs.Bytes.{overwritten};
 ghost use Rattle.spec_format.specs.Headers.{HasWholeIndex};
 ghost use Rattle.spec_folder.specs.Entries.{most_stream_bytes};
@@ -47,9 +47,7 @@ pub fn store_new<F: Folder>(
     ensures agrees { OnOk result (ForSome (F.told folder.new).files (Agrees files.new)) }
     ensures damaged { IfDamaged result (IsPlaceRefusal files.old files.new (offset + length bytes.now) (F.told folder.old) (F.told folder.new)) }
     ensures untold { ForSome (F.told folder.old).files (CanBePlaced files.old (offset + length bytes.now)) → IfDamaged result (λ _. (F.told folder.old).files ≡ None) }
-    ensures silent { (F.told folder.old).files ≡ None → (F.told folder.new).files ≡ None }
-    ensures later { F.faults folder.old ≤ F.faults folder.new }
-    ensures device { IfDevice result (Rises (F.faults folder.old) (F.faults folder.new)) }
+    ensures writes { MayWrite F.told F.faults folder.old folder.new (IfDevice result) }
 {
     let none = Stored {
         size: 0,

@@ -1,7 +1,7 @@
 // The bytes of a stream are written.
 ghost use Rattle.std.specs.Prelude.{ℕ, ◌≡◌, ◌≢◌, ◌+◌, ◌<◌, ◌≤◌, true, IsTrue, None, Some, OnOk, length, unwrap_or};
 ghost use Rattle.std.specs.Option.{ForSome};
-ghost use Rattle.spec_image.specs.Told.{Passes, Rises};
+ghost use Rattle.spec_image.specs.Told.{Passes, MayWrite};
 ghost use Rattle.spec_format.specs.Address.{blocks_256, kind_of};
 ghost use Rattle.spec_format.specs.Headers.{HasWholeIndex};
 ghost use Rattle.spec_format.specs.Records.{entry_size};
@@ -75,9 +75,7 @@ pub fn write<F: Folder>(
 
     ensures damaged { IfDamaged result (IsWriteDamage files.old files.new (F.told f.old) (F.told f.new) entry stream) }
     ensures untold { ForSome (F.told f.old).files (λ from. CanBeWritten files.old entry stream (writes.size_after cut (size_word from entry stream) offset (length bytes.now)) from) → IfDamaged result (λ _. (F.told f.old).files ≡ None) }
-    ensures silent { (F.told f.old).files ≡ None → (F.told f.new).files ≡ None }
-    ensures later { F.faults f.old ≤ F.faults f.new }
-    ensures device { IfDevice result (Rises (F.faults f.old) (F.faults f.new)) }
+    ensures writes { MayWrite F.told F.faults f.old f.new (IfDevice result) }
 {
     let mut record_bytes = [0u8; EntryView::SIZE];
     files.read_record(f, entry, &mut record_bytes)?;
@@ -127,9 +125,7 @@ fn write_stored<F: Folder>(
     ensures stages { ForSome (F.told folder.old).files (λ from. IsStreamRead record_bytes.old entry stream old.size (unwrap_or old.addr 0) from → CanBeWritten files.old entry stream (writes.size_after cut old.size offset (length bytes.now)) from → Passes (F.told folder.old) (F.told folder.new) (WritesByStage files.old files.new entry stream (writes.size_after cut old.size offset (length bytes.now)) offset bytes.now from)) }
     ensures damaged { IfDamaged result (IsWriteDamage files.old files.new (F.told folder.old) (F.told folder.new) entry stream) }
     ensures untold { ForSome (F.told folder.old).files (λ from. IsStreamRead record_bytes.old entry stream old.size (unwrap_or old.addr 0) from × CanBeWritten files.old entry stream (writes.size_after cut old.size offset (length bytes.now)) from) → IfDamaged result (λ _. (F.told folder.old).files ≡ None) }
-    ensures silent { (F.told folder.old).files ≡ None → (F.told folder.new).files ≡ None }
-    ensures later { F.faults folder.old ≤ F.faults folder.new }
-    ensures device { IfDevice result (Rises (F.faults folder.old) (F.faults folder.new)) }
+    ensures writes { MayWrite F.told F.faults folder.old folder.new (IfDevice result) }
 {
     let place = old.addr;
     let size = size_after(cut, old.size, offset, bytes.len() as u32);

@@ -1,8 +1,8 @@
 // What is sought among the kept records, and whether one of them is that.
-ghost use Rattle.std.specs.Prelude.{◌≡◌, ◌≤◌, List, ℕ, IfOk, None, if◌then◌else◌, true};
+ghost use Rattle.std.specs.Prelude.{◌≡◌, List, ℕ, IfOk, None, if◌then◌else◌, true};
 ghost use Rattle.std.specs.Int.{cast_unsigned, w64};
 ghost use Rattle.std.specs.Option.{ForSome};
-ghost use Rattle.spec_image.specs.Told.{Rises, Stays};
+ghost use Rattle.spec_image.specs.Told.{ReadsOnly};
 ghost use Rattle.spec_folder.specs.Loads as shown;
 ghost use Rattle.blk_io.specs.Faults.{IfDamaged, IfDevice};
 ghost use Rattle.blk_disk.specs.Tables.{Agrees};
@@ -90,11 +90,9 @@ pub(crate) fn fits<F: Folder>(
     requires readable { IsReadable files.now kept.now }
     requires part { HasPartNumber sought }
     ensures fits { IfOk result (λ fits. ForSome (F.told folder.old).files (λ image. Agrees files.now image → (loaded : shown.Loaded) → IsLoadedFrom image loaded kept.now → fits ≡ is_sought sought key.now loaded)) }
-    ensures stays { Stays (F.told folder.old) (F.told folder.new) }
+    ensures reads { ReadsOnly F.told F.faults folder.old folder.new (IfDevice result) }
     ensures short { IfDamaged result (IsCutRead files.now (F.told folder.old)) }
     ensures untold { ForSome (F.told folder.old).files (Agrees files.now) → ForSome (F.told folder.old).files (λ image. HasItsKey image kept.now) → IfDamaged result (λ _. (F.told folder.old).files ≡ None) }
-    ensures later { F.faults folder.old ≤ F.faults folder.new }
-    ensures device { IfDevice result (Rises (F.faults folder.old) (F.faults folder.new)) }
 {
     if !sought.admits(kept.role) {
         return Ok(false);
@@ -116,11 +114,9 @@ fn has_bit<F: Folder>(
     requires role { is_role_sought sought kept.now.role ≡ true }
     requires part { HasPartNumber sought }
     ensures fits { IfOk result (λ has. ForSome (F.told folder.old).files (λ image. (key : List ℕ) (loaded : shown.Loaded) → IsLoadedFrom image loaded kept.now → loaded.key ≡ key → has ≡ is_sought sought key loaded)) }
-    ensures stays { Stays (F.told folder.old) (F.told folder.new) }
+    ensures reads { ReadsOnly F.told F.faults folder.old folder.new (IfDevice result) }
     ensures short { IfDamaged result (IsCutRead files.now (F.told folder.old)) }
     ensures untold { ForSome (F.told folder.old).files (Agrees files.now) → IfDamaged result (λ _. (F.told folder.old).files ≡ None) }
-    ensures later { F.faults folder.old ≤ F.faults folder.new }
-    ensures device { IfDevice result (Rises (F.faults folder.old) (F.faults folder.new)) }
 {
     match sought {
         Sought::Part => Ok(true),

@@ -1,7 +1,7 @@
 // The verdict on a node, against the records that are kept so far.
-ghost use Rattle.std.specs.Prelude.{◌≡◌, ◌≤◌, ◌<◌, List, IfOk, None, OnOk, length};
+ghost use Rattle.std.specs.Prelude.{◌≡◌, ◌<◌, List, IfOk, None, OnOk, length};
 ghost use Rattle.std.specs.Option.{ForSome};
-ghost use Rattle.spec_image.specs.Told.{Rises, Stays};
+ghost use Rattle.spec_image.specs.Told.{ReadsOnly};
 ghost use Rattle.spec_folder.specs.Audit as audit;
 ghost use Rattle.spec_folder.specs.Loads as shown;
 ghost use Rattle.spec_folder.specs.View.{store_of};
@@ -39,11 +39,9 @@ pub(crate) fn judge_walked<F: Folder>(
     ensures keys { OnOk result (ForSome (F.told folder.old).files (λ image. Agrees files.now image → AreListsOf image lists.now → IsSaidAt image node.now → HaveKeys image kept.old.kept.items → HaveKeys image kept.new.kept.items)) }
     ensures kept { IfOk result (KeepsAtMostOne kept.old.kept.items kept.new.kept.items) }
     ensures order { OnOk result (IsKeptInOrder files.now kept.new) }
-    ensures stays { Stays (F.told folder.old) (F.told folder.new) }
+    ensures reads { ReadsOnly F.told F.faults folder.old folder.new (IfScanDevice result) }
     ensures short { IfScanDamaged result (IsCutRead files.now (F.told folder.old)) }
     ensures untold { ForSome (F.told folder.old).files (λ image. Agrees files.now image) → ForSome (F.told folder.old).files (λ image. AreListsOf image lists.now × IsSaidAt image node.now) → ForSome (F.told folder.old).files (λ image. HaveKeys image kept.old.kept.items) → IfScanDamaged result (λ _. (F.told folder.old).files ≡ None) }
-    ensures later { F.faults folder.old ≤ F.faults folder.new }
-    ensures device { IfScanDevice result (Rises (F.faults folder.old) (F.faults folder.new)) }
 {
     match load_walked(folder, files, lists, node, name)? {
         Verdict::Loaded(loaded) => {

@@ -2,7 +2,7 @@
 ghost use Rattle.std.specs.Prelude.{◌≡◌, ◌≤◌, ◌<◌, ◌++◌, ◌||◌, [], ◌∷◌, List, ℕ, IfOk, None, OnOk, Ok, false, length, slice_get, true};
 ghost use Rattle.std.specs.List.{list_any};
 ghost use Rattle.std.specs.Option.{ForSome};
-ghost use Rattle.spec_image.specs.Told.{Rises, Stays};
+ghost use Rattle.spec_image.specs.Told.{ReadsOnly};
 ghost use Rattle.spec_format.specs.Claims.{claims_of_all, overlap, repeats};
 ghost use Rattle.spec_format.specs.Hash.{hash as hash_of};
 ghost use Rattle.spec_folder.specs.Audit as audit;
@@ -103,11 +103,9 @@ impl KeptSoFar {
         ensures shown { IfOk result (λ reason. ForSome (F.told folder.old).files (λ image. Agrees files.now image → (kept : List shown.Loaded) (given : shown.Loaded) → AreShown image kept self.old.kept.items → IsLoadedFrom image given loaded → IsNameOf image loaded key.now → AreShown image (audit.with_verdict kept (audit.admit kept given)) self.new.kept.items)) }
         ensures kept { IfOk result (λ reason. self.new.kept.items ≡ kept_with self.old.kept.items loaded reason) }
         ensures order { OnOk result (IsKeptInOrder files.now self.new) }
-        ensures stays { Stays (F.told folder.old) (F.told folder.new) }
+        ensures reads { ReadsOnly F.told F.faults folder.old folder.new (IfScanDevice result) }
         ensures short { IfScanDamaged result (IsCutRead files.now (F.told folder.old)) }
         ensures untold { ForSome (F.told folder.old).files (Agrees files.now) → ForSome (F.told folder.old).files (λ image. HaveKeys image (loaded ∷ self.old.kept.items)) → IfScanDamaged result (λ _. (F.told folder.old).files ≡ None) }
-        ensures later { F.faults folder.old ≤ F.faults folder.new }
-        ensures device { IfScanDevice result (Rises (F.faults folder.old) (F.faults folder.new)) }
     {
         let reason = self.reason_for(folder, files, &loaded, key)?;
         if reason.is_none() {
@@ -128,11 +126,9 @@ impl KeptSoFar {
         requires readable { IsReadable files.now loaded.now }
         ensures answer { IfOk result (λ reason. ForSome (F.told folder.old).files (λ image. Agrees files.now image → (kept : List shown.Loaded) (given : shown.Loaded) → AreShown image kept self.now.kept.items → IsLoadedFrom image given loaded.now → IsNameOf image loaded.now key.now → IsSameAnswer (audit.admit kept given) reason)) }
         ensures apart { result ≡ Ok None → repeats (claims_of_all (addresses_of_all self.now.kept.items ++ addresses_of loaded.now)) ≡ false }
-        ensures stays { Stays (F.told folder.old) (F.told folder.new) }
+        ensures reads { ReadsOnly F.told F.faults folder.old folder.new (IfDevice result) }
         ensures short { IfDamaged result (IsCutRead files.now (F.told folder.old)) }
         ensures untold { ForSome (F.told folder.old).files (Agrees files.now) → ForSome (F.told folder.old).files (λ image. HaveKeys image (loaded.now ∷ self.now.kept.items)) → IfDamaged result (λ _. (F.told folder.old).files ≡ None) }
-        ensures later { F.faults folder.old ≤ F.faults folder.new }
-        ensures device { IfDevice result (Rises (F.faults folder.old) (F.faults folder.new)) }
     {
         if self.collides(loaded) {
             return Ok(Some(Reason::Claimed));
@@ -166,11 +162,9 @@ impl KeptSoFar {
         requires order { IsKeptInOrder files.now self.now }
         requires readable { IsReadable files.now loaded.now }
         ensures shares { IfOk result (λ shares. ForSome (F.told folder.old).files (λ image. Agrees files.now image → (kept : List shown.Loaded) (given : shown.Loaded) → AreShown image kept self.now.kept.items → IsLoadedFrom image given loaded.now → IsNameOf image loaded.now key.now → shares ≡ audit.shares_key kept given)) }
-        ensures stays { Stays (F.told folder.old) (F.told folder.new) }
+        ensures reads { ReadsOnly F.told F.faults folder.old folder.new (IfDevice result) }
         ensures short { IfDamaged result (IsCutRead files.now (F.told folder.old)) }
         ensures untold { ForSome (F.told folder.old).files (Agrees files.now) → ForSome (F.told folder.old).files (λ image. HaveKeys image (loaded.now ∷ self.now.kept.items)) → IfDamaged result (λ _. (F.told folder.old).files ≡ None) }
-        ensures later { F.faults folder.old ≤ F.faults folder.new }
-        ensures device { IfDevice result (Rises (F.faults folder.old) (F.faults folder.new)) }
     {
         let sought = Sought::alike(loaded.role);
         if !self.may_have(loaded.hash, loaded.key_len, sought) {
@@ -193,11 +187,9 @@ impl KeptSoFar {
         requires short { loaded.now.key_len ≤ most_key }
         requires part { HasPartNumber sought }
         ensures has { IfOk result (λ has. ForSome (F.told folder.old).files (λ image. Agrees files.now image → (kept : List shown.Loaded) (given : shown.Loaded) → AreShown image kept self.now.kept.items → IsLoadedFrom image given loaded.now → IsNameOf image loaded.now key.now → has ≡ list_any (is_sought sought given.key) kept)) }
-        ensures stays { Stays (F.told folder.old) (F.told folder.new) }
+        ensures reads { ReadsOnly F.told F.faults folder.old folder.new (IfDevice result) }
         ensures short { IfDamaged result (IsCutRead files.now (F.told folder.old)) }
         ensures untold { ForSome (F.told folder.old).files (Agrees files.now) → ForSome (F.told folder.old).files (λ image. HaveKeys image (loaded.now ∷ self.now.kept.items)) → IfDamaged result (λ _. (F.told folder.old).files ≡ None) }
-        ensures later { F.faults folder.old ≤ F.faults folder.new }
-        ensures device { IfDevice result (Rises (F.faults folder.old) (F.faults folder.new)) }
     {
         match loaded.role {
             Role::Plain => self.has_stored_key(folder, files, loaded, sought),
@@ -219,11 +211,9 @@ impl KeptSoFar {
         requires short { loaded.now.key_len ≤ most_key }
         requires part { HasPartNumber sought }
         ensures has { IfOk result (λ has. ForSome (F.told folder.old).files (λ image. Agrees files.now image → (kept : List shown.Loaded) (given : shown.Loaded) → AreShown image kept self.now.kept.items → IsLoadedFrom image given loaded.now → has ≡ list_any (is_sought sought given.key) kept)) }
-        ensures stays { Stays (F.told folder.old) (F.told folder.new) }
+        ensures reads { ReadsOnly F.told F.faults folder.old folder.new (IfDevice result) }
         ensures short { IfDamaged result (IsCutRead files.now (F.told folder.old)) }
         ensures untold { ForSome (F.told folder.old).files (Agrees files.now) → ForSome (F.told folder.old).files (λ image. HaveKeys image (loaded.now ∷ self.now.kept.items)) → IfDamaged result (λ _. (F.told folder.old).files ≡ None) }
-        ensures later { F.faults folder.old ≤ F.faults folder.new }
-        ensures device { IfDevice result (Rises (F.faults folder.old) (F.faults folder.new)) }
     {
         let mut buffer = [0u8; LONGEST_NAME as usize];
         let key = &mut buffer[..loaded.key_len as usize];
@@ -241,11 +231,9 @@ impl KeptSoFar {
     ) -> Result<bool, Fault>
         requires order { IsKeptInOrder files.now self.now }
         ensures orphan { IfOk result (λ orphan. ForSome (F.told folder.old).files (λ image. Agrees files.now image → (kept : List shown.Loaded) (given : shown.Loaded) → AreShown image kept self.now.kept.items → IsLoadedFrom image given loaded.now → IsNameOf image loaded.now key.now → orphan ≡ audit.is_orphan kept given)) }
-        ensures stays { Stays (F.told folder.old) (F.told folder.new) }
+        ensures reads { ReadsOnly F.told F.faults folder.old folder.new (IfDevice result) }
         ensures short { IfDamaged result (IsCutRead files.now (F.told folder.old)) }
         ensures untold { ForSome (F.told folder.old).files (Agrees files.now) → ForSome (F.told folder.old).files (λ image. HaveKeys image self.now.kept.items) → IfDamaged result (λ _. (F.told folder.old).files ≡ None) }
-        ensures later { F.faults folder.old ≤ F.faults folder.new }
-        ensures device { IfDevice result (Rises (F.faults folder.old) (F.faults folder.new)) }
     {
         match loaded.role {
             Role::Plain => Ok(false),
@@ -263,11 +251,9 @@ impl KeptSoFar {
     ) -> Result<bool, Fault>
         requires order { IsKeptInOrder files.now self.now }
         ensures orphan { IfOk result (λ orphan. ForSome (F.told folder.old).files (λ image. Agrees files.now image → (kept : List shown.Loaded) (given : shown.Loaded) (node : ℕ) → AreShown image kept self.now.kept.items → shown.load (store_of image) shown.held_rule node ≡ Ok given → key.now ≡ given.key → shown.is_part given ≡ true → orphan ≡ audit.is_orphan kept given)) }
-        ensures stays { Stays (F.told folder.old) (F.told folder.new) }
+        ensures reads { ReadsOnly F.told F.faults folder.old folder.new (IfDevice result) }
         ensures short { IfDamaged result (IsCutRead files.now (F.told folder.old)) }
         ensures untold { ForSome (F.told folder.old).files (Agrees files.now) → ForSome (F.told folder.old).files (λ image. HaveKeys image self.now.kept.items) → IfDamaged result (λ _. (F.told folder.old).files ≡ None) }
-        ensures later { F.faults folder.old ≤ F.faults folder.new }
-        ensures device { IfDevice result (Rises (F.faults folder.old) (F.faults folder.new)) }
     {
         let Some(name) = read_child_name(key) else {
             return Ok(true);
@@ -309,11 +295,9 @@ impl KeptSoFar {
         requires order { IsKeptInOrder files.now self.now }
         requires part { HasPartNumber sought }
         ensures has { IfOk result (λ has. ForSome (F.told folder.old).files (λ image. Agrees files.now image → hash ≡ hash_of key.now → (kept : List shown.Loaded) → AreShown image kept self.now.kept.items → has ≡ list_any (is_sought sought key.now) kept)) }
-        ensures stays { Stays (F.told folder.old) (F.told folder.new) }
+        ensures reads { ReadsOnly F.told F.faults folder.old folder.new (IfDevice result) }
         ensures short { IfDamaged result (IsCutRead files.now (F.told folder.old)) }
         ensures untold { ForSome (F.told folder.old).files (Agrees files.now) → ForSome (F.told folder.old).files (λ image. HaveKeys image self.now.kept.items) → IfDamaged result (λ _. (F.told folder.old).files ≡ None) }
-        ensures later { F.faults folder.old ≤ F.faults folder.new }
-        ensures device { IfDevice result (Rises (F.faults folder.old) (F.faults folder.new)) }
     {
         let mut place = self.by_hash.last(hash);
         while let Some(i) = place {

@@ -1,7 +1,7 @@
 // The key of a record that is judged.
 ghost use Rattle.std.specs.Prelude.{◌≡◌, ◌≤◌, ℕ, List, IfOk, IsTrue, None, OnErr, OnOk, Some, false, is_some, length, true};
 ghost use Rattle.std.specs.Option.{ForSome};
-ghost use Rattle.spec_image.specs.Told.{Rises, Stays};
+ghost use Rattle.spec_image.specs.Told.{ReadsOnly};
 ghost use Rattle.spec_format.specs.Address.{blocks_256, kind_of};
 ghost use Rattle.spec_folder.specs.Entries.{stored_key};
 ghost use Rattle.spec_folder.specs.View.{store_of};
@@ -28,9 +28,7 @@ pub(crate) fn has_key<F: Folder>(
     requires short { words.now.key_len ≤ most_key }
     ensures key { IfOk result (λ has. ForSome (F.told folder.old).files (λ image. (entry : ℕ) → Agrees files.now image → has ≡ is_some (stored_key (store_of image) entry (fields_said words.now)))) }
     ensures holds { IfOk result (λ has. IsTrue has → is_short words.now.key_len ≡ false → may_hold files.now words.now.key_len words.now.long_key ≡ true) }
-    ensures stays { Stays (F.told folder.old) (F.told folder.new) }
-    ensures later { F.faults folder.old ≤ F.faults folder.new }
-    ensures failed { OnErr result (Rises (F.faults folder.old) (F.faults folder.new)) }
+    ensures reads { ReadsOnly F.told F.faults folder.old folder.new (OnErr result) }
 {
     if words.key_len <= LONGEST_SHORT_KEY {
         return Ok(words.long_key == 0);
@@ -51,11 +49,9 @@ pub(crate) fn read_key<F: Folder>(
     requires placed { IsPlaced files.now entry words.now.key_len words.now.long_key }
     requires size { length out.old ≡ words.now.key_len }
     ensures key { OnOk result (ForSome (F.told folder.old).files (λ image. (key : List ℕ) → stored_key (store_of image) entry (fields_said words.now) ≡ Some key → out.new ≡ key)) }
-    ensures stays { Stays (F.told folder.old) (F.told folder.new) }
+    ensures reads { ReadsOnly F.told F.faults folder.old folder.new (IfDevice result) }
     ensures short { IfDamaged result (IsCutRead files.now (F.told folder.old)) }
     ensures untold { ForSome (F.told folder.old).files (λ image. Agrees files.now image) → ForSome (F.told folder.old).files (λ image. is_some (stored_key (store_of image) entry (fields_said words.now)) ≡ true) → IfDamaged result (λ _. (F.told folder.old).files ≡ None) }
-    ensures later { F.faults folder.old ≤ F.faults folder.new }
-    ensures device { IfDevice result (Rises (F.faults folder.old) (F.faults folder.new)) }
 {
     if words.key_len <= LONGEST_SHORT_KEY {
         return read_data(folder, files, entry, EntryView::SIZE as u32, out);

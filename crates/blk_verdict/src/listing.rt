@@ -1,8 +1,8 @@
 // The records that no walked node lists.
-ghost use Rattle.std.specs.Prelude.{◌≡◌, ℕ, ◌++◌, ◌≤◌, [], ◌∷◌, IfOk, None, OnOk, Some, map, slice_get};
+ghost use Rattle.std.specs.Prelude.{◌≡◌, ℕ, ◌++◌, [], ◌∷◌, IfOk, None, OnOk, Some, map, slice_get};
 ghost use Rattle.std.specs.List.{filter};
 ghost use Rattle.std.specs.Option.{ForSome};
-ghost use Rattle.spec_image.specs.Told.{Rises, Stays};
+ghost use Rattle.spec_image.specs.Told.{ReadsOnly};
 ghost use Rattle.spec_folder.specs.Audit as audit;
 ghost use Rattle.spec_folder.specs.Found.{completed};
 ghost use Rattle.spec_folder.specs.Reasons as reason;
@@ -31,11 +31,9 @@ pub fn unlisted<F: Folder>(
     lists: &Lists,
 ) -> Result<Vec<Addr>, ScanFault>
     ensures unlisted { IfOk result (λ found. ForSome (F.told folder.old).files (λ image. Agrees files.now image → AreListsOf image lists.now → map (λ contents. (contents, reason.Unlisted)) found.items ≡ audit.unlisted (completed (view_of image)))) }
-    ensures stays { Stays (F.told folder.old) (F.told folder.new) }
+    ensures reads { ReadsOnly F.told F.faults folder.old folder.new (IfScanDevice result) }
     ensures damaged { IfScanDamaged result (IsRecordDamage files.now (F.told folder.new)) }
     ensures untold { ForSome (F.told folder.old).files (Agrees files.now) → IfScanDamaged result (λ _. (F.told folder.old).files ≡ None) }
-    ensures later { F.faults folder.old ≤ F.faults folder.new }
-    ensures device { IfScanDevice result (Rises (F.faults folder.old) (F.faults folder.new)) }
 {
     let mut found = Vec::new(alloc);
     for i in 0..lists.reached.count() {
@@ -53,11 +51,9 @@ fn add_if<F: Folder>(
     found: &mut Vec<Addr>,
 ) -> Result<(), ScanFault>
     ensures added { OnOk result (ForSome (F.told folder.old).files (λ image. Agrees files.now image → AreListsOf image lists.now → (w : ℕ) → slice_get (words_reached lists.now.reached) i ≡ Some w → found.new.items ≡ found.old.items ++ filter (audit.is_unlisted (completed (view_of image))) (w ∷ []))) }
-    ensures stays { Stays (F.told folder.old) (F.told folder.new) }
+    ensures reads { ReadsOnly F.told F.faults folder.old folder.new (IfScanDevice result) }
     ensures damaged { IfScanDamaged result (IsRecordDamage files.now (F.told folder.new)) }
     ensures untold { ForSome (F.told folder.new).files (Agrees files.now) → IfScanDamaged result (λ _. (F.told folder.new).files ≡ None) }
-    ensures later { F.faults folder.old ≤ F.faults folder.new }
-    ensures device { IfScanDevice result (Rises (F.faults folder.old) (F.faults folder.new)) }
 {
     let Some(entry) = lists.reached.at(i) else {
         return Ok(());
@@ -85,11 +81,9 @@ fn is_unlisted<F: Folder>(
     word: u32,
 ) -> Result<bool, Fault>
     ensures unlisted { IfOk result (λ is. ForSome (F.told folder.old).files (λ image. Agrees files.now image → AreListsOf image lists.now → is ≡ audit.is_unlisted (completed (view_of image)) word)) }
-    ensures stays { Stays (F.told folder.old) (F.told folder.new) }
+    ensures reads { ReadsOnly F.told F.faults folder.old folder.new (IfDevice result) }
     ensures damaged { IfDamaged result (IsRecordDamage files.now (F.told folder.new)) }
     ensures untold { ForSome (F.told folder.new).files (Agrees files.now) → IfDamaged result (λ _. (F.told folder.new).files ≡ None) }
-    ensures later { F.faults folder.old ≤ F.faults folder.new }
-    ensures device { IfDevice result (Rises (F.faults folder.old) (F.faults folder.new)) }
 {
     let Some(entry) = files.entry(word) else {
         return Ok(false);

@@ -1,7 +1,7 @@
 // The verdict on a node by itself.
 ghost use Rattle.std.specs.Prelude.{◌≡◌, ◌≢◌, ◌≤◌, ℕ, List, IfOk, IfSome, IsTrue, None, OnOk, Some, is_some, length, take, true};
 ghost use Rattle.std.specs.Option.{ForSome};
-ghost use Rattle.spec_image.specs.Told.{Rises, Stays};
+ghost use Rattle.spec_image.specs.Told.{ReadsOnly};
 ghost use Rattle.spec_format.specs.Address.{blocks_256, kind_of};
 ghost use Rattle.spec_format.specs.BlockFiles.{is_among};
 ghost use Rattle.spec_format.specs.Hash.{hash as hash_of};
@@ -78,11 +78,9 @@ pub fn load<F: Folder>(
 ) -> Result<Verdict, Fault>
     ensures verdict { IfOk result (λ verdict. ForSome (F.told folder.old).files (λ image. Agrees files.now image → IsSaidAt image node.now → reached ≡ is_among (reached_by (store_of image) table_length) node.now.contents → IsVerdict (shown.load (store_of image) held_rule node.now.addr) verdict)) }
     ensures readable { IfOk result (IsReadableIf files.now) }
-    ensures stays { Stays (F.told folder.old) (F.told folder.new) }
+    ensures reads { ReadsOnly F.told F.faults folder.old folder.new (IfDevice result) }
     ensures short { IfDamaged result (IsCutRead files.now (F.told folder.old)) }
     ensures untold { ForSome (F.told folder.old).files (Agrees files.now) → IfDamaged result (λ _. (F.told folder.old).files ≡ None) }
-    ensures later { F.faults folder.old ≤ F.faults folder.new }
-    ensures device { IfDevice result (Rises (F.faults folder.old) (F.faults folder.new)) }
 {
     let Some(entry) = files.entry(node.contents) else {
         return Ok(Verdict::Dropped(Reason::Contents));
@@ -113,11 +111,9 @@ pub(crate) fn load_words<F: Folder>(
     ensures verdict { IfOk result (λ verdict. ForSome (F.told folder.old).files (λ image. Agrees files.now image → AreWordsOf image entry said.now.words → IsRightWhereSaid image entry said.now → (store_of image).node_fields node.now.addr ≡ Some (record { contents = entry; dirty = node.now.dirty }) → reached ≡ is_among (reached_by (store_of image) table_length) entry → IsVerdict (shown.load (store_of image) held_rule node.now.addr) verdict)) }
     ensures named { IfOk result (λ verdict. ForSome (F.told folder.old).files (λ image. Agrees files.now image → IsNameInPrefix image verdict name.new)) }
     ensures readable { IfOk result (IsReadableIf files.now) }
-    ensures stays { Stays (F.told folder.old) (F.told folder.new) }
+    ensures reads { ReadsOnly F.told F.faults folder.old folder.new (IfDevice result) }
     ensures short { IfDamaged result (IsCutRead files.now (F.told folder.old)) }
     ensures untold { ForSome (F.told folder.old).files (Agrees files.now) → IfDamaged result (λ _. (F.told folder.old).files ≡ None) }
-    ensures later { F.faults folder.old ≤ F.faults folder.new }
-    ensures device { IfDevice result (Rises (F.faults folder.old) (F.faults folder.new)) }
 {
     // That the word is one of an address is known once it is read.
     let _word = entry.word();
@@ -144,11 +140,9 @@ fn load_data<F: Folder>(
     ensures verdict { IfOk result (λ verdict. ForSome (F.told folder.old).files (λ image. (dirty : ℕ) → Agrees files.now image → IsRightWhereSaid image entry said.now → reached ≡ is_among (chain (store_of image) (bucket_of_hash said.now.words.hash)).reached entry → IsVerdict (loading.load_data (store_of image) node entry dirty (fields_said said.now.words)) verdict)) }
     ensures named { IfOk result (λ verdict. ForSome (F.told folder.old).files (λ image. Agrees files.now image → IsNameInPrefix image verdict name.new)) }
     ensures readable { IfOk result (IsReadableIf files.now) }
-    ensures stays { Stays (F.told folder.old) (F.told folder.new) }
+    ensures reads { ReadsOnly F.told F.faults folder.old folder.new (IfDevice result) }
     ensures short { IfDamaged result (IsCutRead files.now (F.told folder.old)) }
     ensures untold { ForSome (F.told folder.old).files (Agrees files.now) → IfDamaged result (λ _. (F.told folder.old).files ≡ None) }
-    ensures later { F.faults folder.old ≤ F.faults folder.new }
-    ensures device { IfDevice result (Rises (F.faults folder.old) (F.faults folder.new)) }
 {
     if has_key(folder, files, &said.words)? {
         load_key(folder, files, node, entry, said, reached, name)
@@ -175,11 +169,9 @@ fn load_key<F: Folder>(
     ensures verdict { IfOk result (λ verdict. ForSome (F.told folder.old).files (λ image. (dirty : ℕ) → Agrees files.now image → is_some (stored_key (store_of image) entry (fields_said said.now.words)) ≡ true → IsRightWhereSaid image entry said.now → reached ≡ is_among (chain (store_of image) (bucket_of_hash said.now.words.hash)).reached entry → IsVerdict (loading.load_data (store_of image) node entry dirty (fields_said said.now.words)) verdict)) }
     ensures named { IfOk result (λ verdict. ForSome (F.told folder.old).files (λ image. Agrees files.now image → IsNameInPrefix image verdict name.new)) }
     ensures readable { IfOk result (IsReadableIf files.now) }
-    ensures stays { Stays (F.told folder.old) (F.told folder.new) }
+    ensures reads { ReadsOnly F.told F.faults folder.old folder.new (IfDevice result) }
     ensures short { IfDamaged result (IsCutRead files.now (F.told folder.old)) }
     ensures untold { ForSome (F.told folder.old).files (Agrees files.now) → ForSome (F.told folder.old).files (λ image. is_some (stored_key (store_of image) entry (fields_said said.now.words)) ≡ true) → IfDamaged result (λ _. (F.told folder.old).files ≡ None) }
-    ensures later { F.faults folder.old ≤ F.faults folder.new }
-    ensures device { IfDevice result (Rises (F.faults folder.old) (F.faults folder.new)) }
 {
     let sum = key_sum(folder, files, entry, said, name)?;
     if said.words.hash != sum {
@@ -207,11 +199,9 @@ fn key_sum<F: Folder>(
     requires room { length name.old ≡ most_key }
     ensures sum { IfOk result (λ sum. ForSome (F.told folder.old).files (λ image. IsRightWhereSaid image entry said.now → IsHashOfKey image entry said.now.words sum)) }
     ensures key { OnOk result (ForSome (F.told folder.old).files (λ image. said.now.words.flags ≡ child → IsKeyInPrefix image entry said.now.words name.new)) }
-    ensures stays { Stays (F.told folder.old) (F.told folder.new) }
+    ensures reads { ReadsOnly F.told F.faults folder.old folder.new (IfDevice result) }
     ensures short { IfDamaged result (IsCutRead files.now (F.told folder.old)) }
     ensures untold { ForSome (F.told folder.old).files (Agrees files.now) → ForSome (F.told folder.old).files (λ image. is_some (stored_key (store_of image) entry (fields_said said.now.words)) ≡ true) → IfDamaged result (λ _. (F.told folder.old).files ≡ None) }
-    ensures later { F.faults folder.old ≤ F.faults folder.new }
-    ensures device { IfDevice result (Rises (F.faults folder.old) (F.faults folder.new)) }
 {
     match known_hash(said) {
         Some(sum) => Ok(sum),
@@ -248,11 +238,9 @@ fn read_sum<F: Folder>(
     requires room { length name.old ≡ most_key }
     ensures sum { IfOk result (λ sum. ForSome (F.told folder.old).files (λ image. IsHashOfKey image entry words.now sum)) }
     ensures key { OnOk result (ForSome (F.told folder.old).files (λ image. IsKeyInPrefix image entry words.now name.new)) }
-    ensures stays { Stays (F.told folder.old) (F.told folder.new) }
+    ensures reads { ReadsOnly F.told F.faults folder.old folder.new (IfDevice result) }
     ensures short { IfDamaged result (IsCutRead files.now (F.told folder.old)) }
     ensures untold { ForSome (F.told folder.old).files (Agrees files.now) → ForSome (F.told folder.old).files (λ image. is_some (stored_key (store_of image) entry (fields_said words.now)) ≡ true) → IfDamaged result (λ _. (F.told folder.old).files ≡ None) }
-    ensures later { F.faults folder.old ≤ F.faults folder.new }
-    ensures device { IfDevice result (Rises (F.faults folder.old) (F.faults folder.new)) }
 {
     let key = &mut name[..words.key_len as usize];
     read_key(folder, files, entry, words, key)?;
@@ -277,11 +265,9 @@ fn load_streams<F: Folder>(
     ensures verdict { IfOk result (λ verdict. ForSome (F.told folder.old).files (λ image. (dirty : ℕ) (stored : List ℕ) → Agrees files.now image → words.now.key_len ≡ length stored → words.now.hash ≡ hash_of stored → (words.now.flags ≡ child → stored ≡ take words.now.key_len name.now) → IsVerdict (loading.load_streams (store_of image) node entry dirty (fields_said words.now) stored) verdict)) }
     ensures named { IfOk result (λ verdict. ForSome (F.told folder.old).files (λ image. Agrees files.now image → (words.now.flags ≡ child → IsKeyInPrefix image entry words.now name.now) → IsNameInPrefix image verdict name.now)) }
     ensures readable { IfOk result (IsReadableIf files.now) }
-    ensures stays { Stays (F.told folder.old) (F.told folder.new) }
+    ensures reads { ReadsOnly F.told F.faults folder.old folder.new (IfDevice result) }
     ensures short { IfDamaged result (IsCutRead files.now (F.told folder.old)) }
     ensures untold { ForSome (F.told folder.old).files (Agrees files.now) → IfDamaged result (λ _. (F.told folder.old).files ≡ None) }
-    ensures later { F.faults folder.old ≤ F.faults folder.new }
-    ensures device { IfDevice result (Rises (F.faults folder.old) (F.faults folder.new)) }
 {
     if !has_streams(folder, files, words)? {
         return Ok(Verdict::Dropped(Reason::Streams));

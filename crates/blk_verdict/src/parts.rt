@@ -1,7 +1,7 @@
 // The bits of a parent's index.
-ghost use Rattle.std.specs.Prelude.{◌≡◌, ◌≤◌, ◌<◌, List, ℕ, IfOk, None, Some, true};
+ghost use Rattle.std.specs.Prelude.{◌≡◌, ◌<◌, List, ℕ, IfOk, None, Some, true};
 ghost use Rattle.std.specs.Option.{ForSome};
-ghost use Rattle.spec_image.specs.Told.{Rises, Stays};
+ghost use Rattle.spec_image.specs.Told.{ReadsOnly};
 ghost use Rattle.blk_model.specs.Sizes.{part_count};
 ghost use Rattle.spec_format.specs.SparseIndex.{ParentIndex, parent_index_length, read_parent_index};
 ghost use Rattle.spec_folder.specs.View.{stored_at};
@@ -29,11 +29,9 @@ pub fn has_part<F: Folder>(
     requires stored { stores files.now parent_index_length word ≡ true }
     requires part { part < part_count }
     ensures bit { IfOk result (λ has. ForSome (F.told folder.old).files (λ image. (bytes : List ℕ) (index : ParentIndex) → stored_at image parent_index_length word ≡ Some bytes → read_parent_index bytes ≡ Some index → has ≡ index.has_part part)) }
-    ensures stays { Stays (F.told folder.old) (F.told folder.new) }
+    ensures reads { ReadsOnly F.told F.faults folder.old folder.new (IfDevice result) }
     ensures short { IfDamaged result (IsCutRead files.now (F.told folder.old)) }
     ensures untold { ForSome (F.told folder.old).files (Agrees files.now) → IfDamaged result (λ _. (F.told folder.old).files ≡ None) }
-    ensures later { F.faults folder.old ≤ F.faults folder.new }
-    ensures device { IfDevice result (Rises (F.faults folder.old) (F.faults folder.new)) }
 {
     let Some(addr) = Addr::from_word(word) else {
         unreachable!();

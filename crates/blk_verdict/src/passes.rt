@@ -1,7 +1,7 @@
 // The two passes over the walked nodes.
-ghost use Rattle.std.specs.Prelude.{◌≡◌, ◌≤◌, ◌++◌, ◌∷◌, [], ℕ, List, IfOk, None, OnOk, Some, length, slice_get, true};
+ghost use Rattle.std.specs.Prelude.{◌≡◌, ◌++◌, ◌∷◌, [], ℕ, List, IfOk, None, OnOk, Some, length, slice_get, true};
 ghost use Rattle.std.specs.Option.{ForSome};
-ghost use Rattle.spec_image.specs.Told.{Rises, Stays};
+ghost use Rattle.spec_image.specs.Told.{ReadsOnly};
 ghost use Rattle.spec_folder.specs.Audit as audit;
 ghost use Rattle.spec_format.specs.BlockFiles.{is_among};
 ghost use Rattle.spec_folder.specs.Loads.{held_rule};
@@ -65,11 +65,9 @@ pub fn judge_nodes<F: Folder>(
     ensures answered { IfOk result (λ judged. ForSome (F.told folder.old).files (λ image. Agrees files.now image → AreListsOf image lists.now → (node : ℕ) → is_among (completed_walk image) node ≡ true → IsAnswered (completed_walk image) judged.tried.items node (audit.verdict_on (audit.judged (store_of image) held_rule (completed_walk image)) node))) }
 
     ensures order { IfOk result (λ judged. IsKeptInOrder files.now judged.kept) }
-    ensures stays { Stays (F.told folder.old) (F.told folder.new) }
+    ensures reads { ReadsOnly F.told F.faults folder.old folder.new (IfScanDevice result) }
     ensures short { IfScanDamaged result (IsCutRead files.now (F.told folder.old)) }
     ensures untold { ForSome (F.told folder.old).files (Agrees files.now) → ForSome (F.told folder.old).files (λ image. AreListsOf image lists.now) → IfScanDamaged result (λ _. (F.told folder.old).files ≡ None) }
-    ensures later { F.faults folder.old ≤ F.faults folder.new }
-    ensures device { IfScanDevice result (Rises (F.faults folder.old) (F.faults folder.new)) }
 {
     let mut kept = KeptSoFar::none(alloc);
     let mut tried = Vec::new(alloc);
@@ -99,11 +97,9 @@ pub(crate) fn try_pass<F: Folder>(
     ensures tried { OnOk result (ForSome (F.told folder.old).files (λ image. Agrees files.now image → AreListsOf image lists.now → (before : List ℕ) → AreTried image (nodes_walked lists.now.walked) before kept.old.kept.items tried.old.items → AreTried image (nodes_walked lists.now.walked) (before ++ of_pass (store_of image) children (nodes_walked lists.now.walked)) kept.new.kept.items tried.new.items)) }
     ensures keys { OnOk result (ForSome (F.told folder.old).files (λ image. CanBeTried files.now lists.now kept.old.kept.items image → HaveKeys image kept.new.kept.items)) }
     ensures order { OnOk result (IsKeptInOrder files.now kept.new) }
-    ensures stays { Stays (F.told folder.old) (F.told folder.new) }
+    ensures reads { ReadsOnly F.told F.faults folder.old folder.new (IfScanDevice result) }
     ensures short { IfScanDamaged result (IsCutRead files.now (F.told folder.old)) }
     ensures untold { ForSome (F.told folder.old).files (CanBeTried files.now lists.now kept.old.kept.items) → IfScanDamaged result (λ _. (F.told folder.old).files ≡ None) }
-    ensures later { F.faults folder.old ≤ F.faults folder.new }
-    ensures device { IfScanDevice result (Rises (F.faults folder.old) (F.faults folder.new)) }
 {
     for i in 0..lists.walked.count() {
         try_at(folder, files, lists, i, children, kept, tried, name)?;
@@ -127,11 +123,9 @@ fn try_at<F: Folder>(
     ensures tried { OnOk result (ForSome (F.told folder.old).files (λ image. Agrees files.now image → AreListsOf image lists.now → (before : List ℕ) (w : ℕ) → slice_get (nodes_walked lists.now.walked) i ≡ Some w → AreTried image (nodes_walked lists.now.walked) before kept.old.kept.items tried.old.items → AreTried image (nodes_walked lists.now.walked) (before ++ of_pass (store_of image) children (w ∷ [])) kept.new.kept.items tried.new.items)) }
     ensures keys { OnOk result (ForSome (F.told folder.old).files (λ image. CanBeTried files.now lists.now kept.old.kept.items image → HaveKeys image kept.new.kept.items)) }
     ensures order { OnOk result (IsKeptInOrder files.now kept.new) }
-    ensures stays { Stays (F.told folder.old) (F.told folder.new) }
+    ensures reads { ReadsOnly F.told F.faults folder.old folder.new (IfScanDevice result) }
     ensures short { IfScanDamaged result (IsCutRead files.now (F.told folder.old)) }
     ensures untold { ForSome (F.told folder.old).files (CanBeTried files.now lists.now kept.old.kept.items) → IfScanDamaged result (λ _. (F.told folder.old).files ≡ None) }
-    ensures later { F.faults folder.old ≤ F.faults folder.new }
-    ensures device { IfScanDevice result (Rises (F.faults folder.old) (F.faults folder.new)) }
 {
     let Some(here) = lists.node(i) else {
         return Ok(());

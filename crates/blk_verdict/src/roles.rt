@@ -1,7 +1,7 @@
 // What its flags and its index make a record.
 ghost use Rattle.std.specs.Prelude.{◌≡◌, ◌≤◌, ◌<◌, ◌==◌, ◌&&◌, if◌then◌else◌, ℕ, List, IfOk, None, OnOk, Some, length, slice_index, take, true};
 ghost use Rattle.std.specs.Option.{ForSome};
-ghost use Rattle.spec_image.specs.Told.{Rises, Stays};
+ghost use Rattle.spec_image.specs.Told.{ReadsOnly};
 ghost use Rattle.spec_format.specs.Records.{child};
 ghost use Rattle.spec_format.specs.Storage.{largest_in_4k};
 ghost use Rattle.spec_folder.specs.Entries as entries;
@@ -54,11 +54,9 @@ pub(crate) fn read_role<F: Folder>(
     requires stored { stores files.now (slice_index words.now.sizes 2) (slice_index words.now.addrs 2) ≡ true }
     ensures role { IfOk result (λ role. ForSome (F.told folder.old).files (λ image. (stored : List ℕ) (streams : List (List ℕ)) → (words.now.flags ≡ child → stored ≡ key.now) → stored_streams (store_of image) (fields_said words.now) ≡ Some streams → IsRoleIf stored (entries.role_of (fields_said words.now) stored streams) role)) }
     ensures index { IfOk result (HasIndexIf files.now words.now.sizes words.now.addrs) }
-    ensures stays { Stays (F.told folder.old) (F.told folder.new) }
+    ensures reads { ReadsOnly F.told F.faults folder.old folder.new (IfDevice result) }
     ensures short { IfDamaged result (IsCutRead files.now (F.told folder.old)) }
     ensures untold { ForSome (F.told folder.old).files (Agrees files.now) → IfDamaged result (λ _. (F.told folder.old).files ≡ None) }
-    ensures later { F.faults folder.old ≤ F.faults folder.new }
-    ensures device { IfDevice result (Rises (F.faults folder.old) (F.faults folder.new)) }
 {
     if words.flags == PARENT {
         parent_role(folder, files, words)
@@ -78,11 +76,9 @@ fn parent_role<F: Folder>(
     requires stored { stores files.now (slice_index words.now.sizes 2) (slice_index words.now.addrs 2) ≡ true }
     ensures role { IfOk result (λ role. ForSome (F.told folder.old).files (λ image. (key : List ℕ) (streams : List (List ℕ)) → stored_streams (store_of image) (fields_said words.now) ≡ Some streams → IsRoleIf key (entries.parent_role (fields_said words.now) streams) role)) }
     ensures index { IfOk result (HasIndexIf files.now words.now.sizes words.now.addrs) }
-    ensures stays { Stays (F.told folder.old) (F.told folder.new) }
+    ensures reads { ReadsOnly F.told F.faults folder.old folder.new (IfDevice result) }
     ensures short { IfDamaged result (IsCutRead files.now (F.told folder.old)) }
     ensures untold { ForSome (F.told folder.old).files (Agrees files.now) → IfDamaged result (λ _. (F.told folder.old).files ≡ None) }
-    ensures later { F.faults folder.old ≤ F.faults folder.new }
-    ensures device { IfDevice result (Rises (F.faults folder.old) (F.faults folder.new)) }
 {
     if words.sizes[1] != 0 || words.sizes[2] != PARENT_INDEX {
         return Ok(None);
@@ -116,11 +112,9 @@ fn part_role<F: Folder>(
     requires stored { stores files.now (slice_index words.now.sizes 2) (slice_index words.now.addrs 2) ≡ true }
     ensures role { IfOk result (λ role. ForSome (F.told folder.old).files (λ image. (streams : List (List ℕ)) → stored_streams (store_of image) (fields_said words.now) ≡ Some streams → IsRoleIf key.now (entries.part_role key.now streams) role)) }
     ensures index { IfOk result (HasIndexIf files.now words.now.sizes words.now.addrs) }
-    ensures stays { Stays (F.told folder.old) (F.told folder.new) }
+    ensures reads { ReadsOnly F.told F.faults folder.old folder.new (IfDevice result) }
     ensures short { IfDamaged result (IsCutRead files.now (F.told folder.old)) }
     ensures untold { ForSome (F.told folder.old).files (Agrees files.now) → IfDamaged result (λ _. (F.told folder.old).files ≡ None) }
-    ensures later { F.faults folder.old ≤ F.faults folder.new }
-    ensures device { IfDevice result (Rises (F.faults folder.old) (F.faults folder.new)) }
 {
     if words.sizes[0] != 0 || words.sizes[1] > PART_SIZE || words.sizes[2] != PART_INDEX {
         return Ok(None);
@@ -160,11 +154,9 @@ fn read_front<F: Folder>(
     requires stored { stores files.now size word ≡ true }
     requires inside { length out.old ≤ size }
     ensures front { OnOk result (ForSome (F.told folder.old).files (λ image. (bytes : List ℕ) → stored_at image size word ≡ Some bytes → out.new ≡ take (length out.old) bytes)) }
-    ensures stays { Stays (F.told folder.old) (F.told folder.new) }
+    ensures reads { ReadsOnly F.told F.faults folder.old folder.new (IfDevice result) }
     ensures short { IfDamaged result (IsCutRead files.now (F.told folder.old)) }
     ensures untold { ForSome (F.told folder.old).files (Agrees files.now) → IfDamaged result (λ _. (F.told folder.old).files ≡ None) }
-    ensures later { F.faults folder.old ≤ F.faults folder.new }
-    ensures device { IfDevice result (Rises (F.faults folder.old) (F.faults folder.new)) }
 {
     let Some(addr) = Addr::from_word(word) else {
         unreachable!();

@@ -2,7 +2,7 @@
 ghost use Rattle.std.specs.Prelude.{◌≡◌, ◌≤◌, List, ℕ, IfOk, None, OnOk, length};
 ghost use Rattle.std.specs.Option.{ForSome};
 ghost use Rattle.std.specs.Str.{bytes_eq};
-ghost use Rattle.spec_image.specs.Told.{Rises, Stays};
+ghost use Rattle.spec_image.specs.Told.{ReadsOnly};
 ghost use Rattle.blk_io.specs.Faults.{IfDamaged, IfDevice};
 ghost use Rattle.blk_disk.specs.Tables.{Agrees};
 ghost use Rattle.blk_entry.specs.Keys.{most_key};
@@ -29,11 +29,9 @@ pub fn has_this_key<F: Folder>(
 ) -> Result<bool, Fault>
     requires readable { IsReadable files.now loaded.now }
     ensures same { IfOk result (λ same. ForSome (F.told folder.old).files (λ image. (stored : List ℕ) → Agrees files.now image → IsKeyOf image loaded.now stored → same ≡ bytes_eq stored key.now)) }
-    ensures stays { Stays (F.told folder.old) (F.told folder.new) }
+    ensures reads { ReadsOnly F.told F.faults folder.old folder.new (IfDevice result) }
     ensures short { IfDamaged result (IsCutRead files.now (F.told folder.old)) }
     ensures untold { ForSome (F.told folder.old).files (Agrees files.now) → ForSome (F.told folder.old).files (λ image. HasItsKey image loaded.now) → IfDamaged result (λ _. (F.told folder.old).files ≡ None) }
-    ensures later { F.faults folder.old ≤ F.faults folder.new }
-    ensures device { IfDevice result (Rises (F.faults folder.old) (F.faults folder.new)) }
 {
     if loaded.key_len as usize != key.len() {
         return Ok(false);
@@ -55,11 +53,9 @@ fn is_stored_key<F: Folder>(
     requires len { loaded.now.key_len ≡ length key.now }
     requires short { length key.now ≤ most_key }
     ensures same { IfOk result (λ same. ForSome (F.told folder.old).files (λ image. (stored : List ℕ) → IsKeyOf image loaded.now stored → same ≡ bytes_eq stored key.now)) }
-    ensures stays { Stays (F.told folder.old) (F.told folder.new) }
+    ensures reads { ReadsOnly F.told F.faults folder.old folder.new (IfDevice result) }
     ensures short { IfDamaged result (IsCutRead files.now (F.told folder.old)) }
     ensures untold { ForSome (F.told folder.old).files (Agrees files.now) → ForSome (F.told folder.old).files (λ image. HasItsKey image loaded.now) → IfDamaged result (λ _. (F.told folder.old).files ≡ None) }
-    ensures later { F.faults folder.old ≤ F.faults folder.new }
-    ensures device { IfDevice result (Rises (F.faults folder.old) (F.faults folder.new)) }
 {
     let mut buffer = [0u8; LONGEST_NAME as usize];
     let stored = &mut buffer[..key.len()];
@@ -77,11 +73,9 @@ pub(crate) fn read_key_of<F: Folder>(
     requires readable { IsReadable files.now loaded.now }
     requires size { length out.old ≡ loaded.now.key_len }
     ensures key { OnOk result (ForSome (F.told folder.old).files (λ image. (key : List ℕ) → IsKeyOf image loaded.now key → out.new ≡ key)) }
-    ensures stays { Stays (F.told folder.old) (F.told folder.new) }
+    ensures reads { ReadsOnly F.told F.faults folder.old folder.new (IfDevice result) }
     ensures short { IfDamaged result (IsCutRead files.now (F.told folder.old)) }
     ensures untold { ForSome (F.told folder.old).files (Agrees files.now) → ForSome (F.told folder.old).files (λ image. HasItsKey image loaded.now) → IfDamaged result (λ _. (F.told folder.old).files ≡ None) }
-    ensures later { F.faults folder.old ≤ F.faults folder.new }
-    ensures device { IfDevice result (Rises (F.faults folder.old) (F.faults folder.new)) }
 {
     let words = words_of(loaded);
     read_key(folder, files, loaded.entry, &words, out)

@@ -1,8 +1,8 @@
 // Whether data is where an address word says.
-ghost use Rattle.std.specs.Prelude.{◌≡◌, ◌<◌, ◌≤◌, ◌==◌, IfOk, IsTrue, OnErr, true, false, is_some, if◌then◌else◌, Some, None};
+ghost use Rattle.std.specs.Prelude.{◌≡◌, ◌<◌, ◌==◌, IfOk, IsTrue, OnErr, true, false, is_some, if◌then◌else◌, Some, None};
 ghost use Rattle.std.specs.Option.{ForSome};
 ghost use Rattle.spec_image.specs.Image.{External as outside, length_of};
-ghost use Rattle.spec_image.specs.Told.{Rises, Stays};
+ghost use Rattle.spec_image.specs.Told.{ReadsOnly};
 ghost use Rattle.spec_format.specs.Address.{external, external_number, kind_of};
 ghost use Rattle.spec_folder.specs.View.{stored_at};
 ghost use Rattle.blk_disk.specs.Tables.{Agrees};
@@ -25,9 +25,7 @@ pub(crate) fn is_stored<F: Folder>(
 ) -> Result<bool, Failed>
     ensures stored { IfOk result (λ there. ForSome (F.told folder.old).files (λ image. Agrees files.now image → there ≡ is_some (stored_at image size word))) }
     ensures stores { IfOk result (λ there. IsTrue there → keys.stores files.now size word ≡ true) }
-    ensures stays { Stays (F.told folder.old) (F.told folder.new) }
-    ensures later { F.faults folder.old ≤ F.faults folder.new }
-    ensures failed { OnErr result (Rises (F.faults folder.old) (F.faults folder.new)) }
+    ensures reads { ReadsOnly F.told F.faults folder.old folder.new (OnErr result) }
 {
     if size == 0 {
         return Ok(word == 0);
@@ -67,9 +65,7 @@ fn has_length<F: Folder>(folder: &mut F, addr: Addr, size: u32) -> Result<bool, 
     requires kind { kind_of addr ≡ external }
     requires some { 0 < size }
     ensures length { IfOk result (λ has. ForSome (F.told folder.old).files (λ image. has ≡ (length_of image (outside (external_number addr)) == size))) }
-    ensures stays { Stays (F.told folder.old) (F.told folder.new) }
-    ensures later { F.faults folder.old ≤ F.faults folder.new }
-    ensures failed { OnErr result (Rises (F.faults folder.old) (F.faults folder.new)) }
+    ensures reads { ReadsOnly F.told F.faults folder.old folder.new (OnErr result) }
 {
     match folder.length(file_of(addr))? {
         Some(length) => Ok(length == u64::from(size)),

@@ -1,7 +1,7 @@
 // The streams of a record that is judged.
-ghost use Rattle.std.specs.Prelude.{◌≡◌, ◌≤◌, IfOk, IsTrue, OnErr, is_some, true, slice_index};
+ghost use Rattle.std.specs.Prelude.{◌≡◌, IfOk, IsTrue, OnErr, is_some, true, slice_index};
 ghost use Rattle.std.specs.Option.{ForSome};
-ghost use Rattle.spec_image.specs.Told.{Rises, Stays};
+ghost use Rattle.spec_image.specs.Told.{ReadsOnly};
 ghost use Rattle.spec_folder.specs.Entries.{stored_streams};
 ghost use Rattle.spec_folder.specs.View.{store_of};
 ghost use Rattle.blk_disk.specs.Tables.{Agrees};
@@ -24,9 +24,7 @@ pub(crate) fn has_streams<F: Folder>(
 ) -> Result<bool, Failed>
     ensures streams { IfOk result (λ has. ForSome (F.told folder.old).files (λ image. Agrees files.now image → has ≡ is_some (stored_streams (store_of image) (fields_said words.now)))) }
     ensures stores { IfOk result (λ has. IsTrue has → stores files.now (slice_index words.now.sizes 2) (slice_index words.now.addrs 2) ≡ true) }
-    ensures stays { Stays (F.told folder.old) (F.told folder.new) }
-    ensures later { F.faults folder.old ≤ F.faults folder.new }
-    ensures failed { OnErr result (Rises (F.faults folder.old) (F.faults folder.new)) }
+    ensures reads { ReadsOnly F.told F.faults folder.old folder.new (OnErr result) }
 {
     if words.sizes[3] != 0 || words.addrs[3] != 0 {
         return Ok(false);
@@ -49,9 +47,7 @@ fn has_stream<F: Folder>(
 ) -> Result<bool, Failed>
     ensures stream { IfOk result (λ has. ForSome (F.told folder.old).files (λ image. Agrees files.now image → has ≡ is_stream image size word)) }
     ensures stores { IfOk result (λ has. IsTrue has → stores files.now size word ≡ true) }
-    ensures stays { Stays (F.told folder.old) (F.told folder.new) }
-    ensures later { F.faults folder.old ≤ F.faults folder.new }
-    ensures failed { OnErr result (Rises (F.faults folder.old) (F.faults folder.new)) }
+    ensures reads { ReadsOnly F.told F.faults folder.old folder.new (OnErr result) }
 {
     if size > MOST_STREAM {
         return Ok(false);

@@ -1,5 +1,5 @@
 -- What a folder tells, and what its calls do to that.
-use Rattle.std.specs.Prelude.{◌≡◌, ℕ, zero, suc, ◌-◌, ◌^◌, ◌<◌, min, List, [], ◌∷◌, ◌++◌, length, take, drop, Option, None}
+use Rattle.std.specs.Prelude.{◌≡◌, ℕ, zero, suc, ◌-◌, ◌^◌, ◌<◌, ◌≤◌, min, List, [], ◌∷◌, ◌++◌, length, take, drop, Option, None}
 use Rattle.std.specs.Option.{option_map, ForSome}
 use Rattle.spec_image.specs.Bytes.{range_at}
 use Rattle.spec_image.specs.Image.{File, Image, AreBytes, byte, length_of}
@@ -83,6 +83,20 @@ Passes old new P = PassesTo old new P P
 -- the count rose, unless it is at the last value of a u64
 abbrev pub Rises : ℕ → ℕ → Type 0
 Rises before now = now < 2 ^ 64 - 1 → before < now
+
+-- a call that reads and writes nothing leaves this of what is seen of a folder: no step was made, the count of its failed calls never falls, and where
+-- the call's answer is that the folder failed, which `if_failed` asks, that count rose
+pub record ReadsOnly {S : Type 0} (told : S → Told) (faults : S → ℕ) (old new : S) (if_failed : Type 0 → Type 0) : Type 0 where
+  pub stays : Stays (told old) (told new)
+  pub later : faults old ≤ faults new
+  pub failed : if_failed (Rises (faults old) (faults new))
+
+-- a call that may write leaves this, whatever it wrote: a folder whose files aren't told still tells none, the count of its failed calls never falls,
+-- and where the call's answer is that the folder failed, which `if_failed` asks, that count rose
+pub record MayWrite {S : Type 0} (told : S → Told) (faults : S → ℕ) (old new : S) (if_failed : Type 0 → Type 0) : Type 0 where
+  pub silent : (told old).files ≡ None → (told new).files ≡ None
+  pub later : faults old ≤ faults new
+  pub failed : if_failed (Rises (faults old) (faults new))
 
 -- the bytes of the file from a place on, as many as fit, are at the front of the new buffer; after them it is the old
 pub record GivesBytes (image : Image) (file : File) (place : ℕ) (old new : List ℕ) (count : ℕ) : Type 0 where

@@ -42,14 +42,14 @@ take-requires-clause-place g c =
     subst (λ (k : ℕ). IsPlace c.args.files.now (kind_number c.args.kind) k c.in-Some.found.place) (sym place.counted) place
 
 pub take-requires-clause-agrees : goal.take-requires-clause-agrees
-take-requires-clause-agrees g c = subst (λ (t : Told). ForSome t.files (Agrees c.args.files.now)) (sym c.in_ok-found.ensures.stays) c.requires.agrees
+take-requires-clause-agrees g c = subst (λ (t : Told). ForSome t.files (Agrees c.args.files.now)) (sym c.in_ok-found.ensures.reads.stays) c.requires.agrees
 
 pub allocate_new-requires-clause-agrees : goal.allocate_new-requires-clause-agrees
-allocate_new-requires-clause-agrees g c = subst (λ (t : Told). ForSome t.files (Agrees c.args.files.now)) (sym c.in_ok-found.ensures.stays) c.requires.agrees
+allocate_new-requires-clause-agrees g c = subst (λ (t : Told). ForSome t.files (Agrees c.args.files.now)) (sym c.in_ok-found.ensures.reads.stays) c.requires.agrees
 
 pub allocate_new-requires-clause-full : goal.allocate_new-requires-clause-full
 allocate_new-requires-clause-full g c =
-    subst (λ (t : Told). ForSome t.files (HaveNoRoom c.args.files.now (kind_number c.args.kind) c.args.blocks)) (sym c.in_ok-found.ensures.stays)
+    subst (λ (t : Told). ForSome t.files (HaveNoRoom c.args.files.now (kind_number c.args.kind) c.args.blocks)) (sym c.in_ok-found.ensures.reads.stays)
     (c.in_ok-found.ensures.full c.in-None.is)
 
 pub returns-in-Some-clause-kind : goal.returns-in-Some-clause-kind
@@ -61,14 +61,14 @@ returns-in-Some-clause-kind g c =
 pub returns-in_err-found-clause-stops : goal.returns-in_err-found-clause-stops
 returns-in_err-found-clause-stops g c from there counted =
     let P = AllocatesInProgress c.args.files.now (kind_number c.args.kind) c.args.blocks from in
-    passes_to (passes_none P c.in_err-found.ensures.stays (λ image is. subst P (some_inj (sym there ∙ is)) (record { stage = inl refl; stays = whole_not from }))) (λ image is. inl is)
+    passes_to (passes_none P c.in_err-found.ensures.reads.stays (λ image is. subst P (some_inj (sym there ∙ is)) (record { stage = inl refl; stays = whole_not from }))) (λ image is. inl is)
 
 pub returns-in_err-found-clause-cause : goal.returns-in_err-found-clause-cause
 returns-in_err-found-clause-cause g c =
     let kind = kind_number c.args.kind in
     carried c.find.result c.from_residual.result c.in_err-found.field-0.0 _ c.in_err-found.was c.from_residual.ensures.1
     (if_damaged_weaker c.find.result (IsFittingDamage c.args.files.now kind (g.F.Folder.told c.args.f.now)) (IsRefusal c.args.files.now c.args.files.now kind c.args.blocks (g.F.Folder.told c.args.f.now) (g.F.Folder.told c.find.new.folder))
-    (λ damage why. inr (inr (c.find.ensures.stays, inl why))) c.find.ensures.cause)
+    (λ damage why. inr (inr (c.find.ensures.reads.stays, inl why))) c.find.ensures.cause)
 
 pub returns-in-Some-clause-address : goal.returns-in-Some-clause-address
 returns-in-Some-clause-address g c =
@@ -95,7 +95,7 @@ returns-in-Some-clause-counted g c =
     (λ addr word counted from there image now.
     let file = ap file_selector word ∙ word_file c.args.files.now c.args.kind c.args.blocks c.in-Some.found.place c.requires.some place in
     subst (λ (m : ℕ). is_among (all_files c.args.files.now) m ≡ true → IsCounted true (allocations_of (byte from (Block m))) (allocations_of (byte image (Block m)))) (sym file)
-    (λ linked. (counted from (ap (λ (t : Told). t.files) c.in_ok-found.ensures.stays ∙ there) image now).allocations))
+    (λ linked. (counted from (ap (λ (t : Told). t.files) c.in_ok-found.ensures.reads.stays ∙ there) image now).allocations))
     c.take.ensures.word c.take.ensures.counted
 
 pub returns-in-Some-clause-allocates : goal.returns-in-Some-clause-allocates
@@ -112,7 +112,7 @@ returns-in-Some-clause-allocates g c =
     (λ addr word used from there counted image now.
     let file = ap file_selector word ∙ word_file c.args.files.now c.args.kind c.args.blocks c.in-Some.found.place c.requires.some place in
     given_fit c.args.files.now from image addr (member_all c.args.files.now c.args.kind (file_selector addr) c.requires.block_kind (ap (is_among (files_of c.args.files.now kind)) file ∙ place.linked))
-    (used from (ap (λ (t : Told). t.files) c.in_ok-found.ensures.stays ∙ there) (markable from there counted) image now))
+    (used from (ap (λ (t : Told). t.files) c.in_ok-found.ensures.reads.stays ∙ there) (markable from there counted) image now))
     c.take.ensures.word c.take.ensures.used
 
 pub returns-in-Some-clause-within : goal.returns-in-Some-clause-within
@@ -126,7 +126,7 @@ returns-in-Some-clause-within g c =
     if_ok_both c.take.result (λ addr. addr ≡ block_word (kind_number c.args.kind) c.in-Some.found.place.file c.in-Some.found.place.start c.in-Some.found.place.count)
     (λ addr. ForSome (g.F.Folder.told c.find.new.folder).files (λ from. CanBeMarked from c.in-Some.found.place → ForSome (g.F.Folder.told c.take.new.folder).files (MarksUsed c.args.files.now from addr)))
     (λ addr. ForSome (g.F.Folder.told c.args.f.now).files (λ from. AreCounted c.args.files.now kind from → ForSome (g.F.Folder.told c.take.new.folder).files (AllocatesIn c.args.files.now kind from (file_selector addr))))
-    (λ addr word used from there counted image now. inl (used from (ap (λ (t : Told). t.files) c.in_ok-found.ensures.stays ∙ there) (markable from there counted) image now).same)
+    (λ addr word used from there counted image now. inl (used from (ap (λ (t : Told). t.files) c.in_ok-found.ensures.reads.stays ∙ there) (markable from there counted) image now).same)
     c.take.ensures.word c.take.ensures.used
 
 pub returns-in-Some-clause-stops : goal.returns-in-Some-clause-stops
@@ -137,14 +137,14 @@ returns-in-Some-clause-stops g c from there counted =
     of_some _ c.in-Some.found _ c.in-Some.is c.in_ok-found.ensures.fit in
     let markable : (i : Image) → (g.F.Folder.told c.args.f.now).files ≡ Some i → AreCounted c.args.files.now kind i → CanBeMarked i c.in-Some.found.place =
     (λ i told counted. fit_takeable c.args.files.now i c.args.kind c.args.blocks c.in-Some.found.place c.requires.block_kind (c.requires.agrees i told) counted place (there_fit i told)) in
-    let told = ap (λ (t : Told). t.files) c.in_ok-found.ensures.stays ∙ there in
+    let told = ap (λ (t : Told). t.files) c.in_ok-found.ensures.reads.stays ∙ there in
     let fit = there_fit from there in
     let w : ℕ = block_word kind c.in-Some.found.place.file c.in-Some.found.place.start c.in-Some.found.place.count in
     let keeps : (i : Image) → MarksUsedInProgress c.in-Some.found.place.file from i → AllocatesInProgress c.args.files.now kind c.args.blocks from i =
     (λ i marks. record { stage = inr (inl (c.in-Some.found.place, fit, marks)); stays = taking_whole c.in-Some.found.place.file from i marks.same marks.longer }) in
     let ends : (i : Image) → MarksUsed c.args.files.now from w i × HasHintAmong c.in-Some.found.place.file c.in-Some.found.i (c.in-Some.found.place.start / 4) from i → AllocatesAtLast c.args.files.now kind c.args.blocks from i =
     (λ i both. let used = both.0 in record { choice = inl (c.in-Some.found.place, fit, subst (λ (k : ℕ). MarksUsed c.args.files.now from (block_word kind c.in-Some.found.place.file c.in-Some.found.place.start k) i) fit.counted used); stays = taking_whole (file_selector w) from i used.same used.longer }) in
-    passes_stayed c.in_ok-found.ensures.stays (passes_weaker (c.take.ensures.stops from told (markable from there counted)) keeps (λ i. ⊎_elim (λ marks. inl (keeps i marks)) (λ used. inr (ends i used))))
+    passes_stayed c.in_ok-found.ensures.reads.stays (passes_weaker (c.take.ensures.stops from told (markable from there counted)) keeps (λ i. ⊎_elim (λ marks. inl (keeps i marks)) (λ used. inr (ends i used))))
 
 pub returns-in-Some-clause-cause : goal.returns-in-Some-clause-cause
 returns-in-Some-clause-cause g c =
@@ -166,11 +166,11 @@ returns-in-Some-clause-untold g c all_counted =
     let markable : (i : Image) → (g.F.Folder.told c.args.f.now).files ≡ Some i → AreCounted c.args.files.now kind i → CanBeMarked i c.in-Some.found.place =
     (λ i told counted. fit_takeable c.args.files.now i c.args.kind c.args.blocks c.in-Some.found.place c.requires.block_kind (c.requires.agrees i told) counted place (there_fit i told)) in
     if_damaged_weaker c.take.result (λ _. ForSome (g.F.Folder.told c.find.new.folder).files (λ image. CanBeMarked image c.in-Some.found.place) → (g.F.Folder.told c.find.new.folder).files ≡ None) (λ _. (g.F.Folder.told c.args.f.now).files ≡ None)
-    (λ damage none. ap (λ (t : Told). t.files) (sym c.in_ok-found.ensures.stays) ∙ none (λ i now. let told = ap (λ (t : Told). t.files) (sym c.in_ok-found.ensures.stays) ∙ now in markable i told (all_counted i told))) c.take.ensures.untold
+    (λ damage none. ap (λ (t : Told). t.files) (sym c.in_ok-found.ensures.reads.stays) ∙ none (λ i now. let told = ap (λ (t : Told). t.files) (sym c.in_ok-found.ensures.reads.stays) ∙ now in markable i told (all_counted i told))) c.take.ensures.untold
 
 pub returns-in-None-clause-counted : goal.returns-in-None-clause-counted
 returns-in-None-clause-counted g c =
-    subst (λ (t : Told). IfOk c.allocate_new.result (λ addr. ForSome t.files (λ from. ForSome (g.F.Folder.told c.allocate_new.new.folder).files (IsCountedOnce c.args.files.now from addr)))) c.in_ok-found.ensures.stays c.allocate_new.ensures.counted
+    subst (λ (t : Told). IfOk c.allocate_new.result (λ addr. ForSome t.files (λ from. ForSome (g.F.Folder.told c.allocate_new.new.folder).files (IsCountedOnce c.args.files.now from addr)))) c.in_ok-found.ensures.reads.stays c.allocate_new.ensures.counted
 
 pub returns-in-None-clause-allocates : goal.returns-in-None-clause-allocates
 returns-in-None-clause-allocates g c =
@@ -178,7 +178,7 @@ returns-in-None-clause-allocates g c =
     IfOk-weaker c.allocate_new.result
     (λ addr. ForSome (g.F.Folder.told c.find.new.folder).files (λ from. AreCounted c.args.files.now kind from → ForSome (g.F.Folder.told c.allocate_new.new.folder).files (λ image. Allocates c.args.files.now from addr image × ExtendsAnd taking_of c.args.files.now kind from (file_selector addr) image)))
     (λ addr. ForSome (g.F.Folder.told c.args.f.now).files (λ from. AreCounted c.args.files.now kind from → ForSome (g.F.Folder.told c.allocate_new.new.folder).files (Allocates c.args.files.now from addr)))
-    (λ addr both from there counted image now. (both from (ap (λ (t : Told). t.files) c.in_ok-found.ensures.stays ∙ there) counted image now).0) c.allocate_new.ensures.allocates
+    (λ addr both from there counted image now. (both from (ap (λ (t : Told). t.files) c.in_ok-found.ensures.reads.stays ∙ there) counted image now).0) c.allocate_new.ensures.allocates
 
 pub returns-in-None-clause-within : goal.returns-in-None-clause-within
 returns-in-None-clause-within g c =
@@ -186,26 +186,26 @@ returns-in-None-clause-within g c =
     IfOk-weaker c.allocate_new.result
     (λ addr. ForSome (g.F.Folder.told c.find.new.folder).files (λ from. AreCounted c.args.files.now kind from → ForSome (g.F.Folder.told c.allocate_new.new.folder).files (λ image. Allocates c.args.files.now from addr image × ExtendsAnd taking_of c.args.files.now kind from (file_selector addr) image)))
     (λ addr. ForSome (g.F.Folder.told c.args.f.now).files (λ from. AreCounted c.args.files.now kind from → ForSome (g.F.Folder.told c.allocate_new.new.folder).files (AllocatesIn c.args.files.now kind from (file_selector addr))))
-    (λ addr both from there counted image now. inr (both from (ap (λ (t : Told). t.files) c.in_ok-found.ensures.stays ∙ there) counted image now).1) c.allocate_new.ensures.allocates
+    (λ addr both from there counted image now. inr (both from (ap (λ (t : Told). t.files) c.in_ok-found.ensures.reads.stays ∙ there) counted image now).1) c.allocate_new.ensures.allocates
 
 pub returns-in-None-clause-stops : goal.returns-in-None-clause-stops
 returns-in-None-clause-stops g c from there counted =
     let kind : ℕ = kind_number c.args.kind in
-    let told = ap (λ (t : Told). t.files) c.in_ok-found.ensures.stays ∙ there in
+    let told = ap (λ (t : Told). t.files) c.in_ok-found.ensures.reads.stays ∙ there in
     let none : HaveNoRoom c.args.files.now kind c.args.blocks from = c.in_ok-found.ensures.full c.in-None.is from there in
     let keeps : (i : Image) → ExtendsInProgress c.args.files.now kind from i × StaysWhole from i → AllocatesInProgress c.args.files.now kind c.args.blocks from i = (λ i extends. record { stage = inr (inr (none, extends.0)); stays = extends.1 }) in
     let ends : (i : Image) → (ExtendsInProgress c.args.files.now kind from i ⊎ ExtendsAndAllocates c.args.files.now kind c.args.blocks from i) × StaysWhole from i → AllocatesOrStops c.args.files.now kind c.args.blocks from i =
     (λ i both. ⊎_elim (λ (midst : ExtendsInProgress c.args.files.now kind from i). inl (keeps i (midst, both.1))) (λ (done : ExtendsAndAllocates c.args.files.now kind c.args.blocks from i). inr (record { choice = inr (none, done); stays = both.1 })) both.0) in
-    passes_stayed c.in_ok-found.ensures.stays (passes_weaker (c.allocate_new.ensures.stops from told counted) keeps ends)
+    passes_stayed c.in_ok-found.ensures.reads.stays (passes_weaker (c.allocate_new.ensures.stops from told counted) keeps ends)
 
 pub returns-in-None-clause-cause : goal.returns-in-None-clause-cause
 returns-in-None-clause-cause g c =
-    subst (λ (t : Told). IfDamaged c.allocate_new.result (IsRefusal c.args.files.now c.allocate_new.new.files (kind_number c.args.kind) c.args.blocks t (g.F.Folder.told c.allocate_new.new.folder))) c.in_ok-found.ensures.stays c.allocate_new.ensures.cause
+    subst (λ (t : Told). IfDamaged c.allocate_new.result (IsRefusal c.args.files.now c.allocate_new.new.files (kind_number c.args.kind) c.args.blocks t (g.F.Folder.told c.allocate_new.new.folder))) c.in_ok-found.ensures.reads.stays c.allocate_new.ensures.cause
 
 pub returns-in-None-clause-untold : goal.returns-in-None-clause-untold
 returns-in-None-clause-untold g c counted =
-    subst (λ (t : Told). IfDamaged c.allocate_new.result (λ _. t.files ≡ None)) c.in_ok-found.ensures.stays
-    (c.allocate_new.ensures.untold (subst (λ (t : Told). ForSome t.files (AreCounted c.args.files.now (kind_number c.args.kind))) (sym c.in_ok-found.ensures.stays) counted))
+    subst (λ (t : Told). IfDamaged c.allocate_new.result (λ _. t.files ≡ None)) c.in_ok-found.ensures.reads.stays
+    (c.allocate_new.ensures.untold (subst (λ (t : Told). ForSome t.files (AreCounted c.args.files.now (kind_number c.args.kind))) (sym c.in_ok-found.ensures.reads.stays) counted))
 
 pub returns-in-None-clause-address : goal.returns-in-None-clause-address
 returns-in-None-clause-address g c = c.allocate_new.ensures.address
@@ -226,7 +226,7 @@ take-requires-clause-small g c = (of_some _ c.in-Some.found _ c.in-Some.is c.in_
 
 pub take-requires-clause-read : goal.take-requires-clause-read
 take-requires-clause-read g c =
-    subst (λ (t : Told). ForSome t.files (λ image. IsMapWord image c.in-Some.found.place.file (c.in-Some.found.place.start / 32) c.in-Some.found.word)) (sym c.in_ok-found.ensures.stays) (of_some _ c.in-Some.found _ c.in-Some.is c.in_ok-found.ensures.word)
+    subst (λ (t : Told). ForSome t.files (λ image. IsMapWord image c.in-Some.found.place.file (c.in-Some.found.place.start / 32) c.in-Some.found.word)) (sym c.in_ok-found.ensures.reads.stays) (of_some _ c.in-Some.found _ c.in-Some.is c.in_ok-found.ensures.word)
 
 pub returns-in-Some-clause-hints : goal.returns-in-Some-clause-hints
 returns-in-Some-clause-hints g c =
@@ -236,7 +236,7 @@ returns-in-Some-clause-hints g c =
     if_ok_on c.take.result (λ addr. addr ≡ block_word (kind_number c.args.kind) c.in-Some.found.place.file c.in-Some.found.place.start c.in-Some.found.place.count) (ForSome (g.F.Folder.told c.find.new.folder).files (λ mid. ForSome (g.F.Folder.told c.take.new.folder).files (HasHintAmong P.file c.in-Some.found.i (P.start / 4) mid)))
     (λ addr. ForSome (g.F.Folder.told c.args.f.now).files (λ from. ForSome (g.F.Folder.told c.take.new.folder).files (SetsHint c.args.files.now kind c.args.blocks from addr)))
     (λ addr word hint from there image now.
-    let set = hint from (ap (λ (t : Told). t.files) c.in_ok-found.ensures.stays ∙ there) image now in
+    let set = hint from (ap (λ (t : Told). t.files) c.in_ok-found.ensures.reads.stays ∙ there) image now in
     let file = ap file_selector word ∙ word_file c.args.files.now c.args.kind c.args.blocks P c.requires.some place in
     let start = ap first_block word ∙ place_start c.args.files.now c.args.kind P (omega (arith, place.counted, c.requires.some)) (subst (λ (k : ℕ). IsPlace c.args.files.now kind k P) (sym place.counted) place) in
     let sought = of_some _ c.in-Some.found _ c.in-Some.is c.in_ok-found.ensures.sought from there in
@@ -288,15 +288,15 @@ returns-in-Some-clause-once g c =
 
 pub returns-in-None-clause-chosen : goal.returns-in-None-clause-chosen
 returns-in-None-clause-chosen g c =
-    subst (λ (t : Told). IfOk c.allocate_new.result (λ addr. ForSome t.files (λ from. IsChosen c.args.files.now from (kind_number c.args.kind) c.args.blocks addr))) c.in_ok-found.ensures.stays c.allocate_new.ensures.chosen
+    subst (λ (t : Told). IfOk c.allocate_new.result (λ addr. ForSome t.files (λ from. IsChosen c.args.files.now from (kind_number c.args.kind) c.args.blocks addr))) c.in_ok-found.ensures.reads.stays c.allocate_new.ensures.chosen
 
 pub returns-in-None-clause-hints : goal.returns-in-None-clause-hints
 returns-in-None-clause-hints g c =
-    subst (λ (t : Told). IfOk c.allocate_new.result (λ addr. ForSome t.files (λ from. ForSome (g.F.Folder.told c.allocate_new.new.folder).files (SetsHint c.args.files.now (kind_number c.args.kind) c.args.blocks from addr)))) c.in_ok-found.ensures.stays c.allocate_new.ensures.hints
+    subst (λ (t : Told). IfOk c.allocate_new.result (λ addr. ForSome t.files (λ from. ForSome (g.F.Folder.told c.allocate_new.new.folder).files (SetsHint c.args.files.now (kind_number c.args.kind) c.args.blocks from addr)))) c.in_ok-found.ensures.reads.stays c.allocate_new.ensures.hints
 
 pub returns-in-None-clause-once : goal.returns-in-None-clause-once
 returns-in-None-clause-once g c =
     IfOk-weaker c.allocate_new.result
     (λ addr. ForSome (g.F.Folder.told c.find.new.folder).files (λ from. LiesAtHint c.args.files.now c.allocate_new.new.files (kind_number c.args.kind) c.args.blocks from addr → c.allocate_new.new.steps ≡ c.find.new.steps + 1))
     (λ addr. ForSome (g.F.Folder.told c.args.f.now).files (λ from. LiesAtHint c.args.files.now c.allocate_new.new.files (kind_number c.args.kind) c.args.blocks from addr → c.allocate_new.new.steps ≡ c.args.steps.now + 1))
-    (λ addr once from there lies. let counts = once from (ap (λ (t : Told). t.files) c.in_ok-found.ensures.stays ∙ there) lies in let none = c.in_ok-found.ensures.none c.in-None.is in omega (arith, counts, none)) c.allocate_new.ensures.once
+    (λ addr once from there lies. let counts = once from (ap (λ (t : Told). t.files) c.in_ok-found.ensures.reads.stays ∙ there) lies in let none = c.in_ok-found.ensures.none c.in-None.is in omega (arith, counts, none)) c.allocate_new.ensures.once

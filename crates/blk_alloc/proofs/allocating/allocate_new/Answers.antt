@@ -79,12 +79,12 @@ find_by_hint-requires g c =
       number = fits.number;
       linked = fits.linked;
       counts = few_groups c.in_ok-room.room.start (blocks_of c.new_room.new.files n) _ c.in_ok-room.ensures.whole whole.0 fits.below (ap (λ (b : ℕ). (b - c.in_ok-room.room.start) / 4) same);
-      counted = told_at_end (g.F.Folder.told c.args.folder.now).files (g.F.Folder.told c.new_room.new.folder).files (λ mid. (c.blocks_in.result - c.in_ok-room.room.start) / 4 ≡ empty_of (byte mid (Block n)) 3) c.in_ok-room.ensures.silent
+      counted = told_at_end (g.F.Folder.told c.args.folder.now).files (g.F.Folder.told c.new_room.new.folder).files (λ mid. (c.blocks_in.result - c.in_ok-room.room.start) / 4 ≡ empty_of (byte mid (Block n)) 3) c.in_ok-room.ensures.writes.silent
           (λ from there mid now. ap (λ (b : ℕ). (b - c.in_ok-room.room.start) / 4) same ∙ sym (c.in_ok-room.ensures.raised from there mid now));
     }
 
 pub take-requires-clause-agrees : goal.take-requires-clause-agrees
-take-requires-clause-agrees g c = subst (λ (t : Told). ForSome t.files (Agrees c.new_room.new.files)) (sym c.in_ok-found.ensures.stays) c.in_ok-room.ensures.agrees
+take-requires-clause-agrees g c = subst (λ (t : Told). ForSome t.files (Agrees c.new_room.new.files)) (sym c.in_ok-found.ensures.reads.stays) c.in_ok-room.ensures.agrees
 
 pub returns-in_err-room-clause-stops : goal.returns-in_err-room-clause-stops
 returns-in_err-room-clause-stops g c from there counted =
@@ -103,7 +103,7 @@ returns-in_err-room-clause-untold g c counted =
 pub returns-in_err-found-clause-stops : goal.returns-in_err-found-clause-stops
 returns-in_err-found-clause-stops g c from there counted =
     let keeps = room_moment c.args.files.now (kind_number c.args.kind) from in
-    subst (λ (t : Told). PassesTo (g.F.Folder.told c.args.folder.now) t (λ image. ExtendsInProgress c.args.files.now (kind_number c.args.kind) from image × StaysWhole from image) (λ image. (ExtendsInProgress c.args.files.now (kind_number c.args.kind) from image ⊎ ExtendsAndAllocates c.args.files.now (kind_number c.args.kind) c.args.count from image) × StaysWhole from image)) (sym c.in_err-found.ensures.stays)
+    subst (λ (t : Told). PassesTo (g.F.Folder.told c.args.folder.now) t (λ image. ExtendsInProgress c.args.files.now (kind_number c.args.kind) from image × StaysWhole from image) (λ image. (ExtendsInProgress c.args.files.now (kind_number c.args.kind) from image ⊎ ExtendsAndAllocates c.args.files.now (kind_number c.args.kind) c.args.count from image) × StaysWhole from image)) (sym c.in_err-found.ensures.reads.stays)
     (passes_weaker (c.in_ok-room.ensures.stops from there) keeps (λ i room. (inl (keeps i room).0, (keeps i room).1)))
 
 pub returns-in_err-found-clause-untold : goal.returns-in_err-found-clause-untold
@@ -113,7 +113,7 @@ returns-in_err-found-clause-untold g c counted =
     carried c.find_by_hint.result c.from_residual-in_err-found.result c.in_err-found.field-0.0 _ c.in_err-found.was c.from_residual-in_err-found.ensures.1
     (if_damaged_weaker c.find_by_hint.result (λ _. (g.F.Folder.told c.new_room.new.folder).files ≡ None) (λ _. (g.F.Folder.told c.args.folder.now).files ≡ None)
     (λ damage none. untold_before (MakesRoomInProgress c.args.files.now (kind_number c.args.kind)) c.in_ok-room.ensures.stops none)
-    (c.find_by_hint.ensures.untold (told_at_end (g.F.Folder.told c.args.folder.now).files (g.F.Folder.told c.new_room.new.folder).files T c.in_ok-room.ensures.silent
+    (c.find_by_hint.ensures.untold (told_at_end (g.F.Folder.told c.args.folder.now).files (g.F.Folder.told c.new_room.new.folder).files T c.in_ok-room.ensures.writes.silent
     (λ from there mid now. (c.in_ok-room.ensures.agrees mid now, (c.in_ok-room.ensures.made from there (counted from there) mid now).takeable.ready.empty)))))
 
 pub returns-clause-kind : goal.returns-clause-kind
@@ -147,7 +147,7 @@ returns-clause-counted g c =
     (λ addr. ForSome (g.F.Folder.told c.args.folder.now).files (λ from. ForSome (g.F.Folder.told c.take.new.folder).files (IsCountedOnce c.args.files.now from addr)))
     (λ addr word counted from there image now.
     let mid = told_later (c.in_ok-room.ensures.stops from there) there in
-    let here = ap (λ (t : Told). t.files) c.in_ok-found.ensures.stays ∙ mid.1 in
+    let here = ap (λ (t : Told). t.files) c.in_ok-found.ensures.reads.stays ∙ mid.1 in
     let file = ap file_selector word ∙ word_file c.new_room.new.files c.args.kind c.args.count P c.requires.some is_place in
     let same_file = c.in_ok-found.ensures.file.0 in
     subst (λ (m : ℕ). is_among (all_files c.args.files.now) m ≡ true → IsCounted true (allocations_of (byte from (Block m))) (allocations_of (byte image (Block m)))) (sym file)
@@ -194,7 +194,7 @@ returns-clause-hints g c =
     (λ addr. ForSome (g.F.Folder.told c.args.folder.now).files (λ from. ForSome (g.F.Folder.told c.take.new.folder).files (SetsHint c.args.files.now (kind_number c.args.kind) c.args.count from addr)))
     (λ addr word hint from there image now.
     let mid = told_later (c.in_ok-room.ensures.stops from there) there in
-    let here = ap (λ (t : Told). t.files) c.in_ok-found.ensures.stays ∙ mid.1 in
+    let here = ap (λ (t : Told). t.files) c.in_ok-found.ensures.reads.stays ∙ mid.1 in
     let file = ap file_selector word ∙ word_file c.new_room.new.files c.args.kind c.args.count P c.requires.some is_place ∙ c.in_ok-found.ensures.file.0 in
     let start = ap first_block word ∙ place_start c.new_room.new.files c.args.kind P (omega (arith, is_place.counted, c.requires.some)) (fits_there c.new_room.new.files (kind_number c.args.kind) c.args.count P.count P (sym is_place.counted) is_place) in
     let set : HasHintAmong c.in_ok-room.room.file 3 (P.start / 4) mid.0 image = subst (λ (h : ℕ). HasHintAmong c.in_ok-room.room.file h (P.start / 4) mid.0 image) c.in_ok-found.ensures.file.1 (subst (λ (n : ℕ). HasHintAmong n c.in_ok-found.found.i (P.start / 4) mid.0 image) c.in_ok-found.ensures.file.0 (hint mid.0 here image now)) in
@@ -228,7 +228,7 @@ returns-clause-allocates g c =
     (λ addr. ForSome (g.F.Folder.told c.args.folder.now).files (λ from. AreCounted c.args.files.now kind from → ForSome (g.F.Folder.told c.take.new.folder).files (λ image. Allocates c.args.files.now from addr image × ExtendsAnd taking_of c.args.files.now kind from (file_selector addr) image)))
     (λ addr word taken hint from there counted image now.
     let mid = told_later (c.in_ok-room.ensures.stops from there) there in
-    let here = ap (λ (t : Told). t.files) c.in_ok-found.ensures.stays ∙ mid.1 in
+    let here = ap (λ (t : Told). t.files) c.in_ok-found.ensures.reads.stays ∙ mid.1 in
     let own = ap file_selector word ∙ word_file c.new_room.new.files c.args.kind c.args.count P c.requires.some is_place in
     let file = own ∙ c.in_ok-found.ensures.file.0 in
     let made = c.in_ok-room.ensures.made from there counted mid.0 mid.1 in
@@ -251,7 +251,7 @@ returns-clause-stops g c from there counted =
     let kind : ℕ = kind_number c.args.kind in
     let old = c.args.files.now in
     let mid = told_later (c.in_ok-room.ensures.stops from there) there in
-    let here = ap (λ (t : Told). t.files) c.in_ok-found.ensures.stays ∙ mid.1 in
+    let here = ap (λ (t : Told). t.files) c.in_ok-found.ensures.reads.stays ∙ mid.1 in
     let stays = (passes_end (c.in_ok-room.ensures.stops from there) mid.0 mid.1).stays in
     let made = c.in_ok-room.ensures.made from there counted mid.0 mid.1 in
     let can = can_take c.args.files.now c.new_room.new.files c.args.kind c.requires.block_kind c.args.count c.requires.some c.requires.few c.in_ok-room.room P from mid.0 is_place c.in_ok-found.ensures.file.0 (c.requires.full from there) (c.in_ok-room.ensures.marks from there mid.0 mid.1) (c.in_ok-room.ensures.hints from there mid.0 mid.1) c.in_ok-room.ensures.grown (c.in_ok-room.ensures.fresh from there mid.0 mid.1)
@@ -273,7 +273,7 @@ returns-clause-stops g c from there counted =
     (given_made old c.new_room.new.files from mid.0 i P w own c.in_ok-room.ensures.all extended used (no_hints c.args.files.now c.new_room.new.files c.args.kind c.requires.block_kind c.args.count c.requires.some c.requires.few c.in_ok-room.room P from mid.0 is_place c.in_ok-found.ensures.file.0 (c.requires.full from there) (c.in_ok-room.ensures.marks from there mid.0 mid.1) (c.in_ok-room.ensures.hints from there mid.0 mid.1) c.in_ok-room.ensures.grown (c.in_ok-room.ensures.fresh from there mid.0 mid.1)
     (subst (λ (m : ℕ). IsByHint mid.0 c.in_ok-room.room.file (groups_of (blocks_of c.new_room.new.files c.in_ok-room.room.file)) m 3 P.start) c.in_ok-room.ensures.fits.counted (c.in_ok-found.ensures.found mid.0 mid.1)) i w (own ∙ c.in_ok-found.ensures.file.0) set))) in
     passes_then (passes_weaker (c.in_ok-room.ensures.stops from there) first first)
-    (passes_stayed c.in_ok-found.ensures.stays
+    (passes_stayed c.in_ok-found.ensures.reads.stays
     (passes_weaker (c.take.ensures.stops mid.0 here can) keeps (λ i. ⊎_elim (λ marks. (inl (keeps i marks).0, (keeps i marks).1)) (λ used. (inr (ends i used).0, (ends i used).1)))))
 
 pub returns-clause-untold : goal.returns-clause-untold
@@ -288,4 +288,4 @@ returns-clause-untold g c counted =
     can_take c.args.files.now c.new_room.new.files c.args.kind c.requires.block_kind c.args.count c.requires.some c.requires.few c.in_ok-room.room P from mid.0 is_place c.in_ok-found.ensures.file.0 (c.requires.full from there) (c.in_ok-room.ensures.marks from there mid.0 mid.1) (c.in_ok-room.ensures.hints from there mid.0 mid.1) c.in_ok-room.ensures.grown (c.in_ok-room.ensures.fresh from there mid.0 mid.1)
     (subst (λ (m : ℕ). IsByHint mid.0 c.in_ok-room.room.file (groups_of (blocks_of c.new_room.new.files c.in_ok-room.room.file)) m 3 P.start) c.in_ok-room.ensures.fits.counted (c.in_ok-found.ensures.found mid.0 mid.1)) (c.in_ok-room.ensures.agrees mid.0 mid.1) (member_all c.new_room.new.files c.args.kind c.in_ok-room.room.file c.requires.block_kind c.in_ok-room.ensures.fits.linked) (c.in_ok-room.ensures.made from there (counted from there) mid.0 mid.1).takeable) in
     if_damaged_weaker c.take.result (λ _. ForSome (g.F.Folder.told c.find_by_hint.new.folder).files (λ mid. CanBeMarked mid P) → (g.F.Folder.told c.find_by_hint.new.folder).files ≡ None) (λ _. (g.F.Folder.told c.args.folder.now).files ≡ None)
-    (λ damage none. start (subst (λ (t : Told). ForSome t.files (λ mid. CanBeMarked mid P) → t.files ≡ None) c.in_ok-found.ensures.stays none)) c.take.ensures.untold
+    (λ damage none. start (subst (λ (t : Told). ForSome t.files (λ mid. CanBeMarked mid P) → t.files ≡ None) c.in_ok-found.ensures.reads.stays none)) c.take.ensures.untold

@@ -108,12 +108,12 @@ returns-in-Some-clause-links g c = lists_links c.args.files.now c.grow_room.new.
 
 pub returns-in_err-damage-clause-stops : goal.returns-in_err-damage-clause-stops
 returns-in_err-damage-clause-stops g c from there =
-    passes_none (MakesRoomInProgress c.args.files.now (kind_number c.args.kind) from) c.in_err-damage.ensures.stays
+    passes_none (MakesRoomInProgress c.args.files.now (kind_number c.args.kind) from) c.in_err-damage.ensures.reads.stays
     (λ image is. subst (MakesRoomInProgress c.args.files.now (kind_number c.args.kind) from) (some_inj (sym there ∙ is)) (no_moment c.args.files.now (kind_number c.args.kind) from c.in_default.ensures))
 
 pub returns-then-count-ge-MOST_FILES-clause-stops : goal.returns-then-count-ge-MOST_FILES-clause-stops
 returns-then-count-ge-MOST_FILES-clause-stops g c from there =
-    passes_none (MakesRoomInProgress c.args.files.now (kind_number c.args.kind) from) c.in_ok-damage.ensures.stays
+    passes_none (MakesRoomInProgress c.args.files.now (kind_number c.args.kind) from) c.in_ok-damage.ensures.reads.stays
     (λ image is. subst (MakesRoomInProgress c.args.files.now (kind_number c.args.kind) from) (some_inj (sym there ∙ is)) (no_moment c.args.files.now (kind_number c.args.kind) from c.in_default.ensures))
 
 pub returns-in_err-damage-clause-cause : goal.returns-in_err-damage-clause-cause

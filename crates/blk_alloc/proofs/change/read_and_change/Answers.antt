@@ -1,4 +1,4 @@
-use Rattle.std.proofs.Common.{◌≡◌, ℕ, ◌+◌, ◌*◌, inl, inr, refl, None, sym, ◌∙◌, ap, subst, arith}
+use Rattle.std.proofs.Common.{◌≡◌, ℕ, ◌+◌, ◌*◌, inl, inr, refl, None, sym, ◌∙◌, ap, subst, arith, rules}
 use Rattle.std.specs.Prelude.{OnOk}
 use Rattle.std.specs.Option.{ForSome}
 use Rattle.spec_image.specs.Bytes.{range_at}
@@ -15,19 +15,19 @@ use Rattle.blk_alloc.proofs.Changing.{midst_begin}
 use Rattle.blk_alloc.proofs.change.read_and_change.Goals as goal
 
 pub change-requires-clause-header : goal.change-requires-clause-header
-change-requires-clause-header g c image there = c.requires.header image (ap (λ (t : Told). t.files) (sym c.in_ok-read_exact.ensures.stays) ∙ there)
+change-requires-clause-header g c image there = c.requires.header image (ap (λ (t : Told). t.files) (sym c.in_ok-read_exact.ensures.reads.stays) ∙ there)
 
 pub change-requires-clause-inside : goal.change-requires-clause-inside
-change-requires-clause-inside g c image there = c.requires.inside image (ap (λ (t : Told). t.files) (sym c.in_ok-read_exact.ensures.stays) ∙ there)
+change-requires-clause-inside g c image there = c.requires.inside image (ap (λ (t : Told). t.files) (sym c.in_ok-read_exact.ensures.reads.stays) ∙ there)
 
 pub change-requires-clause-word : goal.change-requires-clause-word
 change-requires-clause-word g c image there =
-    c.word_of-word.ensures ∙ c.in_ok-read_exact.ensures.bytes image (ap (λ (t : Told). t.files) (sym c.in_ok-read_exact.ensures.stays) ∙ there)
+    c.word_of-word.ensures ∙ c.in_ok-read_exact.ensures.bytes image (ap (λ (t : Told). t.files) (sym c.in_ok-read_exact.ensures.reads.stays) ∙ there)
     ∙ ap (λ (k : ℕ). range_at (byte image (Block c.args.file)) (80 + 4 * k) 4) c.from.ensures
 
 pub returns-in_err-read_exact-clause-stops : goal.returns-in_err-read_exact-clause-stops
 returns-in_err-read_exact-clause-stops g c from there =
-    passes_to (passes_none (IsMapInProgress c.args.file from) c.in_err-read_exact.ensures.stays (λ image is. subst (IsMapInProgress c.args.file from) (some_inj (sym there ∙ is)) (midst_begin c.args.file from)))
+    passes_to (passes_none (IsMapInProgress c.args.file from) c.in_err-read_exact.ensures.reads.stays (λ image is. subst (IsMapInProgress c.args.file from) (some_inj (sym there ∙ is)) (midst_begin c.args.file from)))
     (λ image midst. inl midst)
 
 pub returns-in_err-read_exact-clause-cause : goal.returns-in_err-read_exact-clause-cause
@@ -45,20 +45,24 @@ returns-in_err-read_exact-clause-untold g c =
 
 pub returns-clause-changed : goal.returns-clause-changed
 returns-clause-changed g c =
-    subst (λ (t : Told). OnOk c.change.result (ForSome t.files (λ from. ForSome (g.F.Folder.told c.change.new.folder).files (IsChanged from c.args.file c.args.start c.args.count c.args.used)))) c.in_ok-read_exact.ensures.stays c.change.ensures.changed
+    subst (λ (t : Told). OnOk c.change.result (ForSome t.files (λ from. ForSome (g.F.Folder.told c.change.new.folder).files (IsChanged from c.args.file c.args.start c.args.count c.args.used)))) c.in_ok-read_exact.ensures.reads.stays c.change.ensures.changed
 
 pub returns-clause-stops : goal.returns-clause-stops
-returns-clause-stops g c from there = passes_stayed c.in_ok-read_exact.ensures.stays (c.change.ensures.stops from (ap (λ (t : Told). t.files) c.in_ok-read_exact.ensures.stays ∙ there))
+returns-clause-stops g c from there = passes_stayed c.in_ok-read_exact.ensures.reads.stays (c.change.ensures.stops from (ap (λ (t : Told). t.files) c.in_ok-read_exact.ensures.reads.stays ∙ there))
 
 pub returns-clause-cause : goal.returns-clause-cause
-returns-clause-cause g c = subst (λ (t : Told). IfDamaged c.change.result (IsCause t c.args.file c.args.start c.args.count c.args.used)) c.in_ok-read_exact.ensures.stays c.change.ensures.cause
+returns-clause-cause g c = subst (λ (t : Told). IfDamaged c.change.result (IsCause t c.args.file c.args.start c.args.count c.args.used)) c.in_ok-read_exact.ensures.reads.stays c.change.ensures.cause
 
 pub returns-clause-unwritten : goal.returns-clause-unwritten
-returns-clause-unwritten g c = subst (λ (t : Told). IfDamaged c.change.result (λ _. Stays t (g.F.Folder.told c.change.new.folder))) c.in_ok-read_exact.ensures.stays c.change.ensures.unwritten
+returns-clause-unwritten g c = subst (λ (t : Told). IfDamaged c.change.result (λ _. Stays t (g.F.Folder.told c.change.new.folder))) c.in_ok-read_exact.ensures.reads.stays c.change.ensures.unwritten
 
 pub returns-clause-untold : goal.returns-clause-untold
 returns-clause-untold g c =
-    subst (λ (t : Told). IfDamaged c.change.result (λ _. ForSome t.files (λ image. CanChangeMarks image c.args.file c.args.start c.args.count c.args.used) → t.files ≡ None)) c.in_ok-read_exact.ensures.stays c.change.ensures.untold
+    subst (λ (t : Told). IfDamaged c.change.result (λ _. ForSome t.files (λ image. CanChangeMarks image c.args.file c.args.start c.args.count c.args.used) → t.files ≡ None)) c.in_ok-read_exact.ensures.reads.stays c.change.ensures.untold
 
-pub returns-clause-silent : goal.returns-clause-silent
-returns-clause-silent g c none = c.change.ensures.silent (ap (λ (t : Told). t.files) c.in_ok-read_exact.ensures.stays ∙ none)
+pub returns-clause-writes : goal.returns-clause-writes
+returns-clause-writes g c = record {
+  silent = λ none. c.change.ensures.writes.silent (ap (λ (t : Told). t.files) c.in_ok-read_exact.ensures.reads.stays ∙ none);
+  later = omega arith;
+  failed = search rules;
+}

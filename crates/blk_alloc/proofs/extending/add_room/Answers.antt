@@ -1,4 +1,4 @@
-use Rattle.std.proofs.Common.{◌≡◌, ℕ, ◌+◌, ◌%◌, ◌^◌, [], None, true, false, sym, ◌∙◌, ap, subst}
+use Rattle.std.proofs.Common.{◌≡◌, ℕ, ◌+◌, ◌%◌, ◌^◌, [], None, true, false, sym, ◌∙◌, ap, subst, arith, rules}
 use Rattle.std.specs.Option.{option_map}
 use Rattle.spec_image.specs.Image.{Block, Image, byte}
 use Rattle.spec_image.specs.Steps.{after}
@@ -98,14 +98,26 @@ returns-clause-hints g c from there image last =
     let file = added_file c.args.files.now from c.args.kind c.requires.block_kind (c.requires.agrees from there) c.requires.room least in
     grown_hints c.in_ok-file.file n mid image (passes_end (c.in_ok-place.ensures.stops mid now) image last).outside (new_hints mid kind n file)
 
-pub returns-in_err-file-clause-silent : goal.returns-in_err-file-clause-silent
-returns-in_err-file-clause-silent g c none = silent_part c.in_err-file.ensures.prefix none
+pub returns-in_err-file-clause-writes : goal.returns-in_err-file-clause-writes
+returns-in_err-file-clause-writes g c = record {
+  silent = silent_part c.in_err-file.ensures.prefix;
+  later = omega arith;
+  failed = search rules;
+}
 
-pub returns-in_err-place-clause-silent : goal.returns-in_err-place-clause-silent
-returns-in_err-place-clause-silent g c none = c.in_err-place.ensures.silent (silent_part c.in_ok-file.ensures.prefix none)
+pub returns-in_err-place-clause-writes : goal.returns-in_err-place-clause-writes
+returns-in_err-place-clause-writes g c = record {
+  silent = λ none. c.in_err-place.ensures.writes.silent (silent_part c.in_ok-file.ensures.prefix none);
+  later = omega arith;
+  failed = search rules;
+}
 
-pub returns-clause-silent : goal.returns-clause-silent
-returns-clause-silent g c none = c.in_ok-place.ensures.silent (silent_part c.in_ok-file.ensures.prefix none)
+pub returns-clause-writes : goal.returns-clause-writes
+returns-clause-writes g c = record {
+  silent = λ none. c.in_ok-place.ensures.writes.silent (silent_part c.in_ok-file.ensures.prefix none);
+  later = omega arith;
+  failed = search rules;
+}
 
 pub returns-in_err-file-clause-standing : goal.returns-in_err-file-clause-standing
 returns-in_err-file-clause-standing g c = standing_same c.args.files.now c.add_file.new.self c.in_err-file.ensures.same

@@ -60,8 +60,8 @@ loop-k-preserved g c = record {
       let none : HasNoRoom image c.args.count c.in-Some.file = c.in_ok-found.ensures.full c.in_default-2.is image (ap (λ (t : Told). t.files) c.loop-k.invariant.stays ∙ told) in
       All-more (HasNoRoom image c.args.count) files c.loop-k.k 0 place.0 (c.loop-k.invariant.full image told) (subst (HasNoRoom image c.args.count) (sym (place.1 0)) none);
   none = c.in_ok-found.ensures.none c.in_default-2.is ∙ c.loop-k.invariant.none;
-  stays = c.in_ok-found.ensures.stays ∙ c.loop-k.invariant.stays;
-  later = let one = c.loop-k.invariant.later in let other = c.in_ok-found.ensures.later in omega (arith, one, other);
+  stays = c.in_ok-found.ensures.reads.stays ∙ c.loop-k.invariant.stays;
+  later = let one = c.loop-k.invariant.later in let other = c.in_ok-found.ensures.reads.later in omega (arith, one, other);
 }
 
 pub returns-clause-full : goal.returns-clause-full

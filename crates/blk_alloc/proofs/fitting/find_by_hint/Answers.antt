@@ -42,7 +42,7 @@ first_met-requires g c = record { linked = member_all c.args.files.now c.args.ki
 pub returns-in_err-group-clause-untold : goal.returns-in_err-group-clause-untold
 returns-in_err-group-clause-untold g c both =
     carried c.first_met.result c.from_residual-in_err-group.result c.in_err-group.field-0.0 _ c.in_err-group.was c.from_residual-in_err-group.ensures.1
-    (subst (λ (t : Told). ForSome t.files (Agrees c.args.files.now) → IfDamaged c.first_met.result (λ _. t.files ≡ None)) c.in_ok-hint.ensures.stays c.first_met.ensures.untold (λ image there. (both image there).0))
+    (subst (λ (t : Told). ForSome t.files (Agrees c.args.files.now) → IfDamaged c.first_met.result (λ _. t.files ≡ None)) c.in_ok-hint.ensures.reads.stays c.first_met.ensures.untold (λ image there. (both image there).0))
 
 pub returns-in_default-clause-untold : goal.returns-in_default-clause-untold
 returns-in_default-clause-untold g c both =
@@ -54,7 +54,7 @@ returns-in_default-clause-untold g c both =
     let blocks = agrees.blocks n all in
     let counted = c.requires.counted image there in
     counted_somewhere image n c.args.i (both image there).1 c.requires.small (omega (arith, counted, c.requires.counts))
-    (λ h small. c.in_ok-group.ensures.none c.in_default.is image (ap (λ (t : Told). t.files) c.in_ok-hint.ensures.stays ∙ there) h (omega (arith, small, blocks))))
+    (λ h small. c.in_ok-group.ensures.none c.in_default.is image (ap (λ (t : Told). t.files) c.in_ok-hint.ensures.reads.stays ∙ there) h (omega (arith, small, blocks))))
 
 pub least_of_group-requires-clause-room : goal.least_of_group-requires-clause-room
 least_of_group-requires-clause-room g c =
@@ -82,7 +82,7 @@ overflow_add-start g c =
 
 pub returns-clause-found : goal.returns-clause-found
 returns-clause-found g c image there =
-    let now = ap (λ (t : Told). t.files) c.in_ok-hint.ensures.stays ∙ there in
+    let now = ap (λ (t : Told). t.files) c.in_ok-hint.ensures.reads.stays ∙ there in
     let place = of_some c.in_ok-group.field-0 c.in-Some.group _ c.in-Some.is c.in_ok-group.ensures.place in
     let hint = c.in_ok-hint.ensures.word image there ∙ ap (λ (k : ℕ). word_at (byte image (Block c.args.blocks.file)) (40 + 4 * k)) c.from.ensures in
     by_hint image c.args.blocks.file (blocks_of c.args.files.now c.args.blocks.file / 4) c.args.blocks.count c.args.i c.in_ok-hint.hint c.in-Some.group.number c.in-Some.group.place c.in-Some.group.word c.least_of_group.result c.to_le_bytes-bytes.result
@@ -90,7 +90,7 @@ returns-clause-found g c image there =
 
 pub returns-clause-word : goal.returns-clause-word
 returns-clause-word g c image there =
-    let now = ap (λ (t : Told). t.files) c.in_ok-hint.ensures.stays ∙ there in
+    let now = ap (λ (t : Told). t.files) c.in_ok-hint.ensures.reads.stays ∙ there in
     let place = of_some c.in_ok-group.field-0 c.in-Some.group _ c.in-Some.is c.in_ok-group.ensures.place in
     let at = c.least_of_group.ensures.group in
     let number : c.in-Some.group.number ≡ (32 * c.in-Some.group.number + c.least_of_group.result) / 32 = omega (arith, at, place.0) in

@@ -21,11 +21,11 @@ returns-in_err-counters-clause-untold g c both =
 pub returns-in_err-found-clause-untold : goal.returns-in_err-found-clause-untold
 returns-in_err-found-clause-untold g c both =
     carried c.find_by_hint.result c.from_residual-in_err-found.result c.in_err-found.field-0.0 _ c.in_err-found.was c.from_residual-in_err-found.ensures.1
-    (subst (λ (t : Told). ForSome t.files (λ image. Agrees c.args.files.now image × EmptyAgrees image c.args.file) → IfDamaged c.find_by_hint.result (λ _. t.files ≡ None)) c.in_ok-counters.ensures.stays c.find_by_hint.ensures.untold both)
+    (subst (λ (t : Told). ForSome t.files (λ image. Agrees c.args.files.now image × EmptyAgrees image c.args.file) → IfDamaged c.find_by_hint.result (λ _. t.files ≡ None)) c.in_ok-counters.ensures.reads.stays c.find_by_hint.ensures.untold both)
 
 pub returns-clause-fit : goal.returns-clause-fit
 returns-clause-fit g c image there =
-    let now = ap (λ (t : Told). t.files) c.in_ok-counters.ensures.stays ∙ there in
+    let now = ap (λ (t : Told). t.files) c.in_ok-counters.ensures.reads.stays ∙ there in
     let are = c.in_ok-counters.ensures.counters image there in
     let sought = c.in-Some.ensures.sought in
     let i_is = c.in_ok-found.ensures.file.1 in

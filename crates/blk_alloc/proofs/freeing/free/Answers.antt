@@ -69,7 +69,7 @@ returns-clause-stops g c from there =
 pub returns-clause-agrees : goal.returns-clause-agrees
 returns-clause-agrees g c =
     let b = c.blocks_of-blocks in
-    told_at_end (g.F.Folder.told c.args.f.now).files (g.F.Folder.told c.read_and_change.new.folder).files (Agrees c.args.files.now) c.read_and_change.ensures.silent
+    told_at_end (g.F.Folder.told c.args.f.now).files (g.F.Folder.told c.read_and_change.new.folder).files (Agrees c.args.files.now) c.read_and_change.ensures.writes.silent
     (λ from there. let keeps : (i : Image) → SameOutside (map_of b.result.file) from i → Agrees c.args.files.now i = λ i same. agrees_kept b.result.file from i same c.args.files.now (c.requires.agrees from there) in
     passes_end (passes_weaker (c.read_and_change.ensures.stops from there) (λ i midst. keeps i midst.same) (λ i. ⊎_elim (λ midst. keeps i midst.same) (λ changed. keeps i changed.same))))
 

@@ -45,7 +45,7 @@ change-requires-clause-inside g c mid now = in_map c.args.place.start c.args.pla
 
 pub returns-in_err-change-clause-agrees : goal.returns-in_err-change-clause-agrees
 returns-in_err-change-clause-agrees g c =
-    told_at_end (g.F.Folder.told c.fit.new.f).files (g.F.Folder.told c.change.new.folder).files (Agrees c.fit.new.self) c.in_err-change.ensures.silent
+    told_at_end (g.F.Folder.told c.fit.new.f).files (g.F.Folder.told c.change.new.folder).files (Agrees c.fit.new.self) c.in_err-change.ensures.writes.silent
     (λ mid now. let keeps : (i : Image) → SameOutside (map_of c.args.place.file) mid i → Agrees c.fit.new.self i = λ i same. agrees_kept c.args.place.file mid i same c.fit.new.self (c.in_ok-fit.ensures.agrees mid now) in
     passes_end (passes_weaker (c.in_err-change.ensures.stops mid now) (λ i midst. keeps i midst.same) (λ i. ⊎_elim (λ midst. keeps i midst.same) (λ changed. keeps i changed.same))))
 
@@ -57,7 +57,7 @@ returns-in_err-change-clause-stops g c from there takeable =
 
 pub returns-clause-agrees : goal.returns-clause-agrees
 returns-clause-agrees g c =
-    told_at_end (g.F.Folder.told c.fit.new.f).files (g.F.Folder.told c.change.new.folder).files (Agrees c.fit.new.self) c.in_ok-change.ensures.silent
+    told_at_end (g.F.Folder.told c.fit.new.f).files (g.F.Folder.told c.change.new.folder).files (Agrees c.fit.new.self) c.in_ok-change.ensures.writes.silent
     (λ mid now. let keeps : (i : Image) → SameOutside (map_of c.args.place.file) mid i → Agrees c.fit.new.self i = λ i same. agrees_kept c.args.place.file mid i same c.fit.new.self (c.in_ok-fit.ensures.agrees mid now) in
     passes_end (passes_weaker (c.in_ok-change.ensures.stops mid now) (λ i midst. keeps i midst.same) (λ i. ⊎_elim (λ midst. keeps i midst.same) (λ changed. keeps i changed.same))))
 

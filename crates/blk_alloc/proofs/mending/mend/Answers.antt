@@ -46,7 +46,7 @@ returns-in_err-mend_word-clause-stops g c from there stands =
     (part_more (Block c.args.file) c.args.at c.args.new.now (take (4 * c.loop-k.k + 4 - 4 * c.loop-k.k) (drop (4 * c.loop-k.k) c.args.new.now)) c.loop-k.k from mid (c.loop-k.invariant.so_far from there stands mid now) (word_is c.args.new.now c.loop-k.k c.loop-k-test.true) (omega (arith, c.loop-k-test.true))))
 
 pub returns-in_err-mend_word-clause-long : goal.returns-in_err-mend_word-clause-long
-returns-in_err-mend_word-clause-long g c = long_then (g.F.Folder.told c.args.folder.now).files (g.F.Folder.told c.loop-k.folder).files (g.F.Folder.told c.mend_word.new.folder).files (Block c.args.file) c.in_err-mend_word.ensures.silent c.loop-k.invariant.long c.in_err-mend_word.ensures.long
+returns-in_err-mend_word-clause-long g c = long_then (g.F.Folder.told c.args.folder.now).files (g.F.Folder.told c.loop-k.folder).files (g.F.Folder.told c.mend_word.new.folder).files (Block c.args.file) c.in_err-mend_word.ensures.writes.silent c.loop-k.invariant.long c.in_err-mend_word.ensures.long
 
 pub loop-k-preserved : goal.loop-k-preserved
 loop-k-preserved g c = record {
@@ -58,11 +58,11 @@ loop-k-preserved g c = record {
       (part_more (Block c.args.file) c.args.at c.args.new.now (take (4 * c.loop-k.k + 4 - 4 * c.loop-k.k) (drop (4 * c.loop-k.k) c.args.new.now)) c.loop-k.k from mid (c.loop-k.invariant.so_far from there stands mid now) (word_is c.args.new.now c.loop-k.k c.loop-k-test.true) (omega (arith, c.loop-k-test.true))));
   so_far =
       λ from there stands.
-      told_so_far (g.F.Folder.told c.loop-k.folder).files (g.F.Folder.told c.mend_word.new.folder).files (AreBytesWritten (Block c.args.file) c.args.at c.args.new.now (4 * c.loop-k.k) from) (AreBytesWritten (Block c.args.file) (c.args.at + 4 * c.loop-k.k) (take (4 * c.loop-k.k + 4 - 4 * c.loop-k.k) (drop (4 * c.loop-k.k) c.args.new.now)) 4) (AreBytesWritten (Block c.args.file) c.args.at c.args.new.now (4 * (c.loop-k.k + 1)) from) c.in_ok-mend_word.ensures.silent (λ mid now. c.in_ok-mend_word.ensures.done mid now (next_stands (Block c.args.file) c.args.at c.args.old.now c.args.new.now c.loop-k.k c.requires.alike c.loop-k-test.true from mid stands (c.loop-k.invariant.so_far from there stands mid now))) (c.loop-k.invariant.so_far from there stands)
+      told_so_far (g.F.Folder.told c.loop-k.folder).files (g.F.Folder.told c.mend_word.new.folder).files (AreBytesWritten (Block c.args.file) c.args.at c.args.new.now (4 * c.loop-k.k) from) (AreBytesWritten (Block c.args.file) (c.args.at + 4 * c.loop-k.k) (take (4 * c.loop-k.k + 4 - 4 * c.loop-k.k) (drop (4 * c.loop-k.k) c.args.new.now)) 4) (AreBytesWritten (Block c.args.file) c.args.at c.args.new.now (4 * (c.loop-k.k + 1)) from) c.in_ok-mend_word.ensures.writes.silent (λ mid now. c.in_ok-mend_word.ensures.done mid now (next_stands (Block c.args.file) c.args.at c.args.old.now c.args.new.now c.loop-k.k c.requires.alike c.loop-k-test.true from mid stands (c.loop-k.invariant.so_far from there stands mid now))) (c.loop-k.invariant.so_far from there stands)
       (λ mid image more before. written_more (Block c.args.file) c.args.at c.args.new.now (take (4 * c.loop-k.k + 4 - 4 * c.loop-k.k) (drop (4 * c.loop-k.k) c.args.new.now)) c.loop-k.k from mid before (word_is c.args.new.now c.loop-k.k c.loop-k-test.true) image more);
-  long = long_then (g.F.Folder.told c.args.folder.now).files (g.F.Folder.told c.loop-k.folder).files (g.F.Folder.told c.mend_word.new.folder).files (Block c.args.file) c.in_ok-mend_word.ensures.silent c.loop-k.invariant.long c.in_ok-mend_word.ensures.long;
-  silent = λ none. c.in_ok-mend_word.ensures.silent (c.loop-k.invariant.silent none);
-  later = let one = c.loop-k.invariant.later in let other = c.in_ok-mend_word.ensures.later in omega (arith, one, other);
+  long = long_then (g.F.Folder.told c.args.folder.now).files (g.F.Folder.told c.loop-k.folder).files (g.F.Folder.told c.mend_word.new.folder).files (Block c.args.file) c.in_ok-mend_word.ensures.writes.silent c.loop-k.invariant.long c.in_ok-mend_word.ensures.long;
+  silent = λ none. c.in_ok-mend_word.ensures.writes.silent (c.loop-k.invariant.silent none);
+  later = let one = c.loop-k.invariant.later in let other = c.in_ok-mend_word.ensures.writes.later in omega (arith, one, other);
 }
 
 pub returns-clause-done : goal.returns-clause-done

@@ -35,7 +35,7 @@ returns-in_err-mend_word-clause-stops g c from there read =
 pub mend-requires-clause-inside : goal.mend-requires-clause-inside
 mend-requires-clause-inside g c =
     told_so_far (g.F.Folder.told c.args.folder.now).files (g.F.Folder.told c.mend_word.new.folder).files (λ image. 8192 ≤ length_of image (Block c.args.file)) (KeepsLength (Block c.args.file)) (λ image. HasRange image (Block c.args.file) 24 (length c.as_flattened.result.now))
-    c.in_ok-mend_word.ensures.silent c.in_ok-mend_word.ensures.long c.requires.header
+    c.in_ok-mend_word.ensures.writes.silent c.in_ok-mend_word.ensures.long c.requires.header
     (λ from image e long. let l = c.as_flattened.ensures.len in omega (arith, e, long, l))
 
 pub returns-clause-done : goal.returns-clause-done
@@ -46,7 +46,7 @@ returns-clause-done g c =
     (λ done from there read.
     let written = c.in_ok-mend_word.ensures.done from there (number_stands c.args.file c.args.fields.now c.requires.long_fields from read) in
     told_so_far (g.F.Folder.told c.mend_word.new.folder).files (g.F.Folder.told c.mend.new.folder).files (AreBytesWritten (Block c.args.file) 16 c.to_le_bytes.result 4 from) (AreBytesWritten (Block c.args.file) 24 c.as_flattened.result.now (length c.as_flattened.result.now)) (λ image. HasTheseCounters (byte image (Block c.args.file)) c.args.allocations c.args.empty.now)
-    c.mend.ensures.silent (λ mid now. done mid now (runs_stand c.args.file c.args.fields.now c.to_le_bytes.result c.requires.long_fields from mid read (written mid now))) written
+    c.mend.ensures.writes.silent (λ mid now. done mid now (runs_stand c.args.file c.args.fields.now c.to_le_bytes.result c.requires.long_fields from mid read (written mid now))) written
     (λ mid image runs first. counters_are c.args.file c.args.allocations c.to_le_bytes.result c.to_le_bytes.ensures c.args.empty.now c.ranges.allocations.fits fits from mid first c.as_flattened.result.now are image runs)) c.mend.ensures.done
 
 pub returns-clause-stops : goal.returns-clause-stops
@@ -62,4 +62,4 @@ returns-clause-stops g c from there read =
     (λ image part. counting_runs c.args.file c.args.allocations c.to_le_bytes.result c.to_le_bytes.ensures c.args.empty.now c.ranges.allocations.fits fits from mid written c.as_flattened.result.now are image part))
 
 pub returns-clause-long : goal.returns-clause-long
-returns-clause-long g c = long_then (g.F.Folder.told c.args.folder.now).files (g.F.Folder.told c.mend_word.new.folder).files (g.F.Folder.told c.mend.new.folder).files (Block c.args.file) c.mend.ensures.silent c.in_ok-mend_word.ensures.long c.mend.ensures.long
+returns-clause-long g c = long_then (g.F.Folder.told c.args.folder.now).files (g.F.Folder.told c.mend_word.new.folder).files (g.F.Folder.told c.mend.new.folder).files (Block c.args.file) c.mend.ensures.writes.silent c.in_ok-mend_word.ensures.long c.mend.ensures.long

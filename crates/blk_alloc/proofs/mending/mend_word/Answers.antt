@@ -53,5 +53,9 @@ returns-clause-long g c =
     told_rel (KeepsLength (Block c.args.file)) (subst (AppliesPrefix (g.F.Folder.told c.args.folder.now) (g.F.Folder.told c.write_at.new.self)) (one_step (Block c.args.file) c.args.at c.args.new.now c.requires.new_word c.requires.aligned) c.write_at.ensures.prefix)
     (λ image. (refl, (outside_write (Block c.args.file) c.args.at c.args.new.now image).lengths (Block c.args.file) refl))
 
-pub returns-clause-silent : goal.returns-clause-silent
-returns-clause-silent g c none = silent_part c.write_at.ensures.prefix none
+pub returns-clause-writes : goal.returns-clause-writes
+returns-clause-writes g c = record {
+  silent = silent_part c.write_at.ensures.prefix;
+  later = c.write_at.ensures.later;
+  failed = c.write_at.ensures.failed;
+}

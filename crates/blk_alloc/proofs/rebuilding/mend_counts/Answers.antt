@@ -39,10 +39,10 @@ returns-in_err-mend-clause-stops g c from there read =
 pub mend_counters-requires-clause-header : goal.mend_counters-requires-clause-header
 mend_counters-requires-clause-header g c =
     told_so_far (g.F.Folder.told c.args.folder.now).files (g.F.Folder.told c.mend.new.folder).files (λ image. 8192 ≤ length_of image (Block c.args.file)) (KeepsLength (Block c.args.file)) (λ image. 8192 ≤ length_of image (Block c.args.file))
-    c.in_ok-mend.ensures.silent c.in_ok-mend.ensures.long c.requires.header (λ from image e long. omega (arith, e, long))
+    c.in_ok-mend.ensures.writes.silent c.in_ok-mend.ensures.long c.requires.header (λ from image e long. omega (arith, e, long))
 
 pub returns-clause-long : goal.returns-clause-long
-returns-clause-long g c = long_then (g.F.Folder.told c.args.folder.now).files (g.F.Folder.told c.mend.new.folder).files (g.F.Folder.told c.mend_counters.new.folder).files (Block c.args.file) c.mend_counters.ensures.silent c.in_ok-mend.ensures.long c.mend_counters.ensures.long
+returns-clause-long g c = long_then (g.F.Folder.told c.args.folder.now).files (g.F.Folder.told c.mend.new.folder).files (g.F.Folder.told c.mend_counters.new.folder).files (Block c.args.file) c.mend_counters.ensures.writes.silent c.in_ok-mend.ensures.long c.mend_counters.ensures.long
 
 pub returns-clause-done : goal.returns-clause-done
 returns-clause-done g c =
@@ -53,7 +53,7 @@ returns-clause-done g c =
     let map_written = c.in_ok-mend.ensures.done from there (map_there c.args.file c.args.map.now c.requires.long_map from read.map_stands) in
     told_so_far (g.F.Folder.told c.mend.new.folder).files (g.F.Folder.told c.mend_counters.new.folder).files (AreBytesWritten (Block c.args.file) 80 c.mark_claimed.new.bytes (length c.mark_claimed.new.bytes) from)
     (λ mid image. IsCounting c.args.file c.allocations.result c.count_runs.new.empty mid image × HasTheseCounters (byte image (Block c.args.file)) c.allocations.result c.count_runs.new.empty) (λ image. HasMarksOf c.args.claims.now image c.args.file)
-    c.mend_counters.ensures.silent
+    c.mend_counters.ensures.writes.silent
     (λ mid now image is.
     let still = (counters_still c.args.file c.args.fields.now c.mark_claimed.new.bytes (length c.mark_claimed.new.bytes) from mid read.counters (map_written mid now)) in
     (needed_end (c.mend_counters.ensures.stops mid now still) image is, done mid now still image is)) map_written

@@ -57,14 +57,14 @@ returns-in_err-mend_word-clause-clean g c from there groups read rebuilt = absur
 pub mend_marks-requires-clause-header : goal.mend_marks-requires-clause-header
 mend_marks-requires-clause-header g c =
     told_so_far (g.F.Folder.told c.args.folder.now).files (g.F.Folder.told c.mend_word-2.new.folder).files (λ image. 8192 ≤ length_of image (Block c.args.file)) (KeepsLength (Block c.args.file)) (λ image. 8192 ≤ length_of image (Block c.args.file))
-    c.in_ok-mend_word.ensures.silent c.in_ok-mend_word.ensures.long c.requires.header (λ from image e long. omega (arith, e, long))
+    c.in_ok-mend_word.ensures.writes.silent c.in_ok-mend_word.ensures.long c.requires.header (λ from image e long. omega (arith, e, long))
 
 pub returns-clause-done : goal.returns-clause-done
 returns-clause-done g c =
     on_ok_weaker c.mend_marks.result
     (λ done from there groups read.
     let written = c.in_ok-mend_word.ensures.done from there (old_updating from c.args.file c.args.map.now c.args.fields.now c.requires.long_fields read) in
-    told_at_end (g.F.Folder.told c.mend_word-2.new.folder).files (g.F.Folder.told c.mend_marks.new.folder).files (λ image. IsRebuilt c.args.claims.now image c.args.file) c.mend_marks.ensures.silent
+    told_at_end (g.F.Folder.told c.mend_word-2.new.folder).files (g.F.Folder.told c.mend_marks.new.folder).files (λ image. IsRebuilt c.args.claims.now image c.args.file) c.mend_marks.ensures.writes.silent
     (λ mid now. done mid now (counts_still c.args.file c.args.groups c.args.map.now c.args.fields.now c.requires.long_fields c.to_le_bytes-2.result from mid groups read (written mid now)) (one_there c.args.file c.to_le_bytes-2.result c.to_le_bytes-2.ensures from mid (written mid now)))) c.mend_marks.ensures.done
 
 pub returns-clause-stops : goal.returns-clause-stops

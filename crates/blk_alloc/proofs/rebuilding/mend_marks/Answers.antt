@@ -19,14 +19,14 @@ returns-in_err-mend_counts-clause-stops g c from there read one = needed_weaker 
 pub mend_word-requires-clause-inside : goal.mend_word-requires-clause-inside
 mend_word-requires-clause-inside g c =
     told_so_far (g.F.Folder.told c.args.folder.now).files (g.F.Folder.told c.mend_counts.new.folder).files (λ image. 8192 ≤ length_of image (Block c.args.file)) (KeepsLength (Block c.args.file)) (λ image. HasRange image (Block c.args.file) 56 4)
-    c.in_ok-mend_counts.ensures.silent c.in_ok-mend_counts.ensures.long c.requires.header (λ from image e long. omega (arith, e, long))
+    c.in_ok-mend_counts.ensures.writes.silent c.in_ok-mend_counts.ensures.long c.requires.header (λ from image e long. omega (arith, e, long))
 
 pub returns-clause-done : goal.returns-clause-done
 returns-clause-done g c =
     on_ok_weaker c.mend_word.result
     (λ done from there read one.
     told_so_far (g.F.Folder.told c.mend_counts.new.folder).files (g.F.Folder.told c.mend_word.new.folder).files (λ image. HasMarksOf c.args.claims.now image c.args.file) (AreBytesWritten (Block c.args.file) 56 c.to_le_bytes-2.result 4) (λ image. IsRebuilt c.args.claims.now image c.args.file)
-    c.mend_word.ensures.silent (λ mid now. done mid now (one_still c.args.claims.now c.args.file c.to_le_bytes.result c.to_le_bytes.ensures from mid one (needed_end (c.in_ok-mend_counts.ensures.stops from there read) mid now))) (c.in_ok-mend_counts.ensures.done from there read)
+    c.mend_word.ensures.writes.silent (λ mid now. done mid now (one_still c.args.claims.now c.args.file c.to_le_bytes.result c.to_le_bytes.ensures from mid one (needed_end (c.in_ok-mend_counts.ensures.stops from there read) mid now))) (c.in_ok-mend_counts.ensures.done from there read)
     (λ mid image written has. end_rebuilt c.args.claims.now c.args.file mid has c.to_le_bytes-2.result c.to_le_bytes-2.ensures image written)) c.mend_word.ensures.done
 
 pub returns-clause-stops : goal.returns-clause-stops

@@ -36,8 +36,8 @@ loop-number-preserved g c = elim c.if-is_some.branch [
             (subst (λ (files : BlockFiles). HasRebuilt (g.F.Folder.told c.args.f.now) (g.F.Folder.told w.rebuild_file.new.folder) c.args.files.now files c.args.claims.now (c.loop-number.number + 1)) (sym w.files-is)
             (next_rebuilt (g.F.Folder.told c.args.f.now) (g.F.Folder.told c.loop-number.f) c.args.files.now c.loop-number.files c.args.claims.now c.loop-number.number c.loop-number.invariant.has (g.F.Folder.told w.rebuild_file.new.folder)
             (sym (linked_is (is_among (all_files c.loop-number.files) c.loop-number.number) _ c.max_entries.result c.is_some.result c.max_entries.ensures c.is_some.ensures) ∙ w.if-is_some.true) w.rebuild_file.ensures.stops
-            w.rebuild_file.new.files w.rebuild_file.ensures.silent w.in_ok-rebuild_file.ensures.done w.in_ok-rebuild_file.ensures.fitted w.rebuild_file.ensures.agrees w.rebuild_file.ensures.clean));
-        later = let one = c.loop-number.invariant.later in let other = w.rebuild_file.ensures.later in subst (λ f. g.F.Folder.faults c.args.f.now ≤ g.F.Folder.faults f) (sym w.f-is) (omega (arith, one, other));
+            w.rebuild_file.new.files w.rebuild_file.ensures.writes.silent w.in_ok-rebuild_file.ensures.done w.in_ok-rebuild_file.ensures.fitted w.rebuild_file.ensures.agrees w.rebuild_file.ensures.clean));
+        later = let one = c.loop-number.invariant.later in let other = w.rebuild_file.ensures.writes.later in subst (λ f. g.F.Folder.faults c.args.f.now ≤ g.F.Folder.faults f) (sym w.f-is) (omega (arith, one, other));
       }
   | else-is_some w ↦
       record {

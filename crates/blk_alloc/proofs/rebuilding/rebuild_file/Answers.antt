@@ -46,11 +46,11 @@ groups_now g c mid now =
 pub returns-clause-done : goal.returns-clause-done
 returns-clause-done g c =
     on_ok_weaker c.remake.result
-    (λ done. told_at_end (g.F.Folder.told c.fit.new.f).files (g.F.Folder.told c.remake.new.folder).files (λ image. IsRebuilt c.args.claims.now image c.args.file) c.remake.ensures.silent (λ mid now. done mid now (groups_now g c mid now))) c.remake.ensures.done
+    (λ done. told_at_end (g.F.Folder.told c.fit.new.f).files (g.F.Folder.told c.remake.new.folder).files (λ image. IsRebuilt c.args.claims.now image c.args.file) c.remake.ensures.writes.silent (λ mid now. done mid now (groups_now g c mid now))) c.remake.ensures.done
 
 pub returns-clause-agrees : goal.returns-clause-agrees
 returns-clause-agrees g c =
-    told_at_end (g.F.Folder.told c.fit.new.f).files (g.F.Folder.told c.remake.new.folder).files (Agrees c.fit.new.self) c.remake.ensures.silent
+    told_at_end (g.F.Folder.told c.fit.new.f).files (g.F.Folder.told c.remake.new.folder).files (Agrees c.fit.new.self) c.remake.ensures.writes.silent
     (λ mid now. let keeps : (i : Image) → RemakesInProgress c.args.claims.now c.args.file mid i → Agrees c.fit.new.self i = λ i remade. agrees_kept c.args.file mid i remade.same c.fit.new.self (c.in_ok-fit.ensures.agrees mid now) in
     needed_end (needed_weaker (c.remake.ensures.stops mid now (groups_now g c mid now)) keeps))
 

@@ -16,7 +16,7 @@ use Rattle.blk_alloc.proofs.rebuilding.remake.Goals as goal
 pub returns-in_err-read_exact-clause-stops : goal.returns-in_err-read_exact-clause-stops
 returns-in_err-read_exact-clause-stops g c from there groups =
     let P = RemakesInProgress c.args.claims.now c.args.file from in
-    needed_none P c.in_err-read_exact.ensures.stays (λ image is. subst P (some_inj (sym there ∙ is)) (remakes_begin c.args.claims.now c.args.file from))
+    needed_none P c.in_err-read_exact.ensures.reads.stays (λ image is. subst P (some_inj (sym there ∙ is)) (remakes_begin c.args.claims.now c.args.file from))
 
 pub returns-in_err-read_exact-clause-untold : goal.returns-in_err-read_exact-clause-untold
 returns-in_err-read_exact-clause-untold g c =
@@ -27,13 +27,13 @@ returns-in_err-read_exact-clause-untold g c =
 pub returns-in_err-read_exact-2-clause-stops : goal.returns-in_err-read_exact-2-clause-stops
 returns-in_err-read_exact-2-clause-stops g c from there groups =
     let P = RemakesInProgress c.args.claims.now c.args.file from in
-    needed_none P (c.in_err-read_exact-2.ensures.stays ∙ c.in_ok-read_exact.ensures.stays) (λ image is. subst P (some_inj (sym there ∙ is)) (remakes_begin c.args.claims.now c.args.file from))
+    needed_none P (c.in_err-read_exact-2.ensures.reads.stays ∙ c.in_ok-read_exact.ensures.reads.stays) (λ image is. subst P (some_inj (sym there ∙ is)) (remakes_begin c.args.claims.now c.args.file from))
 
 pub returns-in_err-read_exact-2-clause-untold : goal.returns-in_err-read_exact-2-clause-untold
 returns-in_err-read_exact-2-clause-untold g c =
     let told = g.F.Folder.told c.args.folder.now in
     let mid = g.F.Folder.told c.read_exact.new.folder in
-    let same = ap (λ (t : Told). t.files) (sym c.in_ok-read_exact.ensures.stays) in
+    let same = ap (λ (t : Told). t.files) (sym c.in_ok-read_exact.ensures.reads.stays) in
     carried c.read_exact-2.result c.from_residual-in_err-read_exact-2.result c.in_err-read_exact-2.field-0.0 _ c.in_err-read_exact-2.was c.from_residual-in_err-read_exact-2.ensures.1
     (if_damaged_weaker c.read_exact-2.result (λ _. mid.files ≡ None) (λ _. told.files ≡ None) (λ damage none. same ∙ none)
     (untold_if c.read_exact-2.result mid (names.Block c.args.file) 0 80 c.read_exact-2.ensures.short (λ image there. let long = c.requires.header image (same ∙ there) in omega (arith, long))))
@@ -44,27 +44,27 @@ header_read n map fields same first second image there = record { map_read = fir
 
 pub returns-in_err-mend_file-clause-stops : goal.returns-in_err-mend_file-clause-stops
 returns-in_err-mend_file-clause-stops g c from there groups =
-    let same : g.F.Folder.told c.read_exact-2.new.folder ≡ g.F.Folder.told c.args.folder.now = c.in_ok-read_exact-2.ensures.stays ∙ c.in_ok-read_exact.ensures.stays in
+    let same : g.F.Folder.told c.read_exact-2.new.folder ≡ g.F.Folder.told c.args.folder.now = c.in_ok-read_exact-2.ensures.reads.stays ∙ c.in_ok-read_exact.ensures.reads.stays in
     subst (λ (t : Told). PassesNeeded t (g.F.Folder.told c.mend_file.new.folder) (RemakesInProgress c.args.claims.now c.args.file from)) same
-    (c.in_err-mend_file.ensures.stops from (ap (λ (t : Told). t.files) same ∙ there) groups (header_read c.args.file c.read_exact.new.out c.read_exact-2.new.out c.in_ok-read_exact.ensures.stays c.in_ok-read_exact.ensures.bytes c.in_ok-read_exact-2.ensures.bytes from there))
+    (c.in_err-mend_file.ensures.stops from (ap (λ (t : Told). t.files) same ∙ there) groups (header_read c.args.file c.read_exact.new.out c.read_exact-2.new.out c.in_ok-read_exact.ensures.reads.stays c.in_ok-read_exact.ensures.bytes c.in_ok-read_exact-2.ensures.bytes from there))
 
 pub returns-in_err-mend_file-clause-clean : goal.returns-in_err-mend_file-clause-clean
 returns-in_err-mend_file-clause-clean g c from there groups rebuilt =
-    let same : g.F.Folder.told c.read_exact-2.new.folder ≡ g.F.Folder.told c.args.folder.now = c.in_ok-read_exact-2.ensures.stays ∙ c.in_ok-read_exact.ensures.stays in
-    c.in_err-mend_file.ensures.clean from (ap (λ (t : Told). t.files) same ∙ there) groups (header_read c.args.file c.read_exact.new.out c.read_exact-2.new.out c.in_ok-read_exact.ensures.stays c.in_ok-read_exact.ensures.bytes c.in_ok-read_exact-2.ensures.bytes from there) rebuilt ∙ same
+    let same : g.F.Folder.told c.read_exact-2.new.folder ≡ g.F.Folder.told c.args.folder.now = c.in_ok-read_exact-2.ensures.reads.stays ∙ c.in_ok-read_exact.ensures.reads.stays in
+    c.in_err-mend_file.ensures.clean from (ap (λ (t : Told). t.files) same ∙ there) groups (header_read c.args.file c.read_exact.new.out c.read_exact-2.new.out c.in_ok-read_exact.ensures.reads.stays c.in_ok-read_exact.ensures.bytes c.in_ok-read_exact-2.ensures.bytes from there) rebuilt ∙ same
 
 pub returns-clause-stops : goal.returns-clause-stops
 returns-clause-stops g c from there groups =
-    let same : g.F.Folder.told c.read_exact-2.new.folder ≡ g.F.Folder.told c.args.folder.now = c.in_ok-read_exact-2.ensures.stays ∙ c.in_ok-read_exact.ensures.stays in
+    let same : g.F.Folder.told c.read_exact-2.new.folder ≡ g.F.Folder.told c.args.folder.now = c.in_ok-read_exact-2.ensures.reads.stays ∙ c.in_ok-read_exact.ensures.reads.stays in
     subst (λ (t : Told). PassesNeeded t (g.F.Folder.told c.mend_file.new.folder) (RemakesInProgress c.args.claims.now c.args.file from)) same
-    (c.in_ok-mend_file.ensures.stops from (ap (λ (t : Told). t.files) same ∙ there) groups (header_read c.args.file c.read_exact.new.out c.read_exact-2.new.out c.in_ok-read_exact.ensures.stays c.in_ok-read_exact.ensures.bytes c.in_ok-read_exact-2.ensures.bytes from there))
+    (c.in_ok-mend_file.ensures.stops from (ap (λ (t : Told). t.files) same ∙ there) groups (header_read c.args.file c.read_exact.new.out c.read_exact-2.new.out c.in_ok-read_exact.ensures.reads.stays c.in_ok-read_exact.ensures.bytes c.in_ok-read_exact-2.ensures.bytes from there))
 
 pub returns-clause-clean : goal.returns-clause-clean
 returns-clause-clean g c from there groups rebuilt =
-    let same : g.F.Folder.told c.read_exact-2.new.folder ≡ g.F.Folder.told c.args.folder.now = c.in_ok-read_exact-2.ensures.stays ∙ c.in_ok-read_exact.ensures.stays in
-    c.in_ok-mend_file.ensures.clean from (ap (λ (t : Told). t.files) same ∙ there) groups (header_read c.args.file c.read_exact.new.out c.read_exact-2.new.out c.in_ok-read_exact.ensures.stays c.in_ok-read_exact.ensures.bytes c.in_ok-read_exact-2.ensures.bytes from there) rebuilt ∙ same
+    let same : g.F.Folder.told c.read_exact-2.new.folder ≡ g.F.Folder.told c.args.folder.now = c.in_ok-read_exact-2.ensures.reads.stays ∙ c.in_ok-read_exact.ensures.reads.stays in
+    c.in_ok-mend_file.ensures.clean from (ap (λ (t : Told). t.files) same ∙ there) groups (header_read c.args.file c.read_exact.new.out c.read_exact-2.new.out c.in_ok-read_exact.ensures.reads.stays c.in_ok-read_exact.ensures.bytes c.in_ok-read_exact-2.ensures.bytes from there) rebuilt ∙ same
 
 pub returns-clause-done : goal.returns-clause-done
 returns-clause-done g c from there groups =
-    let same : g.F.Folder.told c.read_exact-2.new.folder ≡ g.F.Folder.told c.args.folder.now = c.in_ok-read_exact-2.ensures.stays ∙ c.in_ok-read_exact.ensures.stays in
-    c.in_ok-mend_file.ensures.done from (ap (λ (t : Told). t.files) same ∙ there) groups (header_read c.args.file c.read_exact.new.out c.read_exact-2.new.out c.in_ok-read_exact.ensures.stays c.in_ok-read_exact.ensures.bytes c.in_ok-read_exact-2.ensures.bytes from there)
+    let same : g.F.Folder.told c.read_exact-2.new.folder ≡ g.F.Folder.told c.args.folder.now = c.in_ok-read_exact-2.ensures.reads.stays ∙ c.in_ok-read_exact.ensures.reads.stays in
+    c.in_ok-mend_file.ensures.done from (ap (λ (t : Told). t.files) same ∙ there) groups (header_read c.args.file c.read_exact.new.out c.read_exact-2.new.out c.in_ok-read_exact.ensures.reads.stays c.in_ok-read_exact.ensures.bytes c.in_ok-read_exact-2.ensures.bytes from there)

@@ -63,8 +63,8 @@ loop-turn-preserved g c =
           turn_none (is_block_marked image c.args.file) (has_bit c.to_le_bytes-bytes.result) words c.args.hint c.args.run c.loop-turn.turn c.first_in.result (words_some words c.if-words-eq0.false) (c.loop-turn.invariant.seen image there)
           c.first_in.ensures.begins c.first_in.ensures.goes_on (λ i small. ap (λ (l : List ℕ). longest_run (has_bit l) i) c.to_le_bytes-bytes.ensures ∙ word_runs image c.args.file number c.in_ok-word.word read i small) (c.group_in.ensures.none c.in_default-group_in.is);
       counts = let counts = c.in_ok-word.ensures.counts in let so_far = c.loop-turn.invariant.counts in omega (arith, counts, so_far);
-      stays = c.in_ok-word.ensures.stays ∙ c.loop-turn.invariant.stays;
-      later = let one = c.in_ok-word.ensures.later in let other = c.loop-turn.invariant.later in omega (arith, one, other);
+      stays = c.in_ok-word.ensures.reads.stays ∙ c.loop-turn.invariant.stays;
+      later = let one = c.in_ok-word.ensures.reads.later in let other = c.loop-turn.invariant.later in omega (arith, one, other);
     }
 
 pub returns-clause-none : goal.returns-clause-none

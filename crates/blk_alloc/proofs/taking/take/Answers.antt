@@ -22,12 +22,12 @@ set_hint-requires-clause-header g c image there =
 
 pub mark-requires-clause-read : goal.mark-requires-clause-read
 mark-requires-clause-read g c =
-    told_at_end (g.F.Folder.told c.args.folder.now).files (g.F.Folder.told c.set_hint.new.folder).files (λ mid. IsMapWord mid c.args.found.place.file (c.args.found.place.start / 32) c.args.found.word) c.in_ok-set_hint.ensures.silent
+    told_at_end (g.F.Folder.told c.args.folder.now).files (g.F.Folder.told c.set_hint.new.folder).files (λ mid. IsMapWord mid c.args.found.place.file (c.args.found.place.start / 32) c.args.found.word) c.in_ok-set_hint.ensures.writes.silent
     (λ from there mid now. word_hinted c.args.found.place.file c.args.found.i c.requires.small from mid (c.in_ok-set_hint.ensures.set from there mid now).same c.args.found.place.file (c.args.found.place.start / 32) c.args.found.word (c.requires.read from there))
 
 pub mark-requires-clause-agrees : goal.mark-requires-clause-agrees
 mark-requires-clause-agrees g c =
-    told_at_end (g.F.Folder.told c.args.folder.now).files (g.F.Folder.told c.set_hint.new.folder).files (Agrees c.args.files.now) c.in_ok-set_hint.ensures.silent
+    told_at_end (g.F.Folder.told c.args.folder.now).files (g.F.Folder.told c.set_hint.new.folder).files (Agrees c.args.files.now) c.in_ok-set_hint.ensures.writes.silent
     (λ from there mid now. agrees_hinted c.args.found.place.file c.args.found.i c.requires.small from mid (c.in_ok-set_hint.ensures.set from there mid now).same c.args.files.now (c.requires.agrees from there))
 
 pub returns-in_err-set_hint-clause-stops : goal.returns-in_err-set_hint-clause-stops
@@ -38,7 +38,7 @@ returns-in_err-set_hint-clause-stops g c from there can =
 
 pub returns-in_err-set_hint-clause-agrees : goal.returns-in_err-set_hint-clause-agrees
 returns-in_err-set_hint-clause-agrees g c =
-    told_at_end (g.F.Folder.told c.args.folder.now).files (g.F.Folder.told c.set_hint.new.folder).files (Agrees c.args.files.now) c.in_err-set_hint.ensures.silent
+    told_at_end (g.F.Folder.told c.args.folder.now).files (g.F.Folder.told c.set_hint.new.folder).files (Agrees c.args.files.now) c.in_err-set_hint.ensures.writes.silent
     (λ from there mid now. agrees_hinted c.args.found.place.file c.args.found.i c.requires.small from mid (passes_end (c.in_err-set_hint.ensures.stops from there) mid now) c.args.files.now (c.requires.agrees from there))
 
 pub returns-clause-counted : goal.returns-clause-counted
@@ -104,6 +104,6 @@ returns-clause-untold g c =
     (λ _. ForSome (g.F.Folder.told c.args.folder.now).files (λ image. CanBeMarked image place) → (g.F.Folder.told c.args.folder.now).files ≡ None)
     (λ damage none can.
     untold_before (λ from. SameOutside (one_word (Block place.file) (hint_place c.args.found.i)) from) c.in_ok-set_hint.ensures.stops
-    (none (told_at_end (g.F.Folder.told c.args.folder.now).files (g.F.Folder.told c.set_hint.new.folder).files (λ mid. CanBeMarked mid place) c.in_ok-set_hint.ensures.silent
+    (none (told_at_end (g.F.Folder.told c.args.folder.now).files (g.F.Folder.told c.set_hint.new.folder).files (λ mid. CanBeMarked mid place) c.in_ok-set_hint.ensures.writes.silent
     (λ from there mid now. can_hinted place.file c.args.found.i c.requires.small from mid (c.in_ok-set_hint.ensures.set from there mid now).same place (can from there)))))
     c.mark.ensures.untold

@@ -33,8 +33,8 @@ loop-piece-preserved g c =
       many = c.in_ok-follow_piece.ensures.many ∙ next;
       way = λ image there. subst (HasFirst c.args.files.now image (words_reached c.follow_piece.new.reached)) next (c.in_ok-follow_piece.ensures.checked image (told_now image c.loop-piece.invariant.stays there));
       table = λ image there some. let more = c.in_ok-follow_piece.ensures.table image (told_now image c.loop-piece.invariant.stays there) in omega (arith, more);
-      stays = c.in_ok-follow_piece.ensures.stays ∙ c.loop-piece.invariant.stays;
-      later = omega (arith, c.in_ok-follow_piece.ensures.later, c.loop-piece.invariant.later);
+      stays = c.in_ok-follow_piece.ensures.reads.stays ∙ c.loop-piece.invariant.stays;
+      later = omega (arith, c.in_ok-follow_piece.ensures.reads.later, c.loop-piece.invariant.later);
     }
 
 pub follow_piece-requires-clause-records : goal.follow_piece-requires-clause-records
@@ -55,7 +55,7 @@ returns-clause-checked g c image there =
 
 pub returns-in_err-follow_piece-clause-untold : goal.returns-in_err-follow_piece-clause-untold
 returns-in_err-follow_piece-clause-untold g c =
-    untold_on c.follow_piece.result c.from_residual.result c.in_err-follow_piece.field-0.0 {a = g.F.Folder.told c.args.folder.now} (IsOpen c.args.files.now) (IsOpen c.args.files.now) (λ image is. is) (c.follow_piece.ensures.stays ∙ c.loop-piece.invariant.stays) c.follow_piece.ensures.untold c.in_err-follow_piece.was c.from_residual.ensures.1
+    untold_on c.follow_piece.result c.from_residual.result c.in_err-follow_piece.field-0.0 {a = g.F.Folder.told c.args.folder.now} (IsOpen c.args.files.now) (IsOpen c.args.files.now) (λ image is. is) (c.follow_piece.ensures.reads.stays ∙ c.loop-piece.invariant.stays) c.follow_piece.ensures.untold c.in_err-follow_piece.was c.from_residual.ensures.1
 
 pub follow_piece-requires-clause-before : goal.follow_piece-requires-clause-before
 follow_piece-requires-clause-before g c = told_stays (λ (image : Image). Agrees c.args.files.now image → AreFirstReached (store_of image) (c.loop-piece.piece * 16384) c.loop-piece.reached) c.loop-piece.invariant.stays c.loop-piece.invariant.reached

@@ -35,8 +35,8 @@ loop-i-preserved g c =
           let now = told_now image c.loop-i.invariant.stays there in
           way_goes_on c.args.files.now image c.args.reached.now.words.items c.loop-i.reached.words.items c.reach.new.reached.words.items c.args.start c.loop-i.word c.in-Some.next c.loop-i.i (c.loop-i.invariant.way image there) (c.in_ok-next.ensures.checked image now)
           (subst (λ (o : Option ℕ). IsStepTaken c.args.files.now image c.loop-i.reached.words.items c.loop-i.word c.reach.new.reached.words.items o) c.in-Some.is (c.in_ok-next.ensures.taken image now));
-      stays = c.in_ok-next.ensures.stays ∙ c.loop-i.invariant.stays;
-      later = omega (arith, c.in_ok-next.ensures.later, c.loop-i.invariant.later);
+      stays = c.in_ok-next.ensures.reads.stays ∙ c.loop-i.invariant.stays;
+      later = omega (arith, c.in_ok-next.ensures.reads.later, c.loop-i.invariant.later);
     }
 
 pub returns-in-None-clause-reached : goal.returns-in-None-clause-reached

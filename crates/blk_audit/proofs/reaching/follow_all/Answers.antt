@@ -60,8 +60,8 @@ loop-i-preserved g c =
           (subst (HasFirst c.args.files.now image (words_reached c.follow.new.reached)) more
           (first_more c.args.files.now image (words_reached c.loop-i.reached) (words_reached c.follow.new.reached) (c.args.first + c.loop-i.i) (slice_index c.args.table.now c.loop-i.i) (c.loop-i.invariant.way image there) (c.in_ok-end.ensures.checked image now) (c.in_ok-end.ensures.looked image now)
           (c.requires.words image there c.loop-i.i c.loop-i-test.true) (c.in_ok-end.ensures.more image now)));
-      stays = c.in_ok-end.ensures.stays ∙ c.loop-i.invariant.stays;
-      later = omega (arith, c.in_ok-end.ensures.later, c.loop-i.invariant.later);
+      stays = c.in_ok-end.ensures.reads.stays ∙ c.loop-i.invariant.stays;
+      later = omega (arith, c.in_ok-end.ensures.reads.later, c.loop-i.invariant.later);
     }
 
 pub follow-requires-clause-records : goal.follow-requires-clause-records

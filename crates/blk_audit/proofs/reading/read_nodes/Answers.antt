@@ -33,13 +33,13 @@ loop-n-preserved g c = record {
   counted = λ m lt.
       one_more (CountStands c.args.files.now c.add_file.new.self) c.loop-n.n m lt c.in_ok-add_file.ensures.counted
       (λ ne below. c.in_ok-add_file.ensures.others_counted m ne (c.loop-n.invariant.counted m below));
-  stays = c.in_ok-add_file.ensures.stays ∙ c.loop-n.invariant.stays;
-  later = omega (arith, c.in_ok-add_file.ensures.later, c.loop-n.invariant.later);
+  stays = c.in_ok-add_file.ensures.reads.stays ∙ c.loop-n.invariant.stays;
+  later = omega (arith, c.in_ok-add_file.ensures.reads.later, c.loop-n.invariant.later);
 }
 
 pub returns-in_err-add_file-clause-untold : goal.returns-in_err-add_file-clause-untold
 returns-in_err-add_file-clause-untold g c agrees =
-    let stays : g.F.Folder.told c.add_file.new.folder ≡ g.F.Folder.told c.args.folder.now = c.add_file.ensures.stays ∙ c.loop-n.invariant.stays in
+    let stays : g.F.Folder.told c.add_file.new.folder ≡ g.F.Folder.told c.args.folder.now = c.add_file.ensures.reads.stays ∙ c.loop-n.invariant.stays in
     untold_on c.add_file.result c.from_residual.result c.in_err-add_file.field-0.0 {a = g.F.Folder.told c.args.folder.now} (Agrees c.args.files.now) (Agrees c.args.files.now) (λ image is. is) stays c.add_file.ensures.untold c.in_err-add_file.was c.from_residual.ensures.1 agrees
 
 pub returns-clause-nodes : goal.returns-clause-nodes

@@ -5,6 +5,6 @@ use Rattle.blk_audit.proofs.record_files.read_records.Goals as goal
 pub loop-n-preserved : goal.loop-n-preserved
 loop-n-preserved g c = record {
   records = λ image there. c.in_ok-read_file.ensures.records image (told_now image c.loop-n.invariant.stays there) (c.loop-n.invariant.records image there);
-  stays = c.in_ok-read_file.ensures.stays ∙ c.loop-n.invariant.stays;
-  later = omega (arith, c.in_ok-read_file.ensures.later, c.loop-n.invariant.later);
+  stays = c.in_ok-read_file.ensures.reads.stays ∙ c.loop-n.invariant.stays;
+  later = omega (arith, c.in_ok-read_file.ensures.reads.later, c.loop-n.invariant.later);
 }

@@ -7,7 +7,7 @@ use Rattle.blk_audit.proofs.Carrying.{untold_last, untold_on}
 use Rattle.blk_audit.proofs.walking.walk.Goals as goal
 
 pub returns-clause-checked : goal.returns-clause-checked
-returns-clause-checked g c = on_ok_weaker c.walk_over.result (λ ends image there. record { nodes = c.in_ok-nodes.ensures.checked image there; ends = ends image (told_now image c.in_ok-nodes.ensures.stays there) }) c.walk_over.ensures.checked
+returns-clause-checked g c = on_ok_weaker c.walk_over.result (λ ends image there. record { nodes = c.in_ok-nodes.ensures.checked image there; ends = ends image (told_now image c.in_ok-nodes.ensures.reads.stays there) }) c.walk_over.ensures.checked
 
 pub returns-in_err-nodes-clause-untold : goal.returns-in_err-nodes-clause-untold
 returns-in_err-nodes-clause-untold g c =
@@ -15,4 +15,4 @@ returns-in_err-nodes-clause-untold g c =
 
 pub returns-clause-untold : goal.returns-clause-untold
 returns-clause-untold g c =
-    untold_last c.walk_over.result {a = g.F.Folder.told c.args.folder.now} (IsOpen c.args.files.now) (IsOpen c.args.files.now) (λ image is. is) c.in_ok-nodes.ensures.stays c.walk_over.ensures.untold
+    untold_last c.walk_over.result {a = g.F.Folder.told c.args.folder.now} (IsOpen c.args.files.now) (IsOpen c.args.files.now) (λ image is. is) c.in_ok-nodes.ensures.reads.stays c.walk_over.ensures.untold

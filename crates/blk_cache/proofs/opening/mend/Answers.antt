@@ -23,20 +23,20 @@ pub returns-in_err-repair-clause-stops : goal.returns-in_err-repair-clause-stops
 returns-in_err-repair-clause-stops g c from there can = repaired-either from (c.repair.ensures.stops from there can)
 
 pub returns-in_err-mark-clause-stops : goal.returns-in_err-mark-clause-stops
-returns-in_err-mark-clause-stops g c from there can = inr (ends-stay (repaired-opens from (c.in_ok-repair.ensures.last from there can)) c.in_err-mark.ensures.stays)
+returns-in_err-mark-clause-stops g c from there can = inr (ends-stay (repaired-opens from (c.in_ok-repair.ensures.last from there can)) c.in_err-mark.ensures.reads.stays)
 
 pub returns-clause-stops : goal.returns-clause-stops
-returns-clause-stops g c from there can = inr (ends-stay (repaired-opens from (c.in_ok-repair.ensures.last from there can)) c.in_ok-mark.ensures.stays)
+returns-clause-stops g c from there can = inr (ends-stay (repaired-opens from (c.in_ok-repair.ensures.last from there can)) c.in_ok-mark.ensures.reads.stays)
 
 pub returns-clause-last : goal.returns-clause-last
-returns-clause-last g c from there can = ends-stay (repaired-opens from (c.in_ok-repair.ensures.last from there can)) c.in_ok-mark.ensures.stays
+returns-clause-last g c from there can = ends-stay (repaired-opens from (c.in_ok-repair.ensures.last from there can)) c.in_ok-mark.ensures.reads.stays
 
 pub returns-clause-opened : goal.returns-clause-opened
 returns-clause-opened g c from there can image here =
     let opened : Opened = record { files = c.repair.new.files; items = c.items.result; bytes = c.bytes.result; mark = c.in_ok-mark.mark } in
-    let now = sym (ap (λ (t : Told). t.files) c.in_ok-mark.ensures.stays) ∙ here in
+    let now = sym (ap (λ (t : Told). t.files) c.in_ok-mark.ensures.reads.stays) ∙ here in
     let open_now = c.repair.ensures.is_open image now in
     opened-as c.args.scan.now from image opened can (c.in_ok-repair.ensures.mended from there can image now) (g.met.F.Folder.are_bytes c.word.new.f image here) open_now.agrees c.items.ensures c.bytes.ensures (c.in_ok-mark.ensures.word image now)
 
 pub returns-clause-made : goal.returns-clause-made
-returns-clause-made g c from there can only image here = counted-moment from (next_id (this_id_of (byte from Index))) from there (c.in_ok-repair.ensures.clean from there can only) image (sym (ap (λ (t : Told). t.files) c.in_ok-mark.ensures.stays) ∙ here)
+returns-clause-made g c from there can only image here = counted-moment from (next_id (this_id_of (byte from Index))) from there (c.in_ok-repair.ensures.clean from there can only) image (sym (ap (λ (t : Told). t.files) c.in_ok-mark.ensures.reads.stays) ∙ here)

@@ -1,4 +1,4 @@
-use Rattle.std.proofs.Common.{◌≡◌, ◌∙◌, Some, inl}
+use Rattle.std.proofs.Common.{◌≡◌, ◌∙◌, Some, inl, arith, rules}
 use Rattle.std.proofs.lemmas.Result.{IfOk-weaker, on_ok_weaker}
 use Rattle.spec_image.specs.Image.{Image}
 use Rattle.spec_image.specs.Told.{Passes}
@@ -21,8 +21,12 @@ pub returns-in_err-make-clause-stops : goal.returns-in_err-make-clause-stops
 returns-in_err-make-clause-stops g c from there =
     inl (making-breaks from c.args.moment there (c.requires.unfinished from there) (passes_end (making-still from c.args.moment (c.requires.unfinished from there) c.make.ensures.stops)) c.make.ensures.prefix)
 
-pub returns-in_err-make-clause-silent : goal.returns-in_err-make-clause-silent
-returns-in_err-make-clause-silent g c none = passes-silent c.make.ensures.stops none
+pub returns-in_err-make-clause-writes : goal.returns-in_err-make-clause-writes
+returns-in_err-make-clause-writes g c = record {
+  silent = passes-silent c.make.ensures.stops;
+  later = omega arith;
+  failed = search rules;
+}
 
 pub open_made-requires : goal.open_made-requires
 open_made-requires g c = record { complete = λ i here. whole_index i (made-formed i (c.args.moment, c.in_ok-make.ensures.made i here)) }
@@ -67,8 +71,12 @@ returns-clause-untold g c =
     if_damaged_weaker c.open_made.result _ _
     (λ damage none. none-before (g.F.Folder.told c.args.folder.now) (g.F.Folder.told c.make.new.f) (λ from there. still-told from there (first g c from there)) none) (c.open_made.ensures.untold (λ i here. (c.args.moment, c.in_ok-make.ensures.made i here)))
 
-pub returns-clause-silent : goal.returns-clause-silent
-returns-clause-silent g c none = c.open_made.ensures.silent (passes-silent c.make.ensures.stops none)
+pub returns-clause-writes : goal.returns-clause-writes
+returns-clause-writes g c = record {
+  silent = λ none. c.open_made.ensures.writes.silent (passes-silent c.make.ensures.stops none);
+  later = omega arith;
+  failed = search rules;
+}
 
 pub returns-clause-made : goal.returns-clause-made
 returns-clause-made g c =

@@ -17,20 +17,20 @@ use Rattle.blk_chain.proofs.finding.find.Goals as goal
 
 pub search-requires-clause-word : goal.search-requires-clause-word
 search-requires-clause-word g c image now =
-    let there : (g.F.Folder.told c.args.f.now).files ≡ Some image = ap (λ (t : Told). t.files) (sym c.in_ok-word.ensures.stays) ∙ now in
+    let there : (g.F.Folder.told c.args.f.now).files ≡ Some image = ap (λ (t : Told). t.files) (sym c.in_ok-word.ensures.reads.stays) ∙ now in
     sym (front-is image c.args.key.now c.super_fast_hash-hash.result c.in_ok-word.word c.super_fast_hash-hash.ensures (c.in_ok-word.ensures.word image there))
 
 pub returns-clause-outcome : goal.returns-clause-outcome
 returns-clause-outcome g c =
-    subst (λ (t : Told). IfOk c.search.result (λ answer. ForSome t.files (IsOutcome c.args.files.now c.args.key.now c.args.child answer))) c.in_ok-word.ensures.stays c.search.ensures.outcome
+    subst (λ (t : Told). IfOk c.search.result (λ answer. ForSome t.files (IsOutcome c.args.files.now c.args.key.now c.args.child answer))) c.in_ok-word.ensures.reads.stays c.search.ensures.outcome
 
 pub returns-clause-found : goal.returns-clause-found
 returns-clause-found g c =
-    subst (λ (t : Told). IfOk c.search.result (λ answer. ForSome t.files (λ image. CanBeSearched c.args.key.now image → IsAnswer c.args.key.now c.args.child answer image))) c.in_ok-word.ensures.stays c.search.ensures.found
+    subst (λ (t : Told). IfOk c.search.result (λ answer. ForSome t.files (λ image. CanBeSearched c.args.key.now image → IsAnswer c.args.key.now c.args.child answer image))) c.in_ok-word.ensures.reads.stays c.search.ensures.found
 
 pub returns-clause-linked : goal.returns-clause-linked
 returns-clause-linked g c =
-    subst (λ (t : Told). IfOk c.search.result (λ answer. IfSome answer (λ found. ForSome t.files (λ image. CanBeSearched c.args.key.now image → CanBeUnlinked found.entry found.before image)))) c.in_ok-word.ensures.stays c.search.ensures.linked
+    subst (λ (t : Told). IfOk c.search.result (λ answer. IfSome answer (λ found. ForSome t.files (λ image. CanBeSearched c.args.key.now image → CanBeUnlinked found.entry found.before image)))) c.in_ok-word.ensures.reads.stays c.search.ensures.linked
 
 pub returns-clause-checked : goal.returns-clause-checked
 returns-clause-checked g c =
@@ -51,10 +51,10 @@ returns-in_err-word-clause-untold g c whole agrees can =
 pub returns-clause-damaged : goal.returns-clause-damaged
 returns-clause-damaged g c =
     if_damaged_weaker c.search.result _ _
-    (λ damage wrong. inr (subst (λ (t : Told). IsChainDamage c.args.files.now t c.args.key.now c.args.child damage) c.in_ok-word.ensures.stays wrong))
+    (λ damage wrong. inr (subst (λ (t : Told). IsChainDamage c.args.files.now t c.args.key.now c.args.child damage) c.in_ok-word.ensures.reads.stays wrong))
     c.search.ensures.damaged
 
 pub returns-clause-untold : goal.returns-clause-untold
 returns-clause-untold g c whole agrees can =
-    subst (λ (t : Told). IfDamaged c.search.result (λ _. t.files ≡ None)) c.in_ok-word.ensures.stays
-    (c.search.ensures.untold (subst (λ (t : Told). ForSome t.files (Agrees c.args.files.now)) (sym c.in_ok-word.ensures.stays) agrees) (subst (λ (t : Told). ForSome t.files (CanBeSearched c.args.key.now)) (sym c.in_ok-word.ensures.stays) can))
+    subst (λ (t : Told). IfDamaged c.search.result (λ _. t.files ≡ None)) c.in_ok-word.ensures.reads.stays
+    (c.search.ensures.untold (subst (λ (t : Told). ForSome t.files (Agrees c.args.files.now)) (sym c.in_ok-word.ensures.reads.stays) agrees) (subst (λ (t : Told). ForSome t.files (CanBeSearched c.args.key.now)) (sym c.in_ok-word.ensures.reads.stays) can))

@@ -42,7 +42,7 @@ returns-in_err-is_sought-clause-damaged g c =
       stands = c.in_ok-entry.ensures.stands;
       wrong = inr (record {
         long_key = c.in_ok-head.head.long_key;
-        wrong = subst (λ (t : Told). IsPlaceDamage c.args.files.now t c.in_ok-entry.entry (length c.args.key.now) c.in_ok-head.head.long_key damage) c.in_ok-head.ensures.stays wrong;
+        wrong = subst (λ (t : Told). IsPlaceDamage c.args.files.now t c.in_ok-entry.entry (length c.args.key.now) c.in_ok-head.head.long_key damage) c.in_ok-head.ensures.reads.stays wrong;
       });
     })))
     c.is_sought.ensures.damaged)
@@ -61,21 +61,21 @@ returns-in_err-head-clause-untold g c agrees keyed =
 
 pub returns-in_err-is_sought-clause-untold : goal.returns-in_err-is_sought-clause-untold
 returns-in_err-is_sought-clause-untold g c agrees keyed =
-    subst (λ (t : Told). IfDamaged c.from_residual-in_err-is_sought.result (λ _. t.files ≡ None)) c.in_ok-head.ensures.stays
+    subst (λ (t : Told). IfDamaged c.from_residual-in_err-is_sought.result (λ _. t.files ≡ None)) c.in_ok-head.ensures.reads.stays
     (carried c.is_sought.result c.from_residual-in_err-is_sought.result c.in_err-is_sought.field-0.0 (λ _. (g.F.Folder.told c.read_head.new.folder).files ≡ None) c.in_err-is_sought.was c.from_residual-in_err-is_sought.ensures.1
-    (c.is_sought.ensures.untold (subst (λ (t : Told). ForSome t.files (CanBeRead c.args.files.now c.in_ok-entry.entry)) (sym c.in_ok-head.ensures.stays) (λ image there. can-be-read c.args.files.now image c.in_ok-entry.entry c.args.link.now.word c.in_ok-entry.ensures.entry (g.met.F.Folder.are_bytes c.args.folder.now image there) (agrees image there) (keyed image there)))))
+    (c.is_sought.ensures.untold (subst (λ (t : Told). ForSome t.files (CanBeRead c.args.files.now c.in_ok-entry.entry)) (sym c.in_ok-head.ensures.reads.stays) (λ image there. can-be-read c.args.files.now image c.in_ok-entry.entry c.args.link.now.word c.in_ok-entry.ensures.entry (g.met.F.Folder.are_bytes c.args.folder.now image there) (agrees image there) (keyed image there)))))
 
 pub is_sought-requires-clause-head : goal.is_sought-requires-clause-head
-is_sought-requires-clause-head g c = subst (λ (t : Told). ForSome t.files (λ image. IsRecordHead image c.in_ok-entry.entry c.in_ok-head.head)) (sym c.in_ok-head.ensures.stays) c.in_ok-head.ensures.head
+is_sought-requires-clause-head g c = subst (λ (t : Told). ForSome t.files (λ image. IsRecordHead image c.in_ok-entry.entry c.in_ok-head.head)) (sym c.in_ok-head.ensures.reads.stays) c.in_ok-head.ensures.head
 
 pub returns-then-branch-clause-step : goal.returns-then-branch-clause-step
 returns-then-branch-clause-step g c image there =
-    let now : (g.F.Folder.told c.read_head.new.folder).files ≡ Some image = ap (λ (t : Told). t.files) c.in_ok-head.ensures.stays ∙ there in
+    let now : (g.F.Folder.told c.read_head.new.folder).files ≡ Some image = ap (λ (t : Told). t.files) c.in_ok-head.ensures.reads.stays ∙ there in
     (followed c.args.files.now image c.in_ok-entry.entry c.args.link.now.word c.in_ok-entry.ensures.entry c.in_ok-entry.ensures.stands (c.in_ok-head.ensures.checked image there), subst (λ (w : ℕ). IsSought c.args.key.now c.args.sought.now.child w image) c.in_ok-entry.ensures.entry ((c.in_ok-is_sought.ensures.sought image now).0 c.if-branch.true))
 
 pub returns-clause-step : goal.returns-clause-step
 returns-clause-step g c image there =
-    let now : (g.F.Folder.told c.read_head.new.folder).files ≡ Some image = ap (λ (t : Told). t.files) c.in_ok-head.ensures.stays ∙ there in
+    let now : (g.F.Folder.told c.read_head.new.folder).files ≡ Some image = ap (λ (t : Told). t.files) c.in_ok-head.ensures.reads.stays ∙ there in
     let words = c.in_ok-head.ensures.head image there in
     let is = c.in_ok-entry.ensures.entry in (
       followed c.args.files.now image c.in_ok-entry.entry c.args.link.now.word c.in_ok-entry.ensures.entry c.in_ok-entry.ensures.stands (c.in_ok-head.ensures.checked image there),

@@ -124,8 +124,8 @@ loop-link-preserved g c =
     let some = c.if-left-eq0.false in
     let most = c.loop-link.invariant.most in
     record {
-      told = c.in_ok-entry.ensures.stays ∙ c.loop-link.invariant.told;
-      later = let a = c.in_ok-entry.ensures.later in let b = c.loop-link.invariant.later in omega (arith, a, b);
+      told = c.in_ok-entry.ensures.reads.stays ∙ c.loop-link.invariant.told;
+      later = let a = c.in_ok-entry.ensures.reads.later in let b = c.loop-link.invariant.later in omega (arith, a, b);
       kind_before = subst (λ (o : Option ℕ). IfSome o (λ w. kind_of w ≡ 2)) (sym stands.0) parts.1.0;
       stands_before = subst (λ (o : Option ℕ). IfSome o (λ w. IsTrue (stands_among c.args.files.now w))) (sym stands.0) parts.1.1;
       named_before = subst (λ (o : Option ℕ). StandsBefore c.args.files.now o) (sym stands.0) stands.1;

@@ -16,14 +16,14 @@ use Rattle.blk_chain.proofs.unlinking.unlink_behind.Goals.{After-update_sealed}
 use Rattle.blk_disk.specs.Open.{IsOpen}
 
 pub returns-in_err-next-clause-is_open : goal.returns-in_err-next-clause-is_open
-returns-in_err-next-clause-is_open g c = subst (λ (t : Told). ForSome t.files (IsOpen c.args.files.now)) (sym c.in_err-next.ensures.stays) c.requires.is_open
+returns-in_err-next-clause-is_open g c = subst (λ (t : Told). ForSome t.files (IsOpen c.args.files.now)) (sym c.in_err-next.ensures.reads.stays) c.requires.is_open
 
 pub returns-in_err-next-clause-commits : goal.returns-in_err-next-clause-commits
 returns-in_err-next-clause-commits g c =
-    turns_yet (g.F.Folder.told c.args.folder.now) (g.F.Folder.told c.field.new.f) (g.met.F.Folder.are_bytes c.args.folder.now) c.args.entry c.args.before c.in_err-next.ensures.stays
+    turns_yet (g.F.Folder.told c.args.folder.now) (g.F.Folder.told c.field.new.f) (g.met.F.Folder.are_bytes c.args.folder.now) c.args.entry c.args.before c.in_err-next.ensures.reads.stays
 
 pub update_sealed-requires-clause-agrees : goal.update_sealed-requires-clause-agrees
-update_sealed-requires-clause-agrees g c = subst (λ (t : Told). ForSome t.files (Agrees c.args.files.now)) (sym c.in_ok-next.ensures.stays) (λ image there. (c.requires.is_open image there).agrees)
+update_sealed-requires-clause-agrees g c = subst (λ (t : Told). ForSome t.files (Agrees c.args.files.now)) (sym c.in_ok-next.ensures.reads.stays) (λ image there. (c.requires.is_open image there).agrees)
 
 pub update_sealed-requires-clause-changes : goal.update_sealed-requires-clause-changes
 update_sealed-requires-clause-changes g c = next_changes c.args.before c.in_ok-next.next c.requires.kind_before
@@ -31,7 +31,7 @@ update_sealed-requires-clause-changes g c = next_changes c.args.before c.in_ok-n
 -- what a call says of the next that was read
 said : (g : given.Over) (c : goal.After-update_sealed g) (P : Told → Image → ℕ → Type 0) → ForSome (g.F.Folder.told c.field.new.f).files (λ from. P (g.F.Folder.told c.field.new.f) from c.in_ok-next.next)
     → ForSome (g.F.Folder.told c.args.folder.now).files (λ from. P (g.F.Folder.told c.args.folder.now) from (next_record from c.args.entry))
-said g c P = moved (g.F.Folder.told c.args.folder.now) (g.F.Folder.told c.field.new.f) c.args.entry c.in_ok-next.next P c.in_ok-next.ensures.value c.in_ok-next.ensures.stays
+said g c P = moved (g.F.Folder.told c.args.folder.now) (g.F.Folder.told c.field.new.f) c.args.entry c.in_ok-next.next P c.in_ok-next.ensures.value c.in_ok-next.ensures.reads.stays
 
 pub returns-clause-steps : goal.returns-clause-steps
 returns-clause-steps g c =
@@ -40,7 +40,7 @@ returns-clause-steps g c =
 pub returns-clause-prefix : goal.returns-clause-prefix
 returns-clause-prefix g c = record {
   made = said g c (λ (t : Told) (from : Image) (n : ℕ). AppliesPrefix t (g.F.Folder.told c.update_sealed.new.f) (sealed_steps from c.args.before (with_next n))) c.update_sealed.ensures.prefix.made;
-  silent = λ none. c.update_sealed.ensures.prefix.silent (subst (λ (t : Told). t.files ≡ None) (sym c.in_ok-next.ensures.stays) none);
+  silent = λ none. c.update_sealed.ensures.prefix.silent (subst (λ (t : Told). t.files ≡ None) (sym c.in_ok-next.ensures.reads.stays) none);
 }
 
 pub returns-clause-commits : goal.returns-clause-commits
@@ -69,15 +69,15 @@ pub returns-clause-is_open : goal.returns-clause-is_open
 returns-clause-is_open g c image here = record { agrees = c.update_sealed.ensures.agrees image here; whole_index = whole_index_at_end g c image here }
 
 pub returns-clause-checked : goal.returns-clause-checked
-returns-clause-checked g c = on_ok_weaker c.update_sealed.result (λ good. subst (λ (t : Told). ForSome t.files (RecordChecks c.args.before)) c.in_ok-next.ensures.stays good) c.update_sealed.ensures.checked
+returns-clause-checked g c = on_ok_weaker c.update_sealed.result (λ good. subst (λ (t : Told). ForSome t.files (RecordChecks c.args.before)) c.in_ok-next.ensures.reads.stays good) c.update_sealed.ensures.checked
 
 pub returns-clause-unwritten : goal.returns-clause-unwritten
-returns-clause-unwritten g c = if_damaged_weaker c.update_sealed.result _ _ (λ damage stays. stays ∙ c.in_ok-next.ensures.stays) c.update_sealed.ensures.unwritten
+returns-clause-unwritten g c = if_damaged_weaker c.update_sealed.result _ _ (λ damage stays. stays ∙ c.in_ok-next.ensures.reads.stays) c.update_sealed.ensures.unwritten
 
 pub returns-clause-untold : goal.returns-clause-untold
 returns-clause-untold g c good =
-    subst (λ (t : Told). IfDamaged c.update_sealed.result (λ _. t.files ≡ None)) c.in_ok-next.ensures.stays
-    (c.update_sealed.ensures.untold (subst (λ (t : Told). ForSome t.files (RecordChecks c.args.before)) (sym c.in_ok-next.ensures.stays) good))
+    subst (λ (t : Told). IfDamaged c.update_sealed.result (λ _. t.files ≡ None)) c.in_ok-next.ensures.reads.stays
+    (c.update_sealed.ensures.untold (subst (λ (t : Told). ForSome t.files (RecordChecks c.args.before)) (sym c.in_ok-next.ensures.reads.stays) good))
 
 pub returns-in_err-next-clause-untold : goal.returns-in_err-next-clause-untold
 returns-in_err-next-clause-untold g c good =

@@ -11,28 +11,28 @@ use Rattle.blk_chain.proofs.unlinking.unlink_first.Goals as goal
 use Rattle.blk_disk.specs.Open.{IsOpen}
 
 pub returns-in_err-next-clause-commits : goal.returns-in_err-next-clause-commits
-returns-in_err-next-clause-commits g c = first_turns_yet (g.F.Folder.told c.args.folder.now) (g.F.Folder.told c.field.new.f) c.args.entry c.in_err-next.ensures.stays
+returns-in_err-next-clause-commits g c = first_turns_yet (g.F.Folder.told c.args.folder.now) (g.F.Folder.told c.field.new.f) c.args.entry c.in_err-next.ensures.reads.stays
 
 pub returns-in_err-next-clause-is_open : goal.returns-in_err-next-clause-is_open
-returns-in_err-next-clause-is_open g c = subst (λ (t : Told). ForSome t.files (IsOpen c.args.files.now)) (sym c.in_err-next.ensures.stays) c.requires.is_open
+returns-in_err-next-clause-is_open g c = subst (λ (t : Told). ForSome t.files (IsOpen c.args.files.now)) (sym c.in_err-next.ensures.reads.stays) c.requires.is_open
 
 pub returns-in_err-hash-clause-commits : goal.returns-in_err-hash-clause-commits
-returns-in_err-hash-clause-commits g c = first_turns_yet (g.F.Folder.told c.args.folder.now) (g.F.Folder.told c.field-2.new.f) c.args.entry (c.in_err-hash.ensures.stays ∙ c.in_ok-next.ensures.stays)
+returns-in_err-hash-clause-commits g c = first_turns_yet (g.F.Folder.told c.args.folder.now) (g.F.Folder.told c.field-2.new.f) c.args.entry (c.in_err-hash.ensures.reads.stays ∙ c.in_ok-next.ensures.reads.stays)
 
 pub returns-in_err-hash-clause-is_open : goal.returns-in_err-hash-clause-is_open
-returns-in_err-hash-clause-is_open g c = subst (λ (t : Told). ForSome t.files (IsOpen c.args.files.now)) (sym (c.in_err-hash.ensures.stays ∙ c.in_ok-next.ensures.stays)) c.requires.is_open
+returns-in_err-hash-clause-is_open g c = subst (λ (t : Told). ForSome t.files (IsOpen c.args.files.now)) (sym (c.in_err-hash.ensures.reads.stays ∙ c.in_ok-next.ensures.reads.stays)) c.requires.is_open
 
 -- what a failed write leaves
 left_failed : (g : given.Over) (c : goal.After-from_residual-in_err-set_bucket g) → IsTaken c.args.files.now c.args.entry (g.F.Folder.told c.args.folder.now) (g.F.Folder.told c.set_bucket.new.f)
 left_failed g c =
     first_left c.args.files.now (g.F.Folder.told c.args.folder.now) (g.F.Folder.told c.set_bucket.new.f) c.args.entry c.in_ok-hash.hash c.in_ok-next.next (g.met.F.Folder.are_bytes c.args.folder.now) (λ image there. (c.requires.is_open image there).agrees) (λ image there. (c.requires.is_open image there).whole_index)
-    c.in_ok-next.ensures.value (g.F.Folder.told c.field.new.f) c.in_ok-next.ensures.stays c.in_ok-hash.ensures.value (g.F.Folder.told c.field-2.new.f) c.in_ok-hash.ensures.stays c.in_err-set_bucket.ensures.prefix
+    c.in_ok-next.ensures.value (g.F.Folder.told c.field.new.f) c.in_ok-next.ensures.reads.stays c.in_ok-hash.ensures.value (g.F.Folder.told c.field-2.new.f) c.in_ok-hash.ensures.reads.stays c.in_err-set_bucket.ensures.prefix
 
 -- what the write leaves
 left_done : (g : given.Over) (c : goal.In_ok-set_bucket g) → IsTaken c.args.files.now c.args.entry (g.F.Folder.told c.args.folder.now) (g.F.Folder.told c.set_bucket.new.f)
 left_done g c =
     first_left c.args.files.now (g.F.Folder.told c.args.folder.now) (g.F.Folder.told c.set_bucket.new.f) c.args.entry c.in_ok-hash.hash c.in_ok-next.next (g.met.F.Folder.are_bytes c.args.folder.now) (λ image there. (c.requires.is_open image there).agrees) (λ image there. (c.requires.is_open image there).whole_index)
-    c.in_ok-next.ensures.value (g.F.Folder.told c.field.new.f) c.in_ok-next.ensures.stays c.in_ok-hash.ensures.value (g.F.Folder.told c.field-2.new.f) c.in_ok-hash.ensures.stays (part_whole c.in_ok-set_bucket.ensures.steps)
+    c.in_ok-next.ensures.value (g.F.Folder.told c.field.new.f) c.in_ok-next.ensures.reads.stays c.in_ok-hash.ensures.value (g.F.Folder.told c.field-2.new.f) c.in_ok-hash.ensures.reads.stays (part_whole c.in_ok-set_bucket.ensures.steps)
 
 pub returns-in_err-set_bucket-clause-prefix : goal.returns-in_err-set_bucket-clause-prefix
 returns-in_err-set_bucket-clause-prefix g c = record {
@@ -49,12 +49,12 @@ returns-in_err-set_bucket-clause-is_open g c image here = record { agrees = (lef
 pub returns-clause-steps : goal.returns-clause-steps
 returns-clause-steps g c =
     first_whole c.args.files.now (g.F.Folder.told c.args.folder.now) (g.F.Folder.told c.set_bucket.new.f) c.args.entry c.in_ok-hash.hash c.in_ok-next.next (g.met.F.Folder.are_bytes c.args.folder.now) (λ image there. (c.requires.is_open image there).agrees) (λ image there. (c.requires.is_open image there).whole_index)
-    c.in_ok-next.ensures.value (g.F.Folder.told c.field.new.f) c.in_ok-next.ensures.stays c.in_ok-hash.ensures.value (g.F.Folder.told c.field-2.new.f) c.in_ok-hash.ensures.stays c.in_ok-set_bucket.ensures.steps
+    c.in_ok-next.ensures.value (g.F.Folder.told c.field.new.f) c.in_ok-next.ensures.reads.stays c.in_ok-hash.ensures.value (g.F.Folder.told c.field-2.new.f) c.in_ok-hash.ensures.reads.stays c.in_ok-set_bucket.ensures.steps
 
 pub returns-clause-unlinked : goal.returns-clause-unlinked
 returns-clause-unlinked g c =
     first_done c.args.files.now (g.F.Folder.told c.args.folder.now) (g.F.Folder.told c.set_bucket.new.f) c.args.entry c.in_ok-hash.hash c.in_ok-next.next (g.met.F.Folder.are_bytes c.args.folder.now) (λ image there. (c.requires.is_open image there).agrees) (λ image there. (c.requires.is_open image there).whole_index)
-    c.in_ok-next.ensures.value (g.F.Folder.told c.field.new.f) c.in_ok-next.ensures.stays c.in_ok-hash.ensures.value (g.F.Folder.told c.field-2.new.f) c.in_ok-hash.ensures.stays c.in_ok-set_bucket.ensures.steps
+    c.in_ok-next.ensures.value (g.F.Folder.told c.field.new.f) c.in_ok-next.ensures.reads.stays c.in_ok-hash.ensures.value (g.F.Folder.told c.field-2.new.f) c.in_ok-hash.ensures.reads.stays c.in_ok-set_bucket.ensures.steps
 
 pub returns-clause-prefix : goal.returns-clause-prefix
 returns-clause-prefix g c = record {
@@ -70,9 +70,9 @@ returns-clause-is_open g c image here = record { agrees = (left_done g c).agrees
 
 pub returns-in_err-hash-clause-untold : goal.returns-in_err-hash-clause-untold
 returns-in_err-hash-clause-untold g c =
-    subst (λ (t : Told). IfDamaged c.from_residual-in_err-hash.result (λ _. t.files ≡ None)) c.in_ok-next.ensures.stays
+    subst (λ (t : Told). IfDamaged c.from_residual-in_err-hash.result (λ _. t.files ≡ None)) c.in_ok-next.ensures.reads.stays
     (carried c.field-2.result c.from_residual-in_err-hash.result c.in_err-hash.field-0.0 (λ _. (g.F.Folder.told c.field.new.f).files ≡ None) c.in_err-hash.was c.from_residual-in_err-hash.ensures.1
-    (c.field-2.ensures.untold (subst (λ (t : Told). ForSome t.files (Agrees c.args.files.now)) (sym c.in_ok-next.ensures.stays) (λ image there. (c.requires.is_open image there).agrees))))
+    (c.field-2.ensures.untold (subst (λ (t : Told). ForSome t.files (Agrees c.args.files.now)) (sym c.in_ok-next.ensures.reads.stays) (λ image there. (c.requires.is_open image there).agrees))))
 
 pub returns-in_err-next-clause-untold : goal.returns-in_err-next-clause-untold
 returns-in_err-next-clause-untold g c =

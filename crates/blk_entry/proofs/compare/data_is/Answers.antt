@@ -66,8 +66,8 @@ returns-in_err-piece_is-clause-short g c =
 
 pub loop-rest-preserved : goal.loop-rest-preserved
 loop-rest-preserved g c = record {
-  told = c.in_ok-piece_is.ensures.stays ∙ c.loop-rest.invariant.told;
-  later = let a = c.in_ok-piece_is.ensures.later in let b = c.loop-rest.invariant.later in omega (arith, a, b);
+  told = c.in_ok-piece_is.ensures.reads.stays ∙ c.loop-rest.invariant.told;
+  later = let a = c.in_ok-piece_is.ensures.reads.later in let b = c.loop-rest.invariant.later in omega (arith, a, b);
   order = let h = c.loop-rest.invariant.order in omega (arith, h);
   sum = let h = c.loop-rest.invariant.sum in omega (arith, h, sizes);
   pieces = ⊎_elim

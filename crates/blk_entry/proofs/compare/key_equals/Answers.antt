@@ -19,16 +19,16 @@ returns-in_err-head-clause-untold g c can =
 
 pub returns-clause-untold : goal.returns-clause-untold
 returns-clause-untold g c can =
-    subst (λ (t : Told). IfDamaged c.key_is.result (λ _. t.files ≡ None)) c.in_ok-head.ensures.stays
-    (c.key_is.ensures.untold (subst (λ (t : Told). ForSome t.files (CanBeRead c.args.files.now c.args.entry)) (sym c.in_ok-head.ensures.stays) can)
-    (subst (λ (t : Told). ForSome t.files (λ image. IsRecordHead image c.args.entry c.in_ok-head.head)) (sym c.in_ok-head.ensures.stays) c.in_ok-head.ensures.head))
+    subst (λ (t : Told). IfDamaged c.key_is.result (λ _. t.files ≡ None)) c.in_ok-head.ensures.reads.stays
+    (c.key_is.ensures.untold (subst (λ (t : Told). ForSome t.files (CanBeRead c.args.files.now c.args.entry)) (sym c.in_ok-head.ensures.reads.stays) can)
+    (subst (λ (t : Told). ForSome t.files (λ image. IsRecordHead image c.args.entry c.in_ok-head.head)) (sym c.in_ok-head.ensures.reads.stays) c.in_ok-head.ensures.head))
 
 pub returns-clause-damaged : goal.returns-clause-damaged
 returns-clause-damaged g c =
     if_damaged_weaker c.key_is.result _ _
     (λ damage wrong. inr (record {
       long_key = c.in_ok-head.head.long_key;
-      wrong = subst (λ (t : Told). IsPlaceDamage c.args.files.now t c.args.entry (length c.args.key.now) c.in_ok-head.head.long_key damage) c.in_ok-head.ensures.stays wrong;
+      wrong = subst (λ (t : Told). IsPlaceDamage c.args.files.now t c.args.entry (length c.args.key.now) c.in_ok-head.head.long_key damage) c.in_ok-head.ensures.reads.stays wrong;
     }))
     c.key_is.ensures.damaged
 
@@ -50,7 +50,7 @@ returns-clause-bytes g c =
     ok_weaker c.key_is.result (λ same. ForSome (g.F.Folder.told c.read_head.new.folder).files (λ image. IsTrue same ↔ AreKeyBytes c.args.key.now c.args.entry c.in_ok-head.head.key_len c.in_ok-head.head.long_key image))
     (λ same. ForSome (g.F.Folder.told c.args.f.now).files (λ image. IsTrue same ↔ HasBytesOf c.args.key.now c.args.entry image))
     (λ same bytes image there.
-    let whole = bytes image (ap (λ (t : Told). t.files) c.in_ok-head.ensures.stays ∙ there) in
+    let whole = bytes image (ap (λ (t : Told). t.files) c.in_ok-head.ensures.reads.stays ∙ there) in
     let words = c.in_ok-head.ensures.head image there in
     let by_head = bytes_of_head image c.args.entry c.in_ok-head.head c.args.key.now words in
     (λ yes. record { hash = sym words.hash ∙ c.if-head-super_fast_hash.false ∙ c.super_fast_hash.ensures; bytes = by_head.0 (whole.0 yes) }, λ has. whole.1 (by_head.1 has.bytes)))
@@ -62,7 +62,7 @@ returns-clause-equal g c =
     (λ same. ForSome (g.F.Folder.told c.args.f.now).files (λ image. HasReadableKey c.args.entry image → IsTrue same ↔ IsEntryOf c.args.key.now c.args.entry image))
     (λ same equal image there readable.
     let words = c.in_ok-head.ensures.head image there in
-    let whole = equal image (ap (λ (t : Told). t.files) c.in_ok-head.ensures.stays ∙ there) words readable in
+    let whole = equal image (ap (λ (t : Told). t.files) c.in_ok-head.ensures.reads.stays ∙ there) words readable in
     (λ yes. record { hash = sym words.hash ∙ c.if-head-super_fast_hash.false ∙ c.super_fast_hash.ensures; is = whole.0 yes }, λ of. whole.1 of.is))
     c.key_is.ensures.equal
 
@@ -78,5 +78,5 @@ pub returns-clause-there : goal.returns-clause-there
 returns-clause-there g c =
     ok_weaker c.key_is.result (λ same. IsTrue same → ForSome (g.F.Folder.told c.read_head.new.folder).files (HasData (key_address c.args.entry c.in_ok-head.head.key_len c.in_ok-head.head.long_key) (bytes_before c.in_ok-head.head.key_len) (length c.args.key.now)))
     (λ same. IsTrue same → ForSome (g.F.Folder.told c.args.f.now).files (HasKeyBytes c.args.entry 0 (length c.args.key.now)))
-    (λ same has holds image there. key_bytes_there image c.args.entry c.in_ok-head.head (length c.args.key.now) (c.in_ok-head.ensures.head image there) (has holds image (ap (λ (t : Told). t.files) c.in_ok-head.ensures.stays ∙ there)))
+    (λ same has holds image there. key_bytes_there image c.args.entry c.in_ok-head.head (length c.args.key.now) (c.in_ok-head.ensures.head image there) (has holds image (ap (λ (t : Told). t.files) c.in_ok-head.ensures.reads.stays ∙ there)))
     c.key_is.ensures.there

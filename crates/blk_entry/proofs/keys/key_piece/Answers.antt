@@ -28,12 +28,12 @@ returns-in_err-key-clause-untold g c can =
 
 pub returns-in_err-read_data-clause-untold : goal.returns-in_err-read_data-clause-untold
 returns-in_err-read_data-clause-untold g c can =
-    subst (λ (t : Told). IfDamaged c.from_residual-in_err-read_data.result (λ _. t.files ≡ None)) c.in_ok-head.ensures.stays
+    subst (λ (t : Told). IfDamaged c.from_residual-in_err-read_data.result (λ _. t.files ≡ None)) c.in_ok-head.ensures.reads.stays
     (carried c.read_data.result c.from_residual-in_err-read_data.result c.in_err-read_data.field-0.0 (λ _. (g.F.Folder.told c.read_head.new.folder).files ≡ None) c.in_err-read_data.was c.from_residual-in_err-read_data.ensures.1
     (c.read_data.ensures.untold
-    (subst (λ (t : Told). ForSome t.files (Agrees c.args.files.now)) (sym c.in_ok-head.ensures.stays) (λ image there. (can image there).agrees))
+    (subst (λ (t : Told). ForSome t.files (Agrees c.args.files.now)) (sym c.in_ok-head.ensures.reads.stays) (λ image there. (can image there).agrees))
     (λ image now.
-    let there : (g.F.Folder.told c.args.f.now).files ≡ Some image = ap (λ (t : Told). t.files) (sym c.in_ok-head.ensures.stays) ∙ now in
+    let there : (g.F.Folder.told c.args.f.now).files ≡ Some image = ap (λ (t : Told). t.files) (sym c.in_ok-head.ensures.reads.stays) ∙ now in
     let has = (can image there).key in
     let known = head_facts c.args.files.now image c.args.entry c.in_ok-head.head has.key (can image there).agrees c.requires.kind (c.in_ok-head.ensures.head image there) has.is in
     piece_there c.args.files.now image c.args.entry c.in_ok-head.head.key_len c.in_ok-head.head.long_key has.key c.in_ok-key.key c.min-at.result (length (take c.min-n.result c.args.out.now)) known c.in_ok-key.ensures.place
@@ -44,7 +44,7 @@ piece_of : (g : given.Over) (c : goal.In_ok-read_data g) → ForSome (g.F.Folder
 piece_of g c image there =
     let f : ℕ → ℕ = byte image (data_file c.in_ok-key.key.addr) in
     let start : ℕ = data_start c.in_ok-key.key.addr in
-    let now : (g.F.Folder.told c.read_head.new.folder).files ≡ Some image = ap (λ (t : Told). t.files) c.in_ok-head.ensures.stays ∙ there in
+    let now : (g.F.Folder.told c.read_head.new.folder).files ≡ Some image = ap (λ (t : Told). t.files) c.in_ok-head.ensures.reads.stays ∙ there in
     let size : length (take c.min-n.result c.args.out.now) ≡ c.min-n.result = omega (arith, length-take c.min-n.result c.args.out.now, c.min-n.ensures) in
     let order : start + (c.in_ok-key.key.skip + c.min-at.result) ≡ start + c.in_ok-key.key.skip + c.min-at.result = omega arith in
     piece_is (key_bytes image c.args.entry) c.read_data.new.out c.args.out.now f (start + c.in_ok-key.key.skip) c.in_ok-key.key.len c.args.at c.min-at.result c.min-n.result
@@ -66,7 +66,7 @@ pub returns-clause-there : goal.returns-clause-there
 returns-clause-there g c image there =
     let words = c.in_ok-head.ensures.head image there in
     let at = c.in_ok-key.ensures.place in
-    let now : (g.F.Folder.told c.read_head.new.folder).files ≡ Some image = ap (λ (t : Told). t.files) c.in_ok-head.ensures.stays ∙ there in
+    let now : (g.F.Folder.told c.read_head.new.folder).files ≡ Some image = ap (λ (t : Told). t.files) c.in_ok-head.ensures.reads.stays ∙ there in
     let addr : c.in_ok-key.key.addr ≡ key_address c.args.entry (entry_at image c.args.entry).key_len (entry_at image c.args.entry).long_key = at.addr ∙ (λ j. key_address c.args.entry (words.key_len j) (words.long_key j)) in
     let skip : c.in_ok-key.key.skip ≡ bytes_before (entry_at image c.args.entry).key_len = at.skip ∙ ap bytes_before words.key_len in
     let len : c.in_ok-key.key.len ≡ (entry_at image c.args.entry).key_len = at.len ∙ words.key_len in
@@ -88,7 +88,7 @@ returns-in_err-read_data-clause-damaged g c =
     (λ damage cut. inr (record {
       key_len = c.in_ok-head.head.key_len;
       long_key = c.in_ok-head.head.long_key;
-      wrong = inl (subst (λ (t : Told). IsCutPart c.args.files.now t c.args.entry c.in_ok-head.head.key_len c.in_ok-head.head.long_key c.args.at (length c.args.out.now) damage) c.in_ok-head.ensures.stays
+      wrong = inl (subst (λ (t : Told). IsCutPart c.args.files.now t c.args.entry c.in_ok-head.head.key_len c.in_ok-head.head.long_key c.args.at (length c.args.out.now) damage) c.in_ok-head.ensures.reads.stays
           (part_is_cut c.args.files.now (g.F.Folder.told c.read_head.new.folder) c.args.entry c.in_ok-head.head.key_len c.in_ok-head.head.long_key c.in_ok-key.key c.args.at (length c.args.out.now) c.min-at.result n damage c.in_ok-key.ensures.placed c.in_ok-key.ensures.place
           (omega (arith, c.min-at.ensures)) (omega (arith, length-take c.min-n.result c.args.out.now, c.min-at.ensures, c.min-n.ensures)) cut));
     }))

@@ -46,7 +46,7 @@ returns-then-is_no_key-clause-untold g c from there by state layout is =
 
 pub returns-in_err-at-clause-stops : goal.returns-in_err-at-clause-stops
 returns-in_err-at-clause-stops g c from there by state layout is =
-    stayed-stops (g.F.Folder.told c.args.folder.now) (g.F.Folder.told c.find_listed.new.folder) state (without (group_for is.last.item is.last.front ∷ []) state) layout from there c.in_err-at.ensures.stays is.kept
+    stayed-stops (g.F.Folder.told c.args.folder.now) (g.F.Folder.told c.find_listed.new.folder) state (without (group_for is.last.item is.last.front ∷ []) state) layout from there c.in_err-at.ensures.reads.stays is.kept
 
 pub returns-in_err-at-clause-front : goal.returns-in_err-at-clause-front
 returns-in_err-at-clause-front g c from there by state layout is =
@@ -54,7 +54,7 @@ returns-in_err-at-clause-front g c from there by state layout is =
     (appends-longer (g.K.Sink.written c.args.out.now) (g.K.Sink.written c.say_evicted.new.out) (evicted_line (main c.args.key.now)) (text_of_parts c.args.key.now (parts_among c.args.key.now state.uses)) c.say_evicted.ensures.prints.front)
 
 pub returns-in_err-at-clause-is_open : goal.returns-in_err-at-clause-is_open
-returns-in_err-at-clause-is_open g c image there = c.requires.is_open image (told_now image (sym c.in_err-at.ensures.stays) there)
+returns-in_err-at-clause-is_open g c image there = c.requires.is_open image (told_now image (sym c.in_err-at.ensures.reads.stays) there)
 
 pub returns-in_err-at-clause-untold : goal.returns-in_err-at-clause-untold
 returns-in_err-at-clause-untold g c from there by state layout is =
@@ -62,7 +62,7 @@ returns-in_err-at-clause-untold g c from there by state layout is =
     (c.find_listed.ensures.untold c.requires.is_open from there state layout [] is.last.item is.last.loaded is.kept.entries (whole-is-listed state layout from c.args.found.now c.args.key.now is) is.last.here is.key_is (whole-child state layout from c.args.found.now c.args.key.now is))
 
 pub remove_parent-requires-clause-is_open : goal.remove_parent-requires-clause-is_open
-remove_parent-requires-clause-is_open g c image there = c.requires.is_open image (told_now image (sym c.in_ok-at.ensures.stays) there)
+remove_parent-requires-clause-is_open g c image there = c.requires.is_open image (told_now image (sym c.in_ok-at.ensures.reads.stays) there)
 
 pub remove_parent-requires-clause-some : goal.remove_parent-requires-clause-some
 remove_parent-requires-clause-some g c = let some : no_key c.args.key.now ≡ false = search rules in grind (arith, nat_tests)
@@ -80,7 +80,7 @@ returns-clause-out g c = if-ok-three c.remove_parent.result (λ gone told out se
     let entry = c.in_ok-at.ensures.lies from there state layout [] is.last.item is.last.loaded is.kept.entries listed is.last.here is.key_is child in
     let behind = c.in_ok-at.ensures.behind from there state layout [] is.last.item is.last.loaded is.kept.entries listed is.last.here is.key_is child in
     let may = may-go state layout from c.args.found.now c.args.key.now is c.in_ok-at.at.entry c.in_ok-at.at.before entry behind in
-    let mid = told_now from c.in_ok-at.ensures.stays there in
+    let mid = told_now from c.in_ok-at.ensures.reads.stays there in
     let at_by = subst (λ (w : ℕ). IsOwnedBy w c.args.owned.now from) (is.last.entry ∙ entry) by in
     let o = whole-owner state layout from c.args.found.now c.args.key.now is in
     whole-out state layout from c.args.found.now c.args.key.now is now gone (out from mid at_by state layout [] o.number o.object may now then_there) (told from mid at_by state layout [] o.number o.object may) (session from mid at_by state layout [] o.number o.object may now then_there))
@@ -93,7 +93,7 @@ returns-clause-prints g c = on_ok_weaker c.remove_parent.result (λ prints from 
     let entry = c.in_ok-at.ensures.lies from there state layout [] is.last.item is.last.loaded is.kept.entries listed is.last.here is.key_is child in
     let behind = c.in_ok-at.ensures.behind from there state layout [] is.last.item is.last.loaded is.kept.entries listed is.last.here is.key_is child in
     let may = may-go state layout from c.args.found.now c.args.key.now is c.in_ok-at.at.entry c.in_ok-at.at.before entry behind in
-    let mid = told_now from c.in_ok-at.ensures.stays there in
+    let mid = told_now from c.in_ok-at.ensures.reads.stays there in
     let at_by = subst (λ (w : ℕ). IsOwnedBy w c.args.owned.now from) (is.last.entry ∙ entry) by in
     let o = whole-owner state layout from c.args.found.now c.args.key.now is in
     subst (λ (text : List ℕ). PrintsUnlessFailed c.args.failed.now c.remove_parent.new.failed (g.K.Sink.written c.args.out.now) (g.K.Sink.written c.remove_parent.new.out) text) (sym (whole-text state layout from c.args.found.now c.args.key.now is))
@@ -108,10 +108,10 @@ returns-clause-stops g c from there by state layout is =
     let entry = c.in_ok-at.ensures.lies from there state layout [] is.last.item is.last.loaded is.kept.entries listed is.last.here is.key_is child in
     let behind = c.in_ok-at.ensures.behind from there state layout [] is.last.item is.last.loaded is.kept.entries listed is.last.here is.key_is child in
     let may = may-go state layout from c.args.found.now c.args.key.now is c.in_ok-at.at.entry c.in_ok-at.at.before entry behind in
-    let mid = told_now from c.in_ok-at.ensures.stays there in
+    let mid = told_now from c.in_ok-at.ensures.reads.stays there in
     let at_by = subst (λ (w : ℕ). IsOwnedBy w c.args.owned.now from) (is.last.entry ∙ entry) by in
     let o = whole-owner state layout from c.args.found.now c.args.key.now is in
-    passes_stayed c.in_ok-at.ensures.stays (subst (λ (after : State). Passes (g.F.Folder.told c.find_listed.new.folder) (g.F.Folder.told c.remove_parent.new.folder) (FindsEither state after)) (doomed-is state layout from c.args.found.now c.args.key.now is) (c.remove_parent.ensures.stops from mid at_by state layout [] o.number o.object may))
+    passes_stayed c.in_ok-at.ensures.reads.stays (subst (λ (after : State). Passes (g.F.Folder.told c.find_listed.new.folder) (g.F.Folder.told c.remove_parent.new.folder) (FindsEither state after)) (doomed-is state layout from c.args.found.now c.args.key.now is) (c.remove_parent.ensures.stops from mid at_by state layout [] o.number o.object may))
 
 pub returns-clause-front : goal.returns-clause-front
 returns-clause-front g c from there by state layout is =
@@ -120,7 +120,7 @@ returns-clause-front g c from there by state layout is =
     let entry = c.in_ok-at.ensures.lies from there state layout [] is.last.item is.last.loaded is.kept.entries listed is.last.here is.key_is child in
     let behind = c.in_ok-at.ensures.behind from there state layout [] is.last.item is.last.loaded is.kept.entries listed is.last.here is.key_is child in
     let may = may-go state layout from c.args.found.now c.args.key.now is c.in_ok-at.at.entry c.in_ok-at.at.before entry behind in
-    let mid = told_now from c.in_ok-at.ensures.stays there in
+    let mid = told_now from c.in_ok-at.ensures.reads.stays there in
     let at_by = subst (λ (w : ℕ). IsOwnedBy w c.args.owned.now from) (is.last.entry ∙ entry) by in
     let o = whole-owner state layout from c.args.found.now c.args.key.now is in
     subst (Appends (g.K.Sink.written c.args.out.now) (g.K.Sink.written c.remove_parent.new.out)) (sym (whole-text state layout from c.args.found.now c.args.key.now is))
@@ -134,10 +134,10 @@ returns-clause-untold g c from there by state layout is =
     let entry = c.in_ok-at.ensures.lies from there state layout [] is.last.item is.last.loaded is.kept.entries listed is.last.here is.key_is child in
     let behind = c.in_ok-at.ensures.behind from there state layout [] is.last.item is.last.loaded is.kept.entries listed is.last.here is.key_is child in
     let may = may-go state layout from c.args.found.now c.args.key.now is c.in_ok-at.at.entry c.in_ok-at.at.before entry behind in
-    let mid = told_now from c.in_ok-at.ensures.stays there in
+    let mid = told_now from c.in_ok-at.ensures.reads.stays there in
     let at_by = subst (λ (w : ℕ). IsOwnedBy w c.args.owned.now from) (is.last.entry ∙ entry) by in
     let o = whole-owner state layout from c.args.found.now c.args.key.now is in
-    subst (λ (t : Told). IfDamaged c.remove_parent.result (λ _. t.files ≡ None)) c.in_ok-at.ensures.stays (c.remove_parent.ensures.untold from mid at_by state layout [] o.number o.object may)
+    subst (λ (t : Told). IfDamaged c.remove_parent.result (λ _. t.files ≡ None)) c.in_ok-at.ensures.reads.stays (c.remove_parent.ensures.untold from mid at_by state layout [] o.number o.object may)
 
 pub returns-then-is_no_key-clause-damaged : goal.returns-then-is_no_key-clause-damaged
 returns-then-is_no_key-clause-damaged g c says =

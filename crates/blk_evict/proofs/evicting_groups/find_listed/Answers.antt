@@ -38,7 +38,7 @@ returns-in-None-clause-untold g c is_open image there state layout unlinked item
 pub returns-in_err-at-clause-damaged : goal.returns-in_err-at-clause-damaged
 returns-in_err-at-clause-damaged g c says =
     handed c.find.result c.from_residual.result c.in_err-at.field-0.0 _ c.args.files.now (g.F.Folder.told c.find.new.f)
-    (λ damage wrong. moved c.args.files.now (g.F.Folder.told c.args.folder.now) (g.F.Folder.told c.find.new.f) damage c.find.ensures.stays (search-checked c.args.files.now (g.F.Folder.told c.args.folder.now) c.args.name.now c.args.is_child damage wrong))
+    (λ damage wrong. moved c.args.files.now (g.F.Folder.told c.args.folder.now) (g.F.Folder.told c.find.new.f) damage c.find.ensures.reads.stays (search-checked c.args.files.now (g.F.Folder.told c.args.folder.now) c.args.name.now c.args.is_child damage wrong))
     c.in_err-at.was c.from_residual.ensures.1 c.find.ensures.damaged
 
 pub returns-in-None-clause-damaged : goal.returns-in-None-clause-damaged
@@ -46,7 +46,7 @@ returns-in-None-clause-damaged g c says =
     let d = c.record_damage.ensures in
     let p = names-parts c.args.files.now c.args.entry c.requires.record_stands in
     err_damaged Found c.record_damage.result d.damage (IsFailedCheck c.args.files.now (g.F.Folder.told c.find.new.f)) d.is
-    (moved c.args.files.now (g.F.Folder.told c.args.folder.now) (g.F.Folder.told c.find.new.f) d.damage c.in_ok-at.ensures.stays
+    (moved c.args.files.now (g.F.Folder.told c.args.folder.now) (g.F.Folder.told c.find.new.f) d.damage c.in_ok-at.ensures.reads.stays
     (within-checked c.args.files.now (g.F.Folder.told c.args.folder.now) c.args.entry d.damage p.1.0 p.1.1 (WrongChain (record {
       key = c.args.name.now;
       is_child = c.args.is_child;

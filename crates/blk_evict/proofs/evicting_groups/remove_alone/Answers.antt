@@ -14,10 +14,10 @@ use Rattle.blk_evict.proofs.evicting_groups.remove_alone.Goals as goal
 
 pub returns-in_err-at-clause-stops : goal.returns-in_err-at-clause-stops
 returns-in_err-at-clause-stops g c from there by state layout is =
-    stayed-stops (g.F.Folder.told c.args.folder.now) (g.F.Folder.told c.find_listed.new.folder) state (without (group_for is.last.item is.last.front ∷ []) state) layout from there c.in_err-at.ensures.stays is.kept
+    stayed-stops (g.F.Folder.told c.args.folder.now) (g.F.Folder.told c.find_listed.new.folder) state (without (group_for is.last.item is.last.front ∷ []) state) layout from there c.in_err-at.ensures.reads.stays is.kept
 
 pub returns-in_err-at-clause-is_open : goal.returns-in_err-at-clause-is_open
-returns-in_err-at-clause-is_open g c image there = c.requires.is_open image (told_now image (sym c.in_err-at.ensures.stays) there)
+returns-in_err-at-clause-is_open g c image there = c.requires.is_open image (told_now image (sym c.in_err-at.ensures.reads.stays) there)
 
 pub returns-in_err-at-clause-untold : goal.returns-in_err-at-clause-untold
 returns-in_err-at-clause-untold g c from there by state layout is =
@@ -25,7 +25,7 @@ returns-in_err-at-clause-untold g c from there by state layout is =
     (c.find_listed.ensures.untold c.requires.is_open from there state layout [] is.last.item is.last.loaded is.kept.entries (as-listed state layout from c.args.found.now c.args.is_child c.args.name.now is) is.last.here is.key_is (as-child state layout from c.args.found.now c.args.is_child c.args.name.now is))
 
 pub remove_read-requires-clause-is_open : goal.remove_read-requires-clause-is_open
-remove_read-requires-clause-is_open g c image there = c.requires.is_open image (told_now image (sym c.in_ok-at.ensures.stays) there)
+remove_read-requires-clause-is_open g c image there = c.requires.is_open image (told_now image (sym c.in_ok-at.ensures.reads.stays) there)
 
 pub returns-in_err-remove_read-clause-stops : goal.returns-in_err-remove_read-clause-stops
 returns-in_err-remove_read-clause-stops g c from there by state layout is =
@@ -34,9 +34,9 @@ returns-in_err-remove_read-clause-stops g c from there by state layout is =
     let entry = c.in_ok-at.ensures.lies from there state layout [] is.last.item is.last.loaded is.kept.entries listed is.last.here is.key_is child in
     let behind = c.in_ok-at.ensures.behind from there state layout [] is.last.item is.last.loaded is.kept.entries listed is.last.here is.key_is child in
     let goes = as-goes state layout from c.args.found.now c.args.is_child c.args.name.now is c.in_ok-at.at.entry c.in_ok-at.at.before entry behind in
-    passes_stayed c.in_ok-at.ensures.stays
+    passes_stayed c.in_ok-at.ensures.reads.stays
     (subst (λ (after : State). Passes (g.F.Folder.told c.find_listed.new.folder) (g.F.Folder.told c.remove_read.new.folder) (FindsEither state after)) goes.same
-    (c.in_err-remove_read.ensures.stops from (told_now from c.in_ok-at.ensures.stays there) (subst (λ (w : ℕ). IsOwnedBy w c.args.owned.now from) (is.last.entry ∙ entry) by) state layout [] goes.objects goes.keep is.last.item is.kept goes.alone))
+    (c.in_err-remove_read.ensures.stops from (told_now from c.in_ok-at.ensures.reads.stays there) (subst (λ (w : ℕ). IsOwnedBy w c.args.owned.now from) (is.last.entry ∙ entry) by) state layout [] goes.objects goes.keep is.last.item is.kept goes.alone))
 
 pub returns-in_err-remove_read-clause-untold : goal.returns-in_err-remove_read-clause-untold
 returns-in_err-remove_read-clause-untold g c from there by state layout is =
@@ -45,9 +45,9 @@ returns-in_err-remove_read-clause-untold g c from there by state layout is =
     let entry = c.in_ok-at.ensures.lies from there state layout [] is.last.item is.last.loaded is.kept.entries listed is.last.here is.key_is child in
     let behind = c.in_ok-at.ensures.behind from there state layout [] is.last.item is.last.loaded is.kept.entries listed is.last.here is.key_is child in
     let goes = as-goes state layout from c.args.found.now c.args.is_child c.args.name.now is c.in_ok-at.at.entry c.in_ok-at.at.before entry behind in
-    subst (λ (t : Told). IfDamaged c.from_residual-in_err-remove_read.result (λ _. t.files ≡ None)) c.in_ok-at.ensures.stays
+    subst (λ (t : Told). IfDamaged c.from_residual-in_err-remove_read.result (λ _. t.files ≡ None)) c.in_ok-at.ensures.reads.stays
     (carried c.remove_read.result c.from_residual-in_err-remove_read.result c.in_err-remove_read.field-0.0 (λ _. (g.F.Folder.told c.find_listed.new.folder).files ≡ None) c.in_err-remove_read.was c.from_residual-in_err-remove_read.ensures.1
-    (c.remove_read.ensures.untold from (told_now from c.in_ok-at.ensures.stays there) (subst (λ (w : ℕ). IsOwnedBy w c.args.owned.now from) (is.last.entry ∙ entry) by) state layout [] goes.objects goes.keep is.last.item is.kept goes.alone))
+    (c.remove_read.ensures.untold from (told_now from c.in_ok-at.ensures.reads.stays there) (subst (λ (w : ℕ). IsOwnedBy w c.args.owned.now from) (is.last.entry ∙ entry) by) state layout [] goes.objects goes.keep is.last.item is.kept goes.alone))
 
 pub returns-clause-out : goal.returns-clause-out
 returns-clause-out g c from there by state layout is now then_there =
@@ -56,7 +56,7 @@ returns-clause-out g c from there by state layout is now then_there =
     let entry = c.in_ok-at.ensures.lies from there state layout [] is.last.item is.last.loaded is.kept.entries listed is.last.here is.key_is child in
     let behind = c.in_ok-at.ensures.behind from there state layout [] is.last.item is.last.loaded is.kept.entries listed is.last.here is.key_is child in
     let goes = as-goes state layout from c.args.found.now c.args.is_child c.args.name.now is c.in_ok-at.at.entry c.in_ok-at.at.before entry behind in
-    let mid = told_now from c.in_ok-at.ensures.stays there in
+    let mid = told_now from c.in_ok-at.ensures.reads.stays there in
     let at_by = subst (λ (w : ℕ). IsOwnedBy w c.args.owned.now from) (is.last.entry ∙ entry) by in
     as-out state layout from c.args.found.now c.args.is_child c.args.name.now is c.in_ok-at.at.entry c.in_ok-at.at.before entry behind now
     (c.in_ok-remove_read.ensures.removed from mid at_by state layout [] goes.objects goes.keep is.last.item is.kept goes.alone now then_there)
@@ -71,9 +71,9 @@ returns-clause-stops g c from there by state layout is =
     let entry = c.in_ok-at.ensures.lies from there state layout [] is.last.item is.last.loaded is.kept.entries listed is.last.here is.key_is child in
     let behind = c.in_ok-at.ensures.behind from there state layout [] is.last.item is.last.loaded is.kept.entries listed is.last.here is.key_is child in
     let goes = as-goes state layout from c.args.found.now c.args.is_child c.args.name.now is c.in_ok-at.at.entry c.in_ok-at.at.before entry behind in
-    passes_stayed c.in_ok-at.ensures.stays
+    passes_stayed c.in_ok-at.ensures.reads.stays
     (subst (λ (after : State). Passes (g.F.Folder.told c.find_listed.new.folder) (g.F.Folder.told c.remove_read.new.folder) (FindsEither state after)) goes.same
-    (c.in_ok-remove_read.ensures.stops from (told_now from c.in_ok-at.ensures.stays there) (subst (λ (w : ℕ). IsOwnedBy w c.args.owned.now from) (is.last.entry ∙ entry) by) state layout [] goes.objects goes.keep is.last.item is.kept goes.alone))
+    (c.in_ok-remove_read.ensures.stops from (told_now from c.in_ok-at.ensures.reads.stays there) (subst (λ (w : ℕ). IsOwnedBy w c.args.owned.now from) (is.last.entry ∙ entry) by) state layout [] goes.objects goes.keep is.last.item is.kept goes.alone))
 
 pub returns-in_err-at-clause-damaged : goal.returns-in_err-at-clause-damaged
 returns-in_err-at-clause-damaged g c says =

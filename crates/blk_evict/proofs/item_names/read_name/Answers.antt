@@ -25,10 +25,10 @@ key_piece-requires-clause-stands g c = let p = names-parts c.args.files.now c.ar
 
 pub returns-in_err-len-clause-untold : goal.returns-in_err-len-clause-untold
 returns-in_err-len-clause-untold g c agrees lies =
-    subst (λ (t : Told). IfDamaged c.from_residual-in_err-len.result (λ _. t.files ≡ None)) c.in_ok-owned.ensures.stays
+    subst (λ (t : Told). IfDamaged c.from_residual-in_err-len.result (λ _. t.files ≡ None)) c.in_ok-owned.ensures.reads.stays
     (carried c.key_piece.result c.from_residual-in_err-len.result c.in_err-len.field-0.0 (λ _. (g.F.Folder.told c.read_owned.new.folder).files ≡ None) c.in_err-len.was c.from_residual-in_err-len.ensures.1
     (c.key_piece.ensures.untold (λ image now.
-    let there : (g.F.Folder.told c.args.folder.now).files ≡ Some image = ap (λ (t : Told). t.files) (sym c.in_ok-owned.ensures.stays) ∙ now in
+    let there : (g.F.Folder.told c.args.folder.now).files ≡ Some image = ap (λ (t : Told). t.files) (sym c.in_ok-owned.ensures.reads.stays) ∙ now in
     record {
       agrees = agrees image there;
       checks = loaded-checks image c.args.entry (lies image there).0 (g.met.F.Folder.are_bytes c.args.folder.now image there) (lies image there).1;
@@ -39,7 +39,7 @@ pub returns-clause-named : goal.returns-clause-named
 returns-clause-named g c image there loaded lies = record {
   kind = c.kind_said.ensures ∙ ap kind_said (c.in_ok-owned.ensures.flags image there) ∙ kind-there image c.args.entry loaded lies;
   charge = c.in_ok-owned.ensures.charge image there loaded lies;
-  key = key-read image c.args.entry loaded c.args.buffer.now c.key_piece.new.out c.in_ok-len.len lies c.requires.buffer (c.in_ok-len.ensures.piece image (told_now image c.in_ok-owned.ensures.stays there));
+  key = key-read image c.args.entry loaded c.args.buffer.now c.key_piece.new.out c.in_ok-len.len lies c.requires.buffer (c.in_ok-len.ensures.piece image (told_now image c.in_ok-owned.ensures.reads.stays there));
 }
 
 pub returns-clause-owned : goal.returns-clause-owned
@@ -49,10 +49,10 @@ pub returns-in_err-len-clause-damaged : goal.returns-in_err-len-clause-damaged
 returns-in_err-len-clause-damaged g c =
     let p = names-parts c.args.files.now c.args.entry c.requires.stands in
     handed c.key_piece.result c.from_residual-in_err-len.result c.in_err-len.field-0.0 _ c.args.files.now (g.F.Folder.told c.key_piece.new.f)
-    (λ damage wrong. moved c.args.files.now (g.F.Folder.told c.read_owned.new.folder) (g.F.Folder.told c.key_piece.new.f) damage c.key_piece.ensures.stays (part-checked c.args.files.now (g.F.Folder.told c.read_owned.new.folder) c.args.entry _ _ damage p.1.0 p.1.1 wrong))
+    (λ damage wrong. moved c.args.files.now (g.F.Folder.told c.read_owned.new.folder) (g.F.Folder.told c.key_piece.new.f) damage c.key_piece.ensures.reads.stays (part-checked c.args.files.now (g.F.Folder.told c.read_owned.new.folder) c.args.entry _ _ damage p.1.0 p.1.1 wrong))
     c.in_err-len.was c.from_residual-in_err-len.ensures.1 c.key_piece.ensures.damaged
 
 pub returns-clause-read : goal.returns-clause-read
 returns-clause-read g c image there =
-    let now : (g.F.Folder.told c.read_owned.new.folder).files ≡ Some image = ap (λ (t : Told). t.files) c.in_ok-owned.ensures.stays ∙ there in
+    let now : (g.F.Folder.told c.read_owned.new.folder).files ≡ Some image = ap (λ (t : Told). t.files) c.in_ok-owned.ensures.reads.stays ∙ there in
     sym (whole-key c.args.files.now image c.args.entry c.args.buffer.now c.key_piece.new.out c.in_ok-len.len (c.in_ok-len.ensures.bytes image now) (c.in_ok-len.ensures.placed image now) c.requires.buffer)

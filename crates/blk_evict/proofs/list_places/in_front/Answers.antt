@@ -24,11 +24,11 @@ returns-in-None-clause-untold g c is_open place =
 
 pub returns-in-Some-clause-damaged : goal.returns-in-Some-clause-damaged
 returns-in-Some-clause-damaged g c =
-    if_damaged_weaker c.before-in-Some.result _ _ (λ damage wrong. moved c.args.files.now (g.F.Folder.told c.args.folder.now) (g.F.Folder.told c.before-in-Some.new.f) damage c.before-in-Some.ensures.stays (node-word-checked c.args.files.now (g.F.Folder.told c.args.folder.now) _ _ damage wrong)) c.before-in-Some.ensures.damaged
+    if_damaged_weaker c.before-in-Some.result _ _ (λ damage wrong. moved c.args.files.now (g.F.Folder.told c.args.folder.now) (g.F.Folder.told c.before-in-Some.new.f) damage c.before-in-Some.ensures.reads.stays (node-word-checked c.args.files.now (g.F.Folder.told c.args.folder.now) _ _ damage wrong)) c.before-in-Some.ensures.damaged
 
 pub returns-in-None-clause-damaged : goal.returns-in-None-clause-damaged
 returns-in-None-clause-damaged g c =
-    if_damaged_weaker c.last.result _ _ (λ damage wrong. moved c.args.files.now (g.F.Folder.told c.args.folder.now) (g.F.Folder.told c.last.new.f) damage c.last.ensures.stays (node-word-checked c.args.files.now (g.F.Folder.told c.args.folder.now) _ _ damage wrong)) c.last.ensures.damaged
+    if_damaged_weaker c.last.result _ _ (λ damage wrong. moved c.args.files.now (g.F.Folder.told c.args.folder.now) (g.F.Folder.told c.last.new.f) damage c.last.ensures.reads.stays (node-word-checked c.args.files.now (g.F.Folder.told c.args.folder.now) _ _ damage wrong)) c.last.ensures.damaged
 
 pub returns-in-Some-clause-word : goal.returns-in-Some-clause-word
 returns-in-Some-clause-word g c =

@@ -22,7 +22,7 @@ returns-clause-found g c image there =
 pub returns-in_err-read_exact-clause-damaged : goal.returns-in_err-read_exact-clause-damaged
 returns-in_err-read_exact-clause-damaged g c =
     converted c.read_exact.result c.from_residual.result c.in_err-read_exact.field-0.0 _ c.in_err-read_exact.was c.from_residual.ensures.1
-    (if_damaged_weaker c.read_exact.result _ _ (λ damage short. inl (subst (λ (t : Told). IsShort t names.Index 0 368 damage) (sym c.read_exact.ensures.stays) short)) c.read_exact.ensures.short)
+    (if_damaged_weaker c.read_exact.result _ _ (λ damage short. inl (subst (λ (t : Told). IsShort t names.Index 0 368 damage) (sym c.read_exact.ensures.reads.stays) short)) c.read_exact.ensures.short)
 
 pub returns-in_err-read_exact-clause-untold : goal.returns-in_err-read_exact-clause-untold
 returns-in_err-read_exact-clause-untold g c whole =

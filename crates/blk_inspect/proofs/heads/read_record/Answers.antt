@@ -32,7 +32,7 @@ returns-in_err-read_block-clause-damaged g c =
       entry = c.in-Some.entry;
       kind = c.in-Some.ensures.kind;
       stands = c.in-Some.ensures.stands;
-      short = subst (λ (t : Told). IsShort t (names.Block (file_selector c.in-Some.entry)) (place c.in-Some.entry) 96 damage) (sym c.read_block.ensures.stays)
+      short = subst (λ (t : Told). IsShort t (names.Block (file_selector c.in-Some.entry)) (place c.in-Some.entry) 96 damage) (sym c.read_block.ensures.reads.stays)
           (subst (λ (p : ℕ). IsShort (g.F.Folder.told c.args.folder.now) (names.Block (file_selector c.in-Some.entry)) p 96 damage) (add-zero (place c.in-Some.entry)) short);
     }) c.read_block.ensures.short)
 

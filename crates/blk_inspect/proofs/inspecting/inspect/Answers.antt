@@ -19,8 +19,12 @@ returns-in_err-findings-clause-unprinted g c = unprinted c.find.result c.from_re
 pub returns-in_err-findings-clause-cause : goal.returns-in_err-findings-clause-cause
 returns-in_err-findings-clause-cause g c = caused c.find.result c.from_residual.result c.in_err-findings.field-0.0 _ c.in_err-findings.was c.from_residual.ensures.1 c.find.ensures.cause
 
-pub returns-in_err-findings-clause-device : goal.returns-in_err-findings-clause-device
-returns-in_err-findings-clause-device g c = failed c.find.result c.from_residual.result c.in_err-findings.field-0.0 _ c.in_err-findings.was c.from_residual.ensures.1 c.find.ensures.device
+pub returns-in_err-findings-clause-reads : goal.returns-in_err-findings-clause-reads
+returns-in_err-findings-clause-reads g c = record {
+  stays = c.find.ensures.reads.stays;
+  later = c.find.ensures.reads.later;
+  failed = failed c.find.result c.from_residual.result c.in_err-findings.field-0.0 _ c.in_err-findings.was c.from_residual.ensures.1 c.find.ensures.reads.failed;
+}
 
 pub returns-in_err-findings-clause-sink : goal.returns-in_err-findings-clause-sink
 returns-in_err-findings-clause-sink g c = no_sink c.find.result c.from_residual.result c.in_err-findings.field-0.0 _ c.in_err-findings.was c.from_residual.ensures.1
@@ -39,8 +43,12 @@ returns-in_err-print_findings-clause-unprinted g c = at_sink c.from_residual-in_
 pub returns-in_err-print_findings-clause-cause : goal.returns-in_err-print_findings-clause-cause
 returns-in_err-print_findings-clause-cause g c = at_sink c.from_residual-in_err-print_findings.result (λ s. IfInspectDamaged s (IsInspectDamage (g.F.Folder.told c.args.f.now))) c.from_residual-in_err-print_findings.ensures.1 tt
 
-pub returns-in_err-print_findings-clause-device : goal.returns-in_err-print_findings-clause-device
-returns-in_err-print_findings-clause-device g c = at_sink c.from_residual-in_err-print_findings.result (λ s. IfInspectDevice s (Rises (g.F.Folder.faults c.args.f.now) (g.F.Folder.faults c.find.new.folder))) c.from_residual-in_err-print_findings.ensures.1 tt
+pub returns-in_err-print_findings-clause-reads : goal.returns-in_err-print_findings-clause-reads
+returns-in_err-print_findings-clause-reads g c = record {
+  stays = c.find.ensures.reads.stays;
+  later = c.find.ensures.reads.later;
+  failed = at_sink c.from_residual-in_err-print_findings.result (λ s. IfInspectDevice s (Rises (g.F.Folder.faults c.args.f.now) (g.F.Folder.faults c.find.new.folder))) c.from_residual-in_err-print_findings.ensures.1 tt;
+}
 
 pub returns-in_err-print_findings-clause-sink : goal.returns-in_err-print_findings-clause-sink
 returns-in_err-print_findings-clause-sink g c = at_sink c.from_residual-in_err-print_findings.result (λ s. IfInspectSink s (Rises (g.K.Sink.faults c.args.out.now) (g.K.Sink.faults c.print_findings.new.out))) c.from_residual-in_err-print_findings.ensures.1 c.in_err-print_findings.ensures.failed

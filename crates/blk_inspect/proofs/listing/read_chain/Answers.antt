@@ -19,7 +19,7 @@ pub returns-clause-found : goal.returns-clause-found
 unfolding findings_text chain_text
 returns-clause-found g c image there agrees =
     let are = c.in_ok-lists.ensures.lists image there agrees in
-    records_shown image c.records_of.result.now c.in_ok-rows.rows.items (c.in_ok-rows.ensures.rows image (told_now image c.in_ok-lists.ensures.stays there) are)
+    records_shown image c.records_of.result.now c.in_ok-rows.rows.items (c.in_ok-rows.ensures.rows image (told_now image c.in_ok-lists.ensures.reads.stays there) are)
     ∙ ap (listed_text (record_line_at image)) (c.records_of.ensures ∙ are.buckets.chains c.args.bucket (omega (arith, c.ranges.bucket.fits)))
 
 pub returns-in_err-lists-clause-damaged : goal.returns-in_err-lists-clause-damaged
@@ -34,5 +34,5 @@ returns-in_err-rows-clause-damaged g c =
 
 pub returns-in_err-rows-clause-untold : goal.returns-in_err-rows-clause-untold
 returns-in_err-rows-clause-untold g c =
-    untold_on c.record_rows.result c.from_residual-in_err-rows.result c.in_err-rows.field-0.0 {a = g.F.Folder.told c.args.folder.now} (IsOpen c.args.files.now) (Agrees c.args.files.now) (λ image is_open. is_open.agrees) c.in_ok-lists.ensures.stays c.record_rows.ensures.untold
+    untold_on c.record_rows.result c.from_residual-in_err-rows.result c.in_err-rows.field-0.0 {a = g.F.Folder.told c.args.folder.now} (IsOpen c.args.files.now) (Agrees c.args.files.now) (λ image is_open. is_open.agrees) c.in_ok-lists.ensures.reads.stays c.record_rows.ensures.untold
     c.in_err-rows.was c.from_residual-in_err-rows.ensures.1

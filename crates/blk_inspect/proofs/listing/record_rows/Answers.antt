@@ -21,7 +21,7 @@ record_at-requires-clause-stands g c =
 
 pub returns-in_err-said-clause-untold : goal.returns-in_err-said-clause-untold
 returns-in_err-said-clause-untold g c =
-    untold_converted c.record_at.result c.from_residual.result c.in_err-said.field-0.0 {a = g.F.Folder.told c.args.folder.now} (Agrees c.args.files.now) (Agrees c.args.files.now) (λ image agrees. agrees) (c.record_at.ensures.stays ∙ c.loop-entry.invariant.stays) c.record_at.ensures.untold
+    untold_converted c.record_at.result c.from_residual.result c.in_err-said.field-0.0 {a = g.F.Folder.told c.args.folder.now} (Agrees c.args.files.now) (Agrees c.args.files.now) (λ image agrees. agrees) (c.record_at.ensures.reads.stays ∙ c.loop-entry.invariant.stays) c.record_at.ensures.untold
     c.in_err-said.was c.from_residual.ensures.1
 
 pub loop-entry-preserved : goal.loop-entry-preserved
@@ -32,6 +32,6 @@ loop-entry-preserved g c = record {
       c.in_ok-add_record.ensures
       ∙ ap (λ (w : ℕ). c.loop-entry.rows.items ++ row w ∷ []) c.word.ensures.word
       ∙ record_more image c.args.entries.now c.loop-entry.entry-index c.entry-item.result c.in_ok-said.said c.loop-entry.rows.items c.loop-entry-test.true at (c.in_ok-said.ensures.said image (told_now image c.loop-entry.invariant.stays there) are) (c.loop-entry.invariant.rows image there are);
-  stays = c.record_at.ensures.stays ∙ c.loop-entry.invariant.stays;
-  later = omega (arith, c.record_at.ensures.later, c.loop-entry.invariant.later);
+  stays = c.record_at.ensures.reads.stays ∙ c.loop-entry.invariant.stays;
+  later = omega (arith, c.record_at.ensures.reads.later, c.loop-entry.invariant.later);
 }

@@ -20,18 +20,18 @@ returns-in-Finished-clause-found g c =
     IfOk-weaker c.find_finished.result _ _
     (λ findings tells image there.
     let fin = looked-as _ _ image c.in-Finished.is (c.in_ok-look.ensures.looked image there) in
-    finished_shown findings c.args.question.now image fin.finished (tells image (told_now image c.in_ok-look.ensures.stays there) (length-checked image fin.undamaged))) c.find_finished.ensures.found
+    finished_shown findings c.args.question.now image fin.finished (tells image (told_now image c.in_ok-look.ensures.reads.stays there) (length-checked image fin.undamaged))) c.find_finished.ensures.found
 
 pub returns-in-Finished-clause-checked : goal.returns-in-Finished-clause-checked
 returns-in-Finished-clause-checked g c =
     IfOk-weaker c.find_finished.result _ _
     (λ findings none image there.
     let fin = looked-as _ _ image c.in-Finished.is (c.in_ok-look.ensures.looked image there) in
-    inr (formed-of image fin.undamaged (none image (told_now image c.in_ok-look.ensures.stays there)))) c.find_finished.ensures.checked
+    inr (formed-of image fin.undamaged (none image (told_now image c.in_ok-look.ensures.reads.stays there)))) c.find_finished.ensures.checked
 
 pub returns-in-Finished-clause-damaged : goal.returns-in-Finished-clause-damaged
 returns-in-Finished-clause-damaged g c =
     weaker c.find_finished.result _ _
     (λ damage first image there.
     let fin = looked-as _ _ image c.in-Finished.is (c.in_ok-look.ensures.looked image there) in
-    (fin.finished, first-behind image fin.undamaged ∙ first image (told_now image c.in_ok-look.ensures.stays there) (length-checked image fin.undamaged))) c.find_finished.ensures.damaged
+    (fin.finished, first-behind image fin.undamaged ∙ first image (told_now image c.in_ok-look.ensures.reads.stays there) (length-checked image fin.undamaged))) c.find_finished.ensures.damaged

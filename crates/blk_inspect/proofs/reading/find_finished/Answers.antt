@@ -11,10 +11,10 @@ returns-in_err-files-clause-damaged g c = converted c.load.result c.from_residua
 
 pub returns-clause-found : goal.returns-clause-found
 returns-clause-found g c =
-    let agrees = loaded_agrees c.in_ok-files.files (g.F.Folder.told c.args.folder.now) (g.F.Folder.told c.load.new.f) c.in_ok-files.ensures.stays c.in_ok-files.ensures.loaded in
-    IfOk-weaker c.read.result _ _ (λ findings tells image there whole. let now = told_now image c.in_ok-files.ensures.stays there in tells image now (record { agrees = agrees image now; whole_index = whole })) c.read.ensures.found
+    let agrees = loaded_agrees c.in_ok-files.files (g.F.Folder.told c.args.folder.now) (g.F.Folder.told c.load.new.f) c.in_ok-files.ensures.reads.stays c.in_ok-files.ensures.loaded in
+    IfOk-weaker c.read.result _ _ (λ findings tells image there whole. let now = told_now image c.in_ok-files.ensures.reads.stays there in tells image now (record { agrees = agrees image now; whole_index = whole })) c.read.ensures.found
 
 pub returns-clause-cause : goal.returns-clause-cause
 returns-clause-cause g c =
-    reading_cause c.read.result c.in_ok-files.files (g.F.Folder.told c.args.folder.now) (g.F.Folder.told c.load.new.f) (g.F.Folder.told c.read.new.folder) c.in_ok-files.ensures.stays c.read.ensures.stays
-    (loaded_agrees c.in_ok-files.files (g.F.Folder.told c.args.folder.now) (g.F.Folder.told c.load.new.f) c.in_ok-files.ensures.stays c.in_ok-files.ensures.loaded) c.read.ensures.damaged
+    reading_cause c.read.result c.in_ok-files.files (g.F.Folder.told c.args.folder.now) (g.F.Folder.told c.load.new.f) (g.F.Folder.told c.read.new.folder) c.in_ok-files.ensures.reads.stays c.read.ensures.reads.stays
+    (loaded_agrees c.in_ok-files.files (g.F.Folder.told c.args.folder.now) (g.F.Folder.told c.load.new.f) c.in_ok-files.ensures.reads.stays c.in_ok-files.ensures.loaded) c.read.ensures.damaged

@@ -32,7 +32,7 @@ use Rattle.blk_disk.specs.Open.{IsOpen}
 pub returns-in_err-head-clause-stops : goal.returns-in_err-head-clause-stops
 returns-in_err-head-clause-stops g c from there can =
     let ws : List ListWrite = writes_of 1 c.args.node (list_of from) in
-    passes_stay (g.F.Folder.told c.args.f.now) (g.F.Folder.told c.first.new.f) from (IsMidOperation c.args.files.now ws (walked from) (c.args.node ∷ walked from) from) there c.in_err-head.ensures.stays
+    passes_stay (g.F.Folder.told c.args.f.now) (g.F.Folder.told c.first.new.f) from (IsMidOperation c.args.files.now ws (walked from) (c.args.node ∷ walked from) from) there c.in_err-head.ensures.reads.stays
     (before_operation c.args.files.now from (c.requires.is_open from there) ws (walked from) (c.args.node ∷ walked from) (inserts-turn c.args.node (list_of from) (walked from) can))
 
 pub returns-in_err-head-clause-untold : goal.returns-in_err-head-clause-untold
@@ -40,7 +40,7 @@ returns-in_err-head-clause-untold g c can =
     carried c.first.result c.from_residual.result c.in_err-head.field-0.0 (λ _. (g.F.Folder.told c.args.f.now).files ≡ None) c.in_err-head.was c.from_residual.ensures.1 (c.first.ensures.untold (λ image there. (c.requires.is_open image there).whole_index) (λ image there. (c.requires.is_open image there).agrees) (λ image there. (can image there).rest))
 
 pub returns-in_err-head-clause-is_open : goal.returns-in_err-head-clause-is_open
-returns-in_err-head-clause-is_open g c = told_stays (IsOpen c.args.files.now) c.in_err-head.ensures.stays c.requires.is_open
+returns-in_err-head-clause-is_open g c = told_stays (IsOpen c.args.files.now) c.in_err-head.ensures.reads.stays c.requires.is_open
 
 -- the plan
 words_are : (g : given.Over) (c : goal.After-deref g) → map meant c.deref.result.now ≡ whole_plan c.args.node (operations.Insert c.in_ok-head.head)
@@ -59,22 +59,22 @@ pub perform-requires-clause-words : goal.perform-requires-clause-words
 perform-requires-clause-words g c = each_words (λ n. is_node_among c.args.files.now n ≡ true) (map meant c.deref.result.now) (good_here g c)
 
 pub perform-requires-clause-is_open : goal.perform-requires-clause-is_open
-perform-requires-clause-is_open g c = told_stays (IsOpen c.args.files.now) c.in_ok-head.ensures.stays c.requires.is_open
+perform-requires-clause-is_open g c = told_stays (IsOpen c.args.files.now) c.in_ok-head.ensures.reads.stays c.requires.is_open
 
 pub returns-clause-steps : goal.returns-clause-steps
-returns-clause-steps g c = whole_as (g.F.Folder.told c.args.f.now) (g.F.Folder.told c.first.new.f) (g.F.Folder.told c.perform.new.folder) c.in_ok-head.ensures.stays (map meant c.deref.result.now) (λ from. writes_of 1 c.args.node (list_of from)) (plan_is g c.before) c.perform.result c.perform.ensures.steps
+returns-clause-steps g c = whole_as (g.F.Folder.told c.args.f.now) (g.F.Folder.told c.first.new.f) (g.F.Folder.told c.perform.new.folder) c.in_ok-head.ensures.reads.stays (map meant c.deref.result.now) (λ from. writes_of 1 c.args.node (list_of from)) (plan_is g c.before) c.perform.result c.perform.ensures.steps
 
 pub returns-clause-prefix : goal.returns-clause-prefix
 returns-clause-prefix g c = record {
-  made = part_as (g.F.Folder.told c.args.f.now) (g.F.Folder.told c.first.new.f) (g.F.Folder.told c.perform.new.folder) c.in_ok-head.ensures.stays (map meant c.deref.result.now) (λ from. writes_of 1 c.args.node (list_of from)) (plan_is g c.before) c.perform.ensures.prefix.made;
+  made = part_as (g.F.Folder.told c.args.f.now) (g.F.Folder.told c.first.new.f) (g.F.Folder.told c.perform.new.folder) c.in_ok-head.ensures.reads.stays (map meant c.deref.result.now) (λ from. writes_of 1 c.args.node (list_of from)) (plan_is g c.before) c.perform.ensures.prefix.made;
   silent = search rules;
 }
 
 checked_here : (g : given.Over) (c : goal.After-perform g) → OnOk c.perform.result (ForSome (g.F.Folder.told c.args.f.now).files (λ from. CanBeMade from (writes_of 1 c.args.node (list_of from))))
-checked_here g c = checked_as (g.F.Folder.told c.args.f.now) (g.F.Folder.told c.first.new.f) (g.F.Folder.told c.perform.new.folder) c.in_ok-head.ensures.stays (map meant c.deref.result.now) (λ from. writes_of 1 c.args.node (list_of from)) (plan_is g c.before) c.perform.result c.perform.ensures.checked
+checked_here g c = checked_as (g.F.Folder.told c.args.f.now) (g.F.Folder.told c.first.new.f) (g.F.Folder.told c.perform.new.folder) c.in_ok-head.ensures.reads.stays (map meant c.deref.result.now) (λ from. writes_of 1 c.args.node (list_of from)) (plan_is g c.before) c.perform.result c.perform.ensures.checked
 
 pub returns-clause-untold : goal.returns-clause-untold
-returns-clause-untold g c holds = untold_as (g.F.Folder.told c.args.f.now) (g.F.Folder.told c.first.new.f) (g.F.Folder.told c.perform.new.folder) c.in_ok-head.ensures.stays (map meant c.deref.result.now) (λ from. writes_of 1 c.args.node (list_of from)) (plan_is g c.before) c.perform.result c.perform.ensures.untold (λ from there. inserts-can from c.args.node (walked from) (holds from there))
+returns-clause-untold g c holds = untold_as (g.F.Folder.told c.args.f.now) (g.F.Folder.told c.first.new.f) (g.F.Folder.told c.perform.new.folder) c.in_ok-head.ensures.reads.stays (map meant c.deref.result.now) (λ from. writes_of 1 c.args.node (list_of from)) (plan_is g c.before) c.perform.result c.perform.ensures.untold (λ from there. inserts-can from c.args.node (walked from) (holds from there))
 
 ready_here : (g : given.Over) (c : goal.After-perform g) → ForSome (g.F.Folder.told c.args.f.now).files (IsReady c.args.files.now)
 ready_here g c = told_ready c.args.files.now (g.F.Folder.told c.args.f.now) c.requires.is_open (g.met.F.Folder.are_bytes c.args.f.now)

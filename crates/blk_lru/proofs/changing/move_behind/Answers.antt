@@ -21,7 +21,7 @@ use Rattle.blk_lru.proofs.changing.move_behind.Goals as goal
 use Rattle.blk_disk.specs.Open.{IsOpen}
 
 pub returns-in_err-neighbours-clause-is_open : goal.returns-in_err-neighbours-clause-is_open
-returns-in_err-neighbours-clause-is_open g c = told_stays (IsOpen c.args.files.now) c.in_err-neighbours.ensures.stays c.requires.is_open
+returns-in_err-neighbours-clause-is_open g c = told_stays (IsOpen c.args.files.now) c.in_err-neighbours.ensures.reads.stays c.requires.is_open
 
 -- the plan
 words_are : (g : given.Over) (c : goal.After-deref g) → map meant c.deref.result.now ≡ whole_plan c.args.node (operations.Move (Some c.in_ok-neighbours.neighbours) c.args.head)
@@ -40,22 +40,22 @@ pub perform-requires-clause-words : goal.perform-requires-clause-words
 perform-requires-clause-words g c = each_words (λ n. is_node_among c.args.files.now n ≡ true) (map meant c.deref.result.now) (good_here g c)
 
 pub perform-requires-clause-is_open : goal.perform-requires-clause-is_open
-perform-requires-clause-is_open g c = told_stays (IsOpen c.args.files.now) c.in_ok-neighbours.ensures.stays c.requires.is_open
+perform-requires-clause-is_open g c = told_stays (IsOpen c.args.files.now) c.in_ok-neighbours.ensures.reads.stays c.requires.is_open
 
 pub returns-clause-steps : goal.returns-clause-steps
-returns-clause-steps g c = whole_as (g.F.Folder.told c.args.folder.now) (g.F.Folder.told c.neighbours.new.folder) (g.F.Folder.told c.perform.new.folder) c.in_ok-neighbours.ensures.stays (map meant c.deref.result.now) (λ from. writes_of 3 c.args.node (list_of from)) (plan_is g c.before) c.perform.result c.perform.ensures.steps
+returns-clause-steps g c = whole_as (g.F.Folder.told c.args.folder.now) (g.F.Folder.told c.neighbours.new.folder) (g.F.Folder.told c.perform.new.folder) c.in_ok-neighbours.ensures.reads.stays (map meant c.deref.result.now) (λ from. writes_of 3 c.args.node (list_of from)) (plan_is g c.before) c.perform.result c.perform.ensures.steps
 
 pub returns-clause-prefix : goal.returns-clause-prefix
 returns-clause-prefix g c = record {
-  made = part_as (g.F.Folder.told c.args.folder.now) (g.F.Folder.told c.neighbours.new.folder) (g.F.Folder.told c.perform.new.folder) c.in_ok-neighbours.ensures.stays (map meant c.deref.result.now) (λ from. writes_of 3 c.args.node (list_of from)) (plan_is g c.before) c.perform.ensures.prefix.made;
+  made = part_as (g.F.Folder.told c.args.folder.now) (g.F.Folder.told c.neighbours.new.folder) (g.F.Folder.told c.perform.new.folder) c.in_ok-neighbours.ensures.reads.stays (map meant c.deref.result.now) (λ from. writes_of 3 c.args.node (list_of from)) (plan_is g c.before) c.perform.ensures.prefix.made;
   silent = search rules;
 }
 
 checked_here : (g : given.Over) (c : goal.After-perform g) → OnOk c.perform.result (ForSome (g.F.Folder.told c.args.folder.now).files (λ from. CanBeMade from (writes_of 3 c.args.node (list_of from))))
-checked_here g c = checked_as (g.F.Folder.told c.args.folder.now) (g.F.Folder.told c.neighbours.new.folder) (g.F.Folder.told c.perform.new.folder) c.in_ok-neighbours.ensures.stays (map meant c.deref.result.now) (λ from. writes_of 3 c.args.node (list_of from)) (plan_is g c.before) c.perform.result c.perform.ensures.checked
+checked_here g c = checked_as (g.F.Folder.told c.args.folder.now) (g.F.Folder.told c.neighbours.new.folder) (g.F.Folder.told c.perform.new.folder) c.in_ok-neighbours.ensures.reads.stays (map meant c.deref.result.now) (λ from. writes_of 3 c.args.node (list_of from)) (plan_is g c.before) c.perform.result c.perform.ensures.checked
 
 pub returns-clause-untold : goal.returns-clause-untold
-returns-clause-untold g c holds = untold_as (g.F.Folder.told c.args.folder.now) (g.F.Folder.told c.neighbours.new.folder) (g.F.Folder.told c.perform.new.folder) c.in_ok-neighbours.ensures.stays (map meant c.deref.result.now) (λ from. writes_of 3 c.args.node (list_of from)) (plan_is g c.before) c.perform.result c.perform.ensures.untold (λ from there. (let a = around c.args.node from (holds from there) in moves-can from c.args.node a.0 a.1 a.2))
+returns-clause-untold g c holds = untold_as (g.F.Folder.told c.args.folder.now) (g.F.Folder.told c.neighbours.new.folder) (g.F.Folder.told c.perform.new.folder) c.in_ok-neighbours.ensures.reads.stays (map meant c.deref.result.now) (λ from. writes_of 3 c.args.node (list_of from)) (plan_is g c.before) c.perform.result c.perform.ensures.untold (λ from there. (let a = around c.args.node from (holds from there) in moves-can from c.args.node a.0 a.1 a.2))
 
 pub returns-clause-checked : goal.returns-clause-checked
 returns-clause-checked g c = checked_here g c

@@ -42,13 +42,13 @@ apart files node stands None e = ne_eqb 0 node (λ zero. node_apart files node s
 apart files node stands (Some head) e = e
 
 pub returns-in_err-head-clause-is_open : goal.returns-in_err-head-clause-is_open
-returns-in_err-head-clause-is_open g c = told_stays (IsOpen c.args.files.now) c.in_err-head.ensures.stays c.requires.is_open
+returns-in_err-head-clause-is_open g c = told_stays (IsOpen c.args.files.now) c.in_err-head.ensures.reads.stays c.requires.is_open
 
 pub returns-then-eq-clause-is_open : goal.returns-then-eq-clause-is_open
-returns-then-eq-clause-is_open g c = told_stays (IsOpen c.args.files.now) c.in_ok-head.ensures.stays c.requires.is_open
+returns-then-eq-clause-is_open g c = told_stays (IsOpen c.args.files.now) c.in_ok-head.ensures.reads.stays c.requires.is_open
 
 pub move_behind-requires-clause-is_open : goal.move_behind-requires-clause-is_open
-move_behind-requires-clause-is_open g c = told_stays (IsOpen c.args.files.now) c.in_ok-head.ensures.stays c.requires.is_open
+move_behind-requires-clause-is_open g c = told_stays (IsOpen c.args.files.now) c.in_ok-head.ensures.reads.stays c.requires.is_open
 
 pub returns-in_err-head-clause-untold : goal.returns-in_err-head-clause-untold
 returns-in_err-head-clause-untold g c listed =
@@ -61,19 +61,19 @@ other g c from there =
 
 -- what is written is what a touch writes
 touching : (g : given.Over) (c : goal.After-move_behind g) (P : Image → List ListWrite → Type 0) → ForSome (g.F.Folder.told c.first.new.f).files (λ from. P from (writes_of 3 c.args.node (list_of from))) → ForSome (g.F.Folder.told c.args.folder.now).files (λ from. P from (touch_writes c.args.node (list_of from)))
-touching g c P holds from there = subst (P from) (some_touch (list_of from) c.args.node (other g c from there)) (holds from (ap (λ (t : Told). t.files) c.in_ok-head.ensures.stays ∙ there))
+touching g c P holds from there = subst (P from) (some_touch (list_of from) c.args.node (other g c from there)) (holds from (ap (λ (t : Told). t.files) c.in_ok-head.ensures.reads.stays ∙ there))
 
 pub returns-clause-steps : goal.returns-clause-steps
 returns-clause-steps g c =
     on_ok_weaker c.move_behind.result
     (λ grows. touching g c (λ from ws. Applies (g.F.Folder.told c.args.folder.now) (g.F.Folder.told c.move_behind.new.folder) (steps_of_writes ws from))
-    (subst (λ (t : Told). ForSome t.files (λ from. Applies t (g.F.Folder.told c.move_behind.new.folder) (steps_of_writes (writes_of 3 c.args.node (list_of from)) from)) → ForSome (g.F.Folder.told c.first.new.f).files (λ from. Applies (g.F.Folder.told c.args.folder.now) (g.F.Folder.told c.move_behind.new.folder) (steps_of_writes (writes_of 3 c.args.node (list_of from)) from))) (sym c.in_ok-head.ensures.stays) (λ h. subst (λ (t : Told). ForSome t.files (λ from. Applies (g.F.Folder.told c.args.folder.now) (g.F.Folder.told c.move_behind.new.folder) (steps_of_writes (writes_of 3 c.args.node (list_of from)) from))) (sym c.in_ok-head.ensures.stays) h) grows))
+    (subst (λ (t : Told). ForSome t.files (λ from. Applies t (g.F.Folder.told c.move_behind.new.folder) (steps_of_writes (writes_of 3 c.args.node (list_of from)) from)) → ForSome (g.F.Folder.told c.first.new.f).files (λ from. Applies (g.F.Folder.told c.args.folder.now) (g.F.Folder.told c.move_behind.new.folder) (steps_of_writes (writes_of 3 c.args.node (list_of from)) from))) (sym c.in_ok-head.ensures.reads.stays) (λ h. subst (λ (t : Told). ForSome t.files (λ from. Applies (g.F.Folder.told c.args.folder.now) (g.F.Folder.told c.move_behind.new.folder) (steps_of_writes (writes_of 3 c.args.node (list_of from)) from))) (sym c.in_ok-head.ensures.reads.stays) h) grows))
     c.move_behind.ensures.steps
 
 pub returns-clause-prefix : goal.returns-clause-prefix
 returns-clause-prefix g c = record {
   made = touching g c (λ from ws. AppliesPrefix (g.F.Folder.told c.args.folder.now) (g.F.Folder.told c.move_behind.new.folder) (steps_of_writes ws from))
-      (subst (λ (t : Told). ForSome (g.F.Folder.told c.first.new.f).files (λ from. AppliesPrefix t (g.F.Folder.told c.move_behind.new.folder) (steps_of_writes (writes_of 3 c.args.node (list_of from)) from))) c.in_ok-head.ensures.stays c.move_behind.ensures.prefix.made);
+      (subst (λ (t : Told). ForSome (g.F.Folder.told c.first.new.f).files (λ from. AppliesPrefix t (g.F.Folder.told c.move_behind.new.folder) (steps_of_writes (writes_of 3 c.args.node (list_of from)) from))) c.in_ok-head.ensures.reads.stays c.move_behind.ensures.prefix.made);
   silent = search rules;
 }
 
@@ -81,11 +81,11 @@ pub returns-clause-checked : goal.returns-clause-checked
 returns-clause-checked g c = on_ok_weaker c.move_behind.result (λ can. touching g c (λ from ws. CanBeMade from ws) can) c.move_behind.ensures.checked
 
 pub returns-clause-linked : goal.returns-clause-linked
-returns-clause-linked g c = on_ok_weaker c.move_behind.result (λ is from there apart. is from (ap (λ (t : Told). t.files) c.in_ok-head.ensures.stays ∙ there)) c.move_behind.ensures.linked
+returns-clause-linked g c = on_ok_weaker c.move_behind.result (λ is from there apart. is from (ap (λ (t : Told). t.files) c.in_ok-head.ensures.reads.stays ∙ there)) c.move_behind.ensures.linked
 
 pub returns-clause-untold : goal.returns-clause-untold
 returns-clause-untold g c listed =
-    subst (λ (t : Told). IfDamaged c.move_behind.result (λ _. t.files ≡ None)) c.in_ok-head.ensures.stays (c.move_behind.ensures.untold (told_stays (IsListed c.args.node) c.in_ok-head.ensures.stays listed))
+    subst (λ (t : Told). IfDamaged c.move_behind.result (λ _. t.files ≡ None)) c.in_ok-head.ensures.reads.stays (c.move_behind.ensures.untold (told_stays (IsListed c.args.node) c.in_ok-head.ensures.reads.stays listed))
 
 -- where the node is the head
 is_head : (g : given.Over) (c : goal.Then-eq g) → ForSome (g.F.Folder.told c.args.folder.now).files (λ from. (list_of from).head ≡ c.args.node)
@@ -93,7 +93,7 @@ is_head g c from there = sym (c.in_ok-head.ensures.word from there) ∙ same_hea
 
 pub returns-then-eq-clause-steps : goal.returns-then-eq-clause-steps
 returns-then-eq-clause-steps g c from there =
-    subst (λ (ws : List ListWrite). Applies (g.F.Folder.told c.args.folder.now) (g.F.Folder.told c.first.new.f) (steps_of_writes ws from)) (sym (no_touch (list_of from) c.args.node (is_head g c from there))) (grows_none c.in_ok-head.ensures.stays)
+    subst (λ (ws : List ListWrite). Applies (g.F.Folder.told c.args.folder.now) (g.F.Folder.told c.first.new.f) (steps_of_writes ws from)) (sym (no_touch (list_of from) c.args.node (is_head g c from there))) (grows_none c.in_ok-head.ensures.reads.stays)
 
 pub returns-then-eq-clause-checked : goal.returns-then-eq-clause-checked
 returns-then-eq-clause-checked g c from there = subst (CanBeMade from) (sym (no_touch (list_of from) c.args.node (is_head g c from there))) (record { nodes = tt; words = tt })

@@ -16,7 +16,7 @@ returns-in_err-next-clause-untold g c listed =
 
 pub returns-in_err-prev-clause-untold : goal.returns-in_err-prev-clause-untold
 returns-in_err-prev-clause-untold g c listed =
-    let still = c.in_ok-next.ensures.stays in
+    let still = c.in_ok-next.ensures.reads.stays in
     carried c.link-2.result c.from_residual-in_err-prev.result c.in_err-prev.field-0.0 (λ _. (g.F.Folder.told c.args.folder.now).files ≡ None) c.in_err-prev.was c.from_residual-in_err-prev.ensures.1
     (subst (λ (t : Told). IfDamaged c.link-2.result (λ _. t.files ≡ None)) still
     (c.link-2.ensures.untold (told_stays (Agrees c.args.files.now) still c.requires.agrees)
@@ -26,5 +26,5 @@ pub returns-clause-words : goal.returns-clause-words
 returns-clause-words g c from there =
     let node = stands_as_node c.args.files.now from (c.requires.agrees from there) c.args.node c.requires.stands in
     let next : c.in_ok-next.next ≡ (list_of from).next c.args.node = c.in_ok-next.ensures.word from there ∙ sym (next_link from c.args.node node) in
-    let prev : c.in_ok-prev.prev ≡ (list_of from).prev c.args.node = c.in_ok-prev.ensures.word from (told_now from c.in_ok-next.ensures.stays there) ∙ sym (prev_link from c.args.node node) in
+    let prev : c.in_ok-prev.prev ≡ (list_of from).prev c.args.node = c.in_ok-prev.ensures.word from (told_now from c.in_ok-next.ensures.reads.stays there) ∙ sym (prev_link from c.args.node node) in
     ((λ zero. node_apart c.args.files.now c.in_ok-next.next c.in_ok-next.ensures.stands (next ∙ zero)), (next, prev))

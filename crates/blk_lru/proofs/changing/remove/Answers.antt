@@ -32,11 +32,11 @@ use Rattle.blk_disk.specs.Open.{IsOpen}
 pub returns-in_err-neighbours-clause-stops : goal.returns-in_err-neighbours-clause-stops
 returns-in_err-neighbours-clause-stops g c from there prefix suffix rest =
     let ws : List ListWrite = writes_of 2 c.args.node (list_of from) in
-    passes_stay (g.F.Folder.told c.args.f.now) (g.F.Folder.told c.neighbours.new.folder) from (IsMidOperation c.args.files.now ws (prefix ++ c.args.node ∷ suffix) (prefix ++ suffix) from) there c.in_err-neighbours.ensures.stays
+    passes_stay (g.F.Folder.told c.args.f.now) (g.F.Folder.told c.neighbours.new.folder) from (IsMidOperation c.args.files.now ws (prefix ++ c.args.node ∷ suffix) (prefix ++ suffix) from) there c.in_err-neighbours.ensures.reads.stays
     (before_operation c.args.files.now from (c.requires.is_open from there) ws (prefix ++ c.args.node ∷ suffix) (prefix ++ suffix) (removals-turn c.args.node (list_of from) prefix suffix rest))
 
 pub returns-in_err-neighbours-clause-is_open : goal.returns-in_err-neighbours-clause-is_open
-returns-in_err-neighbours-clause-is_open g c = told_stays (IsOpen c.args.files.now) c.in_err-neighbours.ensures.stays c.requires.is_open
+returns-in_err-neighbours-clause-is_open g c = told_stays (IsOpen c.args.files.now) c.in_err-neighbours.ensures.reads.stays c.requires.is_open
 
 -- the plan
 words_are : (g : given.Over) (c : goal.After-deref g) → map meant c.deref.result.now ≡ whole_plan c.args.node (operations.Remove (Some c.in_ok-neighbours.neighbours))
@@ -55,22 +55,22 @@ pub perform-requires-clause-words : goal.perform-requires-clause-words
 perform-requires-clause-words g c = each_words (λ n. is_node_among c.args.files.now n ≡ true) (map meant c.deref.result.now) (good_here g c)
 
 pub perform-requires-clause-is_open : goal.perform-requires-clause-is_open
-perform-requires-clause-is_open g c = told_stays (IsOpen c.args.files.now) c.in_ok-neighbours.ensures.stays c.requires.is_open
+perform-requires-clause-is_open g c = told_stays (IsOpen c.args.files.now) c.in_ok-neighbours.ensures.reads.stays c.requires.is_open
 
 pub returns-clause-steps : goal.returns-clause-steps
-returns-clause-steps g c = whole_as (g.F.Folder.told c.args.f.now) (g.F.Folder.told c.neighbours.new.folder) (g.F.Folder.told c.perform.new.folder) c.in_ok-neighbours.ensures.stays (map meant c.deref.result.now) (λ from. writes_of 2 c.args.node (list_of from)) (plan_is g c.before) c.perform.result c.perform.ensures.steps
+returns-clause-steps g c = whole_as (g.F.Folder.told c.args.f.now) (g.F.Folder.told c.neighbours.new.folder) (g.F.Folder.told c.perform.new.folder) c.in_ok-neighbours.ensures.reads.stays (map meant c.deref.result.now) (λ from. writes_of 2 c.args.node (list_of from)) (plan_is g c.before) c.perform.result c.perform.ensures.steps
 
 pub returns-clause-prefix : goal.returns-clause-prefix
 returns-clause-prefix g c = record {
-  made = part_as (g.F.Folder.told c.args.f.now) (g.F.Folder.told c.neighbours.new.folder) (g.F.Folder.told c.perform.new.folder) c.in_ok-neighbours.ensures.stays (map meant c.deref.result.now) (λ from. writes_of 2 c.args.node (list_of from)) (plan_is g c.before) c.perform.ensures.prefix.made;
+  made = part_as (g.F.Folder.told c.args.f.now) (g.F.Folder.told c.neighbours.new.folder) (g.F.Folder.told c.perform.new.folder) c.in_ok-neighbours.ensures.reads.stays (map meant c.deref.result.now) (λ from. writes_of 2 c.args.node (list_of from)) (plan_is g c.before) c.perform.ensures.prefix.made;
   silent = search rules;
 }
 
 checked_here : (g : given.Over) (c : goal.After-perform g) → OnOk c.perform.result (ForSome (g.F.Folder.told c.args.f.now).files (λ from. CanBeMade from (writes_of 2 c.args.node (list_of from))))
-checked_here g c = checked_as (g.F.Folder.told c.args.f.now) (g.F.Folder.told c.neighbours.new.folder) (g.F.Folder.told c.perform.new.folder) c.in_ok-neighbours.ensures.stays (map meant c.deref.result.now) (λ from. writes_of 2 c.args.node (list_of from)) (plan_is g c.before) c.perform.result c.perform.ensures.checked
+checked_here g c = checked_as (g.F.Folder.told c.args.f.now) (g.F.Folder.told c.neighbours.new.folder) (g.F.Folder.told c.perform.new.folder) c.in_ok-neighbours.ensures.reads.stays (map meant c.deref.result.now) (λ from. writes_of 2 c.args.node (list_of from)) (plan_is g c.before) c.perform.result c.perform.ensures.checked
 
 pub returns-clause-untold : goal.returns-clause-untold
-returns-clause-untold g c holds = untold_as (g.F.Folder.told c.args.f.now) (g.F.Folder.told c.neighbours.new.folder) (g.F.Folder.told c.perform.new.folder) c.in_ok-neighbours.ensures.stays (map meant c.deref.result.now) (λ from. writes_of 2 c.args.node (list_of from)) (plan_is g c.before) c.perform.result c.perform.ensures.untold (λ from there. (let a = around c.args.node from (holds from there) in removals-can from c.args.node a.0 a.1 a.2))
+returns-clause-untold g c holds = untold_as (g.F.Folder.told c.args.f.now) (g.F.Folder.told c.neighbours.new.folder) (g.F.Folder.told c.perform.new.folder) c.in_ok-neighbours.ensures.reads.stays (map meant c.deref.result.now) (λ from. writes_of 2 c.args.node (list_of from)) (plan_is g c.before) c.perform.result c.perform.ensures.untold (λ from there. (let a = around c.args.node from (holds from there) in removals-can from c.args.node a.0 a.1 a.2))
 
 ready_here : (g : given.Over) (c : goal.After-perform g) → ForSome (g.F.Folder.told c.args.f.now).files (IsReady c.args.files.now)
 ready_here g c = told_ready c.args.files.now (g.F.Folder.told c.args.f.now) c.requires.is_open (g.met.F.Folder.are_bytes c.args.f.now)

@@ -25,11 +25,11 @@ use Rattle.blk_disk.specs.Open.{IsOpen}
 
 pub returns-in_err-plan-clause-stops : goal.returns-in_err-plan-clause-stops
 returns-in_err-plan-clause-stops g c from there =
-    passes_stay (g.F.Folder.told c.args.f.now) (g.F.Folder.told c.pending.new.folder) from (IsMidCompletion c.args.files.now from) there c.in_err-plan.ensures.stays
+    passes_stay (g.F.Folder.told c.args.f.now) (g.F.Folder.told c.pending.new.folder) from (IsMidCompletion c.args.files.now from) there c.in_err-plan.ensures.reads.stays
     (before_completion c.args.files.now from (c.requires.is_open from there))
 
 pub returns-in_err-plan-clause-is_open : goal.returns-in_err-plan-clause-is_open
-returns-in_err-plan-clause-is_open g c = told_stays (IsOpen c.args.files.now) c.in_err-plan.ensures.stays c.requires.is_open
+returns-in_err-plan-clause-is_open g c = told_stays (IsOpen c.args.files.now) c.in_err-plan.ensures.reads.stays c.requires.is_open
 
 -- the plan
 words_are : (g : given.Over) (c : goal.After-deref g) (P : List ListWrite → Type 0) → P (map meant c.in_ok-plan.plan.items) → P (map meant c.deref.result.now)
@@ -45,19 +45,19 @@ pub perform-requires-clause-words : goal.perform-requires-clause-words
 perform-requires-clause-words g c = words_are g c AllWriteWords c.in_ok-plan.ensures.words
 
 pub perform-requires-clause-is_open : goal.perform-requires-clause-is_open
-perform-requires-clause-is_open g c = told_stays (IsOpen c.args.files.now) c.in_ok-plan.ensures.stays c.requires.is_open
+perform-requires-clause-is_open g c = told_stays (IsOpen c.args.files.now) c.in_ok-plan.ensures.reads.stays c.requires.is_open
 
 pub returns-clause-steps : goal.returns-clause-steps
-returns-clause-steps g c = whole_as (g.F.Folder.told c.args.f.now) (g.F.Folder.told c.pending.new.folder) (g.F.Folder.told c.perform.new.folder) c.in_ok-plan.ensures.stays (map meant c.deref.result.now) (λ from. completion_writes (list_of from)) (plan_is g c.before) c.perform.result c.perform.ensures.steps
+returns-clause-steps g c = whole_as (g.F.Folder.told c.args.f.now) (g.F.Folder.told c.pending.new.folder) (g.F.Folder.told c.perform.new.folder) c.in_ok-plan.ensures.reads.stays (map meant c.deref.result.now) (λ from. completion_writes (list_of from)) (plan_is g c.before) c.perform.result c.perform.ensures.steps
 
 pub returns-clause-prefix : goal.returns-clause-prefix
 returns-clause-prefix g c = record {
-  made = part_as (g.F.Folder.told c.args.f.now) (g.F.Folder.told c.pending.new.folder) (g.F.Folder.told c.perform.new.folder) c.in_ok-plan.ensures.stays (map meant c.deref.result.now) (λ from. completion_writes (list_of from)) (plan_is g c.before) c.perform.ensures.prefix.made;
+  made = part_as (g.F.Folder.told c.args.f.now) (g.F.Folder.told c.pending.new.folder) (g.F.Folder.told c.perform.new.folder) c.in_ok-plan.ensures.reads.stays (map meant c.deref.result.now) (λ from. completion_writes (list_of from)) (plan_is g c.before) c.perform.ensures.prefix.made;
   silent = search rules;
 }
 
 pub returns-clause-untold : goal.returns-clause-untold
-returns-clause-untold g c = untold_as (g.F.Folder.told c.args.f.now) (g.F.Folder.told c.pending.new.folder) (g.F.Folder.told c.perform.new.folder) c.in_ok-plan.ensures.stays (map meant c.deref.result.now) (λ from. completion_writes (list_of from)) (plan_is g c.before) c.perform.result c.perform.ensures.untold (λ from there. completions-can from)
+returns-clause-untold g c = untold_as (g.F.Folder.told c.args.f.now) (g.F.Folder.told c.pending.new.folder) (g.F.Folder.told c.perform.new.folder) c.in_ok-plan.ensures.reads.stays (map meant c.deref.result.now) (λ from. completion_writes (list_of from)) (plan_is g c.before) c.perform.result c.perform.ensures.untold (λ from there. completions-can from)
 
 ready_here : (g : given.Over) (c : goal.After-perform g) → ForSome (g.F.Folder.told c.args.f.now).files (IsReady c.args.files.now)
 ready_here g c = told_ready c.args.files.now (g.F.Folder.told c.args.f.now) c.requires.is_open (g.met.F.Folder.are_bytes c.args.f.now)

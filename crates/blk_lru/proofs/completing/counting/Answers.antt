@@ -34,13 +34,13 @@ returns-in_default-4-clause-found g c image there =
 pub returns-in_default-5-clause-found : goal.returns-in_default-5-clause-found
 returns-in_default-5-clause-found g c image there =
     not_links (list_among c.args.files.now image) (ap (λ (o : ℕ). o == 1) (c.requires.operation image there ∙ c.in-3.is))
-    (subst (FindsNeighbours (list_among c.args.files.now image) (list_among c.args.files.now image).transaction) c.in_default-5.is (c.in_ok-neighbours-in-3.ensures.found image (told_now image c.in_ok-head-in-3.ensures.stays there)))
+    (subst (FindsNeighbours (list_among c.args.files.now image) (list_among c.args.files.now image).transaction) c.in_default-5.is (c.in_ok-neighbours-in-3.ensures.found image (told_now image c.in_ok-head-in-3.ensures.reads.stays there)))
 
 pub returns-in-Counts-4-clause-found : goal.returns-in-Counts-4-clause-found
 returns-in-Counts-4-clause-found g c image there =
     move_found c.args.files.now (list_among c.args.files.now image) c.args.links.now c.requires.stands (c.requires.links image there) (c.requires.operation image there ∙ c.in-3.is) c.in-Counts-3.head c.in-Counts-4.neighbours
     (subst (FindsHead (list_among c.args.files.now image)) c.in-Counts-3.is (c.in_ok-head-in-3.ensures.found image there))
-    (subst (FindsNeighbours (list_among c.args.files.now image) (list_among c.args.files.now image).transaction) c.in-Counts-4.is (c.in_ok-neighbours-in-3.ensures.found image (told_now image c.in_ok-head-in-3.ensures.stays there)))
+    (subst (FindsNeighbours (list_among c.args.files.now image) (list_among c.args.files.now image).transaction) c.in-Counts-4.is (c.in_ok-neighbours-in-3.ensures.found image (told_now image c.in_ok-head-in-3.ensures.reads.stays there)))
 
 pub returns-in_default-clause-found : goal.returns-in_default-clause-found
 returns-in_default-clause-found g c image there =
@@ -69,11 +69,11 @@ returns-in_default-4-clause-checked g c image there =
 
 pub returns-in_default-5-clause-checked : goal.returns-in_default-5-clause-checked
 returns-in_default-5-clause-checked g c image there =
-    move_there c.args.files.now image (c.in_ok-head-in-3.ensures.checked image there) (c.in_ok-neighbours-in-3.ensures.checked image (told_now image c.in_ok-head-in-3.ensures.stays there))
+    move_there c.args.files.now image (c.in_ok-head-in-3.ensures.checked image there) (c.in_ok-neighbours-in-3.ensures.checked image (told_now image c.in_ok-head-in-3.ensures.reads.stays there))
 
 pub returns-in-Counts-4-clause-checked : goal.returns-in-Counts-4-clause-checked
 returns-in-Counts-4-clause-checked g c image there =
-    move_there c.args.files.now image (c.in_ok-head-in-3.ensures.checked image there) (c.in_ok-neighbours-in-3.ensures.checked image (told_now image c.in_ok-head-in-3.ensures.stays there))
+    move_there c.args.files.now image (c.in_ok-head-in-3.ensures.checked image there) (c.in_ok-neighbours-in-3.ensures.checked image (told_now image c.in_ok-head-in-3.ensures.reads.stays there))
 
 pub returns-in_default-clause-checked : goal.returns-in_default-clause-checked
 returns-in_default-clause-checked g c image there =
@@ -86,4 +86,4 @@ returns-in_err-neighbours-in-2-clause-untold g c =
 
 pub returns-in_err-neighbours-in-3-clause-untold : goal.returns-in_err-neighbours-in-3-clause-untold
 returns-in_err-neighbours-in-3-clause-untold g c =
-    untold_on c.usable_links-in-3.result c.from_residual-in_err-neighbours-in-3.result c.in_err-neighbours-in-3.field-0.0 {a = g.F.Folder.told c.args.folder.now} (IsOpen c.args.files.now) (Agrees c.args.files.now) (λ image is. is.agrees) c.in_ok-head-in-3.ensures.stays c.usable_links-in-3.ensures.untold c.in_err-neighbours-in-3.was c.from_residual-in_err-neighbours-in-3.ensures.1
+    untold_on c.usable_links-in-3.result c.from_residual-in_err-neighbours-in-3.result c.in_err-neighbours-in-3.field-0.0 {a = g.F.Folder.told c.args.folder.now} (IsOpen c.args.files.now) (Agrees c.args.files.now) (λ image is. is.agrees) c.in_ok-head-in-3.ensures.reads.stays c.usable_links-in-3.ensures.untold c.in_err-neighbours-in-3.was c.from_residual-in_err-neighbours-in-3.ensures.1

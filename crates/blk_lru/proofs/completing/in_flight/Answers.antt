@@ -17,7 +17,7 @@ returns-in_default-clause-found g c image there =
 
 pub counting-requires-clause-operation : goal.counting-requires-clause-operation
 unfolding list_among list_of
-counting-requires-clause-operation g c image there = sym (c.in_ok-code.ensures.word image (told_before image c.in_ok-code.ensures.stays there))
+counting-requires-clause-operation g c image there = sym (c.in_ok-code.ensures.word image (told_before image c.in_ok-code.ensures.reads.stays there))
 
 pub returns-in_default-clause-checked : goal.returns-in_default-clause-checked
 returns-in_default-clause-checked g c image there =
@@ -28,9 +28,9 @@ pub returns-clause-checked : goal.returns-clause-checked
 returns-clause-checked g c =
     on_ok_weaker c.counting.result
     (λ operands image there.
-    let next = told_now image c.in_ok-links.ensures.stays there in
+    let next = told_now image c.in_ok-links.ensures.reads.stays there in
     good_in_flight c.args.files.now image c.args.transaction (c.requires.transaction image there) (c.in_ok-links.ensures.checked image there) (c.in_ok-code.ensures.checked image next)
-    (operands image (told_now image c.in_ok-code.ensures.stays next)))
+    (operands image (told_now image c.in_ok-code.ensures.reads.stays next)))
     c.counting.ensures.checked
 
 pub returns-in_err-links-clause-untold : goal.returns-in_err-links-clause-untold
@@ -39,8 +39,8 @@ returns-in_err-links-clause-untold g c =
 
 pub returns-in_err-code-clause-untold : goal.returns-in_err-code-clause-untold
 returns-in_err-code-clause-untold g c =
-    untold_on c.word.result c.from_residual-in_err-code.result c.in_err-code.field-0.0 {a = g.F.Folder.told c.args.folder.now} (IsOpen c.args.files.now) HasWholeIndex (λ image is. is.whole_index) c.in_ok-links.ensures.stays c.word.ensures.untold c.in_err-code.was c.from_residual-in_err-code.ensures.1
+    untold_on c.word.result c.from_residual-in_err-code.result c.in_err-code.field-0.0 {a = g.F.Folder.told c.args.folder.now} (IsOpen c.args.files.now) HasWholeIndex (λ image is. is.whole_index) c.in_ok-links.ensures.reads.stays c.word.ensures.untold c.in_err-code.was c.from_residual-in_err-code.ensures.1
 
 pub returns-clause-untold : goal.returns-clause-untold
 returns-clause-untold g c =
-    untold_last c.counting.result (IsOpen c.args.files.now) (IsOpen c.args.files.now) (λ image is. is) (c.in_ok-code.ensures.stays ∙ c.in_ok-links.ensures.stays) c.counting.ensures.untold
+    untold_last c.counting.result (IsOpen c.args.files.now) (IsOpen c.args.files.now) (λ image is. is) (c.in_ok-code.ensures.reads.stays ∙ c.in_ok-links.ensures.reads.stays) c.counting.ensures.untold

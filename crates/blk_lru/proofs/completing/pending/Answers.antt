@@ -35,7 +35,7 @@ returns-then-transaction-eq0-clause-words g c = subst AllWriteWords (ap (map mea
 
 pub in_flight-requires : goal.in_flight-requires
 unfolding list_among list_of
-in_flight-requires g c = record { transaction = λ image there. sym (c.in_ok-transaction.ensures.word image (told_before image c.in_ok-transaction.ensures.stays there)) }
+in_flight-requires g c = record { transaction = λ image there. sym (c.in_ok-transaction.ensures.word image (told_before image c.in_ok-transaction.ensures.reads.stays there)) }
 
 -- what was found, of the list of the image
 found_in : (files : BlockFiles) (image : Image) (found : Option InFlight) → Agrees files image → FindsInFlight (list_among files image) found → FindsInFlight (list_of image) found
@@ -44,13 +44,13 @@ found_in files image found agrees finds = subst (λ (list : ListView). FindsInFl
 pub returns-in_default-clause-plan : goal.returns-in_default-clause-plan
 unfolding list_of
 returns-in_default-clause-plan g c image there agrees =
-    let found = found_in c.args.files.now image c.in_ok-found.field-0 agrees (c.in_ok-found.ensures.found image (told_now image c.in_ok-transaction.ensures.stays there)) in
+    let found = found_in c.args.files.now image c.in_ok-found.field-0 agrees (c.in_ok-found.ensures.found image (told_now image c.in_ok-transaction.ensures.reads.stays there)) in
     c.ending.ensures
     ∙ sym (completion_false (list_of image) (ne_eqb _ 0 (λ zero. c.if-transaction-eq0.false (c.in_ok-transaction.ensures.word image there ∙ zero))) (subst (FindsInFlight (list_of image)) c.in_default.is found))
 
 -- the operation that was found
 finds : (g : given.Over) (c : goal.After-pending_of g) (image : Image) → (g.F.Folder.told c.args.folder.now).files ≡ Some image → Agrees c.args.files.now image → FindsInFlight (list_of image) (Some c.in-Some.found)
-finds g c image there agrees = found_in c.args.files.now image (Some c.in-Some.found) agrees (subst (FindsInFlight (list_among c.args.files.now image)) c.in-Some.is (c.in_ok-found.ensures.found image (told_now image c.in_ok-transaction.ensures.stays there)))
+finds g c image there agrees = found_in c.args.files.now image (Some c.in-Some.found) agrees (subst (FindsInFlight (list_among c.args.files.now image)) c.in-Some.is (c.in_ok-found.ensures.found image (told_now image c.in_ok-transaction.ensures.reads.stays there)))
 
 nodes : (g : given.Over) (c : goal.After-pending_of g) → AreNodes c.args.files.now c.in-Some.found
 nodes g c = search rules
@@ -79,13 +79,13 @@ returns-then-transaction-eq0-clause-checked g c image there =
 pub returns-in_default-clause-checked : goal.returns-in_default-clause-checked
 returns-in_default-clause-checked g c image there = record {
   word = c.in_ok-transaction.ensures.checked image there;
-  in_flight = c.in_ok-found.ensures.checked image (told_now image c.in_ok-transaction.ensures.stays there);
+  in_flight = c.in_ok-found.ensures.checked image (told_now image c.in_ok-transaction.ensures.reads.stays there);
 }
 
 pub returns-clause-checked : goal.returns-clause-checked
 returns-clause-checked g c image there = record {
   word = c.in_ok-transaction.ensures.checked image there;
-  in_flight = c.in_ok-found.ensures.checked image (told_now image c.in_ok-transaction.ensures.stays there);
+  in_flight = c.in_ok-found.ensures.checked image (told_now image c.in_ok-transaction.ensures.reads.stays there);
 }
 
 pub returns-in_err-transaction-clause-untold : goal.returns-in_err-transaction-clause-untold
@@ -94,4 +94,4 @@ returns-in_err-transaction-clause-untold g c =
 
 pub returns-in_err-found-clause-untold : goal.returns-in_err-found-clause-untold
 returns-in_err-found-clause-untold g c =
-    untold_on c.in_flight.result c.from_residual-in_err-found.result c.in_err-found.field-0.0 {a = g.F.Folder.told c.args.folder.now} (IsOpen c.args.files.now) (IsOpen c.args.files.now) (λ image is. is) c.in_ok-transaction.ensures.stays c.in_flight.ensures.untold c.in_err-found.was c.from_residual-in_err-found.ensures.1
+    untold_on c.in_flight.result c.from_residual-in_err-found.result c.in_err-found.field-0.0 {a = g.F.Folder.told c.args.folder.now} (IsOpen c.args.files.now) (IsOpen c.args.files.now) (λ image is. is) c.in_ok-transaction.ensures.reads.stays c.in_flight.ensures.untold c.in_err-found.was c.from_residual-in_err-found.ensures.1

@@ -10,4 +10,4 @@ returns-then-links-eq0-clause-checked g c image there =
 
 pub returns-in_err-prev-clause-untold : goal.returns-in_err-prev-clause-untold
 returns-in_err-prev-clause-untold g c =
-    untold_on c.checked-2.result c.from_residual-in_err-prev.result c.in_err-prev.field-0.0 {a = g.F.Folder.told c.args.folder.now} (Agrees c.args.files.now) (Agrees c.args.files.now) (λ image is. is) c.in_ok-next.ensures.stays c.checked-2.ensures.untold c.in_err-prev.was c.from_residual-in_err-prev.ensures.1
+    untold_on c.checked-2.result c.from_residual-in_err-prev.result c.in_err-prev.field-0.0 {a = g.F.Folder.told c.args.folder.now} (Agrees c.args.files.now) (Agrees c.args.files.now) (λ image is. is) c.in_ok-next.ensures.reads.stays c.checked-2.ensures.untold c.in_err-prev.was c.from_residual-in_err-prev.ensures.1

@@ -16,7 +16,7 @@ use Rattle.blk_lru.proofs.ending.end_at.Given as given
 use Rattle.blk_lru.proofs.ending.end_at.Goals as goal
 
 pub returns-in_err-plan-clause-is_open : goal.returns-in_err-plan-clause-is_open
-returns-in_err-plan-clause-is_open g c = told_stays (IsOpen c.args.files.now) c.in_err-plan.ensures.stays c.requires.is_open
+returns-in_err-plan-clause-is_open g c = told_stays (IsOpen c.args.files.now) c.in_err-plan.ensures.reads.stays c.requires.is_open
 
 -- the plan
 words_are : (g : given.Over) (c : goal.After-deref g) (P : List ListWrite → Type 0) → P (map meant c.in_ok-plan.plan.items) → P (map meant c.deref.result.now)
@@ -32,22 +32,22 @@ pub perform-requires-clause-words : goal.perform-requires-clause-words
 perform-requires-clause-words g c = words_are g c AllWriteWords c.in_ok-plan.ensures.words
 
 pub perform-requires-clause-is_open : goal.perform-requires-clause-is_open
-perform-requires-clause-is_open g c = told_stays (IsOpen c.args.files.now) c.in_ok-plan.ensures.stays c.requires.is_open
+perform-requires-clause-is_open g c = told_stays (IsOpen c.args.files.now) c.in_ok-plan.ensures.reads.stays c.requires.is_open
 
 pub returns-clause-steps : goal.returns-clause-steps
-returns-clause-steps g c = whole_as (g.F.Folder.told c.args.folder.now) (g.F.Folder.told c.ending_of.new.folder) (g.F.Folder.told c.perform.new.folder) c.in_ok-plan.ensures.stays (map meant c.deref.result.now) (λ from. ending_writes (list_of from) c.args.last) (plan_is g c.before) c.perform.result c.perform.ensures.steps
+returns-clause-steps g c = whole_as (g.F.Folder.told c.args.folder.now) (g.F.Folder.told c.ending_of.new.folder) (g.F.Folder.told c.perform.new.folder) c.in_ok-plan.ensures.reads.stays (map meant c.deref.result.now) (λ from. ending_writes (list_of from) c.args.last) (plan_is g c.before) c.perform.result c.perform.ensures.steps
 
 pub returns-clause-prefix : goal.returns-clause-prefix
 returns-clause-prefix g c = record {
-  made = part_as (g.F.Folder.told c.args.folder.now) (g.F.Folder.told c.ending_of.new.folder) (g.F.Folder.told c.perform.new.folder) c.in_ok-plan.ensures.stays (map meant c.deref.result.now) (λ from. ending_writes (list_of from) c.args.last) (plan_is g c.before) c.perform.ensures.prefix.made;
+  made = part_as (g.F.Folder.told c.args.folder.now) (g.F.Folder.told c.ending_of.new.folder) (g.F.Folder.told c.perform.new.folder) c.in_ok-plan.ensures.reads.stays (map meant c.deref.result.now) (λ from. ending_writes (list_of from) c.args.last) (plan_is g c.before) c.perform.ensures.prefix.made;
   silent = search rules;
 }
 
 pub returns-clause-untold : goal.returns-clause-untold
-returns-clause-untold g c can = untold_as (g.F.Folder.told c.args.folder.now) (g.F.Folder.told c.ending_of.new.folder) (g.F.Folder.told c.perform.new.folder) c.in_ok-plan.ensures.stays (map meant c.deref.result.now) (λ from. ending_writes (list_of from) c.args.last) (plan_is g c.before) c.perform.result c.perform.ensures.untold can
+returns-clause-untold g c can = untold_as (g.F.Folder.told c.args.folder.now) (g.F.Folder.told c.ending_of.new.folder) (g.F.Folder.told c.perform.new.folder) c.in_ok-plan.ensures.reads.stays (map meant c.deref.result.now) (λ from. ending_writes (list_of from) c.args.last) (plan_is g c.before) c.perform.result c.perform.ensures.untold can
 
 pub returns-clause-checked : goal.returns-clause-checked
-returns-clause-checked g c = checked_as (g.F.Folder.told c.args.folder.now) (g.F.Folder.told c.ending_of.new.folder) (g.F.Folder.told c.perform.new.folder) c.in_ok-plan.ensures.stays (map meant c.deref.result.now) (λ from. ending_writes (list_of from) c.args.last) (plan_is g c.before) c.perform.result c.perform.ensures.checked
+returns-clause-checked g c = checked_as (g.F.Folder.told c.args.folder.now) (g.F.Folder.told c.ending_of.new.folder) (g.F.Folder.told c.perform.new.folder) c.in_ok-plan.ensures.reads.stays (map meant c.deref.result.now) (λ from. ending_writes (list_of from) c.args.last) (plan_is g c.before) c.perform.result c.perform.ensures.checked
 
 ready_here : (g : given.Over) (c : goal.After-perform g) → ForSome (g.F.Folder.told c.args.folder.now).files (IsReady c.args.files.now)
 ready_here g c = told_ready c.args.files.now (g.F.Folder.told c.args.folder.now) c.requires.is_open (g.met.F.Folder.are_bytes c.args.folder.now)

@@ -7,4 +7,4 @@ use Rattle.blk_lru.proofs.ending.ending_of.Goals as goal
 pub returns-clause-plan : goal.returns-clause-plan
 unfolding list_of
 returns-clause-plan g c image there agrees =
-    c.end_plan.ensures ∙ ap₂ (ending_by c.args.last) (c.in_ok-front.ensures.word image there agrees) (c.in_ok-tail.ensures.word image (ap (λ (t : Told). t.files) c.in_ok-front.ensures.stays ∙ there))
+    c.end_plan.ensures ∙ ap₂ (ending_by c.args.last) (c.in_ok-front.ensures.word image there agrees) (c.in_ok-tail.ensures.word image (ap (λ (t : Told). t.files) c.in_ok-front.ensures.reads.stays ∙ there))

@@ -43,4 +43,4 @@ returns-clause-found g c image there =
 pub returns-in_err-read_block-clause-damaged : goal.returns-in_err-read_block-clause-damaged
 returns-in_err-read_block-clause-damaged g c =
     carried c.read_block.result c.from_residual.result c.in_err-read_block.field-0.0 (IsShortNode c.args.files.now (g.F.Folder.told c.read_block.new.f)) c.in_err-read_block.was c.from_residual.ensures.1
-    (short_node c.read_block.result c.args.files.now (g.F.Folder.told c.args.folder.now) (g.F.Folder.told c.read_block.new.f) c.in-Some.node (search rules) c.read_block.ensures.stays c.read_block.ensures.short)
+    (short_node c.read_block.result c.args.files.now (g.F.Folder.told c.args.folder.now) (g.F.Folder.told c.read_block.new.f) c.in-Some.node (search rules) c.read_block.ensures.reads.stays c.read_block.ensures.short)

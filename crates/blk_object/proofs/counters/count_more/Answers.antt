@@ -8,15 +8,15 @@ use Rattle.blk_object.specs.FailedChecks.{FailsShort}
 use Rattle.blk_object.proofs.counters.count_more.Goals as goal
 
 pub returns-in_err-counters-clause-is_open : goal.returns-in_err-counters-clause-is_open
-returns-in_err-counters-clause-is_open g c = subst (λ (t : Told). ForSome t.files (IsOpen c.args.files.now)) (sym c.in_err-counters.ensures.stays) c.requires.is_open
+returns-in_err-counters-clause-is_open g c = subst (λ (t : Told). ForSome t.files (IsOpen c.args.files.now)) (sym c.in_err-counters.ensures.reads.stays) c.requires.is_open
 
 pub set_counters-requires : goal.set_counters-requires
-set_counters-requires g c = record { is_open = subst (λ (t : Told). ForSome t.files (IsOpen c.args.files.now)) (sym c.in_ok-counters.ensures.stays) c.requires.is_open }
+set_counters-requires g c = record { is_open = subst (λ (t : Told). ForSome t.files (IsOpen c.args.files.now)) (sym c.in_ok-counters.ensures.reads.stays) c.requires.is_open }
 
 pub returns-clause-counted : goal.returns-clause-counted
 returns-clause-counted g c from there image is =
     counted-more c.in_ok-counters.counters c.args.entries c.args.charge from image (c.in_ok-counters.ensures.read from there)
-    (c.in_ok-set_counters.ensures.written from (ap (λ (t : Told). t.files) c.in_ok-counters.ensures.stays ∙ there) image is)
+    (c.in_ok-set_counters.ensures.written from (ap (λ (t : Told). t.files) c.in_ok-counters.ensures.reads.stays ∙ there) image is)
 
 pub returns-in_err-counters-clause-damaged : goal.returns-in_err-counters-clause-damaged
 returns-in_err-counters-clause-damaged g c =

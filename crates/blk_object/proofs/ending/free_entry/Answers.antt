@@ -27,11 +27,11 @@ read_owned-requires-clause-stands g c = let p = names-parts c.args.files.now c.a
 pub returns-in_err-owned-clause-frees : goal.returns-in_err-owned-clause-frees
 returns-in_err-owned-clause-frees g c = record {
   freed = no-freed c.from_residual.result c.in_err-owned.field-0.0 c.from_residual.ensures.1 _;
-  stops = λ from there loaded lies. passes_none (AreGoing (words_of loaded) from) c.in_err-owned.ensures.stays (λ image is. subst (AreGoing (words_of loaded) from) (some_inj (sym there ∙ is)) (none-going (words_of loaded) from));
+  stops = λ from there loaded lies. passes_none (AreGoing (words_of loaded) from) c.in_err-owned.ensures.reads.stays (λ image is. subst (AreGoing (words_of loaded) from) (some_inj (sym there ∙ is)) (none-going (words_of loaded) from));
 }
 
 pub returns-in_err-owned-clause-is_open : goal.returns-in_err-owned-clause-is_open
-returns-in_err-owned-clause-is_open g c = subst (λ (t : Told). ForSome t.files (IsOpen c.args.files.now)) (sym c.in_err-owned.ensures.stays) c.requires.is_open
+returns-in_err-owned-clause-is_open g c = subst (λ (t : Told). ForSome t.files (IsOpen c.args.files.now)) (sym c.in_err-owned.ensures.reads.stays) c.requires.is_open
 
 pub returns-in_err-owned-clause-untold : goal.returns-in_err-owned-clause-untold
 returns-in_err-owned-clause-untold g c has =
@@ -39,7 +39,7 @@ returns-in_err-owned-clause-untold g c has =
     (c.read_owned.ensures.untold (λ image is. (c.requires.is_open image is).agrees) (λ image is. ((has image is).0, (has image is).1.lies)))
 
 pub free_owned-requires-clause-is_open : goal.free_owned-requires-clause-is_open
-free_owned-requires-clause-is_open g c = subst (λ (t : Told). ForSome t.files (IsOpen c.args.files.now)) (sym c.in_ok-owned.ensures.stays) c.requires.is_open
+free_owned-requires-clause-is_open g c = subst (λ (t : Told). ForSome t.files (IsOpen c.args.files.now)) (sym c.in_ok-owned.ensures.reads.stays) c.requires.is_open
 
 pub returns-clause-frees : goal.returns-clause-frees
 returns-clause-frees g c =
@@ -50,20 +50,20 @@ returns-clause-frees g c =
           (λ freed from there loaded lies.
           let words : words_at c.in_ok-owned.owned.places ≡ words_of loaded = c.in_ok-owned.ensures.words from there loaded lies.lies in
           subst (λ ws. ForSome (g.F.Folder.told c.free_owned.new.folder).files (Removes ws from)) words
-          (freed from (ap (λ (t : Told). t.files) c.in_ok-owned.ensures.stays ∙ there) (subst (λ ws. AreFreeable ws from) (sym words) lies.freeable)))
+          (freed from (ap (λ (t : Told). t.files) c.in_ok-owned.ensures.reads.stays ∙ there) (subst (λ ws. AreFreeable ws from) (sym words) lies.freeable)))
           c.free_owned.ensures.freed;
       stops = λ from there loaded lies.
           let words : words_at c.in_ok-owned.owned.places ≡ words_of loaded = c.in_ok-owned.ensures.words from there loaded lies.lies in
-          passes_stayed c.in_ok-owned.ensures.stays
+          passes_stayed c.in_ok-owned.ensures.reads.stays
           (subst (λ ws. Passes mid (g.F.Folder.told c.free_owned.new.folder) (AreGoing ws from)) words
-          (c.free_owned.ensures.stops from (ap (λ (t : Told). t.files) c.in_ok-owned.ensures.stays ∙ there) (subst (λ ws. AreFreeable ws from) (sym words) lies.freeable)));
+          (c.free_owned.ensures.stops from (ap (λ (t : Told). t.files) c.in_ok-owned.ensures.reads.stays ∙ there) (subst (λ ws. AreFreeable ws from) (sym words) lies.freeable)));
     }
 
 pub returns-clause-untold : goal.returns-clause-untold
 returns-clause-untold g c has =
     let old : Told = g.F.Folder.told c.args.folder.now in
     let mid : Told = g.F.Folder.told c.read_owned.new.folder in
-    let same : mid.files ≡ old.files = ap (λ (t : Told). t.files) c.in_ok-owned.ensures.stays in
+    let same : mid.files ≡ old.files = ap (λ (t : Told). t.files) c.in_ok-owned.ensures.reads.stays in
     if_damaged_weaker c.free_owned.result (λ _. mid.files ≡ None) (λ _. old.files ≡ None) (λ damage none. sym same ∙ none)
     (c.free_owned.ensures.untold (λ image is.
     let there = sym same ∙ is in

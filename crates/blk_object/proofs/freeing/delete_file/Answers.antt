@@ -32,5 +32,9 @@ returns-clause-is_open g c =
     (λ from there. passes_end (c.delete.ensures.stops from there)) (silent_part c.delete.ensures.prefix)
     (agrees_deleted c.args.files.now (g.F.Folder.told c.args.folder.now) (g.F.Folder.told c.delete.new.f) (external_number c.args.place) c.delete.ensures.prefix (λ from there. (c.requires.is_open from there).agrees)) c.requires.is_open
 
-pub returns-clause-silent : goal.returns-clause-silent
-returns-clause-silent g c none = silent_part c.delete.ensures.prefix none
+pub returns-clause-writes : goal.returns-clause-writes
+returns-clause-writes g c = record {
+  silent = silent_part c.delete.ensures.prefix;
+  later = c.delete.ensures.later;
+  failed = c.delete.ensures.failed;
+}

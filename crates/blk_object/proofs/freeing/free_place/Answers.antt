@@ -33,7 +33,7 @@ free-requires-clause-agrees g c from there = (c.requires.is_open from there).agr
 pub returns-else-is_external-clause-is_open : goal.returns-else-is_external-clause-is_open
 returns-else-is_external-clause-is_open g c =
     still-open c.args.files.now (g.F.Folder.told c.args.folder.now) (g.F.Folder.told c.free.new.f) (FreesOrStops c.args.place) (λ from image h. (freed_only c.args.place from image h).lengths Index refl)
-    (λ from there. passes_end (c.free.ensures.stops from there)) c.free.ensures.silent c.free.ensures.agrees c.requires.is_open
+    (λ from there. passes_end (c.free.ensures.stops from there)) c.free.ensures.writes.silent c.free.ensures.agrees c.requires.is_open
 
 pub returns-else-is_external-clause-damaged : goal.returns-else-is_external-clause-damaged
 returns-else-is_external-clause-damaged g c =

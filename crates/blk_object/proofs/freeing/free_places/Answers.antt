@@ -26,9 +26,9 @@ loop-place-preserved g c = record {
   has = place-done c.args.places.now c.loop-place.place-index c.place-item.result c.loop-place-test.true c.place-item.is (g.F.Folder.told c.args.folder.now) (g.F.Folder.told c.free_if_any.new.folder)
       (next-freed (g.F.Folder.told c.args.folder.now) (g.F.Folder.told c.loop-place.folder) (g.F.Folder.told c.free_if_any.new.folder) (words_at c.args.places.now) (words_at (take c.loop-place.place-index c.args.places.now)) (words_at (c.place-item.result ∷ [])) (words_at (drop (c.loop-place.place-index + 1) c.args.places.now))
       (place-next c.args.places.now c.loop-place.place-index c.place-item.result c.loop-place-test.true c.place-item.is (g.F.Folder.told c.args.folder.now) (g.F.Folder.told c.loop-place.folder) c.loop-place.invariant.has)
-      c.in_ok-free_if_any.ensures.freed c.in_ok-free_if_any.ensures.stops c.in_ok-free_if_any.ensures.silent c.in_ok-free_if_any.ensures.back);
+      c.in_ok-free_if_any.ensures.freed c.in_ok-free_if_any.ensures.stops c.in_ok-free_if_any.ensures.writes.silent c.in_ok-free_if_any.ensures.back);
   is_open = c.in_ok-free_if_any.ensures.is_open;
-  later = (let one = c.loop-place.invariant.later in let other = c.in_ok-free_if_any.ensures.later in omega (arith, one, other));
+  later = (let one = c.loop-place.invariant.later in let other = c.in_ok-free_if_any.ensures.writes.later in omega (arith, one, other));
 }
 
 pub returns-clause-freed : goal.returns-clause-freed

@@ -42,7 +42,7 @@ returns-clause-entry g c image there =
 pub returns-in_err-read_block-clause-damaged : goal.returns-in_err-read_block-clause-damaged
 returns-in_err-read_block-clause-damaged g c =
     handed c.read_block.result c.from_residual.result c.in_err-read_block.field-0.0 _ c.args.files.now (g.F.Folder.told c.read_block.new.f)
-    (λ damage short. moved c.args.files.now (g.F.Folder.told c.args.folder.now) (g.F.Folder.told c.read_block.new.f) damage c.read_block.ensures.stays (short-checked c.args.files.now (g.F.Folder.told c.args.folder.now) _ _ _ damage short))
+    (λ damage short. moved c.args.files.now (g.F.Folder.told c.args.folder.now) (g.F.Folder.told c.read_block.new.f) damage c.read_block.ensures.reads.stays (short-checked c.args.files.now (g.F.Folder.told c.args.folder.now) _ _ _ damage short))
     c.in_err-read_block.was c.from_residual.ensures.1 c.read_block.ensures.short
 
 nameless : (g : given.Over) (c : goal.After-node_damage g) → NamesNoRecord c.args.files.now (g.F.Folder.told c.args.folder.now) (names.Block (file_selector c.args.node)) (place c.args.node + 24) c.node_damage.ensures.damage
@@ -59,4 +59,4 @@ nameless g c =
 pub returns-in_default-clause-damaged : goal.returns-in_default-clause-damaged
 returns-in_default-clause-damaged g c =
     err_damaged ℕ c.node_damage.result c.node_damage.ensures.damage (IsFailedCheck c.args.files.now (g.F.Folder.told c.read_block.new.f)) c.node_damage.ensures.is
-    (moved c.args.files.now (g.F.Folder.told c.args.folder.now) (g.F.Folder.told c.read_block.new.f) _ c.in_ok-read_block.ensures.stays (FailsPlace (OfRecord _ _ (nameless g c))))
+    (moved c.args.files.now (g.F.Folder.told c.args.folder.now) (g.F.Folder.told c.read_block.new.f) _ c.in_ok-read_block.ensures.reads.stays (FailsPlace (OfRecord _ _ (nameless g c))))

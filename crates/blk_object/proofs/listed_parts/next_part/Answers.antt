@@ -31,8 +31,8 @@ loop-init g c = record {
   stands = c.in_ok-next.ensures.stands;
   stands_last = c.requires.from;
   buffer = c.requires.buffer;
-  stays = c.in_ok-next.ensures.stays;
-  later = c.in_ok-next.ensures.later;
+  stays = c.in_ok-next.ensures.reads.stays;
+  later = c.in_ok-next.ensures.reads.later;
 }
 
 pub returns-in_default-clause-part : goal.returns-in_default-clause-part
@@ -57,7 +57,7 @@ returns-then-is_some-clause-part g c from there state layout keep chains unlinke
 
 pub returns-in_err-next-2-clause-untold : goal.returns-in_err-next-2-clause-untold
 returns-in_err-next-2-clause-untold g c from there state layout keep chains unlinked items k are =
-    let stays = c.in_ok-found.ensures.stays ∙ c.loop.invariant.stays in
+    let stays = c.in_ok-found.ensures.reads.stays ∙ c.loop.invariant.stays in
     subst (λ (t : Told). IfDamaged c.from_residual-in_err-next-2.result (λ _. t.files ≡ None)) stays
     (carried c.after.result c.from_residual-in_err-next-2.result c.in_err-next-2.field-0.0 (λ _. (g.F.Folder.told c.part_at.new.folder).files ≡ None) c.in_err-next-2.was c.from_residual-in_err-next-2.ensures.1
     (c.after.ensures.untold (subst (λ (t : Told). ForSome t.files (Agrees c.args.files.now)) (sym stays) (λ image is. (c.requires.is_open image is).agrees))
@@ -70,17 +70,17 @@ loop-preserved g c = record {
       let none : is_some c.in_ok-found.found ≡ false = search rules in
       step-walks state layout keep chains unlinked c.args.key.now items c.in-Some.node c.loop.counter from k (subst (λ (o : Option ℕ). IsWalkedTo layout c.args.key.now (filter keep state.uses) items o c.loop.counter) c.in-Some.is (c.loop.invariant.walks from there state layout keep chains unlinked items k are)) c.in_ok-next-2.next
       (λ loaded at. sym (found-none c.in_ok-found.found none) ∙ c.in_ok-found.ensures.part from (ap (λ (t : Told). t.files) c.loop.invariant.stays ∙ there) loaded at)
-      (c.in_ok-next-2.ensures.node from (ap (λ (t : Told). t.files) (c.in_ok-found.ensures.stays ∙ c.loop.invariant.stays) ∙ there) (c.requires.is_open from there).agrees);
+      (c.in_ok-next-2.ensures.node from (ap (λ (t : Told). t.files) (c.in_ok-found.ensures.reads.stays ∙ c.loop.invariant.stays) ∙ there) (c.requires.is_open from there).agrees);
   passed = λ image there.
       node-passed c.args.files.now NodeView.NEXT c.args.from c.loop.last c.loop.counter image c.in-Some.node (c.loop.invariant.passed image there)
       (subst (λ (o : Option ℕ). GoesTo NodeView.NEXT image c.loop.last o) c.in-Some.is (c.loop.invariant.goes image there))
       (subst (λ (o : Option ℕ). IfSome o (λ n. IsTrue (is_node_among c.args.files.now n))) c.in-Some.is c.loop.invariant.stands);
-  goes = λ image there. c.in_ok-next-2.ensures.word image (ap (λ (t : Told). t.files) (c.in_ok-found.ensures.stays ∙ c.loop.invariant.stays) ∙ there);
+  goes = λ image there. c.in_ok-next-2.ensures.word image (ap (λ (t : Told). t.files) (c.in_ok-found.ensures.reads.stays ∙ c.loop.invariant.stays) ∙ there);
   stands = c.in_ok-next-2.ensures.stands;
   stands_last = subst (λ (o : Option ℕ). IfSome o (λ n. IsTrue (is_node_among c.args.files.now n))) c.in-Some.is c.loop.invariant.stands;
   buffer = (let one = c.part_at.auto.buffer in let two = c.loop.invariant.buffer in omega (arith, one, two));
-  stays = c.in_ok-next-2.ensures.stays ∙ c.in_ok-found.ensures.stays ∙ c.loop.invariant.stays;
-  later = (let one = c.loop.invariant.later in let two = c.in_ok-found.ensures.later in let three = c.in_ok-next-2.ensures.later in omega (arith, one, two, three));
+  stays = c.in_ok-next-2.ensures.reads.stays ∙ c.in_ok-found.ensures.reads.stays ∙ c.loop.invariant.stays;
+  later = (let one = c.loop.invariant.later in let two = c.in_ok-found.ensures.reads.later in let three = c.in_ok-next-2.ensures.reads.later in omega (arith, one, two, three));
 }
 
 pub returns-clause-part : goal.returns-clause-part
@@ -90,7 +90,7 @@ returns-clause-part g c from there state layout keep chains unlinked items k are
 pub returns-in_err-next-2-clause-damaged : goal.returns-in_err-next-2-clause-damaged
 returns-in_err-next-2-clause-damaged g c =
     handed c.after.result c.from_residual-in_err-next-2.result c.in_err-next-2.field-0.0 _ c.args.files.now (g.F.Folder.told c.after.new.f)
-    (λ damage wrong. moved c.args.files.now (g.F.Folder.told c.part_at.new.folder) (g.F.Folder.told c.after.new.f) damage c.after.ensures.stays (node-word-checked c.args.files.now (g.F.Folder.told c.part_at.new.folder) _ _ damage wrong))
+    (λ damage wrong. moved c.args.files.now (g.F.Folder.told c.part_at.new.folder) (g.F.Folder.told c.after.new.f) damage c.after.ensures.reads.stays (node-word-checked c.args.files.now (g.F.Folder.told c.part_at.new.folder) _ _ damage wrong))
     c.in_err-next-2.was c.from_residual-in_err-next-2.ensures.1 c.after.ensures.damaged
 
 pub returns-then-is_some-clause-named : goal.returns-then-is_some-clause-named

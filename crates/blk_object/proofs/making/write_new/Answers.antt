@@ -16,27 +16,27 @@ use Rattle.blk_io.proofs.Carried.{if_damaged_weaker}
 use Rattle.blk_object.proofs.making.write_new.Goals as goal
 
 pub returns-in_err-next-clause-stops : goal.returns-in_err-next-clause-stops
-returns-in_err-next-clause-stops g c = nothing-finds (words_of_places c.args.places.now) (g.F.Folder.told c.args.folder.now) (g.F.Folder.told c.bucket.new.f) c.in_err-next.ensures.stays
+returns-in_err-next-clause-stops g c = nothing-finds (words_of_places c.args.places.now) (g.F.Folder.told c.args.folder.now) (g.F.Folder.told c.bucket.new.f) c.in_err-next.ensures.reads.stays
 
 pub returns-in_err-next-clause-is_open : goal.returns-in_err-next-clause-is_open
-returns-in_err-next-clause-is_open g c = subst (λ (t : Told). ForSome t.files (IsOpen c.args.files.now)) (sym c.in_err-next.ensures.stays) c.requires.is_open
+returns-in_err-next-clause-is_open g c = subst (λ (t : Told). ForSome t.files (IsOpen c.args.files.now)) (sym c.in_err-next.ensures.reads.stays) c.requires.is_open
 
 pub write_entry-requires-clause-agrees : goal.write_entry-requires-clause-agrees
-write_entry-requires-clause-agrees g c from there = (subst (λ (t : Told). ForSome t.files (IsOpen c.args.files.now)) (sym c.in_ok-next.ensures.stays) c.requires.is_open from there).agrees
+write_entry-requires-clause-agrees g c from there = (subst (λ (t : Told). ForSome t.files (IsOpen c.args.files.now)) (sym c.in_ok-next.ensures.reads.stays) c.requires.is_open from there).agrees
 
 pub returns-clause-is_open : goal.returns-clause-is_open
 returns-clause-is_open g c image now = record {
   agrees = c.write_entry.ensures.agrees image now;
-  whole_index = c.write_entry.ensures.complete (λ from there. (subst (λ (t : Told). ForSome t.files (IsOpen c.args.files.now)) (sym c.in_ok-next.ensures.stays) c.requires.is_open from there).whole_index) image now;
+  whole_index = c.write_entry.ensures.complete (λ from there. (subst (λ (t : Told). ForSome t.files (IsOpen c.args.files.now)) (sym c.in_ok-next.ensures.reads.stays) c.requires.is_open from there).whole_index) image now;
 }
 
 pub returns-clause-stops : goal.returns-clause-stops
 returns-clause-stops g c =
     let b : Told = g.F.Folder.told c.bucket.new.f in
     let d : Told = g.F.Folder.told c.write_entry.new.f in
-    subst (λ (t : Told). ForSome t.files (λ from. Passes t d (StillFinds (words_of_places c.args.places.now) from))) c.in_ok-next.ensures.stays
+    subst (λ (t : Told). ForSome t.files (λ from. Passes t d (StillFinds (words_of_places c.args.places.now) from))) c.in_ok-next.ensures.reads.stays
     (writing-finds b d c.args.files.now c.args.places.now c.args.mark c.in_ok-next.next c.args.key.now (fits-next c.args.files.now c.args.places.now c.args.mark c.in_ok-next.next c.args.key.now c.requires.fits) c.write_entry.ensures.words
-    (λ from there. (subst (λ (t : Told). ForSome t.files (IsOpen c.args.files.now)) (sym c.in_ok-next.ensures.stays) c.requires.is_open from there).agrees) c.write_entry.ensures.stops)
+    (λ from there. (subst (λ (t : Told). ForSome t.files (IsOpen c.args.files.now)) (sym c.in_ok-next.ensures.reads.stays) c.requires.is_open from there).agrees) c.write_entry.ensures.stops)
 
 pub returns-clause-written : goal.returns-clause-written
 returns-clause-written g c =
@@ -45,10 +45,10 @@ returns-clause-written g c =
     let d : Told = g.F.Folder.told c.write_entry.new.f in
     on-ok-three c.write_entry.result
     (λ written shown loads.
-    subst (λ (t : Told). ForSome t.files (λ from. ForSome d.files (IsEntryOfKept c.args.places.now c.args.mark c.args.key.now from))) c.in_ok-next.ensures.stays
+    subst (λ (t : Told). ForSome t.files (λ from. ForSome d.files (IsEntryOfKept c.args.places.now c.args.mark c.args.key.now from))) c.in_ok-next.ensures.reads.stays
     (entry-written b d c.args.files.now c.args.places.now c.args.mark c.in_ok-next.next c.args.key.now (fits-next c.args.files.now c.args.places.now c.args.mark c.in_ok-next.next c.args.key.now c.requires.fits) c.write_entry.ensures.words
-    (λ from there. (subst (λ (t : Told). ForSome t.files (IsOpen c.args.files.now)) (sym c.in_ok-next.ensures.stays) c.requires.is_open from there).agrees) c.write_entry.ensures.stops c.args.moment
-    (subst (λ (t : Told). ForSome t.files (λ (i : Image). c.in_ok-next.next ≡ (store_of i).table (bucket_of_key c.args.key.now))) (sym c.in_ok-next.ensures.stays) (λ from there. bucket-is from c.args.key.now c.super_fast_hash-hash.result _ c.in_ok-next.next c.super_fast_hash-hash.ensures refl (c.in_ok-next.ensures.word from there)))
+    (λ from there. (subst (λ (t : Told). ForSome t.files (IsOpen c.args.files.now)) (sym c.in_ok-next.ensures.reads.stays) c.requires.is_open from there).agrees) c.write_entry.ensures.stops c.args.moment
+    (subst (λ (t : Told). ForSome t.files (λ (i : Image). c.in_ok-next.next ≡ (store_of i).table (bucket_of_key c.args.key.now))) (sym c.in_ok-next.ensures.reads.stays) (λ from there. bucket-is from c.args.key.now c.super_fast_hash-hash.result _ c.in_ok-next.next c.super_fast_hash-hash.ensures refl (c.in_ok-next.ensures.word from there)))
     written shown (loads refl)))
     c.write_entry.ensures.written c.write_entry.ensures.shown c.write_entry.ensures.loads
 
@@ -57,9 +57,9 @@ returns-clause-counters g c =
     let d : Told = g.F.Folder.told c.write_entry.new.f in
     on_ok_weaker c.write_entry.result
     (λ written.
-    subst (λ (t : Told). ForSome t.files (λ from. ForSome d.files (SameCounters from))) c.in_ok-next.ensures.stays
+    subst (λ (t : Told). ForSome t.files (λ from. ForSome d.files (SameCounters from))) c.in_ok-next.ensures.reads.stays
     (writing-counts (g.F.Folder.told c.bucket.new.f) d c.args.files.now c.args.places.now c.args.mark c.in_ok-next.next c.args.key.now (fits-next c.args.files.now c.args.places.now c.args.mark c.in_ok-next.next c.args.key.now c.requires.fits) c.write_entry.ensures.words
-    (λ from there. (subst (λ (t : Told). ForSome t.files (IsOpen c.args.files.now)) (sym c.in_ok-next.ensures.stays) c.requires.is_open from there).agrees) c.write_entry.ensures.stops))
+    (λ from there. (subst (λ (t : Told). ForSome t.files (IsOpen c.args.files.now)) (sym c.in_ok-next.ensures.reads.stays) c.requires.is_open from there).agrees) c.write_entry.ensures.stops))
     c.write_entry.ensures.written
 
 pub returns-clause-times : goal.returns-clause-times
@@ -70,7 +70,7 @@ returns-clause-times g c =
 pub returns-in_err-next-clause-damaged : goal.returns-in_err-next-clause-damaged
 returns-in_err-next-clause-damaged g c =
     handed c.bucket.result c.from_residual.result c.in_err-next.field-0.0 _ c.args.files.now (g.F.Folder.told c.bucket.new.f)
-    (λ damage short. moved c.args.files.now (g.F.Folder.told c.args.folder.now) (g.F.Folder.told c.bucket.new.f) damage c.bucket.ensures.stays (short-checked c.args.files.now (g.F.Folder.told c.args.folder.now) _ _ _ damage short))
+    (λ damage short. moved c.args.files.now (g.F.Folder.told c.args.folder.now) (g.F.Folder.told c.bucket.new.f) damage c.bucket.ensures.reads.stays (short-checked c.args.files.now (g.F.Folder.told c.args.folder.now) _ _ _ damage short))
     c.in_err-next.was c.from_residual.ensures.1 c.bucket.ensures.short
 
 pub returns-clause-damaged : goal.returns-clause-damaged

@@ -26,7 +26,7 @@ returns-in_err-addr-clause-untold g c room =
 
 pub returns-in_err-check_index-clause-stops : goal.returns-in_err-check_index-clause-stops
 returns-in_err-check_index-clause-stops g c from there room =
-    then-stays (g.F.Folder.told c.args.folder.now) (g.F.Folder.told c.allocate.new.f) (g.F.Folder.told c.check_index.new.folder) c.check_index.ensures.stays
+    then-stays (g.F.Folder.told c.args.folder.now) (g.F.Folder.told c.allocate.new.f) (g.F.Folder.told c.check_index.new.folder) c.check_index.ensures.reads.stays
     (allocating-finds (g.F.Folder.told c.args.folder.now) (g.F.Folder.told c.allocate.new.f) c.args.files.now (kind_number c.args.kind) c.args.count (block-kind c.args.kind c.requires.block_kind) (λ i is. (c.requires.is_open i is).agrees) c.allocate.ensures.stops from there room)
 
 pub returns-in_err-check_index-clause-untold : goal.returns-in_err-check_index-clause-untold
@@ -35,24 +35,24 @@ returns-in_err-check_index-clause-untold g c room =
     carried c.check_index.result c.from_residual-in_err-check_index.result c.in_err-check_index.field-0.0 (λ _. (g.F.Folder.told c.args.folder.now).files ≡ None) c.in_err-check_index.was c.from_residual-in_err-check_index.ensures.1
     (if_damaged_weaker c.check_index.result (λ _. (g.F.Folder.told c.allocate.new.f).files ≡ None) (λ _. (g.F.Folder.told c.args.folder.now).files ≡ None)
     (λ damage none. allocating-tells (g.F.Folder.told c.args.folder.now) (g.F.Folder.told c.allocate.new.f) c.args.files.now (kind_number c.args.kind) c.args.count block (λ i is. (c.requires.is_open i is).agrees) c.allocate.ensures.stops room none)
-    (c.check_index.ensures.untold (allocating-whole (g.F.Folder.told c.args.folder.now) (g.F.Folder.told c.allocate.new.f) c.args.files.now (kind_number c.args.kind) c.args.count block (λ i is. (c.requires.is_open i is).agrees) c.allocate.ensures.stops c.allocate.ensures.silent room)))
+    (c.check_index.ensures.untold (allocating-whole (g.F.Folder.told c.args.folder.now) (g.F.Folder.told c.allocate.new.f) c.args.files.now (kind_number c.args.kind) c.args.count block (λ i is. (c.requires.is_open i is).agrees) c.allocate.ensures.stops c.allocate.ensures.writes.silent room)))
 
 pub returns-clause-stops : goal.returns-clause-stops
 returns-clause-stops g c from there room =
-    then-stays (g.F.Folder.told c.args.folder.now) (g.F.Folder.told c.allocate.new.f) (g.F.Folder.told c.check_index.new.folder) c.check_index.ensures.stays
+    then-stays (g.F.Folder.told c.args.folder.now) (g.F.Folder.told c.allocate.new.f) (g.F.Folder.told c.check_index.new.folder) c.check_index.ensures.reads.stays
     (allocating-finds (g.F.Folder.told c.args.folder.now) (g.F.Folder.told c.allocate.new.f) c.args.files.now (kind_number c.args.kind) c.args.count (block-kind c.args.kind c.requires.block_kind) (λ i is. (c.requires.is_open i is).agrees) c.allocate.ensures.stops from there room)
 
 pub returns-clause-taken : goal.returns-clause-taken
 returns-clause-taken g c =
     let a : Told = g.F.Folder.told c.args.folder.now in
-    subst (λ (t : Told). ForSome a.files (λ from. LeavesRoom 1 from → ForSome t.files (Takes (c.in_ok-addr.addr ∷ []) from))) (sym c.check_index.ensures.stays)
+    subst (λ (t : Told). ForSome a.files (λ from. LeavesRoom 1 from → ForSome t.files (Takes (c.in_ok-addr.addr ∷ []) from))) (sym c.check_index.ensures.reads.stays)
     (allocated-taken a (g.F.Folder.told c.allocate.new.f) c.args.files.now (kind_number c.args.kind) c.args.count (block-kind c.args.kind c.requires.block_kind) (λ i is. (c.requires.is_open i is).agrees) c.allocate.ensures.stops
     c.allocate.new.files c.in_ok-addr.addr c.in_ok-addr.ensures.kind.0 c.in_ok-addr.ensures.address c.in_ok-addr.ensures.agrees c.in_ok-addr.ensures.stands c.in_ok-addr.ensures.long c.in_ok-addr.ensures.links c.in_ok-addr.ensures.allocates c.in_ok-addr.ensures.within)
 
 pub returns-clause-is_open : goal.returns-clause-is_open
 returns-clause-is_open g c image there = record {
-  agrees = subst (λ (t : Told). ForSome t.files (Agrees c.allocate.new.files)) (sym c.check_index.ensures.stays) c.in_ok-addr.ensures.agrees image there;
-  whole_index = subst (λ (t : Told). ForSome t.files HasWholeIndex) (sym c.check_index.ensures.stays) c.in_ok-check_index.ensures.whole image there;
+  agrees = subst (λ (t : Told). ForSome t.files (Agrees c.allocate.new.files)) (sym c.check_index.ensures.reads.stays) c.in_ok-addr.ensures.agrees image there;
+  whole_index = subst (λ (t : Told). ForSome t.files HasWholeIndex) (sym c.check_index.ensures.reads.stays) c.in_ok-check_index.ensures.whole image there;
 }
 
 pub returns-in_err-addr-clause-damaged : goal.returns-in_err-addr-clause-damaged

@@ -34,7 +34,7 @@ returns-in_err-node-clause-untold g c room =
     let d : Told = g.F.Folder.told c.take_blocks-2.new.folder in
     carried c.take_blocks-2.result c.from_residual-in_err-node.result c.in_err-node.field-0.0 (λ _. a.files ≡ None) c.in_err-node.was c.from_residual-in_err-node.ensures.1
     (if_damaged_weaker c.take_blocks-2.result (λ _. b.files ≡ None) (λ _. a.files ≡ None) (λ damage none. tells-first a b d 1 c.in_ok-entry.entry 0 c.take_blocks.ensures.stops c.in_ok-entry.ensures.taken c.take_blocks-2.ensures.stops room none)
-    (c.take_blocks-2.ensures.untold (λ mid now. room-for-one 1 mid (room-after a b d 1 c.in_ok-entry.entry 0 c.take_blocks.ensures.stops c.in_ok-entry.ensures.taken c.take_blocks-2.ensures.stops c.take_blocks.ensures.silent room mid now))))
+    (c.take_blocks-2.ensures.untold (λ mid now. room-for-one 1 mid (room-after a b d 1 c.in_ok-entry.entry 0 c.take_blocks.ensures.stops c.in_ok-entry.ensures.taken c.take_blocks-2.ensures.stops c.take_blocks.ensures.writes.silent room mid now))))
 
 pub returns-in_err-long_key-clause-stops : goal.returns-in_err-long_key-clause-stops
 returns-in_err-long_key-clause-stops g c =
@@ -58,7 +58,7 @@ returns-in_err-long_key-clause-untold g c room =
     two-taken a b d 1 c.in_ok-entry.entry c.in_ok-node.node c.take_blocks.ensures.stops c.in_ok-entry.ensures.taken c.take_blocks-2.ensures.stops c.in_ok-node.ensures.taken in
     carried c.take_long_key.result c.from_residual-in_err-long_key.result c.in_err-long_key.field-0.0 (λ _. a.files ≡ None) c.in_err-long_key.was c.from_residual-in_err-long_key.ensures.1
     (if_damaged_weaker c.take_long_key.result (λ _. d.files ≡ None) (λ _. a.files ≡ None) (λ damage none. tells-two a d e places two taken c.take_long_key.ensures.stops room none)
-    (c.take_long_key.ensures.untold (room-for-third a d e places two taken c.take_long_key.ensures.stops (λ none. c.take_blocks-2.ensures.silent (c.take_blocks.ensures.silent none)) room)))
+    (c.take_long_key.ensures.untold (room-for-third a d e places two taken c.take_long_key.ensures.stops (λ none. c.take_blocks-2.ensures.writes.silent (c.take_blocks.ensures.writes.silent none)) room)))
 
 pub returns-in_err-check_apart-clause-stops : goal.returns-in_err-check_apart-clause-stops
 returns-in_err-check_apart-clause-stops g c =
@@ -83,7 +83,7 @@ returns-in_err-check_apart-clause-untold g c room =
     let apart : kind_of c.in_ok-entry.entry ≢ external = λ is. (let z : ◌≡◌ {A = ℕ} 2 0 = sym c.in_ok-entry.ensures.kind.0 ∙ is in cc) in
     carried c.check_apart.result c.from_residual-in_err-check_apart.result c.in_err-check_apart.field-0.0 (λ _. a.files ≡ None) c.in_err-check_apart.was c.from_residual-in_err-check_apart.ensures.1
     (if_damaged_weaker c.check_apart.result (IsSharedKey c.in_ok-entry.entry c.in_ok-long_key.long_key) (λ _. a.files ≡ None)
-    (λ damage key. never-shared a d e places two taken c.take_long_key.ensures.stops c.in_ok-long_key.ensures.taken apart (λ none. c.take_long_key.ensures.silent (c.take_blocks-2.ensures.silent (c.take_blocks.ensures.silent none))) room key.shared)
+    (λ damage key. never-shared a d e places two taken c.take_long_key.ensures.stops c.in_ok-long_key.ensures.taken apart (λ none. c.take_long_key.ensures.writes.silent (c.take_blocks-2.ensures.writes.silent (c.take_blocks.ensures.writes.silent none))) room key.shared)
     c.check_apart.ensures.damaged)
 
 pub returns-clause-stops : goal.returns-clause-stops

@@ -53,35 +53,35 @@ returns-clause-charge g c image there loaded lies = c.charge_of_head.ensures.cha
 pub returns-in_err-head-clause-damaged : goal.returns-in_err-head-clause-damaged
 returns-in_err-head-clause-damaged g c =
     handed c.read_head.result c.from_residual.result c.in_err-head.field-0.0 _ c.args.files.now (g.F.Folder.told c.read_head.new.folder)
-    (λ damage wrong. moved c.args.files.now (g.F.Folder.told c.args.folder.now) (g.F.Folder.told c.read_head.new.folder) damage c.read_head.ensures.stays (head-checked c.args.files.now (g.F.Folder.told c.args.folder.now) c.args.entry damage c.requires.kind c.requires.stands wrong))
+    (λ damage wrong. moved c.args.files.now (g.F.Folder.told c.args.folder.now) (g.F.Folder.told c.read_head.new.folder) damage c.read_head.ensures.reads.stays (head-checked c.args.files.now (g.F.Folder.told c.args.folder.now) c.args.entry damage c.requires.kind c.requires.stands wrong))
     c.in_err-head.was c.from_residual.ensures.1 c.read_head.ensures.damaged
 
 pub returns-in_err-node-clause-damaged : goal.returns-in_err-node-clause-damaged
 returns-in_err-node-clause-damaged g c =
     handed c.place_of.result c.from_residual-in_err-node.result c.in_err-node.field-0.0 _ c.args.files.now (g.F.Folder.told c.read_head.new.folder)
-    (λ damage lost. lost-checked c.args.files.now (g.F.Folder.told c.args.folder.now) (g.F.Folder.told c.read_head.new.folder) c.args.entry 8 _ damage c.requires.kind c.requires.stands c.in_ok-head.ensures.stays (λ image there. node-at image c.args.entry c.in_ok-head.head (c.in_ok-head.ensures.head image there)) lost)
+    (λ damage lost. lost-checked c.args.files.now (g.F.Folder.told c.args.folder.now) (g.F.Folder.told c.read_head.new.folder) c.args.entry 8 _ damage c.requires.kind c.requires.stands c.in_ok-head.ensures.reads.stays (λ image there. node-at image c.args.entry c.in_ok-head.head (c.in_ok-head.ensures.head image there)) lost)
     c.in_err-node.was c.from_residual-in_err-node.ensures.1 c.place_of.ensures.damaged
 
 pub returns-in_err-long_key-clause-damaged : goal.returns-in_err-long_key-clause-damaged
 returns-in_err-long_key-clause-damaged g c =
     handed c.place_of-2.result c.from_residual-in_err-long_key.result c.in_err-long_key.field-0.0 _ c.args.files.now (g.F.Folder.told c.read_head.new.folder)
-    (λ damage lost. lost-checked c.args.files.now (g.F.Folder.told c.args.folder.now) (g.F.Folder.told c.read_head.new.folder) c.args.entry 36 _ damage c.requires.kind c.requires.stands c.in_ok-head.ensures.stays (λ image there. long-key-at image c.args.entry c.in_ok-head.head (c.in_ok-head.ensures.head image there)) lost)
+    (λ damage lost. lost-checked c.args.files.now (g.F.Folder.told c.args.folder.now) (g.F.Folder.told c.read_head.new.folder) c.args.entry 36 _ damage c.requires.kind c.requires.stands c.in_ok-head.ensures.reads.stays (λ image there. long-key-at image c.args.entry c.in_ok-head.head (c.in_ok-head.ensures.head image there)) lost)
     c.in_err-long_key.was c.from_residual-in_err-long_key.ensures.1 c.place_of-2.ensures.damaged
 
 pub returns-in_err-first-clause-damaged : goal.returns-in_err-first-clause-damaged
 returns-in_err-first-clause-damaged g c =
     handed c.place_of-3.result c.from_residual-in_err-first.result c.in_err-first.field-0.0 _ c.args.files.now (g.F.Folder.told c.read_head.new.folder)
-    (λ damage lost. lost-checked c.args.files.now (g.F.Folder.told c.args.folder.now) (g.F.Folder.told c.read_head.new.folder) c.args.entry 56 _ damage c.requires.kind c.requires.stands c.in_ok-head.ensures.stays (λ image there. first-at image c.args.entry c.in_ok-head.head (c.in_ok-head.ensures.head image there)) lost)
+    (λ damage lost. lost-checked c.args.files.now (g.F.Folder.told c.args.folder.now) (g.F.Folder.told c.read_head.new.folder) c.args.entry 56 _ damage c.requires.kind c.requires.stands c.in_ok-head.ensures.reads.stays (λ image there. first-at image c.args.entry c.in_ok-head.head (c.in_ok-head.ensures.head image there)) lost)
     c.in_err-first.was c.from_residual-in_err-first.ensures.1 c.place_of-3.ensures.damaged
 
 pub returns-in_err-second-clause-damaged : goal.returns-in_err-second-clause-damaged
 returns-in_err-second-clause-damaged g c =
     handed c.place_of-4.result c.from_residual-in_err-second.result c.in_err-second.field-0.0 _ c.args.files.now (g.F.Folder.told c.read_head.new.folder)
-    (λ damage lost. lost-checked c.args.files.now (g.F.Folder.told c.args.folder.now) (g.F.Folder.told c.read_head.new.folder) c.args.entry 60 _ damage c.requires.kind c.requires.stands c.in_ok-head.ensures.stays (λ image there. second-at image c.args.entry c.in_ok-head.head (c.in_ok-head.ensures.head image there)) lost)
+    (λ damage lost. lost-checked c.args.files.now (g.F.Folder.told c.args.folder.now) (g.F.Folder.told c.read_head.new.folder) c.args.entry 60 _ damage c.requires.kind c.requires.stands c.in_ok-head.ensures.reads.stays (λ image there. second-at image c.args.entry c.in_ok-head.head (c.in_ok-head.ensures.head image there)) lost)
     c.in_err-second.was c.from_residual-in_err-second.ensures.1 c.place_of-4.ensures.damaged
 
 pub returns-in_err-third-clause-damaged : goal.returns-in_err-third-clause-damaged
 returns-in_err-third-clause-damaged g c =
     handed c.place_of-5.result c.from_residual-in_err-third.result c.in_err-third.field-0.0 _ c.args.files.now (g.F.Folder.told c.read_head.new.folder)
-    (λ damage lost. lost-checked c.args.files.now (g.F.Folder.told c.args.folder.now) (g.F.Folder.told c.read_head.new.folder) c.args.entry 64 _ damage c.requires.kind c.requires.stands c.in_ok-head.ensures.stays (λ image there. third-at image c.args.entry c.in_ok-head.head (c.in_ok-head.ensures.head image there)) lost)
+    (λ damage lost. lost-checked c.args.files.now (g.F.Folder.told c.args.folder.now) (g.F.Folder.told c.read_head.new.folder) c.args.entry 64 _ damage c.requires.kind c.requires.stands c.in_ok-head.ensures.reads.stays (λ image there. third-at image c.args.entry c.in_ok-head.head (c.in_ok-head.ensures.head image there)) lost)
     c.in_err-third.was c.from_residual-in_err-third.ensures.1 c.place_of-5.ensures.damaged

@@ -25,10 +25,10 @@ returns-in_default-clause-untold g c agrees has =
 
 pub returns-clause-untold : goal.returns-clause-untold
 returns-clause-untold g c agrees has =
-    if_damaged_weaker c.check_length.result (λ _. (g.F.Folder.told c.read_head.new.folder).files ≡ None) (λ _. (g.F.Folder.told c.args.folder.now).files ≡ None) (λ damage none. ap (λ (t : Told). t.files) (sym c.in_ok-head.ensures.stays) ∙ none)
+    if_damaged_weaker c.check_length.result (λ _. (g.F.Folder.told c.read_head.new.folder).files ≡ None) (λ _. (g.F.Folder.told c.args.folder.now).files ≡ None) (λ damage none. ap (λ (t : Told). t.files) (sym c.in_ok-head.ensures.reads.stays) ∙ none)
     (c.check_length.ensures.untold
     (λ image now.
-    let there : (g.F.Folder.told c.args.folder.now).files ≡ Some image = ap (λ (t : Told). t.files) (sym c.in_ok-head.ensures.stays) ∙ now in
+    let there : (g.F.Folder.told c.args.folder.now).files ≡ Some image = ap (λ (t : Told). t.files) (sym c.in_ok-head.ensures.reads.stays) ∙ now in
     let head = c.in_ok-head.ensures.head image there in
     let size = size_in_head image c.args.entry c.args.stream c.from.result c.in_ok-head.head head c.from.ensures in
     let word = word_in_head image c.args.entry c.args.stream c.from-2.result c.in_ok-head.head head c.from-2.ensures in
@@ -39,7 +39,7 @@ returns-clause-untold g c agrees has =
 pub returns-in_err-head-clause-damaged : goal.returns-in_err-head-clause-damaged
 returns-in_err-head-clause-damaged g c =
     handed c.read_head.result c.from_residual.result c.in_err-head.field-0.0 _ c.args.files.now (g.F.Folder.told c.read_head.new.folder)
-    (λ damage head. moved c.args.files.now (g.F.Folder.told c.args.folder.now) (g.F.Folder.told c.read_head.new.folder) damage c.read_head.ensures.stays (head-checked c.args.files.now (g.F.Folder.told c.args.folder.now) c.args.entry damage c.requires.kind c.requires.stands head)) c.in_err-head.was c.from_residual.ensures.1 c.read_head.ensures.damaged
+    (λ damage head. moved c.args.files.now (g.F.Folder.told c.args.folder.now) (g.F.Folder.told c.read_head.new.folder) damage c.read_head.ensures.reads.stays (head-checked c.args.files.now (g.F.Folder.told c.args.folder.now) c.args.entry damage c.requires.kind c.requires.stands head)) c.in_err-head.was c.from_residual.ensures.1 c.read_head.ensures.damaged
 
 pub returns-in_default-clause-damaged : goal.returns-in_default-clause-damaged
 returns-in_default-clause-damaged g c =

@@ -31,8 +31,8 @@ loop-init g c = record {
   stands_last = tt;
   buffer = c.requires.buffer;
   fails = λ was now. absurd (let e : false ≡ true = sym was ∙ now in cc);
-  stays = c.in_ok-next.ensures.stays;
-  later = c.in_ok-next.ensures.later;
+  stays = c.in_ok-next.ensures.reads.stays;
+  later = c.in_ok-next.ensures.reads.later;
   later_out = stays_on;
 }
 
@@ -78,7 +78,7 @@ returns-in_err-next-2-clause-failed g c = faults-on _ _ _ _ _ _ c.loop.invariant
 
 pub returns-in_err-next-2-clause-untold : goal.returns-in_err-next-2-clause-untold
 returns-in_err-next-2-clause-untold g c has =
-    let stays = c.in_ok-print_row.ensures.stays ∙ c.loop.invariant.stays in
+    let stays = c.in_ok-print_row.ensures.reads.stays ∙ c.loop.invariant.stays in
     subst (λ (t : Told). IfDamaged c.from_residual-in_err-next-2.result (λ _. t.files ≡ None)) stays
     (carried c.after.result c.from_residual-in_err-next-2.result c.in_err-next-2.field-0.0 (λ _. (g.F.Folder.told c.print_row.new.folder).files ≡ None) c.in_err-next-2.was c.from_residual-in_err-next-2.ensures.1
     (c.after.ensures.untold
@@ -96,18 +96,18 @@ loop-preserved g c = record {
       step-listed p.state p.layout image p.kept c.in-Some.node c.loop.counter c.args.failed.now c.loop.failed (g.K.Sink.written c.args.out.now) (g.K.Sink.written c.loop.out) w c.print_row.new.failed (g.K.Sink.written c.print_row.new.out)
       (c.in_ok-print_row.ensures.printed image (ap (λ (t : Told). t.files) c.loop.invariant.stays ∙ there) _ (step-loads p.state p.layout image p.kept c.in-Some.node c.loop.counter c.args.failed.now c.loop.failed (g.K.Sink.written c.args.out.now) (g.K.Sink.written c.loop.out) w))
       c.in_ok-next-2.next
-      (c.in_ok-next-2.ensures.node image (ap (λ (t : Told). t.files) (c.in_ok-print_row.ensures.stays ∙ c.loop.invariant.stays) ∙ there) p.is_open.agrees);
+      (c.in_ok-next-2.ensures.node image (ap (λ (t : Told). t.files) (c.in_ok-print_row.ensures.reads.stays ∙ c.loop.invariant.stays) ∙ there) p.is_open.agrees);
   passed = λ image there.
       node-passed c.args.files.now NodeView.NEXT None c.loop.last c.loop.counter image c.in-Some.node (c.loop.invariant.passed image there)
       (subst (λ (o : Option ℕ). GoesTo NodeView.NEXT image c.loop.last o) c.in-Some.is (c.loop.invariant.goes image there))
       (subst (λ (o : Option ℕ). IfSome o (λ n. IsTrue (is_node_among c.args.files.now n))) c.in-Some.is c.loop.invariant.stands);
-  goes = λ image there. c.in_ok-next-2.ensures.word image (ap (λ (t : Told). t.files) (c.in_ok-print_row.ensures.stays ∙ c.loop.invariant.stays) ∙ there);
+  goes = λ image there. c.in_ok-next-2.ensures.word image (ap (λ (t : Told). t.files) (c.in_ok-print_row.ensures.reads.stays ∙ c.loop.invariant.stays) ∙ there);
   stands = c.in_ok-next-2.ensures.stands;
   stands_last = subst (λ (o : Option ℕ). IfSome o (λ n. IsTrue (is_node_among c.args.files.now n))) c.in-Some.is c.loop.invariant.stands;
   buffer = (let one = c.print_row.auto.name in let two = c.loop.invariant.buffer in omega (arith, one, two));
   fails = faults-on _ _ _ _ _ _ c.loop.invariant.fails c.in_ok-print_row.ensures.failed c.loop.invariant.later_out.later c.in_ok-print_row.ensures.later_out.later;
-  stays = c.in_ok-next-2.ensures.stays ∙ c.in_ok-print_row.ensures.stays ∙ c.loop.invariant.stays;
-  later = (let one = c.loop.invariant.later in let two = c.in_ok-print_row.ensures.later in let three = c.in_ok-next-2.ensures.later in omega (arith, one, two, three));
+  stays = c.in_ok-next-2.ensures.reads.stays ∙ c.in_ok-print_row.ensures.reads.stays ∙ c.loop.invariant.stays;
+  later = (let one = c.loop.invariant.later in let two = c.in_ok-print_row.ensures.reads.later in let three = c.in_ok-next-2.ensures.reads.later in omega (arith, one, two, three));
   later_out = goes_on c.loop.invariant.later_out c.in_ok-print_row.ensures.later_out;
 }
 
@@ -142,13 +142,13 @@ returns-clause-part g c image there p =
 pub returns-in_err-next-clause-damaged : goal.returns-in_err-next-clause-damaged
 returns-in_err-next-clause-damaged g c =
     handed c.first.result c.from_residual.result c.in_err-next.field-0.0 _ c.args.files.now (g.F.Folder.told c.first.new.f)
-    (λ damage wrong. moved c.args.files.now (g.F.Folder.told c.args.folder.now) (g.F.Folder.told c.first.new.f) damage c.first.ensures.stays (node-word-checked c.args.files.now (g.F.Folder.told c.args.folder.now) _ _ damage wrong))
+    (λ damage wrong. moved c.args.files.now (g.F.Folder.told c.args.folder.now) (g.F.Folder.told c.first.new.f) damage c.first.ensures.reads.stays (node-word-checked c.args.files.now (g.F.Folder.told c.args.folder.now) _ _ damage wrong))
     c.in_err-next.was c.from_residual.ensures.1 c.first.ensures.damaged
 
 pub returns-in_err-next-2-clause-damaged : goal.returns-in_err-next-2-clause-damaged
 returns-in_err-next-2-clause-damaged g c =
     handed c.after.result c.from_residual-in_err-next-2.result c.in_err-next-2.field-0.0 _ c.args.files.now (g.F.Folder.told c.after.new.f)
-    (λ damage wrong. moved c.args.files.now (g.F.Folder.told c.print_row.new.folder) (g.F.Folder.told c.after.new.f) damage c.after.ensures.stays (node-word-checked c.args.files.now (g.F.Folder.told c.print_row.new.folder) _ _ damage wrong))
+    (λ damage wrong. moved c.args.files.now (g.F.Folder.told c.print_row.new.folder) (g.F.Folder.told c.after.new.f) damage c.after.ensures.reads.stays (node-word-checked c.args.files.now (g.F.Folder.told c.print_row.new.folder) _ _ damage wrong))
     c.in_err-next-2.was c.from_residual-in_err-next-2.ensures.1 c.after.ensures.damaged
 
 pub returns-in_default-clause-ends : goal.returns-in_default-clause-ends

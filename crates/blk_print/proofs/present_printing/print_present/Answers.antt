@@ -56,37 +56,37 @@ pub find_parts-requires-clause-stands : goal.find_parts-requires-clause-stands
 find_parts-requires-clause-stands g c = let n = names-parts c.args.files.now c.args.range.now.entry c.requires.names in n.1.1
 
 pub find_parts-requires-clause-is_open : goal.find_parts-requires-clause-is_open
-find_parts-requires-clause-is_open g c image is = c.requires.is_open image (ap (λ (t : Told). t.files) (sym c.in_ok-signature.ensures.stays) ∙ is)
+find_parts-requires-clause-is_open g c image is = c.requires.is_open image (ap (λ (t : Told). t.files) (sym c.in_ok-signature.ensures.reads.stays) ∙ is)
 
 pub returns-in_err-parts-clause-part : goal.returns-in_err-parts-clause-part
 returns-in_err-parts-clause-part g c image there p = part-none c.args.failed.now (g.K.Sink.written c.args.out.now) (g.K.Sink.written c.args.out.now) _ refl
 
 pub returns-in_err-parts-clause-untold : goal.returns-in_err-parts-clause-untold
 returns-in_err-parts-clause-untold g c has =
-    let same = ap (λ (t : Told). t.files) c.in_ok-signature.ensures.stays in
+    let same = ap (λ (t : Told). t.files) c.in_ok-signature.ensures.reads.stays in
     by-files c.from_residual-in_err-parts.result (g.F.Folder.told c.args.folder.now).files (λ image there.
     let p = has image there in
     carried c.find_parts.result c.from_residual-in_err-parts.result c.in_err-parts.field-0.0 (λ _. (g.F.Folder.told c.args.folder.now).files ≡ None) c.in_err-parts.was c.from_residual-in_err-parts.ensures.1
     (if_damaged_weaker c.find_parts.result _ _ (λ damage none. sym same ∙ none)
-    (c.find_parts.ensures.untold image (ap (λ (t : Told). t.files) c.in_ok-signature.ensures.stays ∙ there) p.state p.layout p.unlinked p.number p.object (signed c.args.range.now image p _ (λ loaded index w role. c.in_ok-signature.ensures.signature image there loaded index w role ∙ sym (of_z-to_z w64 (cast_unsigned w64 c.in_ok-signature.signature) (let small = c.in_ok-signature.ensures.small in omega (arith, small))))))))
+    (c.find_parts.ensures.untold image (ap (λ (t : Told). t.files) c.in_ok-signature.ensures.reads.stays ∙ there) p.state p.layout p.unlinked p.number p.object (signed c.args.range.now image p _ (λ loaded index w role. c.in_ok-signature.ensures.signature image there loaded index w role ∙ sym (of_z-to_z w64 (cast_unsigned w64 c.in_ok-signature.signature) (let small = c.in_ok-signature.ensures.small in omega (arith, small))))))))
 
 -- They are printed.
 
 pub print_parts-requires-clause-is_open : goal.print_parts-requires-clause-is_open
-print_parts-requires-clause-is_open g c image is = c.requires.is_open image (ap (λ (t : Told). t.files) (sym c.in_ok-signature.ensures.stays) ∙ (ap (λ (t : Told). t.files) (sym c.in_ok-parts.ensures.stays) ∙ is))
+print_parts-requires-clause-is_open g c image is = c.requires.is_open image (ap (λ (t : Told). t.files) (sym c.in_ok-signature.ensures.reads.stays) ∙ (ap (λ (t : Told). t.files) (sym c.in_ok-parts.ensures.reads.stays) ∙ is))
 
 pub returns-clause-printed : goal.returns-clause-printed
 returns-clause-printed g c =
-    on_ok_weaker c.print_parts.result (λ printed image there p. printed image (ap (λ (t : Told). t.files) c.in_ok-parts.ensures.stays ∙ ap (λ (t : Told). t.files) c.in_ok-signature.ensures.stays ∙ there) p (c.in_ok-parts.ensures.parts image (ap (λ (t : Told). t.files) c.in_ok-signature.ensures.stays ∙ there) p.state p.layout p.unlinked p.number p.object (signed c.args.range.now image p _ (λ loaded index w role. c.in_ok-signature.ensures.signature image there loaded index w role ∙ sym (of_z-to_z w64 (cast_unsigned w64 c.in_ok-signature.signature) (let small = c.in_ok-signature.ensures.small in omega (arith, small))))))) c.print_parts.ensures.printed
+    on_ok_weaker c.print_parts.result (λ printed image there p. printed image (ap (λ (t : Told). t.files) c.in_ok-parts.ensures.reads.stays ∙ ap (λ (t : Told). t.files) c.in_ok-signature.ensures.reads.stays ∙ there) p (c.in_ok-parts.ensures.parts image (ap (λ (t : Told). t.files) c.in_ok-signature.ensures.reads.stays ∙ there) p.state p.layout p.unlinked p.number p.object (signed c.args.range.now image p _ (λ loaded index w role. c.in_ok-signature.ensures.signature image there loaded index w role ∙ sym (of_z-to_z w64 (cast_unsigned w64 c.in_ok-signature.signature) (let small = c.in_ok-signature.ensures.small in omega (arith, small))))))) c.print_parts.ensures.printed
 
 pub returns-clause-part : goal.returns-clause-part
-returns-clause-part g c image there p = c.print_parts.ensures.part image (ap (λ (t : Told). t.files) c.in_ok-parts.ensures.stays ∙ ap (λ (t : Told). t.files) c.in_ok-signature.ensures.stays ∙ there) p (c.in_ok-parts.ensures.parts image (ap (λ (t : Told). t.files) c.in_ok-signature.ensures.stays ∙ there) p.state p.layout p.unlinked p.number p.object (signed c.args.range.now image p _ (λ loaded index w role. c.in_ok-signature.ensures.signature image there loaded index w role ∙ sym (of_z-to_z w64 (cast_unsigned w64 c.in_ok-signature.signature) (let small = c.in_ok-signature.ensures.small in omega (arith, small))))))
+returns-clause-part g c image there p = c.print_parts.ensures.part image (ap (λ (t : Told). t.files) c.in_ok-parts.ensures.reads.stays ∙ ap (λ (t : Told). t.files) c.in_ok-signature.ensures.reads.stays ∙ there) p (c.in_ok-parts.ensures.parts image (ap (λ (t : Told). t.files) c.in_ok-signature.ensures.reads.stays ∙ there) p.state p.layout p.unlinked p.number p.object (signed c.args.range.now image p _ (λ loaded index w role. c.in_ok-signature.ensures.signature image there loaded index w role ∙ sym (of_z-to_z w64 (cast_unsigned w64 c.in_ok-signature.signature) (let small = c.in_ok-signature.ensures.small in omega (arith, small))))))
 
 pub returns-clause-untold : goal.returns-clause-untold
 returns-clause-untold g c has =
-    let same = ap (λ (t : Told). t.files) c.in_ok-parts.ensures.stays ∙ ap (λ (t : Told). t.files) c.in_ok-signature.ensures.stays in
+    let same = ap (λ (t : Told). t.files) c.in_ok-parts.ensures.reads.stays ∙ ap (λ (t : Told). t.files) c.in_ok-signature.ensures.reads.stays in
     if_damaged_weaker c.print_parts.result _ _ (λ damage none. sym same ∙ none)
     (c.print_parts.ensures.untold (λ image is.
     let there = sym same ∙ is in
     let p = has image there in
-    (p, (c.in_ok-parts.ensures.parts image (ap (λ (t : Told). t.files) c.in_ok-signature.ensures.stays ∙ there) p.state p.layout p.unlinked p.number p.object (signed c.args.range.now image p _ (λ loaded index w role. c.in_ok-signature.ensures.signature image there loaded index w role ∙ sym (of_z-to_z w64 (cast_unsigned w64 c.in_ok-signature.signature) (let small = c.in_ok-signature.ensures.small in omega (arith, small)))))))))
+    (p, (c.in_ok-parts.ensures.parts image (ap (λ (t : Told). t.files) c.in_ok-signature.ensures.reads.stays ∙ there) p.state p.layout p.unlinked p.number p.object (signed c.args.range.now image p _ (λ loaded index w role. c.in_ok-signature.ensures.signature image there loaded index w role ∙ sym (of_z-to_z w64 (cast_unsigned w64 c.in_ok-signature.signature) (let small = c.in_ok-signature.ensures.small in omega (arith, small)))))))))

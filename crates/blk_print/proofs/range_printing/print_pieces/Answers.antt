@@ -32,8 +32,8 @@ returns-in_err-print_piece-clause-untold g c has =
 
 pub loop-done-preserved : goal.loop-done-preserved
 loop-done-preserved g c = record {
-  told = c.in_ok-print_piece.ensures.stays ∙ c.loop-done.invariant.told;
-  later = let a = c.in_ok-print_piece.ensures.later in let b = c.loop-done.invariant.later in omega (arith, a, b);
+  told = c.in_ok-print_piece.ensures.reads.stays ∙ c.loop-done.invariant.told;
+  later = let a = c.in_ok-print_piece.ensures.reads.later in let b = c.loop-done.invariant.later in omega (arith, a, b);
   later_out = goes_on c.loop-done.invariant.later_out c.in_ok-print_piece.ensures.later_out;
   within = let a = c.loop-done.invariant.within in let m = c.min-next.ensures in omega (arith, a, m);
   failed = faults-on _ _ _ _ _ _ c.loop-done.invariant.failed c.in_ok-print_piece.ensures.failed c.loop-done.invariant.later_out.later c.in_ok-print_piece.ensures.later_out.later;

@@ -40,7 +40,7 @@ pub returns-in_err-number-clause-damaged : goal.returns-in_err-number-clause-dam
 returns-in_err-number-clause-damaged g c =
     let p = names-parts c.args.files.now c.args.range.now.entry c.requires.names in
     handed c.read.result c.from_residual.result c.in_err-number.field-0.0 _ c.args.files.now (g.F.Folder.told c.read.new.f)
-    (λ damage wrong. moved c.args.files.now (g.F.Folder.told c.args.folder.now) (g.F.Folder.told c.read.new.f) damage c.read.ensures.stays (read-checked c.args.files.now (g.F.Folder.told c.args.folder.now) c.args.range.now.entry _ _ _ damage p.1.0 p.1.1 wrong))
+    (λ damage wrong. moved c.args.files.now (g.F.Folder.told c.args.folder.now) (g.F.Folder.told c.read.new.f) damage c.read.ensures.reads.stays (read-checked c.args.files.now (g.F.Folder.told c.args.folder.now) c.args.range.now.entry _ _ _ damage p.1.0 p.1.1 wrong))
     c.in_err-number.was c.from_residual.ensures.1 c.read.ensures.damaged
 
 pub returns-then-number-piece-clause-damaged : goal.returns-then-number-piece-clause-damaged
@@ -48,7 +48,7 @@ returns-then-number-piece-clause-damaged g c =
     let d = c.record_damage.ensures in
     let p = names-parts c.args.files.now c.args.range.now.entry c.requires.names in
     err_damaged (Unit {0}) c.record_damage.result d.damage (IsFailedCheck c.args.files.now (g.F.Folder.told c.read.new.f)) d.is
-    (moved c.args.files.now (g.F.Folder.told c.args.folder.now) (g.F.Folder.told c.read.new.f) d.damage c.in_ok-number.ensures.stays
+    (moved c.args.files.now (g.F.Folder.told c.args.folder.now) (g.F.Folder.told c.read.new.f) d.damage c.in_ok-number.ensures.reads.stays
     (within-checked c.args.files.now (g.F.Folder.told c.args.folder.now) c.args.range.now.entry d.damage p.1.0 p.1.1 (WrongSize
     (ends-too-soon (g.F.Folder.told c.args.folder.now) c.args.range.now.entry c.args.range.now.stream c.args.range.now.offset c.in_ok-number.number c.args.piece.now c.read.new.out d.damage
     (subst (λ (i : ℕ). IsWordOf c.args.range.now.entry (40 + 4 * i) c.in_ok-number.number d.damage) c.from.ensures d.word)

@@ -1,4 +1,4 @@
-use Rattle.std.proofs.Common.{◌≡◌, ℕ, List, [], refl, subst}
+use Rattle.std.proofs.Common.{◌≡◌, ℕ, List, [], refl, subst, rules, arith}
 use Rattle.std.specs.Option.{ForSome}
 use Rattle.std.proofs.lemmas.Result.{on_ok_weaker}
 use Rattle.spec_image.specs.Image.{Image, Index}
@@ -34,14 +34,22 @@ open-still {a} {b} files bucket w is part = stays-open files a b (λ _. word_ste
 pub link-requires-clause-is_open : goal.link-requires-clause-is_open
 link-requires-clause-is_open g c = open-still c.args.files.now c.args.bucket c.first_word.result c.requires.is_open c.in_ok-set_front.ensures.only
 
-pub returns-in_err-set_front-clause-silent : goal.returns-in_err-set_front-clause-silent
-returns-in_err-set_front-clause-silent g c = silent_part c.in_err-set_front.ensures.only
+pub returns-in_err-set_front-clause-writes : goal.returns-in_err-set_front-clause-writes
+returns-in_err-set_front-clause-writes g c = record {
+  silent = silent_part c.in_err-set_front.ensures.only;
+  later = c.in_err-set_front.ensures.later;
+  failed = search rules;
+}
 
 pub returns-in_err-set_front-clause-is_open : goal.returns-in_err-set_front-clause-is_open
 returns-in_err-set_front-clause-is_open g c = open-still c.args.files.now c.args.bucket c.first_word.result c.requires.is_open c.in_err-set_front.ensures.only
 
-pub returns-clause-silent : goal.returns-clause-silent
-returns-clause-silent g c none = c.link.ensures.prefix.silent (silent_part c.in_ok-set_front.ensures.only none)
+pub returns-clause-writes : goal.returns-clause-writes
+returns-clause-writes g c = record {
+  silent = λ none. c.link.ensures.prefix.silent (silent_part c.in_ok-set_front.ensures.only none);
+  later = omega arith;
+  failed = search rules;
+}
 
 pub returns-clause-is_open : goal.returns-clause-is_open
 returns-clause-is_open g c =

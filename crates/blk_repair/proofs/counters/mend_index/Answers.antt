@@ -20,8 +20,8 @@ returns-in_err-read_exact-clause-untold g c =
 
 pub returns-in_err-read_exact-clause-prefix : goal.returns-in_err-read_exact-clause-prefix
 returns-in_err-read_exact-clause-prefix g c = record {
-  made = λ image there. part_only (index_steps c.args.items c.args.bytes c.args.this_id image) (part_whole (grows_none c.read_exact.ensures.stays));
-  silent = λ none. ap (λ (t : Told). t.files) c.read_exact.ensures.stays ∙ none;
+  made = λ image there. part_only (index_steps c.args.items c.args.bytes c.args.this_id image) (part_whole (grows_none c.read_exact.ensures.reads.stays));
+  silent = λ none. ap (λ (t : Told). t.files) c.read_exact.ensures.reads.stays ∙ none;
 }
 
 -- what was done after the read was done from the start
@@ -33,7 +33,7 @@ part-from_start a m n steps same part = subst (λ (t : Told). MakesPartOf t n st
 
 pub returns-in_err-set_words-clause-prefix : goal.returns-in_err-set_words-clause-prefix
 returns-in_err-set_words-clause-prefix g c =
-    let part = part-from_start (g.F.Folder.told c.args.folder.now) (g.F.Folder.told c.read_exact.new.folder) (g.F.Folder.told c.set_words.new.folder) (index_words_steps (counted_words c.args.items c.args.bytes c.args.this_id)) c.read_exact.ensures.stays c.in_err-set_words.ensures.prefix in
+    let part = part-from_start (g.F.Folder.told c.args.folder.now) (g.F.Folder.told c.read_exact.new.folder) (g.F.Folder.told c.set_words.new.folder) (index_words_steps (counted_words c.args.items c.args.bytes c.args.this_id)) c.read_exact.ensures.reads.stays c.in_err-set_words.ensures.prefix in
     record {
       made = stopped (begun (g.F.Folder.told c.args.folder.now) (g.F.Folder.told c.args.folder.now) (index_steps c.args.items c.args.bytes c.args.this_id) refl) (index_words_steps (counted_words c.args.items c.args.bytes c.args.this_id)) (λ _. word_step Index crash_place 1) (g.F.Folder.told c.set_words.new.folder) (index-leads c.args.items c.args.bytes c.args.this_id) part.made;
       silent = part.silent;
@@ -50,7 +50,7 @@ half a r m items bytes id same made silent =
 
 pub returns-in_err-set_word-clause-prefix : goal.returns-in_err-set_word-clause-prefix
 returns-in_err-set_word-clause-prefix g c =
-    let progress = half (g.F.Folder.told c.args.folder.now) (g.F.Folder.told c.read_exact.new.folder) (g.F.Folder.told c.set_words.new.folder) c.args.items c.args.bytes c.args.this_id c.read_exact.ensures.stays c.in_ok-set_words.ensures.steps c.in_ok-set_words.ensures.prefix.silent in
+    let progress = half (g.F.Folder.told c.args.folder.now) (g.F.Folder.told c.read_exact.new.folder) (g.F.Folder.told c.set_words.new.folder) c.args.items c.args.bytes c.args.this_id c.read_exact.ensures.reads.stays c.in_ok-set_words.ensures.steps c.in_ok-set_words.ensures.prefix.silent in
     record {
       made = stopped progress (λ _. word_step Index crash_place 1) (λ _. []) (g.F.Folder.told c.set_word.new.f) crash-leads (λ image there. c.in_err-set_word.ensures.prefix);
       silent = λ none. silent_part c.in_err-set_word.ensures.prefix (progress.silent none);
@@ -62,12 +62,12 @@ returns-in_err-set_word-clause-stops g c = index-passes (g.F.Folder.told c.args.
 pub returns-clause-steps : goal.returns-clause-steps
 returns-clause-steps g c =
     ended (went_on
-    (half (g.F.Folder.told c.args.folder.now) (g.F.Folder.told c.read_exact.new.folder) (g.F.Folder.told c.set_words.new.folder) c.args.items c.args.bytes c.args.this_id c.read_exact.ensures.stays c.in_ok-set_words.ensures.steps c.in_ok-set_words.ensures.prefix.silent)
+    (half (g.F.Folder.told c.args.folder.now) (g.F.Folder.told c.read_exact.new.folder) (g.F.Folder.told c.set_words.new.folder) c.args.items c.args.bytes c.args.this_id c.read_exact.ensures.reads.stays c.in_ok-set_words.ensures.steps c.in_ok-set_words.ensures.prefix.silent)
     (λ _. word_step Index crash_place 1) (λ _. []) (g.F.Folder.told c.set_word.new.f) crash-leads (λ image there. c.in_ok-set_word.ensures.steps) (silent_part c.in_ok-set_word.ensures.prefix)) (λ image. refl)
 
 pub returns-clause-prefix : goal.returns-clause-prefix
 returns-clause-prefix g c =
-    let progress = half (g.F.Folder.told c.args.folder.now) (g.F.Folder.told c.read_exact.new.folder) (g.F.Folder.told c.set_words.new.folder) c.args.items c.args.bytes c.args.this_id c.read_exact.ensures.stays c.in_ok-set_words.ensures.steps c.in_ok-set_words.ensures.prefix.silent in
+    let progress = half (g.F.Folder.told c.args.folder.now) (g.F.Folder.told c.read_exact.new.folder) (g.F.Folder.told c.set_words.new.folder) c.args.items c.args.bytes c.args.this_id c.read_exact.ensures.reads.stays c.in_ok-set_words.ensures.steps c.in_ok-set_words.ensures.prefix.silent in
     record {
       made = λ image there. part_whole (returns-clause-steps g c image there);
       silent = λ none. silent_part c.in_ok-set_word.ensures.prefix (progress.silent none);

@@ -29,7 +29,7 @@ pub returns-then-now-word-clause-steps : goal.returns-then-now-word-clause-steps
 returns-then-now-word-clause-steps g c image there =
     subst (Applies (g.F.Folder.told c.args.folder.now) (g.F.Folder.told c.field.new.f))
     (sym (next-right image c.args.entry c.args.word c.in_ok-now.now (next_is c.args.files.now image c.args.entry c.in_ok-now.now (c.requires.is_open image there).agrees c.requires.stands (c.in_ok-now.ensures.value image there)) c.if-now-word.true))
-    (grows_none c.in_ok-now.ensures.stays)
+    (grows_none c.in_ok-now.ensures.reads.stays)
 
 pub update_sealed-requires-clause-stands : goal.update_sealed-requires-clause-stands
 update_sealed-requires-clause-stands g c = entry_stands c.args.files.now c.args.entry c.requires.stands
@@ -41,17 +41,17 @@ pub update_sealed-requires-clause-changes : goal.update_sealed-requires-clause-c
 update_sealed-requires-clause-changes g c = next_changes c.args.entry c.args.word (entry_kind c.args.files.now c.args.entry c.requires.stands)
 
 pub update_sealed-requires-clause-agrees : goal.update_sealed-requires-clause-agrees
-update_sealed-requires-clause-agrees g c = subst (λ (t : Told). ForSome t.files (Agrees c.args.files.now)) (sym c.in_ok-now.ensures.stays) (λ image there. (c.requires.is_open image there).agrees)
+update_sealed-requires-clause-agrees g c = subst (λ (t : Told). ForSome t.files (Agrees c.args.files.now)) (sym c.in_ok-now.ensures.reads.stays) (λ image there. (c.requires.is_open image there).agrees)
 
 pub returns-clause-steps : goal.returns-clause-steps
 returns-clause-steps g c =
     on_ok_weaker c.update_sealed.result
     (λ whole. next-later c.args.files.now (g.F.Folder.told c.args.folder.now) (g.F.Folder.told c.field.new.f) c.args.entry c.args.word c.in_ok-now.now (λ (t : Told) (s : List TrailStep). Applies t (g.F.Folder.told c.update_sealed.new.f) s)
-    c.requires.is_open c.requires.stands c.in_ok-now.ensures.value c.if-now-word.false c.in_ok-now.ensures.stays whole) c.update_sealed.ensures.steps
+    c.requires.is_open c.requires.stands c.in_ok-now.ensures.value c.if-now-word.false c.in_ok-now.ensures.reads.stays whole) c.update_sealed.ensures.steps
 
 pub returns-clause-prefix : goal.returns-clause-prefix
 returns-clause-prefix g c = record {
   made = next-later c.args.files.now (g.F.Folder.told c.args.folder.now) (g.F.Folder.told c.field.new.f) c.args.entry c.args.word c.in_ok-now.now (λ (t : Told) (s : List TrailStep). AppliesPrefix t (g.F.Folder.told c.update_sealed.new.f) s)
-      c.requires.is_open c.requires.stands c.in_ok-now.ensures.value c.if-now-word.false c.in_ok-now.ensures.stays c.update_sealed.ensures.prefix.made;
+      c.requires.is_open c.requires.stands c.in_ok-now.ensures.value c.if-now-word.false c.in_ok-now.ensures.reads.stays c.update_sealed.ensures.prefix.made;
   silent = search rules;
 }

@@ -14,14 +14,14 @@ returns-clause-stops g c = rebuilding-passes (g.F.Folder.told c.args.folder.now)
 pub returns-in_err-rebuild-clause-is_open : goal.returns-in_err-rebuild-clause-is_open
 returns-in_err-rebuild-clause-is_open g c image there = record {
   agrees = c.rebuild.ensures.agrees image there;
-  whole_index = told_at_end (g.F.Folder.told c.args.folder.now).files (g.F.Folder.told c.rebuild.new.f).files HasWholeIndex c.rebuild.ensures.silent
+  whole_index = told_at_end (g.F.Folder.told c.args.folder.now).files (g.F.Folder.told c.rebuild.new.f).files HasWholeIndex c.rebuild.ensures.writes.silent
       (λ from was now here. index-whole c.args.claims.now (all_files c.args.files.now) from now (rebuilding-ends (g.F.Folder.told c.args.folder.now) (g.F.Folder.told c.rebuild.new.f) c.args.claims.now (all_files c.args.files.now) c.rebuild.ensures.stops from was now here) (c.requires.is_open from was).whole_index) image there;
 }
 
 pub returns-clause-is_open : goal.returns-clause-is_open
 returns-clause-is_open g c image there = record {
   agrees = c.rebuild.ensures.agrees image there;
-  whole_index = told_at_end (g.F.Folder.told c.args.folder.now).files (g.F.Folder.told c.rebuild.new.f).files HasWholeIndex c.rebuild.ensures.silent
+  whole_index = told_at_end (g.F.Folder.told c.args.folder.now).files (g.F.Folder.told c.rebuild.new.f).files HasWholeIndex c.rebuild.ensures.writes.silent
       (λ from was now here. index-whole c.args.claims.now (all_files c.args.files.now) from now (rebuilding-ends (g.F.Folder.told c.args.folder.now) (g.F.Folder.told c.rebuild.new.f) c.args.claims.now (all_files c.args.files.now) c.rebuild.ensures.stops from was now here) (c.requires.is_open from was).whole_index) image there;
 }
 

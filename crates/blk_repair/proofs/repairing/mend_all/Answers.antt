@@ -30,7 +30,7 @@ returns-clause-untold g c all =
     if_damaged_weaker c.mend_behind.result _ _
     (λ damage none. none-before (g.F.Folder.told c.args.folder.now) (g.F.Folder.told c.mend_links.new.folder) (λ from there. still-told from there (c.mend_links.ensures.stops from there (all from there)).passes) none)
     (c.mend_behind.ensures.untold
-    (told_at_end (g.F.Folder.told c.args.folder.now).files (g.F.Folder.told c.mend_links.new.folder).files (λ mid. (entry : Image) × AreLinksMended c.args.scan.now entry mid) c.mend_links.ensures.silent
+    (told_at_end (g.F.Folder.told c.args.folder.now).files (g.F.Folder.told c.mend_links.new.folder).files (λ mid. (entry : Image) × AreLinksMended c.args.scan.now entry mid) c.mend_links.ensures.writes.silent
     (λ from there mid here. (from, c.in_ok-mend_links.ensures.mended from there (all from there) mid here))))
 
 pub returns-clause-clean : goal.returns-clause-clean

@@ -45,7 +45,7 @@ returns-clause-untold g c some =
     if_damaged_weaker c.mend_rest.result _ _
     (λ damage none. none-before (g.F.Folder.told c.args.folder.now) (g.F.Folder.told c.mend_store.new.folder) (λ from there. still-told from there (first g c from there (some from there).0 (some from there).1).passes) none)
     (c.mend_rest.ensures.untold
-    (told_at_end (g.F.Folder.told c.args.folder.now).files (g.F.Folder.told c.mend_store.new.folder).files (λ mid. (entry : Image) × IsNextFinished c.args.scan.now entry mid) c.mend_store.ensures.silent
+    (told_at_end (g.F.Folder.told c.args.folder.now).files (g.F.Folder.told c.mend_store.new.folder).files (λ mid. (entry : Image) × IsNextFinished c.args.scan.now entry mid) c.mend_store.ensures.writes.silent
     (λ from there mid here. ((some from there).0, handed g c from there (some from there).0 (some from there).1 mid here))))
 
 pub returns-clause-clean : goal.returns-clause-clean

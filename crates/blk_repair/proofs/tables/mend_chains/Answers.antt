@@ -22,7 +22,7 @@ below i n less is = omega (arith, less, is)
 
 pub returns-in_err-read-clause-prefix : goal.returns-in_err-read-clause-prefix
 returns-in_err-read-clause-prefix g c =
-    part-so-far (g.F.Folder.told c.args.folder.now) (g.F.Folder.told c.read_piece.new.folder) c.args.records.now c.args.ends.now c.args.whole.now c.loop-i.i (stays-mended c.read_piece.ensures.stays c.loop-i.invariant.are)
+    part-so-far (g.F.Folder.told c.args.folder.now) (g.F.Folder.told c.read_piece.new.folder) c.args.records.now c.args.ends.now c.args.whole.now c.loop-i.i (stays-mended c.read_piece.ensures.reads.stays c.loop-i.invariant.are)
 
 pub returns-in_err-read-clause-stops : goal.returns-in_err-read-clause-stops
 returns-in_err-read-clause-stops g c = repair-passes (g.F.Folder.told c.args.folder.now) (g.F.Folder.told c.read_piece.new.folder) c.args.records.now c.args.ends.now c.args.whole.now (returns-in_err-read-clause-prefix g c)
@@ -43,8 +43,8 @@ returns-in_err-read-clause-damaged g c =
 
 pub returns-in_err-mend_bucket-clause-prefix : goal.returns-in_err-mend_bucket-clause-prefix
 returns-in_err-mend_bucket-clause-prefix g c =
-    part-on (g.F.Folder.told c.args.folder.now) (g.F.Folder.told c.read_piece.new.folder) c.args.records.now c.args.ends.now c.args.whole.now c.loop-i.i _ c.records_of-own.result.now _ (below c.loop-i.i _ c.loop-i-test.true c.requires.ends.many) c.records_of-own.ensures refl (front-there c.read_piece.new.table c.loop-i.i c.in_ok-read.read _ _ c.in_ok-read.ensures.reached refl (fronts-after c.loop-i.table c.read_piece.new.table c.loop-i.i c.loop-i.read c.in_ok-read.read c.read_piece.ensures.stays c.loop-i.invariant.fronts c.in_ok-read.ensures.fronts))
-    (stays-mended c.read_piece.ensures.stays c.loop-i.invariant.are) (g.F.Folder.told c.mend_bucket.new.folder) c.mend_bucket.ensures.prefix
+    part-on (g.F.Folder.told c.args.folder.now) (g.F.Folder.told c.read_piece.new.folder) c.args.records.now c.args.ends.now c.args.whole.now c.loop-i.i _ c.records_of-own.result.now _ (below c.loop-i.i _ c.loop-i-test.true c.requires.ends.many) c.records_of-own.ensures refl (front-there c.read_piece.new.table c.loop-i.i c.in_ok-read.read _ _ c.in_ok-read.ensures.reached refl (fronts-after c.loop-i.table c.read_piece.new.table c.loop-i.i c.loop-i.read c.in_ok-read.read c.read_piece.ensures.reads.stays c.loop-i.invariant.fronts c.in_ok-read.ensures.fronts))
+    (stays-mended c.read_piece.ensures.reads.stays c.loop-i.invariant.are) (g.F.Folder.told c.mend_bucket.new.folder) c.mend_bucket.ensures.prefix
 
 pub returns-in_err-mend_bucket-clause-stops : goal.returns-in_err-mend_bucket-clause-stops
 returns-in_err-mend_bucket-clause-stops g c = repair-passes (g.F.Folder.told c.args.folder.now) (g.F.Folder.told c.mend_bucket.new.folder) c.args.records.now c.args.ends.now c.args.whole.now (returns-in_err-mend_bucket-clause-prefix g c)
@@ -54,20 +54,20 @@ returns-in_err-mend_bucket-clause-untold g c scanned =
     carried c.mend_bucket.result c.from_residual-in_err-mend_bucket.result c.in_err-mend_bucket.field-0.0 (λ _. (g.F.Folder.told c.args.folder.now).files ≡ None) c.in_err-mend_bucket.was c.from_residual-in_err-mend_bucket.ensures.1
     (if_damaged_weaker c.mend_bucket.result _ _
     (λ damage none.
-    were-untold (g.F.Folder.told c.args.folder.now) (g.F.Folder.told c.read_piece.new.folder) c.args.records.now c.args.ends.now c.args.whole.now c.loop-i.i (stays-mended c.read_piece.ensures.stays c.loop-i.invariant.are) scanned none)
+    were-untold (g.F.Folder.told c.args.folder.now) (g.F.Folder.told c.read_piece.new.folder) c.args.records.now c.args.ends.now c.args.whole.now c.loop-i.i (stays-mended c.read_piece.ensures.reads.stays c.loop-i.invariant.are) scanned none)
     (c.mend_bucket.ensures.untold
-    (own-check (g.F.Folder.told c.args.folder.now) (g.F.Folder.told c.read_piece.new.folder) c.args.records.now c.args.ends.now c.args.whole.now c.loop-i.i _ c.records_of-own.result.now _ (below c.loop-i.i _ c.loop-i-test.true c.requires.ends.many) c.records_of-own.ensures refl (front-there c.read_piece.new.table c.loop-i.i c.in_ok-read.read _ _ c.in_ok-read.ensures.reached refl (fronts-after c.loop-i.table c.read_piece.new.table c.loop-i.i c.loop-i.read c.in_ok-read.read c.read_piece.ensures.stays c.loop-i.invariant.fronts c.in_ok-read.ensures.fronts))
-    (stays-mended c.read_piece.ensures.stays c.loop-i.invariant.are) scanned)))
+    (own-check (g.F.Folder.told c.args.folder.now) (g.F.Folder.told c.read_piece.new.folder) c.args.records.now c.args.ends.now c.args.whole.now c.loop-i.i _ c.records_of-own.result.now _ (below c.loop-i.i _ c.loop-i-test.true c.requires.ends.many) c.records_of-own.ensures refl (front-there c.read_piece.new.table c.loop-i.i c.in_ok-read.read _ _ c.in_ok-read.ensures.reached refl (fronts-after c.loop-i.table c.read_piece.new.table c.loop-i.i c.loop-i.read c.in_ok-read.read c.read_piece.ensures.reads.stays c.loop-i.invariant.fronts c.in_ok-read.ensures.fronts))
+    (stays-mended c.read_piece.ensures.reads.stays c.loop-i.invariant.are) scanned)))
 
 pub loop-i-preserved : goal.loop-i-preserved
 loop-i-preserved g c = record {
-  are = mended-on (g.F.Folder.told c.args.folder.now) (g.F.Folder.told c.read_piece.new.folder) c.args.records.now c.args.ends.now c.args.whole.now c.loop-i.i _ c.records_of-own.result.now _ (below c.loop-i.i _ c.loop-i-test.true c.requires.ends.many) c.records_of-own.ensures refl (front-there c.read_piece.new.table c.loop-i.i c.in_ok-read.read _ _ c.in_ok-read.ensures.reached refl (fronts-after c.loop-i.table c.read_piece.new.table c.loop-i.i c.loop-i.read c.in_ok-read.read c.read_piece.ensures.stays c.loop-i.invariant.fronts c.in_ok-read.ensures.fronts))
-      (stays-mended c.read_piece.ensures.stays c.loop-i.invariant.are) (g.F.Folder.told c.mend_bucket.new.folder) c.in_ok-mend_bucket.ensures.steps c.mend_bucket.ensures.silent;
+  are = mended-on (g.F.Folder.told c.args.folder.now) (g.F.Folder.told c.read_piece.new.folder) c.args.records.now c.args.ends.now c.args.whole.now c.loop-i.i _ c.records_of-own.result.now _ (below c.loop-i.i _ c.loop-i-test.true c.requires.ends.many) c.records_of-own.ensures refl (front-there c.read_piece.new.table c.loop-i.i c.in_ok-read.read _ _ c.in_ok-read.ensures.reached refl (fronts-after c.loop-i.table c.read_piece.new.table c.loop-i.i c.loop-i.read c.in_ok-read.read c.read_piece.ensures.reads.stays c.loop-i.invariant.fronts c.in_ok-read.ensures.fronts))
+      (stays-mended c.read_piece.ensures.reads.stays c.loop-i.invariant.are) (g.F.Folder.told c.mend_bucket.new.folder) c.in_ok-mend_bucket.ensures.steps c.mend_bucket.ensures.writes.silent;
   is_open = c.mend_bucket.ensures.is_open;
   size = c.read_piece.ensures.size;
   fronts = fronts-on (g.F.Folder.told c.read_piece.new.folder) (g.F.Folder.told c.mend_bucket.new.folder) c.read_piece.new.table c.loop-i.i c.in_ok-read.read
-      (fronts-after c.loop-i.table c.read_piece.new.table c.loop-i.i c.loop-i.read c.in_ok-read.read c.read_piece.ensures.stays c.loop-i.invariant.fronts c.in_ok-read.ensures.fronts) c.in_ok-mend_bucket.ensures.others c.mend_bucket.ensures.silent;
-  later = omega (arith, c.loop-i.invariant.later, c.read_piece.ensures.later, c.mend_bucket.ensures.later);
+      (fronts-after c.loop-i.table c.read_piece.new.table c.loop-i.i c.loop-i.read c.in_ok-read.read c.read_piece.ensures.reads.stays c.loop-i.invariant.fronts c.in_ok-read.ensures.fronts) c.in_ok-mend_bucket.ensures.others c.mend_bucket.ensures.writes.silent;
+  later = omega (arith, c.loop-i.invariant.later, c.read_piece.ensures.reads.later, c.mend_bucket.ensures.writes.later);
 }
 
 -- ---- all buckets are repaired

@@ -16,7 +16,7 @@ use Rattle.blk_run.proofs.SessionEnds.{begins_at, device_cause, rises_since, sin
 use Rattle.blk_run.proofs.counting.run_count.Goals as goal
 
 pub count-requires-clause-is_open : goal.count-requires-clause-is_open
-count-requires-clause-is_open g c = opened_open (bounds_of c.args.limits) (g.F.Folder.told c.args.folder.now) (g.F.Folder.told c.start.new.f) c.in-Ok.cache c.start.ensures.silent c.in-Ok.ensures.keeps
+count-requires-clause-is_open g c = opened_open (bounds_of c.args.limits) (g.F.Folder.told c.args.folder.now) (g.F.Folder.told c.start.new.f) c.in-Ok.cache c.start.ensures.writes.silent c.in-Ok.ensures.keeps
 
 pub returns-in-Ok-clause-printed : goal.returns-in-Ok-clause-printed
 returns-in-Ok-clause-printed g c = record {
@@ -76,7 +76,7 @@ returns-in-Err-Device-clause-script g c from there usable readings clock left =
 pub returns-in-Ok-clause-cause : goal.returns-in-Ok-clause-cause
 returns-in-Ok-clause-cause g c =
     count_cause c.count.result _ _ _ c.count.ensures.answers
-    (λ is. rises_since (g.F.Folder.faults c.args.folder.now) (g.F.Folder.faults c.start.new.f) (g.F.Folder.faults c.count.new.folder) c.start.ensures.later (c.count.ensures.device is)) c.count.ensures.sink
+    (λ is. rises_since (g.F.Folder.faults c.args.folder.now) (g.F.Folder.faults c.start.new.f) (g.F.Folder.faults c.count.new.folder) c.start.ensures.writes.later (c.count.ensures.device is)) c.count.ensures.sink
 
 pub returns-in-Ok-clause-complete : goal.returns-in-Ok-clause-complete
 returns-in-Ok-clause-complete g c from there usable readings clock left no_device no_sink =

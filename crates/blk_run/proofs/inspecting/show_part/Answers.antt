@@ -7,12 +7,12 @@ use Rattle.blk_run.proofs.inspecting.show_part.Goals as goal
 pub returns-clause-performs : goal.returns-clause-performs
 returns-clause-performs g c limits left clock =
     let flushed = c.flush_text-shown.ensures.flushed in
-    shown_performs (inspect_text c.args.part.now) limits _ _ _ _ _ _ _ _ _ left clock c.inspect.ensures.stays (omega (arith, c.inspect.ensures.sink_later.later, c.flush_text-shown.ensures.later.later)) c.end_shown.ensures.later.later
+    shown_performs (inspect_text c.args.part.now) limits _ _ _ _ _ _ _ _ _ left clock c.inspect.ensures.reads.stays (omega (arith, c.inspect.ensures.sink_later.later, c.flush_text-shown.ensures.later.later)) c.end_shown.ensures.later.later
     c.flush_text-shown.result c.end_shown.result c.end_shown.ensures.status
     (λ image here. text_flushed _ _ _ c.flush_text-shown.ensures.stays c.inspect.result c.flush_text-shown.result _ flushed _ (c.inspect.ensures.printed image here))
     (λ image here. answer_flushed c.inspect.result c.flush_text-shown.result _ flushed image (c.inspect.ensures.answer image here))
     (unprinted_flushed _ _ _ c.flush_text-shown.ensures.stays c.inspect.result c.flush_text-shown.result _ flushed c.inspect.ensures.unprinted)
     (inspect_damaged_flushed c.inspect.result c.flush_text-shown.result _ _ flushed c.inspect.ensures.cause)
-    (inspect_device_flushed c.inspect.result c.flush_text-shown.result _ _ flushed c.inspect.ensures.device)
+    (inspect_device_flushed c.inspect.result c.flush_text-shown.result _ _ flushed c.inspect.ensures.reads.failed)
     (inspect_sink_flushed c.inspect.result c.flush_text-shown.result _ _ _ c.inspect.ensures.sink_later.later c.flush_text-shown.ensures.later.later flushed c.inspect.ensures.sink)
     c.end_shown.ensures.printed

@@ -16,7 +16,7 @@ use Rattle.blk_run.proofs.scripts.run_script.Goals as goal
 
 pub play_script-requires : goal.play_script-requires
 play_script-requires g c = record {
-  is_open = opened_at (g.F.Folder.told c.args.folder.now).files (g.F.Folder.told c.start.new.f) _ c.start.ensures.silent
+  is_open = opened_at (g.F.Folder.told c.args.folder.now).files (g.F.Folder.told c.start.new.f) _ c.start.ensures.writes.silent
       (λ from there image here. kept-open c.in-Ok.cache (open_state (found from) (bounds_of c.args.limits)) image (c.in-Ok.ensures.keeps from there image here));
 }
 
@@ -42,7 +42,7 @@ returns-in-Ok-clause-cause g c =
     (begins_at from (bounds_of c.args.limits) (record { ahead = []; last = 0 }) (record { folder = g.F.Folder.told c.args.folder.now; written = None; left = None; clock = Some (record { ahead = []; last = 0 }) }) there refl
     (KeepsState c.in-Ok.cache) (g.F.Folder.told c.start.new.f) c.in-Ok.cache.notes (2 * handle_names + 2 * commands_in c.args.fixed) (c.in-Ok.ensures.checked from there) (c.in-Ok.ensures.last from there) (c.in-Ok.ensures.keeps from there) c.in-Ok.ensures.notes (omega (arith, few)))
     damaged) fails)
-    (rises_since (g.F.Folder.faults c.args.folder.now) (g.F.Folder.faults c.start.new.f) (g.F.Folder.faults c.play_script.new.folder) c.start.ensures.later) c.play_script.ensures.cause
+    (rises_since (g.F.Folder.faults c.args.folder.now) (g.F.Folder.faults c.start.new.f) (g.F.Folder.faults c.play_script.new.folder) c.start.ensures.writes.later) c.play_script.ensures.cause
 
 pub returns-in-Ok-clause-complete : goal.returns-in-Ok-clause-complete
 returns-in-Ok-clause-complete g c from there usable readings clock left no_device no_sink =

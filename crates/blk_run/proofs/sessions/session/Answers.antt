@@ -14,7 +14,7 @@ use Rattle.blk_run.proofs.sessions.session.Goals as goal
 
 pub play-requires-clause-is_open : goal.play-requires-clause-is_open
 play-requires-clause-is_open g c =
-    opened_at (g.F.Folder.told c.args.folder.now).files (g.F.Folder.told c.start.new.f) _ c.start.ensures.silent
+    opened_at (g.F.Folder.told c.args.folder.now).files (g.F.Folder.told c.start.new.f) _ c.start.ensures.writes.silent
     (λ from there image here. kept-open c.in-Ok-start.cache (open_state (found from) (bounds_of c.args.limits)) image (c.in-Ok-start.ensures.keeps from there image here))
 
 pub returns-in-Ok-start-clause-session : goal.returns-in-Ok-start-clause-session
@@ -34,7 +34,7 @@ returns-in-Ok-start-clause-cause g c =
     (begins_at from (bounds_of c.args.limits) (record { ahead = []; last = 0 }) (record { folder = g.F.Folder.told c.args.folder.now; written = None; left = None; clock = Some (record { ahead = []; last = 0 }) }) there refl
     (KeepsState c.in-Ok-start.cache) (g.F.Folder.told c.start.new.f) c.in-Ok-start.cache.notes (2 * handle_names + (c.args.budget + 1)) (c.in-Ok-start.ensures.checked from there) (c.in-Ok-start.ensures.last from there) (c.in-Ok-start.ensures.keeps from there) c.in-Ok-start.ensures.notes (omega (arith, budget)))
     damaged) fails)
-    (rises_since (g.F.Folder.faults c.args.folder.now) (g.F.Folder.faults c.start.new.f) (g.F.Folder.faults c.play.new.folder) c.start.ensures.later) c.play.ensures.cause
+    (rises_since (g.F.Folder.faults c.args.folder.now) (g.F.Folder.faults c.start.new.f) (g.F.Folder.faults c.play.new.folder) c.start.ensures.writes.later) c.play.ensures.cause
 
 pub returns-in-Err-Device-clause-session : goal.returns-in-Err-Device-clause-session
 returns-in-Err-Device-clause-session g c from there usable readings clock bytes left_is =

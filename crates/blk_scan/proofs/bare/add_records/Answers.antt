@@ -22,8 +22,8 @@ loop-i-preserved g c = record {
       ∙ append_assoc c.args.bare.now.items _ (filter (is_bare_record image) (entry ∷ []))
       ∙ ap (λ (more : List ℕ). c.args.bare.now.items ++ more) (sym (one_more (is_bare_record image) c.args.entries.now c.loop-i.i entry at));
   stand = λ all. c.in_ok-add_record.ensures.stand (c.loop-i.invariant.stand all);
-  stays = c.in_ok-add_record.ensures.stays ∙ c.loop-i.invariant.stays;
-  later = omega (arith, c.in_ok-add_record.ensures.later, c.loop-i.invariant.later);
+  stays = c.in_ok-add_record.ensures.reads.stays ∙ c.loop-i.invariant.stays;
+  later = omega (arith, c.in_ok-add_record.ensures.reads.later, c.loop-i.invariant.later);
 }
 
 pub returns-in_err-add_record-clause-untold : goal.returns-in_err-add_record-clause-untold

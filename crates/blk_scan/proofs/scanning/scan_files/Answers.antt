@@ -25,9 +25,9 @@ tell-requires g c = record { buckets = c.in_ok-lists.ensures.stand.buckets; few 
 pub returns-clause-scanned : goal.returns-clause-scanned
 returns-clause-scanned g c image there agrees =
     let lists = c.in_ok-lists.ensures.lists image there agrees in
-    let first = told_now image c.in_ok-lists.ensures.stays there in
-    let second = told_now image c.in_ok-judged.ensures.stays first in
-    let third = told_now image c.in_ok-unlisted.ensures.stays second in
+    let first = told_now image c.in_ok-lists.ensures.reads.stays there in
+    let second = told_now image c.in_ok-judged.ensures.reads.stays first in
+    let third = told_now image c.in_ok-unlisted.ensures.reads.stays second in
     let judged = c.in_ok-judged.ensures.judged image first agrees lists in
     let order = c.in_ok-ordered.ensures.ordered image lists judged in
     c.in_ok-scan.ensures.told image
@@ -43,9 +43,9 @@ returns-clause-scanned g c image there agrees =
 pub returns-clause-exact : goal.returns-clause-exact
 returns-clause-exact g c image there agrees =
     let lists = c.in_ok-lists.ensures.lists image there agrees in
-    let first = told_now image c.in_ok-lists.ensures.stays there in
-    let second = told_now image c.in_ok-judged.ensures.stays first in
-    let third = told_now image c.in_ok-unlisted.ensures.stays second in
+    let first = told_now image c.in_ok-lists.ensures.reads.stays there in
+    let second = told_now image c.in_ok-judged.ensures.reads.stays first in
+    let third = told_now image c.in_ok-unlisted.ensures.reads.stays second in
     let judged = c.in_ok-judged.ensures.judged image first agrees lists in
     let order = c.in_ok-ordered.ensures.ordered image lists judged in
     c.in_ok-scan.ensures.exact image
@@ -82,14 +82,14 @@ returns-in_err-lists-clause-untold g c is_open =
 pub returns-in_err-judged-clause-damaged : goal.returns-in_err-judged-clause-damaged
 returns-in_err-judged-clause-damaged g c =
     carried c.judge_nodes.result c.from_residual-in_err-judged.result c.in_err-judged.field-0.0 _ c.in_err-judged.was c.from_residual-in_err-judged.ensures.1
-    (weaker c.judge_nodes.result _ _ (λ damage cut. inr (subst (λ (t : Told). IsCutRead c.args.files.now t damage) (sym c.judge_nodes.ensures.stays) cut)) c.judge_nodes.ensures.short)
+    (weaker c.judge_nodes.result _ _ (λ damage cut. inr (subst (λ (t : Told). IsCutRead c.args.files.now t damage) (sym c.judge_nodes.ensures.reads.stays) cut)) c.judge_nodes.ensures.short)
 
 pub returns-in_err-judged-clause-untold : goal.returns-in_err-judged-clause-untold
 returns-in_err-judged-clause-untold g c is_open =
     carried c.judge_nodes.result c.from_residual-in_err-judged.result c.in_err-judged.field-0.0 _ c.in_err-judged.was c.from_residual-in_err-judged.ensures.1
-    (weaker c.judge_nodes.result _ _ (λ damage none. ap (λ (t : Told). t.files) (sym c.in_ok-lists.ensures.stays) ∙ none)
-    (c.judge_nodes.ensures.untold (told_stays (Agrees c.args.files.now) c.in_ok-lists.ensures.stays (λ image there. (is_open image there).agrees))
-    (told_stays (λ image. AreListsOf image c.in_ok-lists.lists) c.in_ok-lists.ensures.stays (λ image there. c.in_ok-lists.ensures.lists image there (is_open image there).agrees))))
+    (weaker c.judge_nodes.result _ _ (λ damage none. ap (λ (t : Told). t.files) (sym c.in_ok-lists.ensures.reads.stays) ∙ none)
+    (c.judge_nodes.ensures.untold (told_stays (Agrees c.args.files.now) c.in_ok-lists.ensures.reads.stays (λ image there. (is_open image there).agrees))
+    (told_stays (λ image. AreListsOf image c.in_ok-lists.lists) c.in_ok-lists.ensures.reads.stays (λ image there. c.in_ok-lists.ensures.lists image there (is_open image there).agrees))))
 
 pub returns-in_err-unlisted-clause-damaged : goal.returns-in_err-unlisted-clause-damaged
 returns-in_err-unlisted-clause-damaged g c =
@@ -99,8 +99,8 @@ returns-in_err-unlisted-clause-damaged g c =
 pub returns-in_err-unlisted-clause-untold : goal.returns-in_err-unlisted-clause-untold
 returns-in_err-unlisted-clause-untold g c is_open =
     carried c.unlisted.result c.from_residual-in_err-unlisted.result c.in_err-unlisted.field-0.0 _ c.in_err-unlisted.was c.from_residual-in_err-unlisted.ensures.1
-    (weaker c.unlisted.result _ _ (λ damage none. ap (λ (t : Told). t.files) (sym (c.in_ok-judged.ensures.stays ∙ c.in_ok-lists.ensures.stays)) ∙ none)
-    (c.unlisted.ensures.untold (told_stays (Agrees c.args.files.now) (c.in_ok-judged.ensures.stays ∙ c.in_ok-lists.ensures.stays) (λ image there. (is_open image there).agrees))))
+    (weaker c.unlisted.result _ _ (λ damage none. ap (λ (t : Told). t.files) (sym (c.in_ok-judged.ensures.reads.stays ∙ c.in_ok-lists.ensures.reads.stays)) ∙ none)
+    (c.unlisted.ensures.untold (told_stays (Agrees c.args.files.now) (c.in_ok-judged.ensures.reads.stays ∙ c.in_ok-lists.ensures.reads.stays) (λ image there. (is_open image there).agrees))))
 
 pub returns-in_err-bare-clause-damaged : goal.returns-in_err-bare-clause-damaged
 returns-in_err-bare-clause-damaged g c =
@@ -110,5 +110,5 @@ returns-in_err-bare-clause-damaged g c =
 pub returns-in_err-bare-clause-untold : goal.returns-in_err-bare-clause-untold
 returns-in_err-bare-clause-untold g c is_open =
     carried c.bare_of.result c.from_residual-in_err-bare.result c.in_err-bare.field-0.0 _ c.in_err-bare.was c.from_residual-in_err-bare.ensures.1
-    (weaker c.bare_of.result _ _ (λ damage none. ap (λ (t : Told). t.files) (sym (c.in_ok-unlisted.ensures.stays ∙ (c.in_ok-judged.ensures.stays ∙ c.in_ok-lists.ensures.stays))) ∙ none)
-    (c.bare_of.ensures.untold (told_stays (Agrees c.args.files.now) (c.in_ok-unlisted.ensures.stays ∙ (c.in_ok-judged.ensures.stays ∙ c.in_ok-lists.ensures.stays)) (λ image there. (is_open image there).agrees))))
+    (weaker c.bare_of.result _ _ (λ damage none. ap (λ (t : Told). t.files) (sym (c.in_ok-unlisted.ensures.reads.stays ∙ (c.in_ok-judged.ensures.reads.stays ∙ c.in_ok-lists.ensures.reads.stays))) ∙ none)
+    (c.bare_of.ensures.untold (told_stays (Agrees c.args.files.now) (c.in_ok-unlisted.ensures.reads.stays ∙ (c.in_ok-judged.ensures.reads.stays ∙ c.in_ok-lists.ensures.reads.stays)) (λ image there. (is_open image there).agrees))))

@@ -10,15 +10,15 @@ returns-in_err-files-clause-damaged g c = converted c.load.result c.from_residua
 
 pub returns-clause-scanned : goal.returns-clause-scanned
 returns-clause-scanned g c =
-    let agrees = loaded_agrees c.in_ok-files.files (g.F.Folder.told c.args.folder.now) (g.F.Folder.told c.load.new.f) c.in_ok-files.ensures.stays c.in_ok-files.ensures.loaded in
-    IfOk-weaker c.scan_files.result _ _ (λ scan tells image there. let now = told_now image c.in_ok-files.ensures.stays there in tells image now (agrees image now)) c.scan_files.ensures.scanned
+    let agrees = loaded_agrees c.in_ok-files.files (g.F.Folder.told c.args.folder.now) (g.F.Folder.told c.load.new.f) c.in_ok-files.ensures.reads.stays c.in_ok-files.ensures.loaded in
+    IfOk-weaker c.scan_files.result _ _ (λ scan tells image there. let now = told_now image c.in_ok-files.ensures.reads.stays there in tells image now (agrees image now)) c.scan_files.ensures.scanned
 
 pub returns-clause-exact : goal.returns-clause-exact
 returns-clause-exact g c =
-    let agrees = loaded_agrees c.in_ok-files.files (g.F.Folder.told c.args.folder.now) (g.F.Folder.told c.load.new.f) c.in_ok-files.ensures.stays c.in_ok-files.ensures.loaded in
-    IfOk-weaker c.scan_files.result _ _ (λ scan tells image there. let now = told_now image c.in_ok-files.ensures.stays there in tells image now (agrees image now)) c.scan_files.ensures.exact
+    let agrees = loaded_agrees c.in_ok-files.files (g.F.Folder.told c.args.folder.now) (g.F.Folder.told c.load.new.f) c.in_ok-files.ensures.reads.stays c.in_ok-files.ensures.loaded in
+    IfOk-weaker c.scan_files.result _ _ (λ scan tells image there. let now = told_now image c.in_ok-files.ensures.reads.stays there in tells image now (agrees image now)) c.scan_files.ensures.exact
 
 pub returns-clause-cause : goal.returns-clause-cause
 returns-clause-cause g c =
-    scanning_cause c.scan_files.result c.in_ok-files.files (g.F.Folder.told c.args.folder.now) (g.F.Folder.told c.load.new.f) (g.F.Folder.told c.scan_files.new.folder) c.in_ok-files.ensures.stays c.scan_files.ensures.stays
-    (loaded_agrees c.in_ok-files.files (g.F.Folder.told c.args.folder.now) (g.F.Folder.told c.load.new.f) c.in_ok-files.ensures.stays c.in_ok-files.ensures.loaded) c.scan_files.ensures.damaged
+    scanning_cause c.scan_files.result c.in_ok-files.files (g.F.Folder.told c.args.folder.now) (g.F.Folder.told c.load.new.f) (g.F.Folder.told c.scan_files.new.folder) c.in_ok-files.ensures.reads.stays c.scan_files.ensures.reads.stays
+    (loaded_agrees c.in_ok-files.files (g.F.Folder.told c.args.folder.now) (g.F.Folder.told c.load.new.f) c.in_ok-files.ensures.reads.stays c.in_ok-files.ensures.loaded) c.scan_files.ensures.damaged

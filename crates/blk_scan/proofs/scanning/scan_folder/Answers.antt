@@ -20,10 +20,10 @@ pub returns-in-Unfinished-clause-checked : goal.returns-in-Unfinished-clause-che
 returns-in-Unfinished-clause-checked g c image there = inl (looked-as _ _ image c.in-Unfinished.is (c.in_ok-look.ensures.looked image there))
 
 pub returns-in-Finished-clause-scanned : goal.returns-in-Finished-clause-scanned
-returns-in-Finished-clause-scanned g c = IfOk-weaker c.scan_finished.result _ _ (λ scan tells image there well. tells image (told_now image c.in_ok-look.ensures.stays there)) c.scan_finished.ensures.scanned
+returns-in-Finished-clause-scanned g c = IfOk-weaker c.scan_finished.result _ _ (λ scan tells image there well. tells image (told_now image c.in_ok-look.ensures.reads.stays there)) c.scan_finished.ensures.scanned
 
 pub returns-in-Finished-clause-exact : goal.returns-in-Finished-clause-exact
-returns-in-Finished-clause-exact g c = IfOk-weaker c.scan_finished.result _ _ (λ scan tells image there well. tells image (told_now image c.in_ok-look.ensures.stays there)) c.scan_finished.ensures.exact
+returns-in-Finished-clause-exact g c = IfOk-weaker c.scan_finished.result _ _ (λ scan tells image there well. tells image (told_now image c.in_ok-look.ensures.reads.stays there)) c.scan_finished.ensures.exact
 
 pub returns-in-Finished-clause-empty : goal.returns-in-Finished-clause-empty
 returns-in-Finished-clause-empty g c =
@@ -35,11 +35,11 @@ returns-in-Finished-clause-checked g c =
     IfOk-weaker c.scan_finished.result _ _
     (λ scan none image there.
     let fin = looked-as _ _ image c.in-Finished.is (c.in_ok-look.ensures.looked image there) in
-    inr (formed-of image fin.undamaged (none image (told_now image c.in_ok-look.ensures.stays there)))) c.scan_finished.ensures.checked
+    inr (formed-of image fin.undamaged (none image (told_now image c.in_ok-look.ensures.reads.stays there)))) c.scan_finished.ensures.checked
 
 pub returns-in-Finished-clause-damaged : goal.returns-in-Finished-clause-damaged
 returns-in-Finished-clause-damaged g c =
     weaker c.scan_finished.result _ _
     (λ damage first image there.
     let fin = looked-as _ _ image c.in-Finished.is (c.in_ok-look.ensures.looked image there) in
-    (fin.finished, first-behind image fin.undamaged ∙ first image (told_now image c.in_ok-look.ensures.stays there) (length-checked image fin.undamaged))) c.scan_finished.ensures.damaged
+    (fin.finished, first-behind image fin.undamaged ∙ first image (told_now image c.in_ok-look.ensures.reads.stays there) (length-checked image fin.undamaged))) c.scan_finished.ensures.damaged

@@ -16,7 +16,7 @@ use Rattle.blk_sparse.proofs.beginning.begin.Goals as goal
 
 pub returns-in_err-key_len-clause-stops : goal.returns-in_err-key_len-clause-stops
 returns-in_err-key_len-clause-stops g c from there state layout unlinked number object node p =
-    passes_none (Finds (rest state)) c.in_err-key_len.ensures.stays (λ image is. subst (Finds (rest state)) (some_inj (sym there ∙ is)) (p.kept.well_formed, kept-found state layout unlinked from p.kept))
+    passes_none (Finds (rest state)) c.in_err-key_len.ensures.reads.stays (λ image is. subst (Finds (rest state)) (some_inj (sym there ∙ is)) (p.kept.well_formed, kept-found state layout unlinked from p.kept))
 
 pub returns-in_err-key_len-clause-untold : goal.returns-in_err-key_len-clause-untold
 returns-in_err-key_len-clause-untold g c from there state layout unlinked number object node p =
@@ -24,26 +24,26 @@ returns-in_err-key_len-clause-untold g c from there state layout unlinked number
     (c.parent_length.ensures.untold (λ image is. (c.requires.is_open image is).agrees) (λ image is. subst (HasParentLength c.args.entry) (some_inj (sym there ∙ is)) (has-length state layout unlinked number object node c.args.entry from p (g.met.F.Folder.are_bytes c.args.f.now from there))))
 
 pub give_index-requires-clause-is_open : goal.give_index-requires-clause-is_open
-give_index-requires-clause-is_open g c = subst (λ (t : Told). ForSome t.files (IsOpen c.args.files.now)) (sym c.in_ok-key_len.ensures.stays) c.requires.is_open
+give_index-requires-clause-is_open g c = subst (λ (t : Told). ForSome t.files (IsOpen c.args.files.now)) (sym c.in_ok-key_len.ensures.reads.stays) c.requires.is_open
 
 pub returns-clause-stops : goal.returns-clause-stops
 returns-clause-stops g c from there state layout unlinked number object node p =
-    passes_stayed c.in_ok-key_len.ensures.stays
-    (c.give_index.ensures.stops from (ap (λ (t : Told). t.files) c.in_ok-key_len.ensures.stays ∙ there) state layout unlinked number object node (cast_unsigned w64 c.args.signature) p c.requires.signature
+    passes_stayed c.in_ok-key_len.ensures.reads.stays
+    (c.give_index.ensures.stops from (ap (λ (t : Told). t.files) c.in_ok-key_len.ensures.reads.stays ∙ there) state layout unlinked number object node (cast_unsigned w64 c.args.signature) p c.requires.signature
     (subst (λ (n : ℕ). HasIndex (cast_unsigned w64 c.args.signature) n c.print_index.new.out) (c.in_ok-key_len.ensures.length from there)
     (subst (λ (s : ℕ). HasIndex s c.in_ok-key_len.key_len c.print_index.new.out) (of_z-to_z w64 (cast_unsigned w64 c.args.signature) (let small = c.requires.signature in omega (arith, small))) c.print_index.ensures.index)))
 
 pub returns-clause-begun : goal.returns-clause-begun
 returns-clause-begun g c = on_ok_weaker c.give_index.result
     (λ done from there state layout unlinked number object node p.
-    done from (ap (λ (t : Told). t.files) c.in_ok-key_len.ensures.stays ∙ there) state layout unlinked number object node (cast_unsigned w64 c.args.signature) p c.requires.signature
+    done from (ap (λ (t : Told). t.files) c.in_ok-key_len.ensures.reads.stays ∙ there) state layout unlinked number object node (cast_unsigned w64 c.args.signature) p c.requires.signature
     (subst (λ (n : ℕ). HasIndex (cast_unsigned w64 c.args.signature) n c.print_index.new.out) (c.in_ok-key_len.ensures.length from there)
     (subst (λ (s : ℕ). HasIndex s c.in_ok-key_len.key_len c.print_index.new.out) (of_z-to_z w64 (cast_unsigned w64 c.args.signature) (let small = c.requires.signature in omega (arith, small))) c.print_index.ensures.index)))
     c.give_index.ensures.begun
 
 pub returns-clause-untold : goal.returns-clause-untold
 returns-clause-untold g c from there state layout unlinked number object node p =
-    let same = ap (λ (t : Told). t.files) c.in_ok-key_len.ensures.stays in
+    let same = ap (λ (t : Told). t.files) c.in_ok-key_len.ensures.reads.stays in
     if_damaged_weaker c.give_index.result _ _ (λ damage none. sym same ∙ none)
     (c.give_index.ensures.untold from (same ∙ there) state layout unlinked number object node (cast_unsigned w64 c.args.signature) p c.requires.signature
     (subst (λ (n : ℕ). HasIndex (cast_unsigned w64 c.args.signature) n c.print_index.new.out) (c.in_ok-key_len.ensures.length from there)

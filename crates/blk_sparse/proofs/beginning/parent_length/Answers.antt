@@ -15,7 +15,7 @@ returns-in_err-head-clause-untold g c agrees lies =
 pub returns-in_err-head-clause-damaged : goal.returns-in_err-head-clause-damaged
 returns-in_err-head-clause-damaged g c =
     handed c.read_head.result c.from_residual.result c.in_err-head.field-0.0 _ c.args.files.now (g.F.Folder.told c.read_head.new.folder)
-    (λ damage wrong. moved c.args.files.now (g.F.Folder.told c.args.folder.now) (g.F.Folder.told c.read_head.new.folder) damage c.read_head.ensures.stays (head-checked c.args.files.now (g.F.Folder.told c.args.folder.now) c.args.entry damage c.requires.kind c.requires.stands wrong))
+    (λ damage wrong. moved c.args.files.now (g.F.Folder.told c.args.folder.now) (g.F.Folder.told c.read_head.new.folder) damage c.read_head.ensures.reads.stays (head-checked c.args.files.now (g.F.Folder.told c.args.folder.now) c.args.entry damage c.requires.kind c.requires.stands wrong))
     c.in_err-head.was c.from_residual.ensures.1 c.read_head.ensures.damaged
 
 pub returns-then-head-eq0-clause-untold : goal.returns-then-head-eq0-clause-untold
@@ -38,7 +38,7 @@ returns-then-head-eq0-clause-damaged g c =
     let d = c.record_damage.ensures in
     let found : d.damage.found ≡ c.in_ok-head.head.key_len = d.word.of_word in
     err_damaged ℕ c.record_damage.result d.damage (IsFailedCheck c.args.files.now (g.F.Folder.told c.read_head.new.folder)) d.is
-    (moved c.args.files.now (g.F.Folder.told c.args.folder.now) (g.F.Folder.told c.read_head.new.folder) d.damage c.in_ok-head.ensures.stays
+    (moved c.args.files.now (g.F.Folder.told c.args.folder.now) (g.F.Folder.told c.read_head.new.folder) d.damage c.in_ok-head.ensures.reads.stays
     (within-checked c.args.files.now (g.F.Folder.told c.args.folder.now) c.args.entry d.damage c.requires.kind c.requires.stands (WrongLength (record {
       of_word = subst (λ (n : ℕ). IsWordOf c.args.entry 32 n d.damage) (sym found) d.word;
       unlike = elim c.then-head-eq0.branch [

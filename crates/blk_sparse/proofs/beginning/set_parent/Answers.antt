@@ -33,8 +33,12 @@ returns-clause-is_open g c image here =
     (part_kept c.args.files.now (g.F.Folder.told c.args.folder.now) (g.F.Folder.told c.update_sealed.new.f) (λ from. sealed_steps from c.args.entry parent_change)
     (λ from there. kept_sealed c.args.files.now c.args.entry parent_change from (c.requires.is_open from there)) c.update_sealed.ensures.prefix.silent c.update_sealed.ensures.prefix.made image here)
 
-pub returns-clause-silent : goal.returns-clause-silent
-returns-clause-silent g c = c.update_sealed.ensures.prefix.silent
+pub returns-clause-writes : goal.returns-clause-writes
+returns-clause-writes g c = record {
+  silent = c.update_sealed.ensures.prefix.silent;
+  later = c.update_sealed.ensures.later;
+  failed = c.update_sealed.ensures.device;
+}
 
 pub returns-clause-untold : goal.returns-clause-untold
 returns-clause-untold g c from there state layout unlinked number object was index t =

@@ -28,11 +28,11 @@ returns-in_err-len-clause-front g c from there state layout keep chains unlinked
 
 pub returns-in_err-len-clause-stops : goal.returns-in_err-len-clause-stops
 returns-in_err-len-clause-stops g c from there state layout keep chains unlinked number object p =
-    stays-passes (g.F.Folder.told c.args.folder.now) (g.F.Folder.told c.read_parent.new.folder) from (Finds (rest (doomed number state (Some object)))) there c.in_err-len.ensures.stays (left-finds state layout keep chains unlinked object.key number object from p.left)
+    stays-passes (g.F.Folder.told c.args.folder.now) (g.F.Folder.told c.read_parent.new.folder) from (Finds (rest (doomed number state (Some object)))) there c.in_err-len.ensures.reads.stays (left-finds state layout keep chains unlinked object.key number object from p.left)
 
 pub returns-in_err-len-clause-is_open : goal.returns-in_err-len-clause-is_open
 returns-in_err-len-clause-is_open g c image is =
-    c.requires.is_open image (ap (λ (t : Told). t.files) (sym c.in_err-len.ensures.stays) ∙ is)
+    c.requires.is_open image (ap (λ (t : Told). t.files) (sym c.in_err-len.ensures.reads.stays) ∙ is)
 
 pub returns-in_err-len-clause-untold : goal.returns-in_err-len-clause-untold
 returns-in_err-len-clause-untold g c from there state layout keep chains unlinked number object p =
@@ -41,11 +41,11 @@ returns-in_err-len-clause-untold g c from there state layout keep chains unlinke
 
 pub drop_indexed_with-requires-clause-is_open : goal.drop_indexed_with-requires-clause-is_open
 drop_indexed_with-requires-clause-is_open g c image is =
-    c.requires.is_open image (ap (λ (t : Told). t.files) (sym c.in_ok-len.ensures.stays) ∙ is)
+    c.requires.is_open image (ap (λ (t : Told). t.files) (sym c.in_ok-len.ensures.reads.stays) ∙ is)
 
 pub returns-in_err-gone-clause-front : goal.returns-in_err-gone-clause-front
 returns-in_err-gone-clause-front g c from there state layout keep chains unlinked number object p =
-    let at = stays-there (g.F.Folder.told c.args.folder.now) (g.F.Folder.told c.read_parent.new.folder) from there c.in_ok-len.ensures.stays in
+    let at = stays-there (g.F.Folder.told c.args.folder.now) (g.F.Folder.told c.read_parent.new.folder) from there c.in_ok-len.ensures.reads.stays in
     let same : (take c.in_ok-len.len c.split_at_mut-key.result.0.now) ≡ object.key = ap (take c.in_ok-len.len) c.split_at_mut-key.ensures.front ∙ take-take c.in_ok-len.len 32768 c.read_parent.new.name c.in_ok-len.ensures.short ∙ c.in_ok-len.ensures.key from there object.key (has-key state layout keep chains unlinked number object c.args.parent.now.node c.args.parent.now.entry (cast_unsigned w64 c.args.parent.now.signature) from p) in
     let left = left-so state layout keep chains unlinked number object c.args.parent.now.node c.args.parent.now.entry (cast_unsigned w64 c.args.parent.now.signature) from p (take c.in_ok-len.len c.split_at_mut-key.result.0.now) same in
     let has = indexed-so state layout keep chains unlinked number object c.args.parent.now.node c.args.parent.now.entry (cast_unsigned w64 c.args.parent.now.signature) from p (take c.in_ok-len.len c.split_at_mut-key.result.0.now) (record { signature = _; any = c.in_ok-len.any }) same (of_z-to_z w64 (cast_unsigned w64 c.args.parent.now.signature) (let small = c.requires.signature in omega (arith, small))) (c.in_ok-len.ensures.none from there p.parent.was p.parent.index p.loads p.parent.role) in
@@ -53,25 +53,25 @@ returns-in_err-gone-clause-front g c from there state layout keep chains unlinke
 
 pub returns-in_err-gone-clause-stops : goal.returns-in_err-gone-clause-stops
 returns-in_err-gone-clause-stops g c from there state layout keep chains unlinked number object p =
-    let at = stays-there (g.F.Folder.told c.args.folder.now) (g.F.Folder.told c.read_parent.new.folder) from there c.in_ok-len.ensures.stays in
+    let at = stays-there (g.F.Folder.told c.args.folder.now) (g.F.Folder.told c.read_parent.new.folder) from there c.in_ok-len.ensures.reads.stays in
     let same : (take c.in_ok-len.len c.split_at_mut-key.result.0.now) ≡ object.key = ap (take c.in_ok-len.len) c.split_at_mut-key.ensures.front ∙ take-take c.in_ok-len.len 32768 c.read_parent.new.name c.in_ok-len.ensures.short ∙ c.in_ok-len.ensures.key from there object.key (has-key state layout keep chains unlinked number object c.args.parent.now.node c.args.parent.now.entry (cast_unsigned w64 c.args.parent.now.signature) from p) in
     let left = left-so state layout keep chains unlinked number object c.args.parent.now.node c.args.parent.now.entry (cast_unsigned w64 c.args.parent.now.signature) from p (take c.in_ok-len.len c.split_at_mut-key.result.0.now) same in
     let has = indexed-so state layout keep chains unlinked number object c.args.parent.now.node c.args.parent.now.entry (cast_unsigned w64 c.args.parent.now.signature) from p (take c.in_ok-len.len c.split_at_mut-key.result.0.now) (record { signature = _; any = c.in_ok-len.any }) same (of_z-to_z w64 (cast_unsigned w64 c.args.parent.now.signature) (let small = c.requires.signature in omega (arith, small))) (c.in_ok-len.ensures.none from there p.parent.was p.parent.index p.loads p.parent.role) in
-    passes_stayed c.in_ok-len.ensures.stays (c.in_err-gone.ensures.stops from at state layout keep chains unlinked number object left has)
+    passes_stayed c.in_ok-len.ensures.reads.stays (c.in_err-gone.ensures.stops from at state layout keep chains unlinked number object left has)
 
 pub returns-in_err-gone-clause-untold : goal.returns-in_err-gone-clause-untold
 returns-in_err-gone-clause-untold g c from there state layout keep chains unlinked number object p =
-    let at = stays-there (g.F.Folder.told c.args.folder.now) (g.F.Folder.told c.read_parent.new.folder) from there c.in_ok-len.ensures.stays in
+    let at = stays-there (g.F.Folder.told c.args.folder.now) (g.F.Folder.told c.read_parent.new.folder) from there c.in_ok-len.ensures.reads.stays in
     let same : (take c.in_ok-len.len c.split_at_mut-key.result.0.now) ≡ object.key = ap (take c.in_ok-len.len) c.split_at_mut-key.ensures.front ∙ take-take c.in_ok-len.len 32768 c.read_parent.new.name c.in_ok-len.ensures.short ∙ c.in_ok-len.ensures.key from there object.key (has-key state layout keep chains unlinked number object c.args.parent.now.node c.args.parent.now.entry (cast_unsigned w64 c.args.parent.now.signature) from p) in
     let left = left-so state layout keep chains unlinked number object c.args.parent.now.node c.args.parent.now.entry (cast_unsigned w64 c.args.parent.now.signature) from p (take c.in_ok-len.len c.split_at_mut-key.result.0.now) same in
     let has = indexed-so state layout keep chains unlinked number object c.args.parent.now.node c.args.parent.now.entry (cast_unsigned w64 c.args.parent.now.signature) from p (take c.in_ok-len.len c.split_at_mut-key.result.0.now) (record { signature = _; any = c.in_ok-len.any }) same (of_z-to_z w64 (cast_unsigned w64 c.args.parent.now.signature) (let small = c.requires.signature in omega (arith, small))) (c.in_ok-len.ensures.none from there p.parent.was p.parent.index p.loads p.parent.role) in
-    subst (λ (t : Told). IfDamaged c.from_residual-in_err-gone.result (λ _. t.files ≡ None)) c.in_ok-len.ensures.stays
+    subst (λ (t : Told). IfDamaged c.from_residual-in_err-gone.result (λ _. t.files ≡ None)) c.in_ok-len.ensures.reads.stays
     (carried c.drop_indexed_with.result c.from_residual-in_err-gone.result c.in_err-gone.field-0.0 (λ _. (g.F.Folder.told c.read_parent.new.folder).files ≡ None) c.in_err-gone.was c.from_residual-in_err-gone.ensures.1
     (c.drop_indexed_with.ensures.untold from at state layout keep chains unlinked number object left has))
 
 pub returns-clause-out : goal.returns-clause-out
 returns-clause-out g c from there state layout keep chains unlinked number object p =
-    let at = stays-there (g.F.Folder.told c.args.folder.now) (g.F.Folder.told c.read_parent.new.folder) from there c.in_ok-len.ensures.stays in
+    let at = stays-there (g.F.Folder.told c.args.folder.now) (g.F.Folder.told c.read_parent.new.folder) from there c.in_ok-len.ensures.reads.stays in
     let same : (take c.in_ok-len.len c.split_at_mut-key.result.0.now) ≡ object.key = ap (take c.in_ok-len.len) c.split_at_mut-key.ensures.front ∙ take-take c.in_ok-len.len 32768 c.read_parent.new.name c.in_ok-len.ensures.short ∙ c.in_ok-len.ensures.key from there object.key (has-key state layout keep chains unlinked number object c.args.parent.now.node c.args.parent.now.entry (cast_unsigned w64 c.args.parent.now.signature) from p) in
     let left = left-so state layout keep chains unlinked number object c.args.parent.now.node c.args.parent.now.entry (cast_unsigned w64 c.args.parent.now.signature) from p (take c.in_ok-len.len c.split_at_mut-key.result.0.now) same in
     let has = indexed-so state layout keep chains unlinked number object c.args.parent.now.node c.args.parent.now.entry (cast_unsigned w64 c.args.parent.now.signature) from p (take c.in_ok-len.len c.split_at_mut-key.result.0.now) (record { signature = _; any = c.in_ok-len.any }) same (of_z-to_z w64 (cast_unsigned w64 c.args.parent.now.signature) (let small = c.requires.signature in omega (arith, small))) (c.in_ok-len.ensures.none from there p.parent.was p.parent.index p.loads p.parent.role) in
@@ -79,7 +79,7 @@ returns-clause-out g c from there state layout keep chains unlinked number objec
 
 pub returns-clause-count : goal.returns-clause-count
 returns-clause-count g c from there state layout keep chains unlinked number object p =
-    let at = stays-there (g.F.Folder.told c.args.folder.now) (g.F.Folder.told c.read_parent.new.folder) from there c.in_ok-len.ensures.stays in
+    let at = stays-there (g.F.Folder.told c.args.folder.now) (g.F.Folder.told c.read_parent.new.folder) from there c.in_ok-len.ensures.reads.stays in
     let same : (take c.in_ok-len.len c.split_at_mut-key.result.0.now) ≡ object.key = ap (take c.in_ok-len.len) c.split_at_mut-key.ensures.front ∙ take-take c.in_ok-len.len 32768 c.read_parent.new.name c.in_ok-len.ensures.short ∙ c.in_ok-len.ensures.key from there object.key (has-key state layout keep chains unlinked number object c.args.parent.now.node c.args.parent.now.entry (cast_unsigned w64 c.args.parent.now.signature) from p) in
     let left = left-so state layout keep chains unlinked number object c.args.parent.now.node c.args.parent.now.entry (cast_unsigned w64 c.args.parent.now.signature) from p (take c.in_ok-len.len c.split_at_mut-key.result.0.now) same in
     let has = indexed-so state layout keep chains unlinked number object c.args.parent.now.node c.args.parent.now.entry (cast_unsigned w64 c.args.parent.now.signature) from p (take c.in_ok-len.len c.split_at_mut-key.result.0.now) (record { signature = _; any = c.in_ok-len.any }) same (of_z-to_z w64 (cast_unsigned w64 c.args.parent.now.signature) (let small = c.requires.signature in omega (arith, small))) (c.in_ok-len.ensures.none from there p.parent.was p.parent.index p.loads p.parent.role) in
@@ -87,7 +87,7 @@ returns-clause-count g c from there state layout keep chains unlinked number obj
 
 pub returns-clause-session : goal.returns-clause-session
 returns-clause-session g c from there state layout keep chains unlinked number object p =
-    let at = stays-there (g.F.Folder.told c.args.folder.now) (g.F.Folder.told c.read_parent.new.folder) from there c.in_ok-len.ensures.stays in
+    let at = stays-there (g.F.Folder.told c.args.folder.now) (g.F.Folder.told c.read_parent.new.folder) from there c.in_ok-len.ensures.reads.stays in
     let same : (take c.in_ok-len.len c.split_at_mut-key.result.0.now) ≡ object.key = ap (take c.in_ok-len.len) c.split_at_mut-key.ensures.front ∙ take-take c.in_ok-len.len 32768 c.read_parent.new.name c.in_ok-len.ensures.short ∙ c.in_ok-len.ensures.key from there object.key (has-key state layout keep chains unlinked number object c.args.parent.now.node c.args.parent.now.entry (cast_unsigned w64 c.args.parent.now.signature) from p) in
     let left = left-so state layout keep chains unlinked number object c.args.parent.now.node c.args.parent.now.entry (cast_unsigned w64 c.args.parent.now.signature) from p (take c.in_ok-len.len c.split_at_mut-key.result.0.now) same in
     let has = indexed-so state layout keep chains unlinked number object c.args.parent.now.node c.args.parent.now.entry (cast_unsigned w64 c.args.parent.now.signature) from p (take c.in_ok-len.len c.split_at_mut-key.result.0.now) (record { signature = _; any = c.in_ok-len.any }) same (of_z-to_z w64 (cast_unsigned w64 c.args.parent.now.signature) (let small = c.requires.signature in omega (arith, small))) (c.in_ok-len.ensures.none from there p.parent.was p.parent.index p.loads p.parent.role) in
@@ -95,7 +95,7 @@ returns-clause-session g c from there state layout keep chains unlinked number o
 
 pub returns-clause-keeps : goal.returns-clause-keeps
 returns-clause-keeps g c from there state layout keep chains unlinked number object p =
-    let at = stays-there (g.F.Folder.told c.args.folder.now) (g.F.Folder.told c.read_parent.new.folder) from there c.in_ok-len.ensures.stays in
+    let at = stays-there (g.F.Folder.told c.args.folder.now) (g.F.Folder.told c.read_parent.new.folder) from there c.in_ok-len.ensures.reads.stays in
     let same : (take c.in_ok-len.len c.split_at_mut-key.result.0.now) ≡ object.key = ap (take c.in_ok-len.len) c.split_at_mut-key.ensures.front ∙ take-take c.in_ok-len.len 32768 c.read_parent.new.name c.in_ok-len.ensures.short ∙ c.in_ok-len.ensures.key from there object.key (has-key state layout keep chains unlinked number object c.args.parent.now.node c.args.parent.now.entry (cast_unsigned w64 c.args.parent.now.signature) from p) in
     let left = left-so state layout keep chains unlinked number object c.args.parent.now.node c.args.parent.now.entry (cast_unsigned w64 c.args.parent.now.signature) from p (take c.in_ok-len.len c.split_at_mut-key.result.0.now) same in
     let has = indexed-so state layout keep chains unlinked number object c.args.parent.now.node c.args.parent.now.entry (cast_unsigned w64 c.args.parent.now.signature) from p (take c.in_ok-len.len c.split_at_mut-key.result.0.now) (record { signature = _; any = c.in_ok-len.any }) same (of_z-to_z w64 (cast_unsigned w64 c.args.parent.now.signature) (let small = c.requires.signature in omega (arith, small))) (c.in_ok-len.ensures.none from there p.parent.was p.parent.index p.loads p.parent.role) in
@@ -103,7 +103,7 @@ returns-clause-keeps g c from there state layout keep chains unlinked number obj
 
 pub returns-clause-each : goal.returns-clause-each
 returns-clause-each g c from there state layout keep chains unlinked number object p =
-    let at = stays-there (g.F.Folder.told c.args.folder.now) (g.F.Folder.told c.read_parent.new.folder) from there c.in_ok-len.ensures.stays in
+    let at = stays-there (g.F.Folder.told c.args.folder.now) (g.F.Folder.told c.read_parent.new.folder) from there c.in_ok-len.ensures.reads.stays in
     let same : (take c.in_ok-len.len c.split_at_mut-key.result.0.now) ≡ object.key = ap (take c.in_ok-len.len) c.split_at_mut-key.ensures.front ∙ take-take c.in_ok-len.len 32768 c.read_parent.new.name c.in_ok-len.ensures.short ∙ c.in_ok-len.ensures.key from there object.key (has-key state layout keep chains unlinked number object c.args.parent.now.node c.args.parent.now.entry (cast_unsigned w64 c.args.parent.now.signature) from p) in
     let left = left-so state layout keep chains unlinked number object c.args.parent.now.node c.args.parent.now.entry (cast_unsigned w64 c.args.parent.now.signature) from p (take c.in_ok-len.len c.split_at_mut-key.result.0.now) same in
     let has = indexed-so state layout keep chains unlinked number object c.args.parent.now.node c.args.parent.now.entry (cast_unsigned w64 c.args.parent.now.signature) from p (take c.in_ok-len.len c.split_at_mut-key.result.0.now) (record { signature = _; any = c.in_ok-len.any }) same (of_z-to_z w64 (cast_unsigned w64 c.args.parent.now.signature) (let small = c.requires.signature in omega (arith, small))) (c.in_ok-len.ensures.none from there p.parent.was p.parent.index p.loads p.parent.role) in
@@ -111,7 +111,7 @@ returns-clause-each g c from there state layout keep chains unlinked number obje
 
 pub returns-clause-front : goal.returns-clause-front
 returns-clause-front g c from there state layout keep chains unlinked number object p =
-    let at = stays-there (g.F.Folder.told c.args.folder.now) (g.F.Folder.told c.read_parent.new.folder) from there c.in_ok-len.ensures.stays in
+    let at = stays-there (g.F.Folder.told c.args.folder.now) (g.F.Folder.told c.read_parent.new.folder) from there c.in_ok-len.ensures.reads.stays in
     let same : (take c.in_ok-len.len c.split_at_mut-key.result.0.now) ≡ object.key = ap (take c.in_ok-len.len) c.split_at_mut-key.ensures.front ∙ take-take c.in_ok-len.len 32768 c.read_parent.new.name c.in_ok-len.ensures.short ∙ c.in_ok-len.ensures.key from there object.key (has-key state layout keep chains unlinked number object c.args.parent.now.node c.args.parent.now.entry (cast_unsigned w64 c.args.parent.now.signature) from p) in
     let left = left-so state layout keep chains unlinked number object c.args.parent.now.node c.args.parent.now.entry (cast_unsigned w64 c.args.parent.now.signature) from p (take c.in_ok-len.len c.split_at_mut-key.result.0.now) same in
     let has = indexed-so state layout keep chains unlinked number object c.args.parent.now.node c.args.parent.now.entry (cast_unsigned w64 c.args.parent.now.signature) from p (take c.in_ok-len.len c.split_at_mut-key.result.0.now) (record { signature = _; any = c.in_ok-len.any }) same (of_z-to_z w64 (cast_unsigned w64 c.args.parent.now.signature) (let small = c.requires.signature in omega (arith, small))) (c.in_ok-len.ensures.none from there p.parent.was p.parent.index p.loads p.parent.role) in
@@ -119,8 +119,8 @@ returns-clause-front g c from there state layout keep chains unlinked number obj
 
 pub returns-clause-stops : goal.returns-clause-stops
 returns-clause-stops g c from there state layout keep chains unlinked number object p =
-    let at = stays-there (g.F.Folder.told c.args.folder.now) (g.F.Folder.told c.read_parent.new.folder) from there c.in_ok-len.ensures.stays in
+    let at = stays-there (g.F.Folder.told c.args.folder.now) (g.F.Folder.told c.read_parent.new.folder) from there c.in_ok-len.ensures.reads.stays in
     let same : (take c.in_ok-len.len c.split_at_mut-key.result.0.now) ≡ object.key = ap (take c.in_ok-len.len) c.split_at_mut-key.ensures.front ∙ take-take c.in_ok-len.len 32768 c.read_parent.new.name c.in_ok-len.ensures.short ∙ c.in_ok-len.ensures.key from there object.key (has-key state layout keep chains unlinked number object c.args.parent.now.node c.args.parent.now.entry (cast_unsigned w64 c.args.parent.now.signature) from p) in
     let left = left-so state layout keep chains unlinked number object c.args.parent.now.node c.args.parent.now.entry (cast_unsigned w64 c.args.parent.now.signature) from p (take c.in_ok-len.len c.split_at_mut-key.result.0.now) same in
     let has = indexed-so state layout keep chains unlinked number object c.args.parent.now.node c.args.parent.now.entry (cast_unsigned w64 c.args.parent.now.signature) from p (take c.in_ok-len.len c.split_at_mut-key.result.0.now) (record { signature = _; any = c.in_ok-len.any }) same (of_z-to_z w64 (cast_unsigned w64 c.args.parent.now.signature) (let small = c.requires.signature in omega (arith, small))) (c.in_ok-len.ensures.none from there p.parent.was p.parent.index p.loads p.parent.role) in
-    passes_stayed c.in_ok-len.ensures.stays (c.in_ok-gone.ensures.stops from at state layout keep chains unlinked number object left has)
+    passes_stayed c.in_ok-len.ensures.reads.stays (c.in_ok-gone.ensures.stops from at state layout keep chains unlinked number object left has)

@@ -41,7 +41,7 @@ returns-clause-key g c image there key has = key-read image c.args.entry key c.a
 pub returns-in_err-len-clause-damaged : goal.returns-in_err-len-clause-damaged
 returns-in_err-len-clause-damaged g c =
     handed c.key_piece.result c.from_residual.result c.in_err-len.field-0.0 _ c.args.files.now (g.F.Folder.told c.key_piece.new.f)
-    (λ damage wrong. moved c.args.files.now (g.F.Folder.told c.args.folder.now) (g.F.Folder.told c.key_piece.new.f) damage c.key_piece.ensures.stays (part-checked c.args.files.now (g.F.Folder.told c.args.folder.now) c.args.entry _ _ damage c.requires.kind c.requires.stands wrong))
+    (λ damage wrong. moved c.args.files.now (g.F.Folder.told c.args.folder.now) (g.F.Folder.told c.key_piece.new.f) damage c.key_piece.ensures.reads.stays (part-checked c.args.files.now (g.F.Folder.told c.args.folder.now) c.args.entry _ _ damage c.requires.kind c.requires.stands wrong))
     c.in_err-len.was c.from_residual.ensures.1 c.key_piece.ensures.damaged
 
 pub returns-then-len-eq0-clause-damaged : goal.returns-then-len-eq0-clause-damaged
@@ -50,7 +50,7 @@ returns-then-len-eq0-clause-damaged g c =
     let least = c.min-found.ensures in
     let found : d.damage.found ≡ c.min-found.result = d.word.of_word in
     err_damaged ℕ c.record_damage.result d.damage (IsFailedCheck c.args.files.now (g.F.Folder.told c.key_piece.new.f)) d.is
-    (moved c.args.files.now (g.F.Folder.told c.args.folder.now) (g.F.Folder.told c.key_piece.new.f) d.damage c.in_ok-len.ensures.stays
+    (moved c.args.files.now (g.F.Folder.told c.args.folder.now) (g.F.Folder.told c.key_piece.new.f) d.damage c.in_ok-len.ensures.reads.stays
     (within-checked c.args.files.now (g.F.Folder.told c.args.folder.now) c.args.entry d.damage c.requires.kind c.requires.stands (WrongLength (record {
       of_word = subst (λ (n : ℕ). IsWordOf c.args.entry 32 n d.damage) (sym found) d.word;
       unlike = elim c.then-len-eq0.branch [

@@ -21,10 +21,10 @@ use Rattle.blk_sparse.proofs.dropping.drop_next.Goals as goal
 
 pub returns-in_err-part-clause-stops : goal.returns-in_err-part-clause-stops
 returns-in_err-part-clause-stops g c from there state layout keep chains unlinked number object left sig is =
-    stays-passes (g.F.Folder.told c.args.folder.now) (g.F.Folder.told c.next_part.new.folder) from (Finds (rest (doomed number state (Some object)))) there c.in_err-part.ensures.stays (left-finds state layout keep chains unlinked c.args.key.now number object from left)
+    stays-passes (g.F.Folder.told c.args.folder.now) (g.F.Folder.told c.next_part.new.folder) from (Finds (rest (doomed number state (Some object)))) there c.in_err-part.ensures.reads.stays (left-finds state layout keep chains unlinked c.args.key.now number object from left)
 
 pub returns-in_err-part-clause-is_open : goal.returns-in_err-part-clause-is_open
-returns-in_err-part-clause-is_open g c image is = c.requires.is_open image (ap (λ (t : Told). t.files) (sym c.in_err-part.ensures.stays) ∙ is)
+returns-in_err-part-clause-is_open g c image is = c.requires.is_open image (ap (λ (t : Told). t.files) (sym c.in_err-part.ensures.reads.stays) ∙ is)
 
 pub returns-in_err-part-clause-untold : goal.returns-in_err-part-clause-untold
 returns-in_err-part-clause-untold g c from there state layout keep chains unlinked number object left sig is =
@@ -34,37 +34,37 @@ returns-in_err-part-clause-untold g c from there state layout keep chains unlink
 pub returns-in_default-clause-next : goal.returns-in_default-clause-next
 returns-in_default-clause-next g c from there state layout keep chains unlinked number object left sig is image now =
     let none : c.in_ok-part.field-0 ≡ None = search rules in
-    (none-behind state layout keep chains unlinked c.args.key.now number object c.args.from from left is c.in_ok-part.field-0 none (c.in_ok-part.ensures.part from there), some_inj (sym now ∙ stays-there (g.F.Folder.told c.args.folder.now) (g.F.Folder.told c.next_part.new.folder) from there c.in_ok-part.ensures.stays))
+    (none-behind state layout keep chains unlinked c.args.key.now number object c.args.from from left is c.in_ok-part.field-0 none (c.in_ok-part.ensures.part from there), some_inj (sym now ∙ stays-there (g.F.Folder.told c.args.folder.now) (g.F.Folder.told c.next_part.new.folder) from there c.in_ok-part.ensures.reads.stays))
 
 pub returns-in_default-clause-session : goal.returns-in_default-clause-session
 returns-in_default-clause-session g c from there state layout keep chains unlinked number object left sig is image now =
-    same-session from image (some_inj (sym now ∙ stays-there (g.F.Folder.told c.args.folder.now) (g.F.Folder.told c.next_part.new.folder) from there c.in_ok-part.ensures.stays))
+    same-session from image (some_inj (sym now ∙ stays-there (g.F.Folder.told c.args.folder.now) (g.F.Folder.told c.next_part.new.folder) from there c.in_ok-part.ensures.reads.stays))
 
 pub returns-in_default-clause-keeps : goal.returns-in_default-clause-keeps
 returns-in_default-clause-keeps g c from there state layout keep chains unlinked number object left sig is image now =
-    same-unlinked unlinked from image (some_inj (sym now ∙ stays-there (g.F.Folder.told c.args.folder.now) (g.F.Folder.told c.next_part.new.folder) from there c.in_ok-part.ensures.stays))
+    same-unlinked unlinked from image (some_inj (sym now ∙ stays-there (g.F.Folder.told c.args.folder.now) (g.F.Folder.told c.next_part.new.folder) from there c.in_ok-part.ensures.reads.stays))
 
 pub returns-in_default-clause-stops : goal.returns-in_default-clause-stops
 returns-in_default-clause-stops g c from there state layout keep chains unlinked number object left sig is =
-    stays-passes (g.F.Folder.told c.args.folder.now) (g.F.Folder.told c.next_part.new.folder) from (Finds (rest (doomed number state (Some object)))) there c.in_ok-part.ensures.stays (left-finds state layout keep chains unlinked c.args.key.now number object from left)
+    stays-passes (g.F.Folder.told c.args.folder.now) (g.F.Folder.told c.next_part.new.folder) from (Finds (rest (doomed number state (Some object)))) there c.in_ok-part.ensures.reads.stays (left-finds state layout keep chains unlinked c.args.key.now number object from left)
 
 pub returns-in_default-clause-is_open : goal.returns-in_default-clause-is_open
-returns-in_default-clause-is_open g c image is = c.requires.is_open image (ap (λ (t : Told). t.files) (sym c.in_ok-part.ensures.stays) ∙ is)
+returns-in_default-clause-is_open g c image is = c.requires.is_open image (ap (λ (t : Told). t.files) (sym c.in_ok-part.ensures.reads.stays) ∙ is)
 
 pub returns-in_err-behind-clause-stops : goal.returns-in_err-behind-clause-stops
 returns-in_err-behind-clause-stops g c from there state layout keep chains unlinked number object left sig is =
-    stays-passes (g.F.Folder.told c.args.folder.now) (g.F.Folder.told c.before-2.new.f) from (Finds (rest (doomed number state (Some object)))) there (c.in_err-behind.ensures.stays ∙ c.in_ok-part.ensures.stays) (left-finds state layout keep chains unlinked c.args.key.now number object from left)
+    stays-passes (g.F.Folder.told c.args.folder.now) (g.F.Folder.told c.before-2.new.f) from (Finds (rest (doomed number state (Some object)))) there (c.in_err-behind.ensures.reads.stays ∙ c.in_ok-part.ensures.reads.stays) (left-finds state layout keep chains unlinked c.args.key.now number object from left)
 
 pub returns-in_err-behind-clause-is_open : goal.returns-in_err-behind-clause-is_open
-returns-in_err-behind-clause-is_open g c image is = c.requires.is_open image (ap (λ (t : Told). t.files) (sym (c.in_err-behind.ensures.stays ∙ c.in_ok-part.ensures.stays)) ∙ is)
+returns-in_err-behind-clause-is_open g c image is = c.requires.is_open image (ap (λ (t : Told). t.files) (sym (c.in_err-behind.ensures.reads.stays ∙ c.in_ok-part.ensures.reads.stays)) ∙ is)
 
 pub returns-in_err-behind-clause-untold : goal.returns-in_err-behind-clause-untold
 returns-in_err-behind-clause-untold g c from there state layout keep chains unlinked number object left sig is =
-    let at = stays-there (g.F.Folder.told c.args.folder.now) (g.F.Folder.told c.next_part.new.folder) from there c.in_ok-part.ensures.stays in
+    let at = stays-there (g.F.Folder.told c.args.folder.now) (g.F.Folder.told c.next_part.new.folder) from there c.in_ok-part.ensures.reads.stays in
     let first = first-behind state layout keep chains unlinked c.args.key.now number object c.args.from from left is c.in_ok-part.field-0 c.in-Some.part c.in-Some.is (c.in_ok-part.ensures.part from there) in
-    subst (λ (t : Told). IfDamaged c.from_residual-in_err-behind.result (λ _. t.files ≡ None)) c.in_ok-part.ensures.stays
+    subst (λ (t : Told). IfDamaged c.from_residual-in_err-behind.result (λ _. t.files ≡ None)) c.in_ok-part.ensures.reads.stays
     (carried c.before-2.result c.from_residual-in_err-behind.result c.in_err-behind.field-0.0 (λ _. (g.F.Folder.told c.next_part.new.folder).files ≡ None) c.in_err-behind.was c.from_residual-in_err-behind.ensures.1
-    (c.before-2.ensures.untold (λ image now. (c.requires.is_open image (ap (λ (t : Told). t.files) (sym c.in_ok-part.ensures.stays) ∙ now)).agrees)
+    (c.before-2.ensures.untold (λ image now. (c.requires.is_open image (ap (λ (t : Told). t.files) (sym c.in_ok-part.ensures.reads.stays) ∙ now)).agrees)
     (λ image now. subst (IsListed c.in-Some.part.node) (some_inj (sym at ∙ now)) (first-listed state layout keep chains unlinked c.args.key.now number object c.args.from from left is c.in-Some.part first))))
 
 pub drop_part-requires-clause-number : goal.drop_part-requires-clause-number
@@ -77,11 +77,11 @@ pub drop_part-requires-clause-kind : goal.drop_part-requires-clause-kind
 drop_part-requires-clause-kind g c = (of-some c.in_ok-part.field-0 c.in-Some.part _ c.in-Some.is c.in_ok-part.ensures.there).kind
 
 pub drop_part-requires-clause-is_open : goal.drop_part-requires-clause-is_open
-drop_part-requires-clause-is_open g c image is = c.requires.is_open image (ap (λ (t : Told). t.files) (sym (c.in_ok-behind.ensures.stays ∙ c.in_ok-part.ensures.stays)) ∙ is)
+drop_part-requires-clause-is_open g c image is = c.requires.is_open image (ap (λ (t : Told). t.files) (sym (c.in_ok-behind.ensures.reads.stays ∙ c.in_ok-part.ensures.reads.stays)) ∙ is)
 
 pub returns-in_err-charge-clause-stops : goal.returns-in_err-charge-clause-stops
 returns-in_err-charge-clause-stops g c from there state layout keep chains unlinked number object left sig is =
-    let stays = c.in_ok-behind.ensures.stays ∙ c.in_ok-part.ensures.stays in
+    let stays = c.in_ok-behind.ensures.reads.stays ∙ c.in_ok-part.ensures.reads.stays in
     let at = stays-there (g.F.Folder.told c.args.folder.now) (g.F.Folder.told c.before-2.new.f) from there stays in
     let first = first-behind state layout keep chains unlinked c.args.key.now number object c.args.from from left is c.in_ok-part.field-0 c.in-Some.part c.in-Some.is (c.in_ok-part.ensures.part from there) in
     let same : HasSignature layout c.args.key.now _ = subst (HasSignature layout c.args.key.now) (sym (of_z-to_z w64 (cast_unsigned w64 c.args.signature) (let small = c.requires.signature in omega (arith, small)))) sig in
@@ -89,7 +89,7 @@ returns-in_err-charge-clause-stops g c from there state layout keep chains unlin
 
 pub returns-in_err-charge-clause-untold : goal.returns-in_err-charge-clause-untold
 returns-in_err-charge-clause-untold g c from there state layout keep chains unlinked number object left sig is =
-    let stays = c.in_ok-behind.ensures.stays ∙ c.in_ok-part.ensures.stays in
+    let stays = c.in_ok-behind.ensures.reads.stays ∙ c.in_ok-part.ensures.reads.stays in
     let at = stays-there (g.F.Folder.told c.args.folder.now) (g.F.Folder.told c.before-2.new.f) from there stays in
     let first = first-behind state layout keep chains unlinked c.args.key.now number object c.args.from from left is c.in_ok-part.field-0 c.in-Some.part c.in-Some.is (c.in_ok-part.ensures.part from there) in
     let same : HasSignature layout c.args.key.now _ = subst (HasSignature layout c.args.key.now) (sym (of_z-to_z w64 (cast_unsigned w64 c.args.signature) (let small = c.requires.signature in omega (arith, small)))) sig in
@@ -99,9 +99,9 @@ returns-in_err-charge-clause-untold g c from there state layout keep chains unli
 
 pub returns-clause-next : goal.returns-clause-next
 returns-clause-next g c from there state layout keep chains unlinked number object left sig is image now =
-    let stays = c.in_ok-behind.ensures.stays ∙ c.in_ok-part.ensures.stays in
+    let stays = c.in_ok-behind.ensures.reads.stays ∙ c.in_ok-part.ensures.reads.stays in
     let at = stays-there (g.F.Folder.told c.args.folder.now) (g.F.Folder.told c.before-2.new.f) from there stays in
-    let mid = stays-there (g.F.Folder.told c.args.folder.now) (g.F.Folder.told c.next_part.new.folder) from there c.in_ok-part.ensures.stays in
+    let mid = stays-there (g.F.Folder.told c.args.folder.now) (g.F.Folder.told c.next_part.new.folder) from there c.in_ok-part.ensures.reads.stays in
     let first = first-behind state layout keep chains unlinked c.args.key.now number object c.args.from from left is c.in_ok-part.field-0 c.in-Some.part c.in-Some.is (c.in_ok-part.ensures.part from there) in
     let same : HasSignature layout c.args.key.now _ = subst (HasSignature layout c.args.key.now) (sym (of_z-to_z w64 (cast_unsigned w64 c.args.signature) (let small = c.requires.signature in omega (arith, small)))) sig in
     let p = first-left state layout keep chains unlinked c.args.key.now number object c.args.from from left is c.in-Some.part first in
@@ -112,7 +112,7 @@ returns-clause-next g c from there state layout keep chains unlinked number obje
 
 pub returns-clause-session : goal.returns-clause-session
 returns-clause-session g c from there state layout keep chains unlinked number object left sig is =
-    let stays = c.in_ok-behind.ensures.stays ∙ c.in_ok-part.ensures.stays in
+    let stays = c.in_ok-behind.ensures.reads.stays ∙ c.in_ok-part.ensures.reads.stays in
     let at = stays-there (g.F.Folder.told c.args.folder.now) (g.F.Folder.told c.before-2.new.f) from there stays in
     let first = first-behind state layout keep chains unlinked c.args.key.now number object c.args.from from left is c.in_ok-part.field-0 c.in-Some.part c.in-Some.is (c.in_ok-part.ensures.part from there) in
     let same : HasSignature layout c.args.key.now _ = subst (HasSignature layout c.args.key.now) (sym (of_z-to_z w64 (cast_unsigned w64 c.args.signature) (let small = c.requires.signature in omega (arith, small)))) sig in
@@ -120,7 +120,7 @@ returns-clause-session g c from there state layout keep chains unlinked number o
 
 pub returns-clause-keeps : goal.returns-clause-keeps
 returns-clause-keeps g c from there state layout keep chains unlinked number object left sig is =
-    let stays = c.in_ok-behind.ensures.stays ∙ c.in_ok-part.ensures.stays in
+    let stays = c.in_ok-behind.ensures.reads.stays ∙ c.in_ok-part.ensures.reads.stays in
     let at = stays-there (g.F.Folder.told c.args.folder.now) (g.F.Folder.told c.before-2.new.f) from there stays in
     let first = first-behind state layout keep chains unlinked c.args.key.now number object c.args.from from left is c.in_ok-part.field-0 c.in-Some.part c.in-Some.is (c.in_ok-part.ensures.part from there) in
     let same : HasSignature layout c.args.key.now _ = subst (HasSignature layout c.args.key.now) (sym (of_z-to_z w64 (cast_unsigned w64 c.args.signature) (let small = c.requires.signature in omega (arith, small)))) sig in
@@ -128,7 +128,7 @@ returns-clause-keeps g c from there state layout keep chains unlinked number obj
 
 pub returns-clause-stops : goal.returns-clause-stops
 returns-clause-stops g c from there state layout keep chains unlinked number object left sig is =
-    let stays = c.in_ok-behind.ensures.stays ∙ c.in_ok-part.ensures.stays in
+    let stays = c.in_ok-behind.ensures.reads.stays ∙ c.in_ok-part.ensures.reads.stays in
     let at = stays-there (g.F.Folder.told c.args.folder.now) (g.F.Folder.told c.before-2.new.f) from there stays in
     let first = first-behind state layout keep chains unlinked c.args.key.now number object c.args.from from left is c.in_ok-part.field-0 c.in-Some.part c.in-Some.is (c.in_ok-part.ensures.part from there) in
     let same : HasSignature layout c.args.key.now _ = subst (HasSignature layout c.args.key.now) (sym (of_z-to_z w64 (cast_unsigned w64 c.args.signature) (let small = c.requires.signature in omega (arith, small)))) sig in
@@ -137,11 +137,11 @@ returns-clause-stops g c from there state layout keep chains unlinked number obj
 pub returns-in_err-behind-clause-damaged : goal.returns-in_err-behind-clause-damaged
 returns-in_err-behind-clause-damaged g c =
     handed c.before-2.result c.from_residual-in_err-behind.result c.in_err-behind.field-0.0 _ c.args.files.now (g.F.Folder.told c.before-2.new.f)
-    (λ damage wrong. moved c.args.files.now (g.F.Folder.told c.next_part.new.folder) (g.F.Folder.told c.before-2.new.f) damage c.before-2.ensures.stays (node-word-checked c.args.files.now (g.F.Folder.told c.next_part.new.folder) _ _ damage wrong))
+    (λ damage wrong. moved c.args.files.now (g.F.Folder.told c.next_part.new.folder) (g.F.Folder.told c.before-2.new.f) damage c.before-2.ensures.reads.stays (node-word-checked c.args.files.now (g.F.Folder.told c.next_part.new.folder) _ _ damage wrong))
     c.in_err-behind.was c.from_residual-in_err-behind.ensures.1 c.before-2.ensures.damaged
 
 pub returns-in_err-charge-clause-damaged : goal.returns-in_err-charge-clause-damaged
 returns-in_err-charge-clause-damaged g c =
     carried c.drop_part.result c.from_residual-in_err-charge.result c.in_err-charge.field-0.0 (IsFailedCheck c.args.files.now (g.F.Folder.told c.drop_part.new.folder)) c.in_err-charge.was c.from_residual-in_err-charge.ensures.1
-    (c.drop_part.ensures.damaged (subst (λ (t : Told). ForSome t.files (SaysPart c.in-Some.part.entry c.args.key.now c.in-Some.part.number)) (sym (c.in_ok-behind.ensures.stays ∙ c.in_ok-part.ensures.stays))
+    (c.drop_part.ensures.damaged (subst (λ (t : Told). ForSome t.files (SaysPart c.in-Some.part.entry c.args.key.now c.in-Some.part.number)) (sym (c.in_ok-behind.ensures.reads.stays ∙ c.in_ok-part.ensures.reads.stays))
     (of-some c.in_ok-part.field-0 c.in-Some.part (λ part. ForSome (g.F.Folder.told c.args.folder.now).files (SaysPart part.entry c.args.key.now part.number)) c.in-Some.is c.in_ok-part.ensures.named)))

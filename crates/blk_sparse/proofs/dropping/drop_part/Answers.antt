@@ -22,10 +22,10 @@ use Rattle.blk_sparse.proofs.dropping.drop_part.Goals as goal
 
 pub returns-in_err-found-clause-stops : goal.returns-in_err-found-clause-stops
 returns-in_err-found-clause-stops g c from there state layout keep chains unlinked number object left sig p =
-    stays-passes (g.F.Folder.told c.args.folder.now) (g.F.Folder.told c.find.new.f) from (Finds (rest (doomed number state (Some object)))) there c.in_err-found.ensures.stays (left-finds state layout keep chains unlinked c.args.key.now number object from left)
+    stays-passes (g.F.Folder.told c.args.folder.now) (g.F.Folder.told c.find.new.f) from (Finds (rest (doomed number state (Some object)))) there c.in_err-found.ensures.reads.stays (left-finds state layout keep chains unlinked c.args.key.now number object from left)
 
 pub returns-in_err-found-clause-is_open : goal.returns-in_err-found-clause-is_open
-returns-in_err-found-clause-is_open g c image is = c.requires.is_open image (ap (λ (t : Told). t.files) (sym c.in_err-found.ensures.stays) ∙ is)
+returns-in_err-found-clause-is_open g c image is = c.requires.is_open image (ap (λ (t : Told). t.files) (sym c.in_err-found.ensures.reads.stays) ∙ is)
 
 pub returns-in_err-found-clause-untold : goal.returns-in_err-found-clause-untold
 returns-in_err-found-clause-untold g c from there state layout keep chains unlinked number object left sig p =
@@ -35,10 +35,10 @@ returns-in_err-found-clause-untold g c from there state layout keep chains unlin
 
 pub returns-in_default-clause-stops : goal.returns-in_default-clause-stops
 returns-in_default-clause-stops g c from there state layout keep chains unlinked number object left sig p =
-    stays-passes (g.F.Folder.told c.args.folder.now) (g.F.Folder.told c.find.new.f) from (Finds (rest (doomed number state (Some object)))) there c.in_ok-found.ensures.stays (left-finds state layout keep chains unlinked c.args.key.now number object from left)
+    stays-passes (g.F.Folder.told c.args.folder.now) (g.F.Folder.told c.find.new.f) from (Finds (rest (doomed number state (Some object)))) there c.in_ok-found.ensures.reads.stays (left-finds state layout keep chains unlinked c.args.key.now number object from left)
 
 pub returns-in_default-clause-is_open : goal.returns-in_default-clause-is_open
-returns-in_default-clause-is_open g c image is = c.requires.is_open image (ap (λ (t : Told). t.files) (sym c.in_ok-found.ensures.stays) ∙ is)
+returns-in_default-clause-is_open g c image is = c.requires.is_open image (ap (λ (t : Told). t.files) (sym c.in_ok-found.ensures.reads.stays) ∙ is)
 
 pub returns-in_default-clause-untold : goal.returns-in_default-clause-untold
 returns-in_default-clause-untold g c from there state layout keep chains unlinked number object left sig p =
@@ -46,13 +46,13 @@ returns-in_default-clause-untold g c from there state layout keep chains unlinke
     absurd (none-found (cast_unsigned w64 c.args.signature) c.args.part.now.number c.args.part.now.node state layout keep chains unlinked c.args.key.now number object from left sig p (take c.child_name-len.result c.child_name-len.new.out) c.in_ok-found.field-0 none (c.child_name-len.ensures.name ∙ ap (λ (s : ℕ). child_name c.args.key.now s c.args.part.now.number) (of_z-to_z w64 (cast_unsigned w64 c.args.signature) (let small = c.requires.signature in omega (arith, small)))) (c.in_ok-found.ensures.found from there))
 
 pub remove_part-requires-clause-is_open : goal.remove_part-requires-clause-is_open
-remove_part-requires-clause-is_open g c image is = c.requires.is_open image (ap (λ (t : Told). t.files) (sym c.in_ok-found.ensures.stays) ∙ is)
+remove_part-requires-clause-is_open g c image is = c.requires.is_open image (ap (λ (t : Told). t.files) (sym c.in_ok-found.ensures.reads.stays) ∙ is)
 
 pub returns-clause-out : goal.returns-clause-out
 returns-clause-out g c =
     on_ok_weaker c.remove_part.result
     (λ removed from there state layout keep chains unlinked number object left sig p image is.
-    let at = stays-there (g.F.Folder.told c.args.folder.now) (g.F.Folder.told c.find.new.f) from there c.in_ok-found.ensures.stays in
+    let at = stays-there (g.F.Folder.told c.args.folder.now) (g.F.Folder.told c.find.new.f) from there c.in_ok-found.ensures.reads.stays in
     let f = some-found (cast_unsigned w64 c.args.signature) c.args.part.now.number c.args.part.now.node state layout keep chains unlinked c.args.key.now number object from left sig p (take c.child_name-len.result c.child_name-len.new.out) c.in_ok-found.field-0 c.in-Some.found c.in-Some.is (c.child_name-len.ensures.name ∙ ap (λ (s : ℕ). child_name c.args.key.now s c.args.part.now.number) (of_z-to_z w64 (cast_unsigned w64 c.args.signature) (let small = c.requires.signature in omega (arith, small)))) (c.in_ok-found.ensures.found from there) in
     others-left _ c.args.part.now.number c.args.part.now.node state layout keep chains unlinked c.args.key.now number object from left sig p c.in-Some.found.entry image (removed from at state layout keep chains unlinked (part c.args.key.now c.args.part.now.number) left.kept f.next left.counted image is))
     c.remove_part.ensures.removed
@@ -61,7 +61,7 @@ pub returns-clause-charge : goal.returns-clause-charge
 returns-clause-charge g c =
     if_ok_weaker c.remove_part.result _ _
     (λ charge is from there state layout keep chains unlinked number object left sig p.
-    let at = stays-there (g.F.Folder.told c.args.folder.now) (g.F.Folder.told c.find.new.f) from there c.in_ok-found.ensures.stays in
+    let at = stays-there (g.F.Folder.told c.args.folder.now) (g.F.Folder.told c.find.new.f) from there c.in_ok-found.ensures.reads.stays in
     let f = some-found (cast_unsigned w64 c.args.signature) c.args.part.now.number c.args.part.now.node state layout keep chains unlinked c.args.key.now number object from left sig p (take c.child_name-len.result c.child_name-len.new.out) c.in_ok-found.field-0 c.in-Some.found c.in-Some.is (c.child_name-len.ensures.name ∙ ap (λ (s : ℕ). child_name c.args.key.now s c.args.part.now.number) (of_z-to_z w64 (cast_unsigned w64 c.args.signature) (let small = c.requires.signature in omega (arith, small)))) (c.in_ok-found.ensures.found from there) in
     is from at p.was f.loads)
     c.remove_part.ensures.charge
@@ -70,7 +70,7 @@ pub returns-clause-session : goal.returns-clause-session
 returns-clause-session g c =
     on_ok_weaker c.remove_part.result
     (λ session from there state layout keep chains unlinked number object left sig p.
-    let at = stays-there (g.F.Folder.told c.args.folder.now) (g.F.Folder.told c.find.new.f) from there c.in_ok-found.ensures.stays in
+    let at = stays-there (g.F.Folder.told c.args.folder.now) (g.F.Folder.told c.find.new.f) from there c.in_ok-found.ensures.reads.stays in
     let f = some-found (cast_unsigned w64 c.args.signature) c.args.part.now.number c.args.part.now.node state layout keep chains unlinked c.args.key.now number object from left sig p (take c.child_name-len.result c.child_name-len.new.out) c.in_ok-found.field-0 c.in-Some.found c.in-Some.is (c.child_name-len.ensures.name ∙ ap (λ (s : ℕ). child_name c.args.key.now s c.args.part.now.number) (of_z-to_z w64 (cast_unsigned w64 c.args.signature) (let small = c.requires.signature in omega (arith, small)))) (c.in_ok-found.ensures.found from there) in
     session from at state layout keep chains unlinked (part c.args.key.now c.args.part.now.number) left.kept f.next)
     c.remove_part.ensures.session
@@ -79,31 +79,31 @@ pub returns-clause-keeps : goal.returns-clause-keeps
 returns-clause-keeps g c =
     on_ok_weaker c.remove_part.result
     (λ keeps from there state layout keep chains unlinked number object left sig p.
-    let at = stays-there (g.F.Folder.told c.args.folder.now) (g.F.Folder.told c.find.new.f) from there c.in_ok-found.ensures.stays in
+    let at = stays-there (g.F.Folder.told c.args.folder.now) (g.F.Folder.told c.find.new.f) from there c.in_ok-found.ensures.reads.stays in
     let f = some-found (cast_unsigned w64 c.args.signature) c.args.part.now.number c.args.part.now.node state layout keep chains unlinked c.args.key.now number object from left sig p (take c.child_name-len.result c.child_name-len.new.out) c.in_ok-found.field-0 c.in-Some.found c.in-Some.is (c.child_name-len.ensures.name ∙ ap (λ (s : ℕ). child_name c.args.key.now s c.args.part.now.number) (of_z-to_z w64 (cast_unsigned w64 c.args.signature) (let small = c.requires.signature in omega (arith, small)))) (c.in_ok-found.ensures.found from there) in
     keeps from at state layout keep chains unlinked (part c.args.key.now c.args.part.now.number) left.kept f.next)
     c.remove_part.ensures.keeps
 
 pub returns-clause-stops : goal.returns-clause-stops
 returns-clause-stops g c from there state layout keep chains unlinked number object left sig p =
-    let at = stays-there (g.F.Folder.told c.args.folder.now) (g.F.Folder.told c.find.new.f) from there c.in_ok-found.ensures.stays in
+    let at = stays-there (g.F.Folder.told c.args.folder.now) (g.F.Folder.told c.find.new.f) from there c.in_ok-found.ensures.reads.stays in
     let f = some-found (cast_unsigned w64 c.args.signature) c.args.part.now.number c.args.part.now.node state layout keep chains unlinked c.args.key.now number object from left sig p (take c.child_name-len.result c.child_name-len.new.out) c.in_ok-found.field-0 c.in-Some.found c.in-Some.is (c.child_name-len.ensures.name ∙ ap (λ (s : ℕ). child_name c.args.key.now s c.args.part.now.number) (of_z-to_z w64 (cast_unsigned w64 c.args.signature) (let small = c.requires.signature in omega (arith, small)))) (c.in_ok-found.ensures.found from there) in
-    passes_stayed c.in_ok-found.ensures.stays
+    passes_stayed c.in_ok-found.ensures.reads.stays
     (c.remove_part.ensures.part from at state layout keep chains unlinked number object c.args.part.now.number left.kept left.here
     (others-stay _ c.args.part.now.number c.args.part.now.node state layout keep chains unlinked c.args.key.now number object from left sig p)
     (of-object _ c.args.part.now.number c.args.part.now.node state layout keep chains unlinked c.args.key.now number object from left sig p c.in-Some.found f.next))
 
 pub returns-clause-untold : goal.returns-clause-untold
 returns-clause-untold g c from there state layout keep chains unlinked number object left sig p =
-    let at = stays-there (g.F.Folder.told c.args.folder.now) (g.F.Folder.told c.find.new.f) from there c.in_ok-found.ensures.stays in
+    let at = stays-there (g.F.Folder.told c.args.folder.now) (g.F.Folder.told c.find.new.f) from there c.in_ok-found.ensures.reads.stays in
     let f = some-found (cast_unsigned w64 c.args.signature) c.args.part.now.number c.args.part.now.node state layout keep chains unlinked c.args.key.now number object from left sig p (take c.child_name-len.result c.child_name-len.new.out) c.in_ok-found.field-0 c.in-Some.found c.in-Some.is (c.child_name-len.ensures.name ∙ ap (λ (s : ℕ). child_name c.args.key.now s c.args.part.now.number) (of_z-to_z w64 (cast_unsigned w64 c.args.signature) (let small = c.requires.signature in omega (arith, small)))) (c.in_ok-found.ensures.found from there) in
-    subst (λ (t : Told). IfDamaged c.remove_part.result (λ _. t.files ≡ None)) c.in_ok-found.ensures.stays
+    subst (λ (t : Told). IfDamaged c.remove_part.result (λ _. t.files ≡ None)) c.in_ok-found.ensures.reads.stays
     (c.remove_part.ensures.untold from at state layout keep chains unlinked (part c.args.key.now c.args.part.now.number) left.kept f.next)
 
 pub returns-in_err-found-clause-damaged : goal.returns-in_err-found-clause-damaged
 returns-in_err-found-clause-damaged g c says =
     handed c.find.result c.from_residual.result c.in_err-found.field-0.0 _ c.args.files.now (g.F.Folder.told c.find.new.f)
-    (λ damage wrong. moved c.args.files.now (g.F.Folder.told c.args.folder.now) (g.F.Folder.told c.find.new.f) damage c.find.ensures.stays (search-checked c.args.files.now (g.F.Folder.told c.args.folder.now) _ _ damage wrong))
+    (λ damage wrong. moved c.args.files.now (g.F.Folder.told c.args.folder.now) (g.F.Folder.told c.find.new.f) damage c.find.ensures.reads.stays (search-checked c.args.files.now (g.F.Folder.told c.args.folder.now) _ _ damage wrong))
     c.in_err-found.was c.from_residual.ensures.1 c.find.ensures.damaged
 
 pub returns-in_default-clause-damaged : goal.returns-in_default-clause-damaged
@@ -112,7 +112,7 @@ returns-in_default-clause-damaged g c says =
     let none : c.in_ok-found.field-0 ≡ None = search rules in
     let name = take c.child_name-len.result c.child_name-len.new.out in
     err_damaged ℕ c.record_damage.result d.damage (IsFailedCheck c.args.files.now (g.F.Folder.told c.find.new.f)) d.is
-    (moved c.args.files.now (g.F.Folder.told c.args.folder.now) (g.F.Folder.told c.find.new.f) d.damage c.in_ok-found.ensures.stays
+    (moved c.args.files.now (g.F.Folder.told c.args.folder.now) (g.F.Folder.told c.find.new.f) d.damage c.in_ok-found.ensures.reads.stays
     (within-checked c.args.files.now (g.F.Folder.told c.args.folder.now) c.args.part.now.entry d.damage c.requires.kind c.requires.stands (WrongChain (record {
       key = name;
       is_child = true;

@@ -160,6 +160,6 @@ loop-preserved g c = record {
   buffer = let one = c.drop_next.auto.buffer in let two = c.loop.invariant.buffer in omega (arith, one, two);
   callable = search (rules, of_calls);
   is_open = c.in_ok-dropped.ensures.is_open;
-  silent = λ none. c.in_ok-dropped.ensures.silent (c.loop.invariant.silent none);
-  later = let one = c.loop.invariant.later in let two = c.in_ok-dropped.ensures.later in omega (arith, one, two);
+  silent = λ none. c.in_ok-dropped.ensures.writes.silent (c.loop.invariant.silent none);
+  later = let one = c.loop.invariant.later in let two = c.in_ok-dropped.ensures.writes.later in omega (arith, one, two);
 }

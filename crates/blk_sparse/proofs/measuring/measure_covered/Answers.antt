@@ -38,18 +38,18 @@ returns-in_err-front-clause-untold g c from there state layout unlinked number o
     (c.measure_piece-2.ensures.untold from there state layout unlinked number object node entry (signed-parent state layout unlinked number object node entry (cast_unsigned w64 c.args.signature) _ from (of_z-to_z w64 (cast_unsigned w64 c.args.signature) (let small = c.requires.signature in omega (arith, small))) p) of_key)
 
 pub measure_piece-requires-3-clause-is_open : goal.measure_piece-requires-3-clause-is_open
-measure_piece-requires-3-clause-is_open g c image is = c.requires.is_open image (ap (λ (t : Told). t.files) (sym c.in_ok-front.ensures.stays) ∙ is)
+measure_piece-requires-3-clause-is_open g c image is = c.requires.is_open image (ap (λ (t : Told). t.files) (sym c.in_ok-front.ensures.reads.stays) ∙ is)
 
 pub returns-in_err-back-clause-untold : goal.returns-in_err-back-clause-untold
 returns-in_err-back-clause-untold g c from there state layout unlinked number object node entry p of_key =
-    let at = stays-there (g.F.Folder.told c.args.folder.now) (g.F.Folder.told c.measure_piece-2.new.folder) from there c.in_ok-front.ensures.stays in
-    subst (λ (t : Told). IfDamaged c.from_residual-in_err-back.result (λ _. t.files ≡ None)) c.in_ok-front.ensures.stays
+    let at = stays-there (g.F.Folder.told c.args.folder.now) (g.F.Folder.told c.measure_piece-2.new.folder) from there c.in_ok-front.ensures.reads.stays in
+    subst (λ (t : Told). IfDamaged c.from_residual-in_err-back.result (λ _. t.files ≡ None)) c.in_ok-front.ensures.reads.stays
     (carried c.measure_piece-3.result c.from_residual-in_err-back.result c.in_err-back.field-0.0 (λ _. (g.F.Folder.told c.measure_piece-2.new.folder).files ≡ None) c.in_err-back.was c.from_residual-in_err-back.ensures.1
     (c.measure_piece-3.ensures.untold from at state layout unlinked number object node entry (signed-parent state layout unlinked number object node entry (cast_unsigned w64 c.args.signature) _ from (of_z-to_z w64 (cast_unsigned w64 c.args.signature) (let small = c.requires.signature in omega (arith, small))) p) of_key))
 
 pub returns-clause-measured : goal.returns-clause-measured
 returns-clause-measured g c from there state layout unlinked number object node entry p of_key =
-    let at = stays-there (g.F.Folder.told c.args.folder.now) (g.F.Folder.told c.measure_piece-2.new.folder) from there c.in_ok-front.ensures.stays in
+    let at = stays-there (g.F.Folder.told c.args.folder.now) (g.F.Folder.told c.measure_piece-2.new.folder) from there c.in_ok-front.ensures.reads.stays in
     let sig = of_z-to_z w64 (cast_unsigned w64 c.args.signature) (let small = c.requires.signature in omega (arith, small)) in
     let place = c.child_of-number.ensures.place in
     let wide = c.from.ensures in

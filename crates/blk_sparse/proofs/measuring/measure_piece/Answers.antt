@@ -20,20 +20,20 @@ returns-in_err-part-clause-untold g c from there state layout unlinked number ob
 pub returns-in-Some-clause-measured : goal.returns-in-Some-clause-measured
 returns-in-Some-clause-measured g c = IfOk-weaker c.measure_there.result _ _
     (λ _ m from there state layout unlinked number object node entry p of_key.
-    let at = stays-there (g.F.Folder.told c.args.folder.now) (g.F.Folder.told c.find_part.new.folder) from there c.in_ok-part.ensures.stays in
+    let at = stays-there (g.F.Folder.told c.args.folder.now) (g.F.Folder.told c.find_part.new.folder) from there c.in_ok-part.ensures.reads.stays in
     let has = subst (IsPartFound layout object c.args.number) c.in-Some.is (c.in_ok-part.ensures.part from there state layout unlinked number object node entry (signed-parent state layout unlinked number object node entry (cast_unsigned w64 c.args.signature) _ from (of_z-to_z w64 (cast_unsigned w64 c.args.signature) (let small = c.requires.signature in omega (arith, small))) p) of_key) in
     m from at state layout unlinked number object node entry (cast_unsigned w64 c.args.signature) c.args.number p has)
     c.measure_there.ensures.measured
 
 pub returns-in-Some-clause-untold : goal.returns-in-Some-clause-untold
 returns-in-Some-clause-untold g c from there state layout unlinked number object node entry p of_key =
-    let at = stays-there (g.F.Folder.told c.args.folder.now) (g.F.Folder.told c.find_part.new.folder) from there c.in_ok-part.ensures.stays in
+    let at = stays-there (g.F.Folder.told c.args.folder.now) (g.F.Folder.told c.find_part.new.folder) from there c.in_ok-part.ensures.reads.stays in
     let has = subst (IsPartFound layout object c.args.number) c.in-Some.is (c.in_ok-part.ensures.part from there state layout unlinked number object node entry (signed-parent state layout unlinked number object node entry (cast_unsigned w64 c.args.signature) _ from (of_z-to_z w64 (cast_unsigned w64 c.args.signature) (let small = c.requires.signature in omega (arith, small))) p) of_key) in
-    subst (λ (t : Told). IfDamaged c.measure_there.result (λ _. t.files ≡ None)) c.in_ok-part.ensures.stays
+    subst (λ (t : Told). IfDamaged c.measure_there.result (λ _. t.files ≡ None)) c.in_ok-part.ensures.reads.stays
     (c.measure_there.ensures.untold from at state layout unlinked number object node entry (cast_unsigned w64 c.args.signature) c.args.number p has)
 
 pub measure_there-requires-clause-is_open : goal.measure_there-requires-clause-is_open
-measure_there-requires-clause-is_open g c image is = c.requires.is_open image (ap (λ (t : Told). t.files) (sym c.in_ok-part.ensures.stays) ∙ is)
+measure_there-requires-clause-is_open g c image is = c.requires.is_open image (ap (λ (t : Told). t.files) (sym c.in_ok-part.ensures.reads.stays) ∙ is)
 
 pub returns-in-None-clause-measured : goal.returns-in-None-clause-measured
 returns-in-None-clause-measured g c from there state layout unlinked number object node entry p of_key =

@@ -27,20 +27,20 @@ returns-in_err-node-clause-untold g c from there state layout unlinked number ob
 pub returns-in_err-node-clause-damaged : goal.returns-in_err-node-clause-damaged
 returns-in_err-node-clause-damaged g c =
     handed c.node_of.result c.from_residual.result c.in_err-node.field-0.0 _ c.args.files.now (g.F.Folder.told c.node_of.new.folder)
-    (λ damage wrong. moved c.args.files.now (g.F.Folder.told c.args.folder.now) (g.F.Folder.told c.node_of.new.folder) damage c.node_of.ensures.stays (node-word-checked c.args.files.now (g.F.Folder.told c.args.folder.now) _ _ damage wrong))
+    (λ damage wrong. moved c.args.files.now (g.F.Folder.told c.args.folder.now) (g.F.Folder.told c.node_of.new.folder) damage c.node_of.ensures.reads.stays (node-word-checked c.args.files.now (g.F.Folder.told c.args.folder.now) _ _ damage wrong))
     c.in_err-node.was c.from_residual.ensures.1 c.node_of.ensures.damaged
 
 pub returns-in_err-head-clause-untold : goal.returns-in_err-head-clause-untold
 returns-in_err-head-clause-untold g c from there state layout unlinked number object node entry signature n p at =
-    let same = ap (λ (t : Told). t.files) (sym c.in_ok-node.ensures.stays) in
+    let same = ap (λ (t : Told). t.files) (sym c.in_ok-node.ensures.reads.stays) in
     carried c.read_head.result c.from_residual-in_err-head.result c.in_err-head.field-0.0 (λ _. (g.F.Folder.told c.args.folder.now).files ≡ None) c.in_err-head.was c.from_residual-in_err-head.ensures.1
-    (subst (λ (t : Told). IfDamaged c.read_head.result (λ _. t.files ≡ None)) c.in_ok-node.ensures.stays
+    (subst (λ (t : Told). IfDamaged c.read_head.result (λ _. t.files ≡ None)) c.in_ok-node.ensures.reads.stays
     (c.read_head.ensures.untold (λ image is. (c.requires.is_open image (same ∙ is)).agrees)
     (λ image is. loaded-checks image c.args.part at.was (g.met.F.Folder.are_bytes c.node_of.new.folder image is) (subst (LoadsWith c.args.part at.was) (some_inj (sym there ∙ same ∙ is)) (part-loads state layout unlinked number object node entry signature from p n c.args.part at)))))
 
 pub returns-clause-measured : goal.returns-clause-measured
 returns-clause-measured g c from there state layout unlinked number object node entry signature n p at =
-    let now = stays-there (g.F.Folder.told c.args.folder.now) (g.F.Folder.told c.node_of.new.folder) from there c.in_ok-node.ensures.stays in
+    let now = stays-there (g.F.Folder.told c.args.folder.now) (g.F.Folder.told c.node_of.new.folder) from there c.in_ok-node.ensures.reads.stays in
     there-measured state layout unlinked number object node entry signature from p n c.args.part at c.in_ok-head.head c.in_ok-node.node c.args.end
     (record { node = Some c.in_ok-node.node; charged = c.charge_of_head.result; bytes = c.saturating_sub.result })
     (c.in_ok-head.ensures.head from now) (c.in_ok-node.ensures.node from there) refl c.charge_of_head.ensures.charge (c.saturating_sub.ensures ∙ ap (λ (k : ℕ). c.args.end - k) c.from.ensures)

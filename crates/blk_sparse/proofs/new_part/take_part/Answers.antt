@@ -36,7 +36,7 @@ returns-in_err-stored-clause-untold g c room =
     let i : ℕ = c.in_ok-index.index in
     carried c.take_stream-2.result c.from_residual-in_err-stored.result c.in_err-stored.field-0.0 (λ _. a.files ≡ None) c.in_err-stored.was c.from_residual-in_err-stored.ensures.1
     (if_damaged_weaker c.take_stream-2.result (λ _. b.files ≡ None) (λ _. a.files ≡ None) (λ damage none. tells-first a b 1 4 (i ∷ []) (one-word i) c.take_stream.ensures.stops room none)
-    (c.take_stream-2.ensures.untold (λ mid now. fewer 1 3 mid (room-left a b 1 4 (i ∷ []) (one-word i) c.take_stream.ensures.stops c.in_ok-index.ensures.taken c.take_stream.ensures.silent room mid now))))
+    (c.take_stream-2.ensures.untold (λ mid now. fewer 1 3 mid (room-left a b 1 4 (i ∷ []) (one-word i) c.take_stream.ensures.stops c.in_ok-index.ensures.taken c.take_stream.ensures.writes.silent room mid now))))
 
 pub returns-in_err-places-clause-stops : goal.returns-in_err-places-clause-stops
 returns-in_err-places-clause-stops g c =
@@ -60,7 +60,7 @@ returns-in_err-places-clause-untold g c room =
     let taken : ForSome a.files (λ from. LeavesRoom 2 from → ForSome d.files (Takes (s ∷ i ∷ []) from)) = both-taken a b 1 1 (i ∷ []) (one-word i) c.take_stream.ensures.stops c.in_ok-index.ensures.taken d c.take_stream-2.ensures.stops (s ∷ []) c.in_ok-stored.ensures.taken in
     carried c.take_places.result c.from_residual-in_err-places.result c.in_err-places.field-0.0 (λ _. a.files ≡ None) c.in_err-places.was c.from_residual-in_err-places.ensures.1
     (if_damaged_weaker c.take_places.result (λ _. d.files ≡ None) (λ _. a.files ≡ None) (λ damage none. tells-first a d 2 3 (s ∷ i ∷ []) (two-words s i) two room none)
-    (c.take_places.ensures.untold (room-left a d 2 3 (s ∷ i ∷ []) (two-words s i) two taken (λ none. c.take_stream-2.ensures.silent (c.take_stream.ensures.silent none)) room)))
+    (c.take_places.ensures.untold (room-left a d 2 3 (s ∷ i ∷ []) (two-words s i) two taken (λ none. c.take_stream-2.ensures.writes.silent (c.take_stream.ensures.writes.silent none)) room)))
 
 pub returns-clause-stops : goal.returns-clause-stops
 returns-clause-stops g c =

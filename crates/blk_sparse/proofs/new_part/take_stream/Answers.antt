@@ -37,7 +37,7 @@ returns-in_err-addr-clause-damaged g c =
 
 pub returns-in_err-check_index-clause-stops : goal.returns-in_err-check_index-clause-stops
 returns-in_err-check_index-clause-stops g c from there room =
-    then-stays (g.F.Folder.told c.args.folder.now) (g.F.Folder.told c.store_new.new.folder) (g.F.Folder.told c.check_index.new.folder) c.check_index.ensures.stays
+    then-stays (g.F.Folder.told c.args.folder.now) (g.F.Folder.told c.store_new.new.folder) (g.F.Folder.told c.check_index.new.folder) c.check_index.ensures.reads.stays
     (storing-finds (g.F.Folder.told c.args.folder.now) (g.F.Folder.told c.store_new.new.folder) c.args.files.now c.store_new.new.files (c.args.offset + length c.args.bytes.now) (omega (arith, c.requires.some)) c.requires.is_open c.store_new.ensures.stages from there room)
 
 pub returns-in_err-check_index-clause-untold : goal.returns-in_err-check_index-clause-untold
@@ -47,7 +47,7 @@ returns-in_err-check_index-clause-untold g c room =
     let size : ℕ = c.args.offset + length c.args.bytes.now in
     carried c.check_index.result c.from_residual-in_err-check_index.result c.in_err-check_index.field-0.0 (λ _. a.files ≡ None) c.in_err-check_index.was c.from_residual-in_err-check_index.ensures.1
     (if_damaged_weaker c.check_index.result (λ _. b.files ≡ None) (λ _. a.files ≡ None) (λ damage none. storing-tells a b c.args.files.now c.store_new.new.files size (omega (arith, c.requires.some)) c.requires.is_open c.store_new.ensures.stages room none)
-    (c.check_index.ensures.untold (stored-whole a b c.args.files.now c.store_new.new.files size (omega (arith, c.requires.some)) c.requires.is_open c.store_new.ensures.stages c.in_ok-addr.addr c.in_ok-addr.ensures.staged c.store_new.ensures.silent room)))
+    (c.check_index.ensures.untold (stored-whole a b c.args.files.now c.store_new.new.files size (omega (arith, c.requires.some)) c.requires.is_open c.store_new.ensures.stages c.in_ok-addr.addr c.in_ok-addr.ensures.staged c.store_new.ensures.writes.silent room)))
 
 pub returns-in_err-check_index-clause-damaged : goal.returns-in_err-check_index-clause-damaged
 returns-in_err-check_index-clause-damaged g c =
@@ -58,13 +58,13 @@ returns-clause-address g c = ap is_address (sym c.word-word.ensures.word) ∙ c.
 
 pub returns-clause-stops : goal.returns-clause-stops
 returns-clause-stops g c from there room =
-    then-stays (g.F.Folder.told c.args.folder.now) (g.F.Folder.told c.store_new.new.folder) (g.F.Folder.told c.check_index.new.folder) c.check_index.ensures.stays
+    then-stays (g.F.Folder.told c.args.folder.now) (g.F.Folder.told c.store_new.new.folder) (g.F.Folder.told c.check_index.new.folder) c.check_index.ensures.reads.stays
     (storing-finds (g.F.Folder.told c.args.folder.now) (g.F.Folder.told c.store_new.new.folder) c.args.files.now c.store_new.new.files (c.args.offset + length c.args.bytes.now) (omega (arith, c.requires.some)) c.requires.is_open c.store_new.ensures.stages from there room)
 
 pub returns-clause-taken : goal.returns-clause-taken
 returns-clause-taken g c =
     let a : Told = g.F.Folder.told c.args.folder.now in
-    subst (λ (t : Told). ForSome a.files (λ from. LeavesRoom 1 from → ForSome t.files (Takes (c.in_ok-addr.addr ∷ []) from))) (sym c.check_index.ensures.stays)
+    subst (λ (t : Told). ForSome a.files (λ from. LeavesRoom 1 from → ForSome t.files (Takes (c.in_ok-addr.addr ∷ []) from))) (sym c.check_index.ensures.reads.stays)
     (stored-taken a (g.F.Folder.told c.store_new.new.folder) c.args.files.now c.store_new.new.files (c.args.offset + length c.args.bytes.now) (omega (arith, c.requires.some)) c.requires.is_open c.store_new.ensures.stages c.in_ok-addr.addr c.in_ok-addr.ensures.staged)
 
 pub returns-clause-stored : goal.returns-clause-stored
@@ -73,10 +73,10 @@ returns-clause-stored g c from there room image now =
     let b : Told = g.F.Folder.told c.store_new.new.folder in
     let size : ℕ = c.args.offset + length c.args.bytes.now in
     ap (λ (n : ℕ). (store_of image).stored n c.in_ok-addr.addr) (new-long c.args.offset c.args.bytes.now)
-    ∙ c.in_ok-addr.ensures.stored from there (can-place a b c.args.files.now c.store_new.new.files size (omega (arith, c.requires.some)) c.requires.is_open from there room) image (ap (λ (t : Told). t.files) (sym c.check_index.ensures.stays) ∙ now)
+    ∙ c.in_ok-addr.ensures.stored from there (can-place a b c.args.files.now c.store_new.new.files size (omega (arith, c.requires.some)) c.requires.is_open from there room) image (ap (λ (t : Told). t.files) (sym c.check_index.ensures.reads.stays) ∙ now)
 
 pub returns-clause-is_open : goal.returns-clause-is_open
 returns-clause-is_open g c image there = record {
-  agrees = subst (λ (t : Told). ForSome t.files (Agrees c.store_new.new.files)) (sym c.check_index.ensures.stays) c.in_ok-addr.ensures.agrees image there;
-  whole_index = subst (λ (t : Told). ForSome t.files HasWholeIndex) (sym c.check_index.ensures.stays) c.in_ok-check_index.ensures.whole image there;
+  agrees = subst (λ (t : Told). ForSome t.files (Agrees c.store_new.new.files)) (sym c.check_index.ensures.reads.stays) c.in_ok-addr.ensures.agrees image there;
+  whole_index = subst (λ (t : Told). ForSome t.files HasWholeIndex) (sym c.check_index.ensures.reads.stays) c.in_ok-check_index.ensures.whole image there;
 }

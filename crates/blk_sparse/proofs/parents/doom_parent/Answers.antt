@@ -19,39 +19,39 @@ use Rattle.blk_sparse.proofs.parents.doom_parent.Goals as goal
 
 pub returns-in_err-indexed-clause-stops : goal.returns-in_err-indexed-clause-stops
 returns-in_err-indexed-clause-stops g c from there state layout unlinked number object m charge =
-    stays-passes (g.F.Folder.told c.args.folder.now) (g.F.Folder.told c.read_index.new.folder) from (FindsEither state (doomed number state (Some object))) there c.in_err-indexed.ensures.stays (at-rest state layout unlinked number object c.args.key.now c.args.node c.args.found.now.entry c.args.found.now.before from m)
+    stays-passes (g.F.Folder.told c.args.folder.now) (g.F.Folder.told c.read_index.new.folder) from (FindsEither state (doomed number state (Some object))) there c.in_err-indexed.ensures.reads.stays (at-rest state layout unlinked number object c.args.key.now c.args.node c.args.found.now.entry c.args.found.now.before from m)
 
 pub returns-in_err-indexed-clause-is_open : goal.returns-in_err-indexed-clause-is_open
-returns-in_err-indexed-clause-is_open g c image is = c.requires.is_open image (ap (λ (t : Told). t.files) (sym c.in_err-indexed.ensures.stays) ∙ is)
+returns-in_err-indexed-clause-is_open g c image is = c.requires.is_open image (ap (λ (t : Told). t.files) (sym c.in_err-indexed.ensures.reads.stays) ∙ is)
 
 pub take_main-requires-clause-is_open : goal.take_main-requires-clause-is_open
-take_main-requires-clause-is_open g c image is = c.requires.is_open image (ap (λ (t : Told). t.files) (sym c.in_ok-indexed.ensures.stays) ∙ is)
+take_main-requires-clause-is_open g c image is = c.requires.is_open image (ap (λ (t : Told). t.files) (sym c.in_ok-indexed.ensures.reads.stays) ∙ is)
 
 pub returns-in_err-take_main-clause-stops : goal.returns-in_err-take_main-clause-stops
 returns-in_err-take_main-clause-stops g c from there state layout unlinked number object m charge =
-    let at = stays-there (g.F.Folder.told c.args.folder.now) (g.F.Folder.told c.read_index.new.folder) from there c.in_ok-indexed.ensures.stays in
-    passes_stayed c.in_ok-indexed.ensures.stays (c.in_err-take_main.ensures.stops from at state layout unlinked number object m.kept.entries m.here m.live (own-lies state layout unlinked number object c.args.key.now c.args.node c.args.found.now.entry c.args.found.now.before from m))
+    let at = stays-there (g.F.Folder.told c.args.folder.now) (g.F.Folder.told c.read_index.new.folder) from there c.in_ok-indexed.ensures.reads.stays in
+    passes_stayed c.in_ok-indexed.ensures.reads.stays (c.in_err-take_main.ensures.stops from at state layout unlinked number object m.kept.entries m.here m.live (own-lies state layout unlinked number object c.args.key.now c.args.node c.args.found.now.entry c.args.found.now.before from m))
 
 pub returns-in_err-take_main-clause-untold : goal.returns-in_err-take_main-clause-untold
 returns-in_err-take_main-clause-untold g c from there state layout unlinked number object m charge =
-    let at = stays-there (g.F.Folder.told c.args.folder.now) (g.F.Folder.told c.read_index.new.folder) from there c.in_ok-indexed.ensures.stays in
-    subst (λ (t : Told). IfDamaged c.from_residual-in_err-take_main.result (λ _. t.files ≡ None)) c.in_ok-indexed.ensures.stays
+    let at = stays-there (g.F.Folder.told c.args.folder.now) (g.F.Folder.told c.read_index.new.folder) from there c.in_ok-indexed.ensures.reads.stays in
+    subst (λ (t : Told). IfDamaged c.from_residual-in_err-take_main.result (λ _. t.files ≡ None)) c.in_ok-indexed.ensures.reads.stays
     (carried c.take_main.result c.from_residual-in_err-take_main.result c.in_err-take_main.field-0.0 (λ _. (g.F.Folder.told c.read_index.new.folder).files ≡ None) c.in_err-take_main.was c.from_residual-in_err-take_main.ensures.1
     (c.take_main.ensures.untold from at state layout unlinked number object m.kept.entries m.here m.live (own-lies state layout unlinked number object c.args.key.now c.args.node c.args.found.now.entry c.args.found.now.before from m)))
 
 pub returns-in_err-parts-clause-stops : goal.returns-in_err-parts-clause-stops
 returns-in_err-parts-clause-stops g c from there state layout unlinked number object m charge =
-    let at = stays-there (g.F.Folder.told c.args.folder.now) (g.F.Folder.told c.read_index.new.folder) from there c.in_ok-indexed.ensures.stays in
+    let at = stays-there (g.F.Folder.told c.args.folder.now) (g.F.Folder.told c.read_index.new.folder) from there c.in_ok-indexed.ensures.reads.stays in
     let going = c.in_ok-take_main.ensures.stops from at state layout unlinked number object m.kept.entries m.here m.live (own-lies state layout unlinked number object c.args.key.now c.args.node c.args.found.now.entry c.args.found.now.before from m) in
     let mid = told_then (g.F.Folder.told c.read_index.new.folder) (g.F.Folder.told c.take_main.new.folder) from (FindsEither state (doomed number state (Some object))) at going in
     let out = c.in_ok-take_main.ensures.out from at state layout unlinked number object m.kept.entries m.here m.live (own-lies state layout unlinked number object c.args.key.now c.args.node c.args.found.now.entry c.args.found.now.before from m) m.kept.counters charge mid.image mid.is in
     let left = parts-left state layout unlinked number object c.args.key.now c.args.node c.args.found.now.entry c.args.found.now.before from m (words_of m.lies.was) mid.image refl out in
     let has = has-indexed state layout unlinked number object c.args.key.now c.args.node c.args.found.now.entry c.args.found.now.before from m c.in_ok-indexed.indexed (c.in_ok-indexed.ensures.signature from there m.lies.was m.index (main-loads state layout unlinked number object c.args.key.now c.args.node c.args.found.now.entry c.args.found.now.before from m) m.role) (c.in_ok-indexed.ensures.none from there m.lies.was m.index (main-loads state layout unlinked number object c.args.key.now c.args.node c.args.found.now.entry c.args.found.now.before from m) m.role) in
-    passes_stayed c.in_ok-indexed.ensures.stays (passes_then going (passes_weaker (c.in_err-parts.ensures.stops mid.image mid.is state layout _ _ (words_of m.lies.was ++ unlinked) number object left has) (λ image found. inr found) (λ image found. inr found)))
+    passes_stayed c.in_ok-indexed.ensures.reads.stays (passes_then going (passes_weaker (c.in_err-parts.ensures.stops mid.image mid.is state layout _ _ (words_of m.lies.was ++ unlinked) number object left has) (λ image found. inr found) (λ image found. inr found)))
 
 pub returns-in_err-parts-clause-untold : goal.returns-in_err-parts-clause-untold
 returns-in_err-parts-clause-untold g c from there state layout unlinked number object m charge =
-    let at = stays-there (g.F.Folder.told c.args.folder.now) (g.F.Folder.told c.read_index.new.folder) from there c.in_ok-indexed.ensures.stays in
+    let at = stays-there (g.F.Folder.told c.args.folder.now) (g.F.Folder.told c.read_index.new.folder) from there c.in_ok-indexed.ensures.reads.stays in
     let going = c.in_ok-take_main.ensures.stops from at state layout unlinked number object m.kept.entries m.here m.live (own-lies state layout unlinked number object c.args.key.now c.args.node c.args.found.now.entry c.args.found.now.before from m) in
     let mid = told_then (g.F.Folder.told c.read_index.new.folder) (g.F.Folder.told c.take_main.new.folder) from (FindsEither state (doomed number state (Some object))) at going in
     let out = c.in_ok-take_main.ensures.out from at state layout unlinked number object m.kept.entries m.here m.live (own-lies state layout unlinked number object c.args.key.now c.args.node c.args.found.now.entry c.args.found.now.before from m) m.kept.counters charge mid.image mid.is in
@@ -62,7 +62,7 @@ returns-in_err-parts-clause-untold g c from there state layout unlinked number o
 
 pub returns-in_err-doom_record-clause-stops : goal.returns-in_err-doom_record-clause-stops
 returns-in_err-doom_record-clause-stops g c from there state layout unlinked number object m charge =
-    let at = stays-there (g.F.Folder.told c.args.folder.now) (g.F.Folder.told c.read_index.new.folder) from there c.in_ok-indexed.ensures.stays in
+    let at = stays-there (g.F.Folder.told c.args.folder.now) (g.F.Folder.told c.read_index.new.folder) from there c.in_ok-indexed.ensures.reads.stays in
     let going = c.in_ok-take_main.ensures.stops from at state layout unlinked number object m.kept.entries m.here m.live (own-lies state layout unlinked number object c.args.key.now c.args.node c.args.found.now.entry c.args.found.now.before from m) in
     let mid = told_then (g.F.Folder.told c.read_index.new.folder) (g.F.Folder.told c.take_main.new.folder) from (FindsEither state (doomed number state (Some object))) at going in
     let out = c.in_ok-take_main.ensures.out from at state layout unlinked number object m.kept.entries m.here m.live (own-lies state layout unlinked number object c.args.key.now c.args.node c.args.found.now.entry c.args.found.now.before from m) m.kept.counters charge mid.image mid.is in
@@ -73,11 +73,11 @@ returns-in_err-doom_record-clause-stops g c from there state layout unlinked num
     let kept = c.in_ok-parts.ensures.keeps mid.image mid.is state layout _ _ (words_of m.lies.was ++ unlinked) number object left has end.image end.is in
     let whole = subst (λ (k : List ℕ). IsWholeDropped state layout (words_of m.lies.was ++ unlinked) k end.image) (sym m.of_key) (c.in_ok-parts.ensures.out mid.image mid.is state layout _ _ (words_of m.lies.was ++ unlinked) number object left has end.image end.is) in
     let ready = out-whole state layout unlinked number object c.args.key.now c.args.node c.args.found.now.entry c.args.found.now.before from m mid.image out end.image kept whole in
-    passes_stayed c.in_ok-indexed.ensures.stays (passes_then going (passes_weaker (passes_then dropping (c.in_err-doom_record.ensures.stops end.image end.is state layout number object m.lies.was whole.chains unlinked ready)) (λ image found. inr found) (λ image found. inr found)))
+    passes_stayed c.in_ok-indexed.ensures.reads.stays (passes_then going (passes_weaker (passes_then dropping (c.in_err-doom_record.ensures.stops end.image end.is state layout number object m.lies.was whole.chains unlinked ready)) (λ image found. inr found) (λ image found. inr found)))
 
 pub returns-in_err-doom_record-clause-untold : goal.returns-in_err-doom_record-clause-untold
 returns-in_err-doom_record-clause-untold g c from there state layout unlinked number object m charge =
-    let at = stays-there (g.F.Folder.told c.args.folder.now) (g.F.Folder.told c.read_index.new.folder) from there c.in_ok-indexed.ensures.stays in
+    let at = stays-there (g.F.Folder.told c.args.folder.now) (g.F.Folder.told c.read_index.new.folder) from there c.in_ok-indexed.ensures.reads.stays in
     let going = c.in_ok-take_main.ensures.stops from at state layout unlinked number object m.kept.entries m.here m.live (own-lies state layout unlinked number object c.args.key.now c.args.node c.args.found.now.entry c.args.found.now.before from m) in
     let mid = told_then (g.F.Folder.told c.read_index.new.folder) (g.F.Folder.told c.take_main.new.folder) from (FindsEither state (doomed number state (Some object))) at going in
     let out = c.in_ok-take_main.ensures.out from at state layout unlinked number object m.kept.entries m.here m.live (own-lies state layout unlinked number object c.args.key.now c.args.node c.args.found.now.entry c.args.found.now.before from m) m.kept.counters charge mid.image mid.is in
@@ -93,7 +93,7 @@ returns-in_err-doom_record-clause-untold g c from there state layout unlinked nu
 
 pub returns-clause-doomed : goal.returns-clause-doomed
 returns-clause-doomed g c from there state layout unlinked number object m charge last is =
-    let at = stays-there (g.F.Folder.told c.args.folder.now) (g.F.Folder.told c.read_index.new.folder) from there c.in_ok-indexed.ensures.stays in
+    let at = stays-there (g.F.Folder.told c.args.folder.now) (g.F.Folder.told c.read_index.new.folder) from there c.in_ok-indexed.ensures.reads.stays in
     let going = c.in_ok-take_main.ensures.stops from at state layout unlinked number object m.kept.entries m.here m.live (own-lies state layout unlinked number object c.args.key.now c.args.node c.args.found.now.entry c.args.found.now.before from m) in
     let mid = told_then (g.F.Folder.told c.read_index.new.folder) (g.F.Folder.told c.take_main.new.folder) from (FindsEither state (doomed number state (Some object))) at going in
     let out = c.in_ok-take_main.ensures.out from at state layout unlinked number object m.kept.entries m.here m.live (own-lies state layout unlinked number object c.args.key.now c.args.node c.args.found.now.entry c.args.found.now.before from m) m.kept.counters charge mid.image mid.is in
@@ -108,7 +108,7 @@ returns-clause-doomed g c from there state layout unlinked number object m charg
 
 pub returns-clause-gone : goal.returns-clause-gone
 returns-clause-gone g c from there state layout unlinked number object m charge =
-    let at = stays-there (g.F.Folder.told c.args.folder.now) (g.F.Folder.told c.read_index.new.folder) from there c.in_ok-indexed.ensures.stays in
+    let at = stays-there (g.F.Folder.told c.args.folder.now) (g.F.Folder.told c.read_index.new.folder) from there c.in_ok-indexed.ensures.reads.stays in
     let going = c.in_ok-take_main.ensures.stops from at state layout unlinked number object m.kept.entries m.here m.live (own-lies state layout unlinked number object c.args.key.now c.args.node c.args.found.now.entry c.args.found.now.before from m) in
     let mid = told_then (g.F.Folder.told c.read_index.new.folder) (g.F.Folder.told c.take_main.new.folder) from (FindsEither state (doomed number state (Some object))) at going in
     let out = c.in_ok-take_main.ensures.out from at state layout unlinked number object m.kept.entries m.here m.live (own-lies state layout unlinked number object c.args.key.now c.args.node c.args.found.now.entry c.args.found.now.before from m) m.kept.counters charge mid.image mid.is in
@@ -118,7 +118,7 @@ returns-clause-gone g c from there state layout unlinked number object m charge 
 
 pub returns-clause-session : goal.returns-clause-session
 returns-clause-session g c from there state layout unlinked number object m charge last is =
-    let at = stays-there (g.F.Folder.told c.args.folder.now) (g.F.Folder.told c.read_index.new.folder) from there c.in_ok-indexed.ensures.stays in
+    let at = stays-there (g.F.Folder.told c.args.folder.now) (g.F.Folder.told c.read_index.new.folder) from there c.in_ok-indexed.ensures.reads.stays in
     let going = c.in_ok-take_main.ensures.stops from at state layout unlinked number object m.kept.entries m.here m.live (own-lies state layout unlinked number object c.args.key.now c.args.node c.args.found.now.entry c.args.found.now.before from m) in
     let mid = told_then (g.F.Folder.told c.read_index.new.folder) (g.F.Folder.told c.take_main.new.folder) from (FindsEither state (doomed number state (Some object))) at going in
     let out = c.in_ok-take_main.ensures.out from at state layout unlinked number object m.kept.entries m.here m.live (own-lies state layout unlinked number object c.args.key.now c.args.node c.args.found.now.entry c.args.found.now.before from m) m.kept.counters charge mid.image mid.is in
@@ -134,7 +134,7 @@ returns-clause-session g c from there state layout unlinked number object m char
 
 pub returns-clause-stops : goal.returns-clause-stops
 returns-clause-stops g c from there state layout unlinked number object m charge =
-    let at = stays-there (g.F.Folder.told c.args.folder.now) (g.F.Folder.told c.read_index.new.folder) from there c.in_ok-indexed.ensures.stays in
+    let at = stays-there (g.F.Folder.told c.args.folder.now) (g.F.Folder.told c.read_index.new.folder) from there c.in_ok-indexed.ensures.reads.stays in
     let going = c.in_ok-take_main.ensures.stops from at state layout unlinked number object m.kept.entries m.here m.live (own-lies state layout unlinked number object c.args.key.now c.args.node c.args.found.now.entry c.args.found.now.before from m) in
     let mid = told_then (g.F.Folder.told c.read_index.new.folder) (g.F.Folder.told c.take_main.new.folder) from (FindsEither state (doomed number state (Some object))) at going in
     let out = c.in_ok-take_main.ensures.out from at state layout unlinked number object m.kept.entries m.here m.live (own-lies state layout unlinked number object c.args.key.now c.args.node c.args.found.now.entry c.args.found.now.before from m) m.kept.counters charge mid.image mid.is in
@@ -145,4 +145,4 @@ returns-clause-stops g c from there state layout unlinked number object m charge
     let kept = c.in_ok-parts.ensures.keeps mid.image mid.is state layout _ _ (words_of m.lies.was ++ unlinked) number object left has end.image end.is in
     let whole = subst (λ (k : List ℕ). IsWholeDropped state layout (words_of m.lies.was ++ unlinked) k end.image) (sym m.of_key) (c.in_ok-parts.ensures.out mid.image mid.is state layout _ _ (words_of m.lies.was ++ unlinked) number object left has end.image end.is) in
     let ready = out-whole state layout unlinked number object c.args.key.now c.args.node c.args.found.now.entry c.args.found.now.before from m mid.image out end.image kept whole in
-    passes_stayed c.in_ok-indexed.ensures.stays (passes_then going (passes_weaker (passes_then dropping (c.in_ok-doom_record.ensures.stops end.image end.is state layout number object m.lies.was whole.chains unlinked ready)) (λ image found. inr found) (λ image found. inr found)))
+    passes_stayed c.in_ok-indexed.ensures.reads.stays (passes_then going (passes_weaker (passes_then dropping (c.in_ok-doom_record.ensures.stops end.image end.is state layout number object m.lies.was whole.chains unlinked ready)) (λ image found. inr found) (λ image found. inr found)))

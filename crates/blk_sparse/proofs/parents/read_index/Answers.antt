@@ -45,14 +45,14 @@ returns-in-Some-clause-none g c image there loaded index w role none =
 pub returns-in_err-len-clause-damaged : goal.returns-in_err-len-clause-damaged
 returns-in_err-len-clause-damaged g c =
     handed c.read.result c.from_residual.result c.in_err-len.field-0.0 _ c.args.files.now (g.F.Folder.told c.read.new.f)
-    (λ damage wrong. moved c.args.files.now (g.F.Folder.told c.args.folder.now) (g.F.Folder.told c.read.new.f) damage c.read.ensures.stays (read-checked c.args.files.now (g.F.Folder.told c.args.folder.now) c.args.entry _ _ _ damage c.requires.kind c.requires.stands wrong))
+    (λ damage wrong. moved c.args.files.now (g.F.Folder.told c.args.folder.now) (g.F.Folder.told c.read.new.f) damage c.read.ensures.reads.stays (read-checked c.args.files.now (g.F.Folder.told c.args.folder.now) c.args.entry _ _ _ damage c.requires.kind c.requires.stands wrong))
     c.in_err-len.was c.from_residual.ensures.1 c.read.ensures.damaged
 
 pub returns-in-None-clause-damaged : goal.returns-in-None-clause-damaged
 returns-in-None-clause-damaged g c =
     let d = c.record_damage.ensures in
     err_damaged IndexedParts c.record_damage.result d.damage (IsFailedCheck c.args.files.now (g.F.Folder.told c.read.new.f)) d.is
-    (moved c.args.files.now (g.F.Folder.told c.args.folder.now) (g.F.Folder.told c.read.new.f) d.damage c.in_ok-len.ensures.stays
+    (moved c.args.files.now (g.F.Folder.told c.args.folder.now) (g.F.Folder.told c.read.new.f) d.damage c.in_ok-len.ensures.reads.stays
     (within-checked c.args.files.now (g.F.Folder.told c.args.folder.now) c.args.entry d.damage c.requires.kind c.requires.stands (WrongIndex (record {
       of_word = d.word;
       unlike = λ image there. no-index (stream_bytes image c.args.entry 2) (replicate 8256 0) c.read.new.out c.in_ok-len.len (c.in_ok-len.ensures.bytes image there) room c.read-2.result c.in-None.is c.read-2.ensures.fields;

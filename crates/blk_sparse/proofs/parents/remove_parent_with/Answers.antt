@@ -24,11 +24,11 @@ returns-in_err-indexed-clause-front g c from there by state layout unlinked numb
 
 pub returns-in_err-indexed-clause-stops : goal.returns-in_err-indexed-clause-stops
 returns-in_err-indexed-clause-stops g c from there by state layout unlinked number object m =
-    stays-passes (g.F.Folder.told c.args.folder.now) (g.F.Folder.told c.read_index.new.folder) from (FindsEither state (doomed number state (Some object))) there c.in_err-indexed.ensures.stays (at-rest state layout unlinked number object c.args.key.now c.args.node c.args.found.now.entry c.args.found.now.before from m)
+    stays-passes (g.F.Folder.told c.args.folder.now) (g.F.Folder.told c.read_index.new.folder) from (FindsEither state (doomed number state (Some object))) there c.in_err-indexed.ensures.reads.stays (at-rest state layout unlinked number object c.args.key.now c.args.node c.args.found.now.entry c.args.found.now.before from m)
 
 pub returns-in_err-indexed-clause-is_open : goal.returns-in_err-indexed-clause-is_open
 returns-in_err-indexed-clause-is_open g c image is =
-    c.requires.is_open image (ap (λ (t : Told). t.files) (sym c.in_err-indexed.ensures.stays) ∙ is)
+    c.requires.is_open image (ap (λ (t : Told). t.files) (sym c.in_err-indexed.ensures.reads.stays) ∙ is)
 
 pub returns-in_err-indexed-clause-untold : goal.returns-in_err-indexed-clause-untold
 returns-in_err-indexed-clause-untold g c from there by state layout unlinked number object m =
@@ -36,7 +36,7 @@ returns-in_err-indexed-clause-untold g c from there by state layout unlinked num
     (c.read_index.ensures.untold (λ image is. (c.requires.is_open image is).agrees) (λ image is. subst (LoadsAsParent c.args.found.now.entry) (some_inj (sym there ∙ is)) (as-parent state layout unlinked number object c.args.key.now c.args.node c.args.found.now.entry c.args.found.now.before from m)))
 
 pub take_main-requires-clause-is_open : goal.take_main-requires-clause-is_open
-take_main-requires-clause-is_open g c image is = c.requires.is_open image (ap (λ (t : Told). t.files) (sym c.in_ok-indexed.ensures.stays) ∙ is)
+take_main-requires-clause-is_open g c image is = c.requires.is_open image (ap (λ (t : Told). t.files) (sym c.in_ok-indexed.ensures.reads.stays) ∙ is)
 
 pub returns-in_err-take_main-clause-front : goal.returns-in_err-take_main-clause-front
 returns-in_err-take_main-clause-front g c from there by state layout unlinked number object m =
@@ -44,13 +44,13 @@ returns-in_err-take_main-clause-front g c from there by state layout unlinked nu
 
 pub returns-in_err-take_main-clause-stops : goal.returns-in_err-take_main-clause-stops
 returns-in_err-take_main-clause-stops g c from there by state layout unlinked number object m =
-    let stays = c.in_ok-indexed.ensures.stays in
+    let stays = c.in_ok-indexed.ensures.reads.stays in
     let at = stays-there (g.F.Folder.told c.args.folder.now) (g.F.Folder.told c.read_index.new.folder) from there stays in
     passes_stayed stays (c.in_err-take_main.ensures.stops from at state layout unlinked number object m.kept.entries m.here m.live (own-lies state layout unlinked number object c.args.key.now c.args.node c.args.found.now.entry c.args.found.now.before from m))
 
 pub returns-in_err-take_main-clause-untold : goal.returns-in_err-take_main-clause-untold
 returns-in_err-take_main-clause-untold g c from there by state layout unlinked number object m =
-    let stays = c.in_ok-indexed.ensures.stays in
+    let stays = c.in_ok-indexed.ensures.reads.stays in
     let at = stays-there (g.F.Folder.told c.args.folder.now) (g.F.Folder.told c.read_index.new.folder) from there stays in
     subst (λ (t : Told). IfDamaged c.from_residual-in_err-take_main.result (λ _. t.files ≡ None)) stays
     (carried c.take_main.result c.from_residual-in_err-take_main.result c.in_err-take_main.field-0.0 (λ _. (g.F.Folder.told c.read_index.new.folder).files ≡ None) c.in_err-take_main.was c.from_residual-in_err-take_main.ensures.1
@@ -60,7 +60,7 @@ pub returns-clause-removed : goal.returns-clause-removed
 returns-clause-removed g c =
     on_ok_weaker c.drop_and_free.result
     (λ ends from there by state layout unlinked number object m image is.
-    let stays = c.in_ok-indexed.ensures.stays in
+    let stays = c.in_ok-indexed.ensures.reads.stays in
     let at = stays-there (g.F.Folder.told c.args.folder.now) (g.F.Folder.told c.read_index.new.folder) from there stays in
     let charge = by.charge m.lies.was (main-loads state layout unlinked number object c.args.key.now c.args.node c.args.found.now.entry c.args.found.now.before from m) in
     let words = by.words m.lies.was (main-loads state layout unlinked number object c.args.key.now c.args.node c.args.found.now.entry c.args.found.now.before from m) in
@@ -74,7 +74,7 @@ pub returns-clause-session : goal.returns-clause-session
 returns-clause-session g c =
     on_ok_weaker c.drop_and_free.result
     (λ ends from there by state layout unlinked number object m image is.
-    let stays = c.in_ok-indexed.ensures.stays in
+    let stays = c.in_ok-indexed.ensures.reads.stays in
     let at = stays-there (g.F.Folder.told c.args.folder.now) (g.F.Folder.told c.read_index.new.folder) from there stays in
     let charge = by.charge m.lies.was (main-loads state layout unlinked number object c.args.key.now c.args.node c.args.found.now.entry c.args.found.now.before from m) in
     let words = by.words m.lies.was (main-loads state layout unlinked number object c.args.key.now c.args.node c.args.found.now.entry c.args.found.now.before from m) in
@@ -88,7 +88,7 @@ pub returns-clause-each : goal.returns-clause-each
 returns-clause-each g c =
     on_ok_weaker c.drop_and_free.result
     (λ ends from there by state layout unlinked number object m.
-    let stays = c.in_ok-indexed.ensures.stays in
+    let stays = c.in_ok-indexed.ensures.reads.stays in
     let at = stays-there (g.F.Folder.told c.args.folder.now) (g.F.Folder.told c.read_index.new.folder) from there stays in
     let charge = by.charge m.lies.was (main-loads state layout unlinked number object c.args.key.now c.args.node c.args.found.now.entry c.args.found.now.before from m) in
     let words = by.words m.lies.was (main-loads state layout unlinked number object c.args.key.now c.args.node c.args.found.now.entry c.args.found.now.before from m) in
@@ -102,7 +102,7 @@ pub returns-clause-gone : goal.returns-clause-gone
 returns-clause-gone g c =
     if_ok_weaker c.drop_and_free.result _ _
     (λ gone ends from there by state layout unlinked number object m.
-    let stays = c.in_ok-indexed.ensures.stays in
+    let stays = c.in_ok-indexed.ensures.reads.stays in
     let at = stays-there (g.F.Folder.told c.args.folder.now) (g.F.Folder.told c.read_index.new.folder) from there stays in
     let charge = by.charge m.lies.was (main-loads state layout unlinked number object c.args.key.now c.args.node c.args.found.now.entry c.args.found.now.before from m) in
     let words = by.words m.lies.was (main-loads state layout unlinked number object c.args.key.now c.args.node c.args.found.now.entry c.args.found.now.before from m) in
@@ -114,7 +114,7 @@ returns-clause-gone g c =
 
 pub returns-clause-front : goal.returns-clause-front
 returns-clause-front g c from there by state layout unlinked number object m =
-    let stays = c.in_ok-indexed.ensures.stays in
+    let stays = c.in_ok-indexed.ensures.reads.stays in
     let at = stays-there (g.F.Folder.told c.args.folder.now) (g.F.Folder.told c.read_index.new.folder) from there stays in
     let charge = by.charge m.lies.was (main-loads state layout unlinked number object c.args.key.now c.args.node c.args.found.now.entry c.args.found.now.before from m) in
     let words = by.words m.lies.was (main-loads state layout unlinked number object c.args.key.now c.args.node c.args.found.now.entry c.args.found.now.before from m) in
@@ -125,7 +125,7 @@ returns-clause-front g c from there by state layout unlinked number object m =
 
 pub returns-clause-stops : goal.returns-clause-stops
 returns-clause-stops g c from there by state layout unlinked number object m =
-    let stays = c.in_ok-indexed.ensures.stays in
+    let stays = c.in_ok-indexed.ensures.reads.stays in
     let at = stays-there (g.F.Folder.told c.args.folder.now) (g.F.Folder.told c.read_index.new.folder) from there stays in
     let charge = by.charge m.lies.was (main-loads state layout unlinked number object c.args.key.now c.args.node c.args.found.now.entry c.args.found.now.before from m) in
     let words = by.words m.lies.was (main-loads state layout unlinked number object c.args.key.now c.args.node c.args.found.now.entry c.args.found.now.before from m) in
@@ -136,7 +136,7 @@ returns-clause-stops g c from there by state layout unlinked number object m =
 
 pub returns-clause-untold : goal.returns-clause-untold
 returns-clause-untold g c from there by state layout unlinked number object m =
-    let stays = c.in_ok-indexed.ensures.stays in
+    let stays = c.in_ok-indexed.ensures.reads.stays in
     let at = stays-there (g.F.Folder.told c.args.folder.now) (g.F.Folder.told c.read_index.new.folder) from there stays in
     let charge = by.charge m.lies.was (main-loads state layout unlinked number object c.args.key.now c.args.node c.args.found.now.entry c.args.found.now.before from m) in
     let words = by.words m.lies.was (main-loads state layout unlinked number object c.args.key.now c.args.node c.args.found.now.entry c.args.found.now.before from m) in

@@ -13,7 +13,7 @@ use Rattle.blk_sparse.proofs.parts.find_part.Goals as goal
 pub returns-in_err-found-clause-damaged : goal.returns-in_err-found-clause-damaged
 returns-in_err-found-clause-damaged g c =
     handed c.find.result c.from_residual.result c.in_err-found.field-0.0 _ c.args.files.now (g.F.Folder.told c.find.new.f)
-    (λ damage wrong. moved c.args.files.now (g.F.Folder.told c.args.folder.now) (g.F.Folder.told c.find.new.f) damage c.find.ensures.stays (search-checked c.args.files.now (g.F.Folder.told c.args.folder.now) _ _ damage wrong))
+    (λ damage wrong. moved c.args.files.now (g.F.Folder.told c.args.folder.now) (g.F.Folder.told c.find.new.f) damage c.find.ensures.reads.stays (search-checked c.args.files.now (g.F.Folder.told c.args.folder.now) _ _ damage wrong))
     c.in_err-found.was c.from_residual.ensures.1 c.find.ensures.damaged
 
 pub returns-in_err-found-clause-untold : goal.returns-in_err-found-clause-untold

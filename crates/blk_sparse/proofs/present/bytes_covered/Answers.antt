@@ -42,18 +42,18 @@ returns-then-len-cut-clause-bytes g c from there state layout unlinked number ob
 
 pub bytes_of_part-requires-2-clause-is_open : goal.bytes_of_part-requires-2-clause-is_open
 bytes_of_part-requires-2-clause-is_open g c image is =
-    c.requires.is_open image (ap (λ (t : Told). t.files) (sym c.in_ok-len.ensures.stays) ∙ is)
+    c.requires.is_open image (ap (λ (t : Told). t.files) (sym c.in_ok-len.ensures.reads.stays) ∙ is)
 
 pub returns-in_err-more-clause-untold : goal.returns-in_err-more-clause-untold
 returns-in_err-more-clause-untold g c from there state layout unlinked number object node entry p of_key =
-    let at = stays-there (g.F.Folder.told c.args.folder.now) (g.F.Folder.told c.bytes_of_part.new.folder) from there c.in_ok-len.ensures.stays in
-    subst (λ (t : Told). IfDamaged c.from_residual-in_err-more.result (λ _. t.files ≡ None)) c.in_ok-len.ensures.stays
+    let at = stays-there (g.F.Folder.told c.args.folder.now) (g.F.Folder.told c.bytes_of_part.new.folder) from there c.in_ok-len.ensures.reads.stays in
+    subst (λ (t : Told). IfDamaged c.from_residual-in_err-more.result (λ _. t.files ≡ None)) c.in_ok-len.ensures.reads.stays
     (carried c.bytes_of_part-2.result c.from_residual-in_err-more.result c.in_err-more.field-0.0 (λ _. (g.F.Folder.told c.bytes_of_part.new.folder).files ≡ None) c.in_err-more.was c.from_residual-in_err-more.ensures.1
     (c.bytes_of_part-2.ensures.untold from at state layout unlinked number object node entry p of_key))
 
 pub returns-clause-bytes : goal.returns-clause-bytes
 returns-clause-bytes g c from there state layout unlinked number object node entry p of_key =
-    let at = stays-there (g.F.Folder.told c.args.folder.now) (g.F.Folder.told c.bytes_of_part.new.folder) from there c.in_ok-len.ensures.stays in
+    let at = stays-there (g.F.Folder.told c.args.folder.now) (g.F.Folder.told c.bytes_of_part.new.folder) from there c.in_ok-len.ensures.reads.stays in
     let least = c.min-cut.ensures in
     let place = c.child_of-first.ensures.place in
     let few = c.requires.few in

@@ -20,17 +20,17 @@ returns-in_err-part-clause-untold g c from there state layout unlinked number ob
 pub returns-in-Some-clause-bytes : goal.returns-in-Some-clause-bytes
 returns-in-Some-clause-bytes g c = IfOk-weaker c.bytes_there.result _ _
     (λ _ bytes from there state layout unlinked number object node entry p of_key.
-    let at = stays-there (g.F.Folder.told c.args.folder.now) (g.F.Folder.told c.find_part.new.folder) from there c.in_ok-part.ensures.stays in
+    let at = stays-there (g.F.Folder.told c.args.folder.now) (g.F.Folder.told c.find_part.new.folder) from there c.in_ok-part.ensures.reads.stays in
     let has = subst (IsPartFound layout object c.args.number) c.in-Some.is (c.in_ok-part.ensures.part from there state layout unlinked number object node entry p of_key) in
     bytes from at object c.args.number (part-read state layout unlinked number object node entry (cast_unsigned w64 c.args.parent.signature) from p c.args.number c.in-Some.part has))
     c.bytes_there.ensures.bytes
 
 pub returns-in-Some-clause-untold : goal.returns-in-Some-clause-untold
 returns-in-Some-clause-untold g c from there state layout unlinked number object node entry p of_key =
-    let at = stays-there (g.F.Folder.told c.args.folder.now) (g.F.Folder.told c.find_part.new.folder) from there c.in_ok-part.ensures.stays in
+    let at = stays-there (g.F.Folder.told c.args.folder.now) (g.F.Folder.told c.find_part.new.folder) from there c.in_ok-part.ensures.reads.stays in
     let has = subst (IsPartFound layout object c.args.number) c.in-Some.is (c.in_ok-part.ensures.part from there state layout unlinked number object node entry p of_key) in
-    subst (λ (t : Told). IfDamaged c.bytes_there.result (λ _. t.files ≡ None)) c.in_ok-part.ensures.stays
-    (c.bytes_there.ensures.untold (λ image is. (c.requires.is_open image (ap (λ (t : Told). t.files) (sym c.in_ok-part.ensures.stays) ∙ is)).agrees)
+    subst (λ (t : Told). IfDamaged c.bytes_there.result (λ _. t.files ≡ None)) c.in_ok-part.ensures.reads.stays
+    (c.bytes_there.ensures.untold (λ image is. (c.requires.is_open image (ap (λ (t : Told). t.files) (sym c.in_ok-part.ensures.reads.stays) ∙ is)).agrees)
     (λ image is. subst (LoadsAsPart c.in-Some.part) (some_inj (sym at ∙ is)) (loads-as state layout unlinked number object node entry (cast_unsigned w64 c.args.parent.signature) from p c.args.number c.in-Some.part has)))
 
 pub returns-in-None-clause-bytes : goal.returns-in-None-clause-bytes

@@ -29,7 +29,7 @@ slice_bounds-piece-end g c =
 pub returns-clause-bytes : goal.returns-clause-bytes
 returns-clause-bytes g c = IfOk-weaker c.read.result _ _
     (λ k piece from there object n r.
-    let at = stays-there (g.F.Folder.told c.args.folder.now) (g.F.Folder.told c.read_map.new.folder) from there c.in_ok-map.ensures.stays in
+    let at = stays-there (g.F.Folder.told c.args.folder.now) (g.F.Folder.told c.read_map.new.folder) from there c.in_ok-map.ensures.reads.stays in
     let inside = (run-inside (presence_of c.in_ok-map.map) c.args.place (length c.args.out.now)).1 in
     let start = ap (λ (x : ℕ × ℕ). x.0) c.present_run-start.ensures in
     let many = ap (λ (x : ℕ × ℕ). x.1) c.present_run-start.ensures in
@@ -43,13 +43,13 @@ returns-clause-bytes g c = IfOk-weaker c.read.result _ _
 
 pub returns-clause-damaged : goal.returns-clause-damaged
 returns-clause-damaged g c =
-    if_damaged_weaker c.read.result _ _ (λ damage wrong. moved c.args.files.now (g.F.Folder.told c.read_map.new.folder) (g.F.Folder.told c.read.new.f) damage c.read.ensures.stays (read-checked c.args.files.now (g.F.Folder.told c.read_map.new.folder) c.args.part _ _ _ damage c.requires.kind c.requires.stands wrong)) c.read.ensures.damaged
+    if_damaged_weaker c.read.result _ _ (λ damage wrong. moved c.args.files.now (g.F.Folder.told c.read_map.new.folder) (g.F.Folder.told c.read.new.f) damage c.read.ensures.reads.stays (read-checked c.args.files.now (g.F.Folder.told c.read_map.new.folder) c.args.part _ _ _ damage c.requires.kind c.requires.stands wrong)) c.read.ensures.damaged
 
 pub returns-clause-untold : goal.returns-clause-untold
 returns-clause-untold g c agrees lies =
-    subst (λ (t : Told). IfDamaged c.read.result (λ _. t.files ≡ None)) c.in_ok-map.ensures.stays
+    subst (λ (t : Told). IfDamaged c.read.result (λ _. t.files ≡ None)) c.in_ok-map.ensures.reads.stays
     (c.read.ensures.untold (λ image there.
-    let at = ap (λ (t : Told). t.files) (sym c.in_ok-map.ensures.stays) ∙ there in
+    let at = ap (λ (t : Told). t.files) (sym c.in_ok-map.ensures.reads.stays) ∙ there in
     let l = lies image at in
     record { agrees = agrees image at; checks = loaded-checks image c.args.part l.loaded (g.met.F.Folder.are_bytes c.args.folder.now image at) l.loads; has = record { streams = l.loaded.streams; is = streams-there image c.args.part l.loaded l.loads } }))
 

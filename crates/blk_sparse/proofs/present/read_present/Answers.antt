@@ -18,12 +18,12 @@ returns-in_err-len-clause-untold g c from there state layout unlinked number obj
 
 pub bytes_covered-requires-clause-is_open : goal.bytes_covered-requires-clause-is_open
 bytes_covered-requires-clause-is_open g c image is =
-    c.requires.is_open image (ap (λ (t : Told). t.files) (sym c.in_ok-len.ensures.stays) ∙ is)
+    c.requires.is_open image (ap (λ (t : Told). t.files) (sym c.in_ok-len.ensures.reads.stays) ∙ is)
 
 pub returns-clause-bytes : goal.returns-clause-bytes
 returns-clause-bytes g c = IfOk-weaker c.bytes_covered.result _ _
     (λ _ run from there state layout unlinked number object p.
-    let at = stays-there (g.F.Folder.told c.args.folder.now) (g.F.Folder.told c.read_key.new.folder) from there c.in_ok-len.ensures.stays in
+    let at = stays-there (g.F.Folder.told c.args.folder.now) (g.F.Folder.told c.read_key.new.folder) from there c.in_ok-len.ensures.reads.stays in
     let sig = of_z-to_z w64 (cast_unsigned w64 c.args.parent.now.signature) (let small = c.requires.signature in omega (arith, small)) in
     let same = key-same state layout unlinked number object c.args.parent.now.node c.args.parent.now.entry (cast_unsigned w64 c.args.parent.now.signature) from p c.in_ok-len.len c.read_key.new.name c.split_at_mut-key.result.0.now c.split_at_mut-key.ensures.front c.in_ok-len.ensures.short (c.in_ok-len.ensures.key from there) in
     run from at state layout unlinked number object c.args.parent.now.node c.args.parent.now.entry (signed-parent state layout unlinked number object c.args.parent.now.node c.args.parent.now.entry (cast_unsigned w64 c.args.parent.now.signature) _ from sig p) same)
@@ -31,8 +31,8 @@ returns-clause-bytes g c = IfOk-weaker c.bytes_covered.result _ _
 
 pub returns-clause-untold : goal.returns-clause-untold
 returns-clause-untold g c from there state layout unlinked number object p =
-    let at = stays-there (g.F.Folder.told c.args.folder.now) (g.F.Folder.told c.read_key.new.folder) from there c.in_ok-len.ensures.stays in
+    let at = stays-there (g.F.Folder.told c.args.folder.now) (g.F.Folder.told c.read_key.new.folder) from there c.in_ok-len.ensures.reads.stays in
     let sig = of_z-to_z w64 (cast_unsigned w64 c.args.parent.now.signature) (let small = c.requires.signature in omega (arith, small)) in
     let same = key-same state layout unlinked number object c.args.parent.now.node c.args.parent.now.entry (cast_unsigned w64 c.args.parent.now.signature) from p c.in_ok-len.len c.read_key.new.name c.split_at_mut-key.result.0.now c.split_at_mut-key.ensures.front c.in_ok-len.ensures.short (c.in_ok-len.ensures.key from there) in
-    subst (λ (t : Told). IfDamaged c.bytes_covered.result (λ _. t.files ≡ None)) c.in_ok-len.ensures.stays
+    subst (λ (t : Told). IfDamaged c.bytes_covered.result (λ _. t.files ≡ None)) c.in_ok-len.ensures.reads.stays
     (c.bytes_covered.ensures.untold from at state layout unlinked number object c.args.parent.now.node c.args.parent.now.entry (signed-parent state layout unlinked number object c.args.parent.now.node c.args.parent.now.entry (cast_unsigned w64 c.args.parent.now.signature) _ from sig p) same)

@@ -15,12 +15,12 @@ use Rattle.blk_sparse.proofs.reading.use_parts.Goals as goal
 
 pub returns-in_err-len-clause-stops : goal.returns-in_err-len-clause-stops
 returns-in_err-len-clause-stops g c from there state layout unlinked number object p =
-    stays-passes (g.F.Folder.told c.args.folder.now) (g.F.Folder.told c.read_key.new.folder) from (FindsUsed state (parts_used object c.args.offset c.args.count)) there c.in_err-len.ensures.stays
+    stays-passes (g.F.Folder.told c.args.folder.now) (g.F.Folder.told c.read_key.new.folder) from (FindsUsed state (parts_used object c.args.offset c.args.count)) there c.in_err-len.ensures.reads.stays
     (now-found state layout unlinked number object c.args.parent.now.node c.args.parent.now.entry (cast_unsigned w64 c.args.parent.now.signature) from p (parts_used object c.args.offset c.args.count))
 
 pub returns-in_err-len-clause-is_open : goal.returns-in_err-len-clause-is_open
 returns-in_err-len-clause-is_open g c image is =
-    c.requires.is_open image (ap (λ (t : Told). t.files) (sym c.in_err-len.ensures.stays) ∙ is)
+    c.requires.is_open image (ap (λ (t : Told). t.files) (sym c.in_err-len.ensures.reads.stays) ∙ is)
 
 pub returns-in_err-len-clause-untold : goal.returns-in_err-len-clause-untold
 returns-in_err-len-clause-untold g c from there state layout unlinked number object p =
@@ -29,12 +29,12 @@ returns-in_err-len-clause-untold g c from there state layout unlinked number obj
 
 pub use_covered-requires-clause-is_open : goal.use_covered-requires-clause-is_open
 use_covered-requires-clause-is_open g c image is =
-    c.requires.is_open image (ap (λ (t : Told). t.files) (sym c.in_ok-len.ensures.stays) ∙ is)
+    c.requires.is_open image (ap (λ (t : Told). t.files) (sym c.in_ok-len.ensures.reads.stays) ∙ is)
 
 pub returns-clause-used : goal.returns-clause-used
 returns-clause-used g c = on_ok_weaker c.use_covered.result
     (λ steps from there state layout unlinked number object p image is.
-    let at = stays-there (g.F.Folder.told c.args.folder.now) (g.F.Folder.told c.read_key.new.folder) from there c.in_ok-len.ensures.stays in
+    let at = stays-there (g.F.Folder.told c.args.folder.now) (g.F.Folder.told c.read_key.new.folder) from there c.in_ok-len.ensures.reads.stays in
     let sig = of_z-to_z w64 (cast_unsigned w64 c.args.parent.now.signature) (let small = c.requires.signature in omega (arith, small)) in
     let same = key-same state layout unlinked number object c.args.parent.now.node c.args.parent.now.entry (cast_unsigned w64 c.args.parent.now.signature) from p c.in_ok-len.len c.read_key.new.name c.split_at_mut-key.result.0.now c.split_at_mut-key.ensures.front c.in_ok-len.ensures.short (c.in_ok-len.ensures.key from there) in
     subst (λ (s : ℕ). KeepsParentUsed state layout unlinked number object c.args.parent.now.node c.args.parent.now.entry s (parts_used object c.args.offset c.args.count) from image) sig
@@ -43,16 +43,16 @@ returns-clause-used g c = on_ok_weaker c.use_covered.result
 
 pub returns-clause-stops : goal.returns-clause-stops
 returns-clause-stops g c from there state layout unlinked number object p =
-    let at = stays-there (g.F.Folder.told c.args.folder.now) (g.F.Folder.told c.read_key.new.folder) from there c.in_ok-len.ensures.stays in
+    let at = stays-there (g.F.Folder.told c.args.folder.now) (g.F.Folder.told c.read_key.new.folder) from there c.in_ok-len.ensures.reads.stays in
     let sig = of_z-to_z w64 (cast_unsigned w64 c.args.parent.now.signature) (let small = c.requires.signature in omega (arith, small)) in
     let same = key-same state layout unlinked number object c.args.parent.now.node c.args.parent.now.entry (cast_unsigned w64 c.args.parent.now.signature) from p c.in_ok-len.len c.read_key.new.name c.split_at_mut-key.result.0.now c.split_at_mut-key.ensures.front c.in_ok-len.ensures.short (c.in_ok-len.ensures.key from there) in
-    passes_stayed c.in_ok-len.ensures.stays
+    passes_stayed c.in_ok-len.ensures.reads.stays
     (c.use_covered.ensures.stops from at state layout unlinked number object c.args.parent.now.node c.args.parent.now.entry (signed-parent state layout unlinked number object c.args.parent.now.node c.args.parent.now.entry (cast_unsigned w64 c.args.parent.now.signature) _ from sig p) same)
 
 pub returns-clause-untold : goal.returns-clause-untold
 returns-clause-untold g c from there state layout unlinked number object p =
-    let at = stays-there (g.F.Folder.told c.args.folder.now) (g.F.Folder.told c.read_key.new.folder) from there c.in_ok-len.ensures.stays in
+    let at = stays-there (g.F.Folder.told c.args.folder.now) (g.F.Folder.told c.read_key.new.folder) from there c.in_ok-len.ensures.reads.stays in
     let sig = of_z-to_z w64 (cast_unsigned w64 c.args.parent.now.signature) (let small = c.requires.signature in omega (arith, small)) in
     let same = key-same state layout unlinked number object c.args.parent.now.node c.args.parent.now.entry (cast_unsigned w64 c.args.parent.now.signature) from p c.in_ok-len.len c.read_key.new.name c.split_at_mut-key.result.0.now c.split_at_mut-key.ensures.front c.in_ok-len.ensures.short (c.in_ok-len.ensures.key from there) in
-    subst (λ (t : Told). IfDamaged c.use_covered.result (λ _. t.files ≡ None)) c.in_ok-len.ensures.stays
+    subst (λ (t : Told). IfDamaged c.use_covered.result (λ _. t.files ≡ None)) c.in_ok-len.ensures.reads.stays
     (c.use_covered.ensures.untold from at state layout unlinked number object c.args.parent.now.node c.args.parent.now.entry (signed-parent state layout unlinked number object c.args.parent.now.node c.args.parent.now.entry (cast_unsigned w64 c.args.parent.now.signature) _ from sig p) same)

@@ -25,18 +25,18 @@ returns-then-from-count-clause-run g c from there state layout unlinked number o
 
 pub run_of_part-requires-2-clause-is_open : goal.run_of_part-requires-2-clause-is_open
 run_of_part-requires-2-clause-is_open g c image is =
-    c.requires.is_open image (ap (λ (t : Told). t.files) (sym c.in_ok-one.ensures.stays) ∙ is)
+    c.requires.is_open image (ap (λ (t : Told). t.files) (sym c.in_ok-one.ensures.reads.stays) ∙ is)
 
 pub returns-in_err-two-clause-untold : goal.returns-in_err-two-clause-untold
 returns-in_err-two-clause-untold g c from there state layout unlinked number object node entry p of_key =
-    let at = stays-there (g.F.Folder.told c.args.folder.now) (g.F.Folder.told c.run_of_part.new.folder) from there c.in_ok-one.ensures.stays in
-    subst (λ (t : Told). IfDamaged c.from_residual-in_err-two.result (λ _. t.files ≡ None)) c.in_ok-one.ensures.stays
+    let at = stays-there (g.F.Folder.told c.args.folder.now) (g.F.Folder.told c.run_of_part.new.folder) from there c.in_ok-one.ensures.reads.stays in
+    subst (λ (t : Told). IfDamaged c.from_residual-in_err-two.result (λ _. t.files ≡ None)) c.in_ok-one.ensures.reads.stays
     (carried c.run_of_part-2.result c.from_residual-in_err-two.result c.in_err-two.field-0.0 (λ _. (g.F.Folder.told c.run_of_part.new.folder).files ≡ None) c.in_err-two.was c.from_residual-in_err-two.ensures.1
     (c.run_of_part-2.ensures.untold from at state layout unlinked number object node entry p of_key))
 
 pub returns-clause-run : goal.returns-clause-run
 returns-clause-run g c from there state layout unlinked number object node entry p of_key =
-    let at = stays-there (g.F.Folder.told c.args.folder.now) (g.F.Folder.told c.run_of_part.new.folder) from there c.in_ok-one.ensures.stays in
+    let at = stays-there (g.F.Folder.told c.args.folder.now) (g.F.Folder.told c.run_of_part.new.folder) from there c.in_ok-one.ensures.reads.stays in
     let least = c.min-cut.ensures in
     let place = c.child_of-first.ensures.place in
     let same = c.from-2.ensures in

@@ -20,16 +20,16 @@ returns-in_err-part-clause-untold g c from there state layout unlinked number ob
 
 pub returns-in_err-map-in-Some-clause-untold : goal.returns-in_err-map-in-Some-clause-untold
 returns-in_err-map-in-Some-clause-untold g c from there state layout unlinked number object node entry p of_key =
-    let at = stays-there (g.F.Folder.told c.args.folder.now) (g.F.Folder.told c.find_part.new.folder) from there c.in_ok-part.ensures.stays in
+    let at = stays-there (g.F.Folder.told c.args.folder.now) (g.F.Folder.told c.find_part.new.folder) from there c.in_ok-part.ensures.reads.stays in
     let has = subst (IsPartFound layout object c.args.number) c.in-Some.is (c.in_ok-part.ensures.part from there state layout unlinked number object node entry p of_key) in
-    subst (λ (t : Told). IfDamaged c.from_residual-in_err-map-in-Some.result (λ _. t.files ≡ None)) c.in_ok-part.ensures.stays
+    subst (λ (t : Told). IfDamaged c.from_residual-in_err-map-in-Some.result (λ _. t.files ≡ None)) c.in_ok-part.ensures.reads.stays
     (carried c.read_map.result c.from_residual-in_err-map-in-Some.result c.in_err-map-in-Some.field-0.0 (λ _. (g.F.Folder.told c.find_part.new.folder).files ≡ None) c.in_err-map-in-Some.was c.from_residual-in_err-map-in-Some.ensures.1
-    (c.read_map.ensures.untold (λ image is. (c.requires.is_open image (ap (λ (t : Told). t.files) (sym c.in_ok-part.ensures.stays) ∙ is)).agrees)
+    (c.read_map.ensures.untold (λ image is. (c.requires.is_open image (ap (λ (t : Told). t.files) (sym c.in_ok-part.ensures.reads.stays) ∙ is)).agrees)
     (λ image is. subst (LoadsAsPart c.in-Some.part) (some_inj (sym at ∙ is)) (loads-as state layout unlinked number object node entry (cast_unsigned w64 c.args.parent.signature) from p c.args.number c.in-Some.part has))))
 
 pub returns-in_ok-map-in-Some-clause-run : goal.returns-in_ok-map-in-Some-clause-run
 returns-in_ok-map-in-Some-clause-run g c from there state layout unlinked number object node entry p of_key =
-    let at = stays-there (g.F.Folder.told c.args.folder.now) (g.F.Folder.told c.find_part.new.folder) from there c.in_ok-part.ensures.stays in
+    let at = stays-there (g.F.Folder.told c.args.folder.now) (g.F.Folder.told c.find_part.new.folder) from there c.in_ok-part.ensures.reads.stays in
     let has = subst (IsPartFound layout object c.args.number) c.in-Some.is (c.in_ok-part.ensures.part from there state layout unlinked number object node entry p of_key) in
     let r = part-read state layout unlinked number object node entry (cast_unsigned w64 c.args.parent.signature) from p c.args.number c.in-Some.part has in
     let run : ◌≡◌ {A = ℕ × ℕ} (c.present_run-start.result.0, c.present_run-start.result.1) (run_between (presence_of c.in_ok-map-in-Some.map) c.args.place (c.args.place + c.args.count)) = c.present_run-start.ensures in

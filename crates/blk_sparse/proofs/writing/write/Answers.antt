@@ -26,7 +26,7 @@ returns-then-is_empty-clause-stops g c from there state layout unlinked number o
 
 pub returns-in_err-len-clause-stops : goal.returns-in_err-len-clause-stops
 returns-in_err-len-clause-stops g c from there state layout unlinked number object can =
-    stays-passes (g.F.Folder.told c.args.f.now) (g.F.Folder.told c.read_key.new.folder) from (Finds (rest state)) there c.in_err-len.ensures.stays (covered-finds state layout unlinked number object c.args.parent.now.node c.args.parent.now.entry (cast_unsigned w64 c.args.parent.now.signature) from c.args.data.offset c.args.data.bytes.now can)
+    stays-passes (g.F.Folder.told c.args.f.now) (g.F.Folder.told c.read_key.new.folder) from (Finds (rest state)) there c.in_err-len.ensures.reads.stays (covered-finds state layout unlinked number object c.args.parent.now.node c.args.parent.now.entry (cast_unsigned w64 c.args.parent.now.signature) from c.args.data.offset c.args.data.bytes.now can)
 
 pub returns-in_err-len-clause-untold : goal.returns-in_err-len-clause-untold
 returns-in_err-len-clause-untold g c from there state layout unlinked number object can =
@@ -35,7 +35,7 @@ returns-in_err-len-clause-untold g c from there state layout unlinked number obj
 
 pub write_covered-requires-clause-is_open : goal.write_covered-requires-clause-is_open
 write_covered-requires-clause-is_open g c image is =
-    c.requires.is_open image (ap (λ (t : Told). t.files) (sym c.in_ok-len.ensures.stays) ∙ is)
+    c.requires.is_open image (ap (λ (t : Told). t.files) (sym c.in_ok-len.ensures.reads.stays) ∙ is)
 
 pub returns-then-is_empty-clause-ordered : goal.returns-then-is_empty-clause-ordered
 returns-then-is_empty-clause-ordered g c from there state layout unlinked number object can =
@@ -44,7 +44,7 @@ returns-then-is_empty-clause-ordered g c from there state layout unlinked number
 pub returns-clause-written : goal.returns-clause-written
 returns-clause-written g c = on_ok_weaker c.write_covered.result
     (λ ends from there state layout unlinked number object can image is.
-    let at = stays-there (g.F.Folder.told c.args.f.now) (g.F.Folder.told c.read_key.new.folder) from there c.in_ok-len.ensures.stays in
+    let at = stays-there (g.F.Folder.told c.args.f.now) (g.F.Folder.told c.read_key.new.folder) from there c.in_ok-len.ensures.reads.stays in
     let same = key-same state layout unlinked number object c.args.parent.now.node c.args.parent.now.entry (cast_unsigned w64 c.args.parent.now.signature) from can.parent c.in_ok-len.len c.read_key.new.name c.split_at_mut-key.result.0.now c.split_at_mut-key.ensures.front c.in_ok-len.ensures.short (c.in_ok-len.ensures.key from there) in
     ends from at state layout unlinked number object c.args.parent.now.node can same image is)
     c.write_covered.ensures.written
@@ -52,21 +52,21 @@ returns-clause-written g c = on_ok_weaker c.write_covered.result
 pub returns-clause-ordered : goal.returns-clause-ordered
 returns-clause-ordered g c = on_ok_weaker c.write_covered.result
     (λ ends from there state layout unlinked number object can.
-    let at = stays-there (g.F.Folder.told c.args.f.now) (g.F.Folder.told c.read_key.new.folder) from there c.in_ok-len.ensures.stays in
+    let at = stays-there (g.F.Folder.told c.args.f.now) (g.F.Folder.told c.read_key.new.folder) from there c.in_ok-len.ensures.reads.stays in
     let same = key-same state layout unlinked number object c.args.parent.now.node c.args.parent.now.entry (cast_unsigned w64 c.args.parent.now.signature) from can.parent c.in_ok-len.len c.read_key.new.name c.split_at_mut-key.result.0.now c.split_at_mut-key.ensures.front c.in_ok-len.ensures.short (c.in_ok-len.ensures.key from there) in
-    subst (λ (t : Told). AreInOrder (covered_parts c.args.data.offset (length c.args.data.bytes.now)) state layout unlinked number object c.args.parent.now.entry (cast_unsigned w64 c.args.parent.now.signature) c.args.data.offset c.args.data.bytes.now t (g.F.Folder.told c.write_covered.new.folder)) c.in_ok-len.ensures.stays
+    subst (λ (t : Told). AreInOrder (covered_parts c.args.data.offset (length c.args.data.bytes.now)) state layout unlinked number object c.args.parent.now.entry (cast_unsigned w64 c.args.parent.now.signature) c.args.data.offset c.args.data.bytes.now t (g.F.Folder.told c.write_covered.new.folder)) c.in_ok-len.ensures.reads.stays
     (ends from at state layout unlinked number object c.args.parent.now.node can same))
     c.write_covered.ensures.ordered
 
 pub returns-clause-stops : goal.returns-clause-stops
 returns-clause-stops g c from there state layout unlinked number object can =
-    let at = stays-there (g.F.Folder.told c.args.f.now) (g.F.Folder.told c.read_key.new.folder) from there c.in_ok-len.ensures.stays in
+    let at = stays-there (g.F.Folder.told c.args.f.now) (g.F.Folder.told c.read_key.new.folder) from there c.in_ok-len.ensures.reads.stays in
     let same = key-same state layout unlinked number object c.args.parent.now.node c.args.parent.now.entry (cast_unsigned w64 c.args.parent.now.signature) from can.parent c.in_ok-len.len c.read_key.new.name c.split_at_mut-key.result.0.now c.split_at_mut-key.ensures.front c.in_ok-len.ensures.short (c.in_ok-len.ensures.key from there) in
-    passes_stayed c.in_ok-len.ensures.stays (c.write_covered.ensures.stops from at state layout unlinked number object c.args.parent.now.node can same)
+    passes_stayed c.in_ok-len.ensures.reads.stays (c.write_covered.ensures.stops from at state layout unlinked number object c.args.parent.now.node can same)
 
 pub returns-clause-untold : goal.returns-clause-untold
 returns-clause-untold g c from there state layout unlinked number object can =
-    let at = stays-there (g.F.Folder.told c.args.f.now) (g.F.Folder.told c.read_key.new.folder) from there c.in_ok-len.ensures.stays in
+    let at = stays-there (g.F.Folder.told c.args.f.now) (g.F.Folder.told c.read_key.new.folder) from there c.in_ok-len.ensures.reads.stays in
     let same = key-same state layout unlinked number object c.args.parent.now.node c.args.parent.now.entry (cast_unsigned w64 c.args.parent.now.signature) from can.parent c.in_ok-len.len c.read_key.new.name c.split_at_mut-key.result.0.now c.split_at_mut-key.ensures.front c.in_ok-len.ensures.short (c.in_ok-len.ensures.key from there) in
-    subst (λ (t : Told). IfDamaged c.write_covered.result (λ _. t.files ≡ None)) c.in_ok-len.ensures.stays
+    subst (λ (t : Told). IfDamaged c.write_covered.result (λ _. t.files ≡ None)) c.in_ok-len.ensures.reads.stays
     (c.write_covered.ensures.untold from at state layout unlinked number object c.args.parent.now.node can same)

@@ -26,8 +26,12 @@ update_record-requires-clause-size g c = c.requires.long ∙ sym (entry_bytes c.
 pub returns-clause-long : goal.returns-clause-long
 returns-clause-long g c = changed_long (seal_place c.args.entry) ((c.size_at.result, c.args.size) ∷ (c.addr_at.result, c.args.word) ∷ []) c.args.bytes.now c.update_record.new.bytes c.update_record.ensures.bytes c.requires.long
 
-pub returns-clause-silent : goal.returns-clause-silent
-returns-clause-silent g c none = silent_part c.update_record.ensures.prefix none
+pub returns-clause-writes : goal.returns-clause-writes
+returns-clause-writes g c = record {
+  silent = silent_part c.update_record.ensures.prefix;
+  later = c.update_record.ensures.later;
+  failed = c.update_record.ensures.failed;
+}
 
 pub returns-clause-read : goal.returns-clause-read
 returns-clause-read g c =

@@ -21,7 +21,7 @@ returns-in_err-copy-clause-stops g c from there =
 
 pub copy-requires-2-clause-to_there : goal.copy-requires-2-clause-to_there
 copy-requires-2-clause-to_there g c =
-    told_at_end (g.F.Folder.told c.args.folder.now).files (g.F.Folder.told c.copy.new.folder).files (IsInFile c.args.to 0 c.min-2.result) c.in_ok-copy.ensures.silent
+    told_at_end (g.F.Folder.told c.args.folder.now).files (g.F.Folder.told c.copy.new.folder).files (IsInFile c.args.to 0 c.min-2.result) c.in_ok-copy.ensures.writes.silent
     (λ from there mid now. there_less c.args.to c.min-2.result c.args.size mid (omega (arith, c.min-2.ensures))
     (there_kept (span_of c.args.to 0 c.min.result) from mid c.args.to c.args.size (λ g. refl) (passes_end (c.in_ok-copy.ensures.stops from there) mid now) (c.requires.there from there)))
 
@@ -38,7 +38,7 @@ returns-clause-stops g c from there =
 -- the old bytes are there still
 old_there : (g : given.Over) (c : goal.After-copy-2 g) → ForSome (g.F.Folder.told c.args.folder.now).files (IsOldThere c.args.old) → ForSome (g.F.Folder.told c.copy.new.folder).files (IsInFile c.in-Some.from 0 c.min-2.result)
 old_there g c there =
-    told_at_end (g.F.Folder.told c.args.folder.now).files (g.F.Folder.told c.copy.new.folder).files (IsInFile c.in-Some.from 0 c.min-2.result) c.in_ok-copy.ensures.silent
+    told_at_end (g.F.Folder.told c.args.folder.now).files (g.F.Folder.told c.copy.new.folder).files (IsInFile c.in-Some.from 0 c.min-2.result) c.in_ok-copy.ensures.writes.silent
     (λ from here mid now. there_less c.in-Some.from c.min-2.result c.args.old.size mid (omega (arith, c.min-2.ensures))
     (there_kept (span_of c.args.to 0 c.min.result) from mid c.in-Some.from c.args.old.size (λ g. refl) (passes_end (c.in_ok-copy.ensures.stops from here) mid now) (there from here c.in-Some.from c.in-Some.is)))
 

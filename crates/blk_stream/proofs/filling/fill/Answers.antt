@@ -25,7 +25,7 @@ returns-in_err-copy_old-clause-stops g c from there = old_passes c.args.files.no
 
 pub write_some-requires-clause-external : goal.write_some-requires-clause-external
 write_some-requires-clause-external g c =
-    told_at_end (g.F.Folder.told c.extend_data.new.folder).files (g.F.Folder.told c.copy_old.new.folder).files (IsInFile c.args.addr c.args.offset (length c.args.bytes.now)) c.in_ok-copy_old.ensures.silent
+    told_at_end (g.F.Folder.told c.extend_data.new.folder).files (g.F.Folder.told c.copy_old.new.folder).files (IsInFile c.args.addr c.args.offset (length c.args.bytes.now)) c.in_ok-copy_old.ensures.writes.silent
     (λ mid there two now kind.
     let h = there_kept (old_spans c.args.addr c.args.old.size c.args.size c.args.offset (length c.args.bytes.now)) mid two c.args.addr c.args.size (λ g. refl) (passes_end (c.in_ok-copy_old.ensures.stops mid there) two now) (c.in_ok-extend_data.ensures.external mid there) kind in
     omega (arith, h, c.requires.few))

@@ -20,8 +20,12 @@ returns-clause-stops g c from there =
 pub returns-clause-agrees : goal.returns-clause-agrees
 returns-clause-agrees g c = agrees_deleted c.args.files.now (g.F.Folder.told c.args.folder.now) (g.F.Folder.told c.delete.new.f) (external_number c.args.addr) c.delete.ensures.prefix c.requires.agrees
 
-pub returns-clause-silent : goal.returns-clause-silent
-returns-clause-silent g c none = silent_part c.delete.ensures.prefix none
+pub returns-clause-writes : goal.returns-clause-writes
+returns-clause-writes g c = record {
+  silent = silent_part c.delete.ensures.prefix;
+  later = c.delete.ensures.later;
+  failed = c.delete.ensures.failed;
+}
 
 pub returns-clause-frees : goal.returns-clause-frees
 returns-clause-frees g c = on_ok_weaker c.delete.result (λ none from there image now. inr (record { external_kind = c.requires.kind; same = (passes_end (c.delete.ensures.stops from there) image now).outside; gone = ap is_some (none image now) })) c.delete.ensures.file

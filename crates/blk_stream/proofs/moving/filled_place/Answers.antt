@@ -58,7 +58,7 @@ returns-in_err-fill-clause-damaged g c =
 pub returns-in_err-fill-clause-untold : goal.returns-in_err-fill-clause-untold
 returns-in_err-fill-clause-untold g c can =
     carried c.fill.result c.from_residual-in_err-fill.result c.in_err-fill.field-0.0 (λ _. (g.F.Folder.told c.args.folder.now).files ≡ None) c.in_err-fill.was c.from_residual-in_err-fill.ensures.1
-    (fill_untold c.args.files.now c.new_place.new.files c.args.old c.in_ok-addr.addr c.args.size c.args.offset c.args.bytes.now (g.F.Folder.told c.args.folder.now) (g.F.Folder.told c.new_place.new.folder) (g.F.Folder.told c.fill.new.folder) c.requires.agrees c.requires.old (omega (arith, c.if-size-eq0.false)) (may_both c.new_place.new.files c.args.size c.in_ok-addr.addr c.requires.size c.in_ok-addr.ensures.stores) c.in_ok-addr.ensures.stops c.in_ok-addr.ensures.placed c.fill.result c.fill.ensures.untold c.new_place.ensures.silent can)
+    (fill_untold c.args.files.now c.new_place.new.files c.args.old c.in_ok-addr.addr c.args.size c.args.offset c.args.bytes.now (g.F.Folder.told c.args.folder.now) (g.F.Folder.told c.new_place.new.folder) (g.F.Folder.told c.fill.new.folder) c.requires.agrees c.requires.old (omega (arith, c.if-size-eq0.false)) (may_both c.new_place.new.files c.args.size c.in_ok-addr.addr c.requires.size c.in_ok-addr.ensures.stores) c.in_ok-addr.ensures.stops c.in_ok-addr.ensures.placed c.fill.result c.fill.ensures.untold c.new_place.ensures.writes.silent can)
 
 pub returns-then-size-eq0-clause-staged : goal.returns-then-size-eq0-clause-staged
 returns-then-size-eq0-clause-staged g c from there can image now = some_inj (sym now ∙ there)

@@ -30,7 +30,7 @@ pub returns-clause-read : goal.returns-clause-read
 returns-clause-read g c =
     on_ok_weaker c.free_place.result
     (λ freed from there read.
-    told_at_end (g.F.Folder.told c.name_place.new.folder).files (g.F.Folder.told c.free_place.new.folder).files (λ image. c.name_place.new.bytes ≡ record_at image c.args.entry) c.free_place.ensures.silent
+    told_at_end (g.F.Folder.told c.name_place.new.folder).files (g.F.Folder.told c.free_place.new.folder).files (λ image. c.name_place.new.bytes ≡ record_at image c.args.entry) c.free_place.ensures.writes.silent
     (λ mid here image now. c.in_ok-name_place.ensures.read from there read mid here ∙ sym (record_freed c.args.old mid image (freed mid here image now).same c.args.entry)))
     c.free_place.ensures.freed
 
@@ -56,7 +56,7 @@ returns-clause-untold g c can =
     (λ damage none. told_back (g.F.Folder.told c.args.folder.now) (g.F.Folder.told c.name_place.new.folder) (NamesInProgress c.args.entry c.args.stream)
     (λ from there. c.in_ok-name_place.ensures.stops from there (can from there).0 (can from there).1) none)
     (c.free_place.ensures.untold
-    (told_at_end (g.F.Folder.told c.args.folder.now).files (g.F.Folder.told c.name_place.new.folder).files (MayBeFreed c.args.old) c.in_ok-name_place.ensures.silent
+    (told_at_end (g.F.Folder.told c.args.folder.now).files (g.F.Folder.told c.name_place.new.folder).files (MayBeFreed c.args.old) c.in_ok-name_place.ensures.writes.silent
     (λ from there mid now.
     named_free c.args.entry c.args.stream c.args.old from c.args.files.now mid (c.requires.agrees from there)
     (passes_end (c.in_ok-name_place.ensures.stops from there (can from there).0 (can from there).1) mid now).same c.requires.old (can from there).2)))

@@ -31,8 +31,8 @@ returns-in-Some-clause-stops g c from there stored = leave_passes c.args.files.n
 
 pub returns-in-Some-clause-untold : goal.returns-in-Some-clause-untold
 returns-in-Some-clause-untold g c can =
-    leave_back c.args.files.now c.filled_place.new.files c.args.entry c.args.stream c.args.size c.args.old c.requires.kind c.requires.stands c.requires.stream c.filled_place.ensures.keeps c.requires.old c.requires.some c.requires.other c.word_of-word.result c.args.offset c.args.bytes.now c.args.record_bytes.now (subst (λ (v : ℕ). may_keep c.filled_place.new.files c.args.size v ≡ true) (sym c.word_of-word.ensures) c.in_ok-new.ensures.fits) (g.F.Folder.told c.args.folder.now) (g.F.Folder.told c.filled_place.new.folder) (g.F.Folder.told c.leave_place.new.folder) c.requires.agrees (λ from there. (can from there).0.words) (λ from there. (can from there).0.read) c.in_ok-new.ensures.stops (λ from there can image now. subst (λ (v : ℕ). IsPlaceFilled c.args.files.now c.args.old v c.args.size c.args.offset c.args.bytes.now from image) (sym c.word_of-word.ensures) (c.in_ok-new.ensures.filled from there can image now)) c.in-Some.addr c.in-Some.is c.leave_place.result c.filled_place.ensures.silent (λ from there. (can from there).1)
-    (c.leave_place.ensures.untold (leave_can c.args.files.now c.filled_place.new.files c.args.entry c.args.stream c.args.size c.args.old c.requires.kind c.requires.stands c.requires.stream c.filled_place.ensures.keeps c.requires.old c.requires.some c.requires.other c.word_of-word.result c.args.offset c.args.bytes.now c.args.record_bytes.now (subst (λ (v : ℕ). may_keep c.filled_place.new.files c.args.size v ≡ true) (sym c.word_of-word.ensures) c.in_ok-new.ensures.fits) (g.F.Folder.told c.args.folder.now) (g.F.Folder.told c.filled_place.new.folder) (g.F.Folder.told c.leave_place.new.folder) c.requires.agrees (λ from there. (can from there).0.words) (λ from there. (can from there).0.read) c.in_ok-new.ensures.stops (λ from there can image now. subst (λ (v : ℕ). IsPlaceFilled c.args.files.now c.args.old v c.args.size c.args.offset c.args.bytes.now from image) (sym c.word_of-word.ensures) (c.in_ok-new.ensures.filled from there can image now)) c.in-Some.addr c.in-Some.is c.filled_place.ensures.silent (λ from there. (can from there).1)))
+    leave_back c.args.files.now c.filled_place.new.files c.args.entry c.args.stream c.args.size c.args.old c.requires.kind c.requires.stands c.requires.stream c.filled_place.ensures.keeps c.requires.old c.requires.some c.requires.other c.word_of-word.result c.args.offset c.args.bytes.now c.args.record_bytes.now (subst (λ (v : ℕ). may_keep c.filled_place.new.files c.args.size v ≡ true) (sym c.word_of-word.ensures) c.in_ok-new.ensures.fits) (g.F.Folder.told c.args.folder.now) (g.F.Folder.told c.filled_place.new.folder) (g.F.Folder.told c.leave_place.new.folder) c.requires.agrees (λ from there. (can from there).0.words) (λ from there. (can from there).0.read) c.in_ok-new.ensures.stops (λ from there can image now. subst (λ (v : ℕ). IsPlaceFilled c.args.files.now c.args.old v c.args.size c.args.offset c.args.bytes.now from image) (sym c.word_of-word.ensures) (c.in_ok-new.ensures.filled from there can image now)) c.in-Some.addr c.in-Some.is c.leave_place.result c.filled_place.ensures.writes.silent (λ from there. (can from there).1)
+    (c.leave_place.ensures.untold (leave_can c.args.files.now c.filled_place.new.files c.args.entry c.args.stream c.args.size c.args.old c.requires.kind c.requires.stands c.requires.stream c.filled_place.ensures.keeps c.requires.old c.requires.some c.requires.other c.word_of-word.result c.args.offset c.args.bytes.now c.args.record_bytes.now (subst (λ (v : ℕ). may_keep c.filled_place.new.files c.args.size v ≡ true) (sym c.word_of-word.ensures) c.in_ok-new.ensures.fits) (g.F.Folder.told c.args.folder.now) (g.F.Folder.told c.filled_place.new.folder) (g.F.Folder.told c.leave_place.new.folder) c.requires.agrees (λ from there. (can from there).0.words) (λ from there. (can from there).0.read) c.in_ok-new.ensures.stops (λ from there can image now. subst (λ (v : ℕ). IsPlaceFilled c.args.files.now c.args.old v c.args.size c.args.offset c.args.bytes.now from image) (sym c.word_of-word.ensures) (c.in_ok-new.ensures.filled from there can image now)) c.in-Some.addr c.in-Some.is c.filled_place.ensures.writes.silent (λ from there. (can from there).1)))
 
 pub returns-in_err-name_place-in-None-clause-stops : goal.returns-in_err-name_place-in-None-clause-stops
 returns-in_err-name_place-in-None-clause-stops g c from there stored = name_passes c.args.files.now c.filled_place.new.files c.args.entry c.args.stream c.args.size c.args.old c.requires.kind c.requires.stands c.requires.stream c.filled_place.ensures.keeps c.requires.old c.requires.some c.requires.other c.word_of-word.result c.args.offset c.args.bytes.now c.args.record_bytes.now (subst (λ (v : ℕ). may_keep c.filled_place.new.files c.args.size v ≡ true) (sym c.word_of-word.ensures) c.in_ok-new.ensures.fits) (g.F.Folder.told c.args.folder.now) (g.F.Folder.told c.filled_place.new.folder) (g.F.Folder.told c.name_place.new.folder) c.requires.agrees (told_is (HasWords c.args.entry c.args.stream c.args.old.size (unwrap_or c.args.old.addr 0)) from there stored.words) (told_is (λ image. c.args.record_bytes.now ≡ record_at image c.args.entry) from there stored.read) c.in_ok-new.ensures.stops (λ from there can image now. subst (λ (v : ℕ). IsPlaceFilled c.args.files.now c.args.old v c.args.size c.args.offset c.args.bytes.now from image) (sym c.word_of-word.ensures) (c.in_ok-new.ensures.filled from there can image now)) c.in-None.is c.in_err-name_place-in-None.ensures.stops from there

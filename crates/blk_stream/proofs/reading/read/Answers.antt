@@ -61,12 +61,12 @@ read_data-requires g c =
 
 pub returns-in_err-read_data-clause-untold : goal.returns-in_err-read_data-clause-untold
 returns-in_err-read_data-clause-untold g c can =
-    subst (λ (t : Told). IfDamaged c.from_residual-in_err-read_data.result (λ _. t.files ≡ None)) c.in_ok-head.ensures.stays
+    subst (λ (t : Told). IfDamaged c.from_residual-in_err-read_data.result (λ _. t.files ≡ None)) c.in_ok-head.ensures.reads.stays
     (carried c.read_data.result c.from_residual-in_err-read_data.result c.in_err-read_data.field-0.0 (λ _. (g.F.Folder.told c.read_head.new.folder).files ≡ None) c.in_err-read_data.was c.from_residual-in_err-read_data.ensures.1
     (c.read_data.ensures.untold
-    (subst (λ (t : Told). ForSome t.files (Agrees c.args.files.now)) (sym c.in_ok-head.ensures.stays) (λ image there. (can image there).agrees))
+    (subst (λ (t : Told). ForSome t.files (Agrees c.args.files.now)) (sym c.in_ok-head.ensures.reads.stays) (λ image there. (can image there).agrees))
     (λ image now outside.
-    let there : (g.F.Folder.told c.args.f.now).files ≡ Some image = ap (λ (t : Told). t.files) (sym c.in_ok-head.ensures.stays) ∙ now in
+    let there : (g.F.Folder.told c.args.f.now).files ≡ Some image = ap (λ (t : Told). t.files) (sym c.in_ok-head.ensures.reads.stays) ∙ now in
     let known = stream_facts c.args.files.now image c.args.entry c.args.stream (can image there).has.streams (can image there).agrees c.requires.stream (can image there).has.is in
     let words = c.in_ok-head.ensures.head image there in
     let size_is : slice_index c.in_ok-head.head.sizes c.from.result ≡ size_word image c.args.entry c.args.stream = λ j. slice_index (words.sizes j) (c.from.ensures j) in
@@ -77,7 +77,7 @@ returns-in_err-read_data-clause-untold g c can =
 piece_of : (g : given.Over) (c : goal.In_ok-read_data g) → ForSome (g.F.Folder.told c.args.f.now).files (λ image. IsPiece (stream_bytes image c.args.entry c.args.stream) c.args.offset c.args.out.now (c.read_data.new.out ++ drop c.min-n.result c.args.out.now) c.min-n.result)
 piece_of g c image there =
     let words = c.in_ok-head.ensures.head image there in
-    let now : (g.F.Folder.told c.read_head.new.folder).files ≡ Some image = ap (λ (t : Told). t.files) c.in_ok-head.ensures.stays ∙ there in
+    let now : (g.F.Folder.told c.read_head.new.folder).files ≡ Some image = ap (λ (t : Told). t.files) c.in_ok-head.ensures.reads.stays ∙ there in
     let word : c.in-Some.addr ≡ address_word image c.args.entry c.args.stream = sym (ap (λ (o : Option ℕ). unwrap_or o 0) c.in-Some.is) ∙ c.in_ok-stored.ensures.stored.word_is ∙ (λ j. slice_index (words.addrs j) (c.from-2.ensures j)) in
     some_read image c.args.entry c.args.stream c.args.offset (slice_index c.in_ok-head.head.sizes c.from.result) c.in-Some.addr c.min-at.result c.min-n.result (length (take c.min-n.result c.args.out.now)) c.read_data.new.out c.args.out.now
     (λ j. slice_index (words.sizes j) (c.from.ensures j)) word (omega (arith, c.min-at.ensures, c.from-3.ensures)) c.min-n.ensures

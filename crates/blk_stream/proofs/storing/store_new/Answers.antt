@@ -35,7 +35,7 @@ pub returns-in_err-fill-clause-untold : goal.returns-in_err-fill-clause-untold
 returns-in_err-fill-clause-untold g c can =
     carried c.fill.result c.from_residual-in_err-fill.result c.in_err-fill.field-0.0 (λ _. (g.F.Folder.told c.args.folder.now).files ≡ None) c.in_err-fill.was c.from_residual-in_err-fill.ensures.1
     (fill_untold c.args.files.now c.new_place.new.files nowhere c.in_ok-addr.addr (c.args.offset + length c.args.bytes.now) c.args.offset c.args.bytes.now (g.F.Folder.told c.args.folder.now) (g.F.Folder.told c.new_place.new.folder) (g.F.Folder.told c.fill.new.folder) c.requires.agrees (no_place c.args.files.now) (omega (arith, c.requires.some)) (may_both c.new_place.new.files (c.args.offset + length c.args.bytes.now) c.in_ok-addr.addr c.requires.most c.in_ok-addr.ensures.stores) c.in_ok-addr.ensures.stops c.in_ok-addr.ensures.placed
-    c.fill.result c.fill.ensures.untold c.new_place.ensures.silent (λ from there. nothing_old c.args.files.now (c.args.offset + length c.args.bytes.now) from (can from there)))
+    c.fill.result c.fill.ensures.untold c.new_place.ensures.writes.silent (λ from there. nothing_old c.args.files.now (c.args.offset + length c.args.bytes.now) from (can from there)))
 
 pub returns-clause-fits : goal.returns-clause-fits
 returns-clause-fits g c = may_both c.new_place.new.files (c.args.offset + length c.args.bytes.now) c.in_ok-addr.addr c.requires.most c.in_ok-addr.ensures.stores

@@ -31,19 +31,19 @@ read_record-requires-clause-size g c = sym (entry_bytes c.args.entry c.requires.
 
 pub returns-in_err-read_record-clause-stops : goal.returns-in_err-read_record-clause-stops
 returns-in_err-read_record-clause-stops g c from there can =
-    passes_none (WritesStream c.args.files.now c.args.entry c.args.stream (writes.size_after c.args.cut (size_word from c.args.entry c.args.stream) c.args.offset (length c.args.bytes.now)) c.args.offset c.args.cut c.args.bytes.now from) c.in_err-read_record.ensures.stays
+    passes_none (WritesStream c.args.files.now c.args.entry c.args.stream (writes.size_after c.args.cut (size_word from c.args.entry c.args.stream) c.args.offset (length c.args.bytes.now)) c.args.offset c.args.cut c.args.bytes.now from) c.in_err-read_record.ensures.reads.stays
     (λ image now. subst (WritesStream c.args.files.now c.args.entry c.args.stream (writes.size_after c.args.cut (size_word from c.args.entry c.args.stream) c.args.offset (length c.args.bytes.now)) c.args.offset c.args.cut c.args.bytes.now from) (some_inj (sym there ∙ now)) (begun_writes c.args.files.now c.args.entry c.args.stream (writes.size_after c.args.cut (size_word from c.args.entry c.args.stream) c.args.offset (length c.args.bytes.now)) c.args.offset c.args.cut c.args.bytes.now from can.checks))
 
 pub returns-in_err-read_record-clause-damaged : goal.returns-in_err-read_record-clause-damaged
 returns-in_err-read_record-clause-damaged g c =
     carried c.read_record.result c.from_residual.result c.in_err-read_record.field-0.0 (IsWriteDamage c.args.files.now c.args.files.now (g.F.Folder.told c.args.f.now) (g.F.Folder.told c.read_record.new.folder) c.args.entry c.args.stream) c.in_err-read_record.was c.from_residual.ensures.1
     (if_damaged_weaker c.read_record.result _ _
-    (λ damage d. inl (c.in_err-read_record.ensures.stays, (refl, inl (subst (λ (n : ℕ). IsShort (g.F.Folder.told c.args.f.now) (FileId.Block (file_selector c.args.entry)) (place c.args.entry) n damage ⊎ IsUnsealed (g.F.Folder.told c.args.f.now) c.args.entry damage) (entry_bytes c.args.entry c.requires.kind) d))))
+    (λ damage d. inl (c.in_err-read_record.ensures.reads.stays, (refl, inl (subst (λ (n : ℕ). IsShort (g.F.Folder.told c.args.f.now) (FileId.Block (file_selector c.args.entry)) (place c.args.entry) n damage ⊎ IsUnsealed (g.F.Folder.told c.args.f.now) c.args.entry damage) (entry_bytes c.args.entry c.requires.kind) d))))
     c.read_record.ensures.damaged)
 
 pub returns-in_err-old-clause-stops : goal.returns-in_err-old-clause-stops
 returns-in_err-old-clause-stops g c from there can =
-    passes_none (WritesStream c.args.files.now c.args.entry c.args.stream (writes.size_after c.args.cut (size_word from c.args.entry c.args.stream) c.args.offset (length c.args.bytes.now)) c.args.offset c.args.cut c.args.bytes.now from) c.in_ok-read_record.ensures.stays
+    passes_none (WritesStream c.args.files.now c.args.entry c.args.stream (writes.size_after c.args.cut (size_word from c.args.entry c.args.stream) c.args.offset (length c.args.bytes.now)) c.args.offset c.args.cut c.args.bytes.now from) c.in_ok-read_record.ensures.reads.stays
     (λ image now. subst (WritesStream c.args.files.now c.args.entry c.args.stream (writes.size_after c.args.cut (size_word from c.args.entry c.args.stream) c.args.offset (length c.args.bytes.now)) c.args.offset c.args.cut c.args.bytes.now from) (some_inj (sym there ∙ now)) (begun_writes c.args.files.now c.args.entry c.args.stream (writes.size_after c.args.cut (size_word from c.args.entry c.args.stream) c.args.offset (length c.args.bytes.now)) c.args.offset c.args.cut c.args.bytes.now from can.checks))
 
 pub returns-in_err-old-clause-untold : goal.returns-in_err-old-clause-untold
@@ -57,16 +57,16 @@ returns-in_err-old-clause-untold g c can =
     clash (c.in_err-old.ensures.right ((λ j. may_keep c.args.files.now (size j) (word j)) ∙ known.keep))))
 
 pub write_stored-requires-clause-agrees : goal.write_stored-requires-clause-agrees
-write_stored-requires-clause-agrees g c = subst (λ (t : Told). ForSome t.files (Agrees c.args.files.now)) (sym c.in_ok-read_record.ensures.stays) c.requires.agrees
+write_stored-requires-clause-agrees g c = subst (λ (t : Told). ForSome t.files (Agrees c.args.files.now)) (sym c.in_ok-read_record.ensures.reads.stays) c.requires.agrees
 
 words : (g : given.Over) (c : goal.After-record_bytes-4-1 g) → ForSome (g.F.Folder.told c.read_record.new.folder).files (HasWords c.args.entry c.args.stream c.in_ok-old.old.size (unwrap_or c.in_ok-old.old.addr 0))
 words g c image now =
-    let there : (g.F.Folder.told c.args.f.now).files ≡ Some image = ap (λ (t : Told). t.files) (sym c.in_ok-read_record.ensures.stays) ∙ now in
+    let there : (g.F.Folder.told c.args.f.now).files ≡ Some image = ap (λ (t : Told). t.files) (sym c.in_ok-read_record.ensures.reads.stays) ∙ now in
     read_words image c.args.entry c.args.stream c.read_record.new.bytes c.in_ok-old.old c.requires.kind c.requires.stream (c.in_ok-read_record.ensures.bytes image there) c.in_ok-old.ensures.stored
 
 pub write_stored-requires-clause-there : goal.write_stored-requires-clause-there
 write_stored-requires-clause-there g c image now =
-    let there : (g.F.Folder.told c.args.f.now).files ≡ Some image = ap (λ (t : Told). t.files) (sym c.in_ok-read_record.ensures.stays) ∙ now in
+    let there : (g.F.Folder.told c.args.f.now).files ≡ Some image = ap (λ (t : Told). t.files) (sym c.in_ok-read_record.ensures.reads.stays) ∙ now in
     let has = words g c image now in
     subst (λ (v : ℕ). IsInFile v 0 c.in_ok-old.old.size image) has.word_is (subst (λ (n : ℕ). IsInFile (address_word image c.args.entry c.args.stream) 0 n image) has.size_is (c.requires.there image there))
 
@@ -93,36 +93,36 @@ pub returns-clause-written : goal.returns-clause-written
 returns-clause-written g c =
     on_ok_weaker c.write_stored.result
     (λ done from there can.
-    done from (ap (λ (t : Told). t.files) c.in_ok-read_record.ensures.stays ∙ there) (stored_is g c from there)
+    done from (ap (λ (t : Told). t.files) c.in_ok-read_record.ensures.reads.stays ∙ there) (stored_is g c from there)
     (subst (λ (n : ℕ). CanBeWritten c.args.files.now c.args.entry c.args.stream (writes.size_after c.args.cut n c.args.offset (length c.args.bytes.now)) from) (size_read g c from there) can))
     c.write_stored.ensures.written
 
 pub returns-clause-stops : goal.returns-clause-stops
 returns-clause-stops g c from there can =
     let e = size_read g c from there in
-    passes_stayed c.in_ok-read_record.ensures.stays
+    passes_stayed c.in_ok-read_record.ensures.reads.stays
     (subst (λ (n : ℕ). Passes (g.F.Folder.told c.read_record.new.folder) (g.F.Folder.told c.write_stored.new.folder) (WritesStream c.args.files.now c.args.entry c.args.stream (writes.size_after c.args.cut n c.args.offset (length c.args.bytes.now)) c.args.offset c.args.cut c.args.bytes.now from)) (sym e)
-    (c.write_stored.ensures.stops from (ap (λ (t : Told). t.files) c.in_ok-read_record.ensures.stays ∙ there) (stored_is g c from there)
+    (c.write_stored.ensures.stops from (ap (λ (t : Told). t.files) c.in_ok-read_record.ensures.reads.stays ∙ there) (stored_is g c from there)
     (subst (λ (n : ℕ). CanBeWritten c.args.files.now c.args.entry c.args.stream (writes.size_after c.args.cut n c.args.offset (length c.args.bytes.now)) from) e can)))
 
 pub returns-clause-untold : goal.returns-clause-untold
 returns-clause-untold g c can =
-    if_damaged_weaker c.write_stored.result _ _ (λ damage none. ap (λ (t : Told). t.files) (sym c.in_ok-read_record.ensures.stays) ∙ none)
+    if_damaged_weaker c.write_stored.result _ _ (λ damage none. ap (λ (t : Told). t.files) (sym c.in_ok-read_record.ensures.reads.stays) ∙ none)
     (c.write_stored.ensures.untold
     (λ from now.
-    let there : (g.F.Folder.told c.args.f.now).files ≡ Some from = ap (λ (t : Told). t.files) (sym c.in_ok-read_record.ensures.stays) ∙ now in
+    let there : (g.F.Folder.told c.args.f.now).files ≡ Some from = ap (λ (t : Told). t.files) (sym c.in_ok-read_record.ensures.reads.stays) ∙ now in
     (stored_is g c from there, subst (λ (n : ℕ). CanBeWritten c.args.files.now c.args.entry c.args.stream (writes.size_after c.args.cut n c.args.offset (length c.args.bytes.now)) from) (size_read g c from there) (can from there))))
 
 -- By stages.
 
 pub returns-in_err-read_record-clause-stages : goal.returns-in_err-read_record-clause-stages
 returns-in_err-read_record-clause-stages g c from there can =
-    passes_none (WritesByStage c.args.files.now c.args.files.now c.args.entry c.args.stream (writes.size_after c.args.cut (size_word from c.args.entry c.args.stream) c.args.offset (length c.args.bytes.now)) c.args.offset c.args.bytes.now from) c.in_err-read_record.ensures.stays
+    passes_none (WritesByStage c.args.files.now c.args.files.now c.args.entry c.args.stream (writes.size_after c.args.cut (size_word from c.args.entry c.args.stream) c.args.offset (length c.args.bytes.now)) c.args.offset c.args.bytes.now from) c.in_err-read_record.ensures.reads.stays
     (λ image now. subst (WritesByStage c.args.files.now c.args.files.now c.args.entry c.args.stream (writes.size_after c.args.cut (size_word from c.args.entry c.args.stream) c.args.offset (length c.args.bytes.now)) c.args.offset c.args.bytes.now from) (some_inj (sym there ∙ now)) (begun_stages c.args.files.now c.args.files.now c.args.entry c.args.stream (writes.size_after c.args.cut (size_word from c.args.entry c.args.stream) c.args.offset (length c.args.bytes.now)) c.args.offset c.args.bytes.now from))
 
 pub returns-in_err-old-clause-stages : goal.returns-in_err-old-clause-stages
 returns-in_err-old-clause-stages g c from there can =
-    passes_none (WritesByStage c.args.files.now c.args.files.now c.args.entry c.args.stream (writes.size_after c.args.cut (size_word from c.args.entry c.args.stream) c.args.offset (length c.args.bytes.now)) c.args.offset c.args.bytes.now from) c.in_ok-read_record.ensures.stays
+    passes_none (WritesByStage c.args.files.now c.args.files.now c.args.entry c.args.stream (writes.size_after c.args.cut (size_word from c.args.entry c.args.stream) c.args.offset (length c.args.bytes.now)) c.args.offset c.args.bytes.now from) c.in_ok-read_record.ensures.reads.stays
     (λ image now. subst (WritesByStage c.args.files.now c.args.files.now c.args.entry c.args.stream (writes.size_after c.args.cut (size_word from c.args.entry c.args.stream) c.args.offset (length c.args.bytes.now)) c.args.offset c.args.bytes.now from) (some_inj (sym there ∙ now)) (begun_stages c.args.files.now c.args.files.now c.args.entry c.args.stream (writes.size_after c.args.cut (size_word from c.args.entry c.args.stream) c.args.offset (length c.args.bytes.now)) c.args.offset c.args.bytes.now from))
 
 pub returns-clause-staged : goal.returns-clause-staged
@@ -131,22 +131,22 @@ returns-clause-staged g c =
     (λ done from there can image now.
     let e = size_read g c from there in
     subst (λ (n : ℕ). IsWrittenByStage c.args.files.now c.write_stored.new.files c.args.entry c.args.stream (writes.size_after c.args.cut n c.args.offset (length c.args.bytes.now)) c.args.offset c.args.bytes.now from image) (sym e)
-    (done from (ap (λ (t : Told). t.files) c.in_ok-read_record.ensures.stays ∙ there) (stored_is g c from there)
+    (done from (ap (λ (t : Told). t.files) c.in_ok-read_record.ensures.reads.stays ∙ there) (stored_is g c from there)
     (subst (λ (n : ℕ). CanBeWritten c.args.files.now c.args.entry c.args.stream (writes.size_after c.args.cut n c.args.offset (length c.args.bytes.now)) from) e can) image now))
     c.write_stored.ensures.staged
 
 pub returns-clause-stages : goal.returns-clause-stages
 returns-clause-stages g c from there can =
     let e = size_read g c from there in
-    passes_stayed c.in_ok-read_record.ensures.stays
+    passes_stayed c.in_ok-read_record.ensures.reads.stays
     (subst (λ (n : ℕ). Passes (g.F.Folder.told c.read_record.new.folder) (g.F.Folder.told c.write_stored.new.folder) (WritesByStage c.args.files.now c.write_stored.new.files c.args.entry c.args.stream (writes.size_after c.args.cut n c.args.offset (length c.args.bytes.now)) c.args.offset c.args.bytes.now from)) (sym e)
-    (c.write_stored.ensures.stages from (ap (λ (t : Told). t.files) c.in_ok-read_record.ensures.stays ∙ there) (stored_is g c from there)
+    (c.write_stored.ensures.stages from (ap (λ (t : Told). t.files) c.in_ok-read_record.ensures.reads.stays ∙ there) (stored_is g c from there)
     (subst (λ (n : ℕ). CanBeWritten c.args.files.now c.args.entry c.args.stream (writes.size_after c.args.cut n c.args.offset (length c.args.bytes.now)) from) e can)))
 
 pub returns-clause-sealed : goal.returns-clause-sealed
 returns-clause-sealed g c =
     on_ok_weaker c.write_stored.result
     (λ sealed from there can.
-    sealed from (ap (λ (t : Told). t.files) c.in_ok-read_record.ensures.stays ∙ there) (stored_is g c from there)
+    sealed from (ap (λ (t : Told). t.files) c.in_ok-read_record.ensures.reads.stays ∙ there) (stored_is g c from there)
     (subst (λ (n : ℕ). CanBeWritten c.args.files.now c.args.entry c.args.stream (writes.size_after c.args.cut n c.args.offset (length c.args.bytes.now)) from) (size_read g c from there) can))
     c.write_stored.ensures.sealed

@@ -23,11 +23,11 @@ returns-clause-fits g c =
     (λ fits. ForSome (g.F.Folder.told c.args.folder.now).files (λ image. Agrees c.args.files.now image → (loaded : shown.Loaded) → IsLoadedFrom image loaded c.args.kept.now → fits ≡ is_sought c.args.sought c.args.key.now loaded))
     (λ fits is image there agrees loaded known.
     let key = keys-found image known.node loaded c.args.kept.now known.loads known.is in
-    is image (told_now image c.in_ok-has_this_key.ensures.stays there) c.args.key.now loaded known
+    is image (told_now image c.in_ok-has_this_key.ensures.reads.stays there) c.args.key.now loaded known
     (same_bytes loaded.key c.args.key.now (sym (c.in_ok-has_this_key.ensures.same image there loaded.key agrees key) ∙ c.if-not-branch.false)))
     c.has_bit.ensures.fits
 
 pub returns-clause-untold : goal.returns-clause-untold
 returns-clause-untold g c agrees key =
-    if_damaged_weaker c.has_bit.result _ _ (λ damage none. ap (λ (t : Told). t.files) (sym c.in_ok-has_this_key.ensures.stays) ∙ none)
-    (c.has_bit.ensures.untold (told_stays (Agrees c.args.files.now) c.in_ok-has_this_key.ensures.stays agrees))
+    if_damaged_weaker c.has_bit.result _ _ (λ damage none. ap (λ (t : Told). t.files) (sym c.in_ok-has_this_key.ensures.reads.stays) ∙ none)
+    (c.has_bit.ensures.untold (told_stays (Agrees c.args.files.now) c.in_ok-has_this_key.ensures.reads.stays agrees))

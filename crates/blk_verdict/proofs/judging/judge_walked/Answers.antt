@@ -35,9 +35,9 @@ returns-in-Loaded-clause-keys g c =
 
 pub returns-in-Loaded-clause-untold : goal.returns-in-Loaded-clause-untold
 returns-in-Loaded-clause-untold g c agrees walked keys =
-    weaker c.admit.result _ _ (λ damage none. ap (λ (t : Told). t.files) (sym c.in_ok-loaded.ensures.stays) ∙ none)
-    (c.admit.ensures.untold (told_stays (Agrees c.args.files.now) c.in_ok-loaded.ensures.stays agrees)
-    (told_stays (λ (image : Image). HaveKeys image (c.in-Loaded.loaded ∷ c.args.kept.now.kept.items)) c.in_ok-loaded.ensures.stays
+    weaker c.admit.result _ _ (λ damage none. ap (λ (t : Told). t.files) (sym c.in_ok-loaded.ensures.reads.stays) ∙ none)
+    (c.admit.ensures.untold (told_stays (Agrees c.args.files.now) c.in_ok-loaded.ensures.reads.stays agrees)
+    (told_stays (λ (image : Image). HaveKeys image (c.in-Loaded.loaded ∷ c.args.kept.now.kept.items)) c.in_ok-loaded.ensures.reads.stays
     (λ image there.
     let at = walked image there in
     let loaded = subst (IsVerdict (shown.load (store_of image) held_rule c.args.node.now.addr)) c.in-Loaded.is (c.in_ok-loaded.ensures.verdict image there (agrees image there) at.0 at.1) in
@@ -64,7 +64,7 @@ returns-in-Loaded-clause-answer g c =
     let loaded = subst (IsVerdict (shown.load (store_of image) held_rule c.args.node.now.addr)) c.in-Loaded.is (c.in_ok-loaded.ensures.verdict image there agrees are fields) in
     let named = subst (λ (v : Verdict). IsNameInPrefix image v c.load_walked.new.name) c.in-Loaded.is (c.in_ok-loaded.ensures.named image there agrees) in
     let one = judged image so_far c.args.node.now.addr c.in-Loaded.loaded loaded in
-    subst (λ (r : Result shown.Loaded reasons.Reason). IsSameAnswer r reason) (sym one.is) (is image (told_now image c.in_ok-loaded.ensures.stays there) agrees so_far one.loaded shows one.known named))
+    subst (λ (r : Result shown.Loaded reasons.Reason). IsSameAnswer r reason) (sym one.is) (is image (told_now image c.in_ok-loaded.ensures.reads.stays there) agrees so_far one.loaded shows one.known named))
     c.admit.ensures.answer
 
 pub returns-in-Loaded-clause-shown : goal.returns-in-Loaded-clause-shown
@@ -76,5 +76,5 @@ returns-in-Loaded-clause-shown g c =
     let loaded = subst (IsVerdict (shown.load (store_of image) held_rule c.args.node.now.addr)) c.in-Loaded.is (c.in_ok-loaded.ensures.verdict image there agrees are fields) in
     let named = subst (λ (v : Verdict). IsNameInPrefix image v c.load_walked.new.name) c.in-Loaded.is (c.in_ok-loaded.ensures.named image there agrees) in
     let one = judged image so_far c.args.node.now.addr c.in-Loaded.loaded loaded in
-    subst (λ (r : Result shown.Loaded reasons.Reason). AreShown image (audit.with_verdict so_far r) c.admit.new.self.kept.items) (sym one.is) (is image (told_now image c.in_ok-loaded.ensures.stays there) agrees so_far one.loaded shows one.known named))
+    subst (λ (r : Result shown.Loaded reasons.Reason). AreShown image (audit.with_verdict so_far r) c.admit.new.self.kept.items) (sym one.is) (is image (told_now image c.in_ok-loaded.ensures.reads.stays there) agrees so_far one.loaded shows one.known named))
     c.admit.ensures.shown

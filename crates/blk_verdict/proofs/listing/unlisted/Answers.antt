@@ -26,8 +26,8 @@ loop-i-preserved g c = record {
       c.in_ok-add_if.ensures.added image (told_now image c.loop-i.invariant.stays there) agrees are (get_or words c.loop-i.i 0) at
       ∙ ap (λ (before : List ℕ). before ++ filter (is_unlisted (completed (view_of image))) (get_or words c.loop-i.i 0 ∷ [])) (c.loop-i.invariant.found image there agrees are)
       ∙ sym (one_more (is_unlisted (completed (view_of image))) words c.loop-i.i (get_or words c.loop-i.i 0) at);
-  stays = c.in_ok-add_if.ensures.stays ∙ c.loop-i.invariant.stays;
-  later = omega (arith, c.in_ok-add_if.ensures.later, c.loop-i.invariant.later);
+  stays = c.in_ok-add_if.ensures.reads.stays ∙ c.loop-i.invariant.stays;
+  later = omega (arith, c.in_ok-add_if.ensures.reads.later, c.loop-i.invariant.later);
 }
 
 pub returns-clause-unlisted : goal.returns-clause-unlisted
@@ -39,4 +39,4 @@ returns-clause-unlisted g c image there agrees are =
 
 pub returns-in_err-add_if-clause-untold : goal.returns-in_err-add_if-clause-untold
 returns-in_err-add_if-clause-untold g c =
-    untold_on c.add_if.result c.from_residual.result c.in_err-add_if.field-0.0 {a = g.F.Folder.told c.args.folder.now} (Agrees c.args.files.now) (Agrees c.args.files.now) (λ image agrees. agrees) (c.add_if.ensures.stays ∙ c.loop-i.invariant.stays) c.add_if.ensures.untold c.in_err-add_if.was c.from_residual.ensures.1
+    untold_on c.add_if.result c.from_residual.result c.in_err-add_if.field-0.0 {a = g.F.Folder.told c.args.folder.now} (Agrees c.args.files.now) (Agrees c.args.files.now) (λ image agrees. agrees) (c.add_if.ensures.reads.stays ∙ c.loop-i.invariant.stays) c.add_if.ensures.untold c.in_err-add_if.was c.from_residual.ensures.1

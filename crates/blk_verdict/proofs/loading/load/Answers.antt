@@ -37,5 +37,5 @@ returns-in_err-words-clause-short g c =
 
 pub returns-clause-untold : goal.returns-clause-untold
 returns-clause-untold g c agrees =
-    if_damaged_weaker c.load_words.result _ _ (λ damage none. ap (λ (t : Told). t.files) (sym c.in_ok-words.ensures.stays) ∙ none)
-    (c.load_words.ensures.untold (told_stays (Agrees c.args.files.now) c.in_ok-words.ensures.stays agrees))
+    if_damaged_weaker c.load_words.result _ _ (λ damage none. ap (λ (t : Told). t.files) (sym c.in_ok-words.ensures.reads.stays) ∙ none)
+    (c.load_words.ensures.untold (told_stays (Agrees c.args.files.now) c.in_ok-words.ensures.reads.stays agrees))

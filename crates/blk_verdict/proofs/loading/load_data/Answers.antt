@@ -19,10 +19,10 @@ load_key-requires-clause-short g c = let parts = may_have_parts c.args.entry c.a
 
 pub returns-then-branch-clause-untold : goal.returns-then-branch-clause-untold
 returns-then-branch-clause-untold g c agrees =
-    if_damaged_weaker c.load_key.result _ _ (λ damage none. ap (λ (t : Told). t.files) (sym c.in_ok-has_key.ensures.stays) ∙ none)
-    (c.load_key.ensures.untold (told_stays (Agrees c.args.files.now) c.in_ok-has_key.ensures.stays agrees)
+    if_damaged_weaker c.load_key.result _ _ (λ damage none. ap (λ (t : Told). t.files) (sym c.in_ok-has_key.ensures.reads.stays) ∙ none)
+    (c.load_key.ensures.untold (told_stays (Agrees c.args.files.now) c.in_ok-has_key.ensures.reads.stays agrees)
     (λ image now.
-    let there = told_before image c.in_ok-has_key.ensures.stays now in
+    let there = told_before image c.in_ok-has_key.ensures.reads.stays now in
     sym (c.in_ok-has_key.ensures.key image there c.args.entry (agrees image there)) ∙ c.if-branch.true))
 
 pub returns-else-branch-clause-verdict : goal.returns-else-branch-clause-verdict

@@ -45,17 +45,17 @@ returns-clause-verdict g c =
     let key = has_value (List ℕ) (stored_key (store_of image) c.args.entry (fields_said c.args.said.now.words)) stored in
     let right : c.args.said.now.words.hash ≡ hash key.value = c.if-said-sum.false ∙ c.in_ok-sum.ensures.sum image there sums key.value key.is in
     subst (λ (r : Result shown.Loaded reasons.Reason). IsVerdict r verdict) (sym (data_with_key (store_of image) c.args.node c.args.entry dirty (fields_said c.args.said.now.words) key.value true true key.is (eq-eqb _ _ right) (sym reached ∙ c.if-not-reached.false)))
-    (is image (told_now image c.in_ok-sum.ensures.stays there) dirty key.value agrees (sym (key_length image c.args.entry (fields_said c.args.said.now.words) key.value key.is)) right (λ part. sym (c.in_ok-sum.ensures.key image there part key.value key.is))))
+    (is image (told_now image c.in_ok-sum.ensures.reads.stays there) dirty key.value agrees (sym (key_length image c.args.entry (fields_said c.args.said.now.words) key.value key.is)) right (λ part. sym (c.in_ok-sum.ensures.key image there part key.value key.is))))
     c.load_streams.ensures.verdict
 
 pub returns-clause-named : goal.returns-clause-named
 returns-clause-named g c =
     ok_weaker c.load_streams.result _
     (λ verdict. ForSome (g.F.Folder.told c.args.folder.now).files (λ image. Agrees c.args.files.now image → IsNameInPrefix image verdict c.key_sum.new.name))
-    (λ verdict is image there agrees. is image (told_now image c.in_ok-sum.ensures.stays there) agrees (c.in_ok-sum.ensures.key image there))
+    (λ verdict is image there agrees. is image (told_now image c.in_ok-sum.ensures.reads.stays there) agrees (c.in_ok-sum.ensures.key image there))
     c.load_streams.ensures.named
 
 pub returns-clause-untold : goal.returns-clause-untold
 returns-clause-untold g c agrees stored =
-    if_damaged_weaker c.load_streams.result _ _ (λ damage none. ap (λ (t : Told). t.files) (sym c.in_ok-sum.ensures.stays) ∙ none)
-    (c.load_streams.ensures.untold (told_stays (Agrees c.args.files.now) c.in_ok-sum.ensures.stays agrees))
+    if_damaged_weaker c.load_streams.result _ _ (λ damage none. ap (λ (t : Told). t.files) (sym c.in_ok-sum.ensures.reads.stays) ∙ none)
+    (c.load_streams.ensures.untold (told_stays (Agrees c.args.files.now) c.in_ok-sum.ensures.reads.stays agrees))

@@ -27,12 +27,12 @@ returns-then-not-branch-clause-verdict g c image there dirty stored agrees len s
 pub returns-in_err-role-clause-untold : goal.returns-in_err-role-clause-untold
 returns-in_err-role-clause-untold g c agrees =
     carried c.read_role.result c.from_residual-in_err-role.result c.in_err-role.field-0.0 _ c.in_err-role.was c.from_residual-in_err-role.ensures.1
-    (if_damaged_weaker c.read_role.result _ _ (λ damage none. ap (λ (t : Told). t.files) (sym c.in_ok-has_streams.ensures.stays) ∙ none)
-    (c.read_role.ensures.untold (told_stays (Agrees c.args.files.now) c.in_ok-has_streams.ensures.stays agrees)))
+    (if_damaged_weaker c.read_role.result _ _ (λ damage none. ap (λ (t : Told). t.files) (sym c.in_ok-has_streams.ensures.reads.stays) ∙ none)
+    (c.read_role.ensures.untold (told_stays (Agrees c.args.files.now) c.in_ok-has_streams.ensures.reads.stays agrees)))
 
 pub returns-in-Some-clause-verdict : goal.returns-in-Some-clause-verdict
 returns-in-Some-clause-verdict g c image there dirty stored agrees len sum same =
-    let now : (g.F.Folder.told c.has_streams.new.folder).files ≡ Some image = ap (λ (t : Told). t.files) c.in_ok-has_streams.ensures.stays ∙ there in
+    let now : (g.F.Folder.told c.has_streams.new.folder).files ≡ Some image = ap (λ (t : Told). t.files) c.in_ok-has_streams.ensures.reads.stays ∙ there in
     let streams = has_value (List (List ℕ)) (stored_streams (store_of image) (fields_said c.args.words.now)) (sym (c.in_ok-has_streams.ensures.streams image there agrees) ∙ c.if-not-branch.false) in
     let is : IsRoleIf stored (role_of (fields_said c.args.words.now) stored streams.value) (Some c.in-Some.role) = subst (λ (o : Option Role). IsRoleIf stored (role_of (fields_said c.args.words.now) stored streams.value) o) c.in-Some.is (c.in_ok-role.ensures.role image now stored streams.value same streams.is) in
     subst (λ (l : Loaded). IsVerdict (loading.load_streams (store_of image) c.args.node c.args.entry dirty (fields_said c.args.words.now) stored) (verdict.Loaded l)) (sym c.loaded_as.ensures)
@@ -40,14 +40,14 @@ returns-in-Some-clause-verdict g c image there dirty stored agrees len sum same 
 
 pub returns-in-None-clause-verdict : goal.returns-in-None-clause-verdict
 returns-in-None-clause-verdict g c image there dirty stored agrees len sum same =
-    let now : (g.F.Folder.told c.has_streams.new.folder).files ≡ Some image = ap (λ (t : Told). t.files) c.in_ok-has_streams.ensures.stays ∙ there in
+    let now : (g.F.Folder.told c.has_streams.new.folder).files ≡ Some image = ap (λ (t : Told). t.files) c.in_ok-has_streams.ensures.reads.stays ∙ there in
     let streams = has_value (List (List ℕ)) (stored_streams (store_of image) (fields_said c.args.words.now)) (sym (c.in_ok-has_streams.ensures.streams image there agrees) ∙ c.if-not-branch.false) in
     no_role (store_of image) c.args.node c.args.entry dirty c.args.words.now stored streams.value streams.is
     (subst (λ (o : Option Role). IsRoleIf stored (role_of (fields_said c.args.words.now) stored streams.value) o) c.in-None.is (c.in_ok-role.ensures.role image now stored streams.value same streams.is))
 
 pub returns-in-Some-clause-named : goal.returns-in-Some-clause-named
 returns-in-Some-clause-named g c image there agrees front =
-    let now : (g.F.Folder.told c.has_streams.new.folder).files ≡ Some image = ap (λ (t : Told). t.files) c.in_ok-has_streams.ensures.stays ∙ there in
+    let now : (g.F.Folder.told c.has_streams.new.folder).files ≡ Some image = ap (λ (t : Told). t.files) c.in_ok-has_streams.ensures.reads.stays ∙ there in
     let streams = has_value (List (List ℕ)) (stored_streams (store_of image) (fields_said c.args.words.now)) (sym (c.in_ok-has_streams.ensures.streams image there agrees) ∙ c.if-not-branch.false) in
     subst (λ (l : Loaded). IsNameInPrefix image (verdict.Loaded l) c.args.name.now) (sym c.loaded_as.ensures)
     (λ part key of.

@@ -35,8 +35,8 @@ loop-i-preserved g c = record {
       c.in_ok-try_at.ensures.keys image (told_now image c.loop-i.invariant.stays there) (record { agrees = can.agrees; are = can.are; has_keys = c.loop-i.invariant.keys image there can });
   order = c.in_ok-try_at.ensures.order;
   room = c.try_at.auto.name ∙ c.loop-i.invariant.room;
-  stays = c.in_ok-try_at.ensures.stays ∙ c.loop-i.invariant.stays;
-  later = omega (arith, c.in_ok-try_at.ensures.later, c.loop-i.invariant.later);
+  stays = c.in_ok-try_at.ensures.reads.stays ∙ c.loop-i.invariant.stays;
+  later = omega (arith, c.in_ok-try_at.ensures.reads.later, c.loop-i.invariant.later);
 }
 
 pub returns-clause-tried : goal.returns-clause-tried

@@ -22,15 +22,15 @@ returns-then-not-branch-clause-streams g c image there agrees = sym (no_first im
 
 pub returns-then-not-branch-2-clause-streams : goal.returns-then-not-branch-2-clause-streams
 returns-then-not-branch-2-clause-streams g c image there agrees =
-    let now : (g.F.Folder.told c.has_stream.new.folder).files ≡ Some image = ap (λ (t : Told). t.files) c.in_ok-has_stream.ensures.stays ∙ there in
+    let now : (g.F.Folder.told c.has_stream.new.folder).files ≡ Some image = ap (λ (t : Told). t.files) c.in_ok-has_stream.ensures.reads.stays ∙ there in
     sym (no_second image (fields_said c.args.words.now) (sym (c.in_ok-has_stream-2.ensures.stream image now agrees) ∙ c.if-not-branch-2.true))
 
 pub returns-clause-streams : goal.returns-clause-streams
 returns-clause-streams g c =
     ok_weaker c.has_stream-3.result _ (λ has. ForSome (g.F.Folder.told c.args.folder.now).files (λ image. Agrees c.args.files.now image → has ≡ is_some (stored_streams (store_of image) (fields_said c.args.words.now))))
     (λ has is image there agrees.
-    let now : (g.F.Folder.told c.has_stream.new.folder).files ≡ Some image = ap (λ (t : Told). t.files) c.in_ok-has_stream.ensures.stays ∙ there in
-    let last : (g.F.Folder.told c.has_stream-2.new.folder).files ≡ Some image = ap (λ (t : Told). t.files) c.in_ok-has_stream-2.ensures.stays ∙ now in
+    let now : (g.F.Folder.told c.has_stream.new.folder).files ≡ Some image = ap (λ (t : Told). t.files) c.in_ok-has_stream.ensures.reads.stays ∙ there in
+    let last : (g.F.Folder.told c.has_stream-2.new.folder).files ≡ Some image = ap (λ (t : Told). t.files) c.in_ok-has_stream-2.ensures.reads.stays ∙ now in
     is image last agrees
     ∙ sym (by_third image (fields_said c.args.words.now) c.if-words-ne0.false c.if-words-ne0-2.false (sym (c.in_ok-has_stream.ensures.stream image there agrees) ∙ c.if-not-branch.false) (sym (c.in_ok-has_stream-2.ensures.stream image now agrees) ∙ c.if-not-branch-2.false)))
     c.has_stream-3.ensures.stream

@@ -29,13 +29,13 @@ returns-in_default-clause-verdict g c image there agrees are fields =
 pub returns-in_err-said-clause-short : goal.returns-in_err-said-clause-short
 returns-in_err-said-clause-short g c =
     carried c.record_at.result c.from_residual.result c.in_err-said.field-0.0 _ c.in_err-said.was c.from_residual.ensures.1
-    (if_damaged_weaker c.record_at.result _ _ (cut_record c.args.files.now (g.F.Folder.told c.args.folder.now) (g.F.Folder.told c.record_at.new.folder) c.record_at.ensures.stays) c.record_at.ensures.damaged)
+    (if_damaged_weaker c.record_at.result _ _ (cut_record c.args.files.now (g.F.Folder.told c.args.folder.now) (g.F.Folder.told c.record_at.new.folder) c.record_at.ensures.reads.stays) c.record_at.ensures.damaged)
 
 pub returns-in_err-said-clause-untold : goal.returns-in_err-said-clause-untold
 returns-in_err-said-clause-untold g c agrees =
     carried c.record_at.result c.from_residual.result c.in_err-said.field-0.0 _ c.in_err-said.was c.from_residual.ensures.1
-    (if_damaged_weaker c.record_at.result _ _ (λ damage none. ap (λ (t : Told). t.files) (sym c.record_at.ensures.stays) ∙ none)
-    (c.record_at.ensures.untold (told_stays (Agrees c.args.files.now) c.record_at.ensures.stays agrees)))
+    (if_damaged_weaker c.record_at.result _ _ (λ damage none. ap (λ (t : Told). t.files) (sym c.record_at.ensures.reads.stays) ∙ none)
+    (c.record_at.ensures.untold (told_stays (Agrees c.args.files.now) c.record_at.ensures.reads.stays agrees)))
 
 pub returns-clause-verdict : goal.returns-clause-verdict
 returns-clause-verdict g c =
@@ -44,19 +44,19 @@ returns-clause-verdict g c =
     (λ verdict is image there agrees are fields.
     let named : c.in-Some.entry ≡ c.args.node.now.contents = value_by (is_record_among c.args.files.now c.args.node.now.contents) c.args.node.now.contents c.in-Some.entry (sym c.in-Some.is ∙ c.entry.ensures.entry) in
     let said = c.in_ok-said.ensures.said image there are in
-    is image (told_now image c.in_ok-said.ensures.stays there) agrees said.words said.hash
+    is image (told_now image c.in_ok-said.ensures.reads.stays there) agrees said.words said.hash
     (subst (λ (w : ℕ). (store_of image).node_fields c.args.node.now.addr ≡ Some (record { contents = w; dirty = c.args.node.now.dirty })) (sym named) fields)
     (c.contains-reached.ensures are.known ∙ ap (λ (words : List ℕ). is_among words c.word.result) are.reached ∙ ap (is_among (reached_by (store_of image) table_length)) c.word.ensures.word))
     c.load_words.ensures.verdict
 
 pub returns-clause-untold : goal.returns-clause-untold
 returns-clause-untold g c agrees =
-    if_damaged_weaker c.load_words.result _ _ (λ damage none. ap (λ (t : Told). t.files) (sym c.in_ok-said.ensures.stays) ∙ none)
-    (c.load_words.ensures.untold (told_stays (Agrees c.args.files.now) c.in_ok-said.ensures.stays agrees))
+    if_damaged_weaker c.load_words.result _ _ (λ damage none. ap (λ (t : Told). t.files) (sym c.in_ok-said.ensures.reads.stays) ∙ none)
+    (c.load_words.ensures.untold (told_stays (Agrees c.args.files.now) c.in_ok-said.ensures.reads.stays agrees))
 
 pub returns-clause-named : goal.returns-clause-named
 returns-clause-named g c =
     ok_weaker c.load_words.result _
     (λ verdict. ForSome (g.F.Folder.told c.args.folder.now).files (λ image. Agrees c.args.files.now image → IsNameInPrefix image verdict c.load_words.new.name))
-    (λ verdict is image there agrees. is image (told_now image c.in_ok-said.ensures.stays there) agrees)
+    (λ verdict is image there agrees. is image (told_now image c.in_ok-said.ensures.reads.stays there) agrees)
     c.load_words.ensures.named

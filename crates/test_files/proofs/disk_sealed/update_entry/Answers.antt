@@ -14,4 +14,4 @@ update_sealed-requires-clause-changes g c =
     are_three (seal_place c.in-Some.addr) _ _ _ (omega (arith, seal))
 
 pub update_sealed-requires-clause-agrees : goal.update_sealed-requires-clause-agrees
-update_sealed-requires-clause-agrees g c = loaded_agrees c.in_ok-files.files (g.F.Folder.told c.args.f.now) (g.F.Folder.told c.load.new.f) c.in_ok-files.ensures.stays c.in_ok-files.ensures.loaded
+update_sealed-requires-clause-agrees g c = loaded_agrees c.in_ok-files.files (g.F.Folder.told c.args.f.now) (g.F.Folder.told c.load.new.f) c.in_ok-files.ensures.reads.stays c.in_ok-files.ensures.loaded

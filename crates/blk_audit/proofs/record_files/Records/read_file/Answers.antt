@@ -17,6 +17,6 @@ returns-in_err-read_piece-clause-untold g c agrees =
 pub loop-piece-preserved : goal.loop-piece-preserved
 loop-piece-preserved g c = record {
   records = λ image there before. c.in_ok-read_piece.ensures.records image (told_now image c.loop-piece.invariant.stays there) (c.loop-piece.invariant.records image there before);
-  stays = c.in_ok-read_piece.ensures.stays ∙ c.loop-piece.invariant.stays;
-  later = omega (arith, c.in_ok-read_piece.ensures.later, c.loop-piece.invariant.later);
+  stays = c.in_ok-read_piece.ensures.reads.stays ∙ c.loop-piece.invariant.stays;
+  later = omega (arith, c.in_ok-read_piece.ensures.reads.later, c.loop-piece.invariant.later);
 }

@@ -45,7 +45,7 @@ returns-in_err-head-clause-damaged g c =
     let o = opened-there c.args.self.now.handles c.args.handle c.object.result c.in-Some-object.object c.object.ensures.object c.in-Some-object.is in
     let p = names-parts c.args.self.now.files c.in-Some-object.object.entry (opened-stands c.args.self.now.files c.args.self.now.handles c.args.self.now.stand c.args.handle c.in-Some-object.object o).1 in
     handed c.read_head.result c.from_residual.result c.in_err-head.field-0.0 _ c.args.self.now.files (g.F.Folder.told c.read_head.new.folder)
-    (λ damage wrong. moved c.args.self.now.files (g.F.Folder.told c.args.folder.now) (g.F.Folder.told c.read_head.new.folder) damage c.read_head.ensures.stays (head-checked c.args.self.now.files (g.F.Folder.told c.args.folder.now) c.in-Some-object.object.entry damage p.1.0 p.1.1 wrong))
+    (λ damage wrong. moved c.args.self.now.files (g.F.Folder.told c.args.folder.now) (g.F.Folder.told c.read_head.new.folder) damage c.read_head.ensures.reads.stays (head-checked c.args.self.now.files (g.F.Folder.told c.args.folder.now) c.in-Some-object.object.entry damage p.1.0 p.1.1 wrong))
     c.in_err-head.was c.from_residual.ensures.1 c.read_head.ensures.damaged
 
 pub returns-in_err-head-clause-untold : goal.returns-in_err-head-clause-untold
@@ -71,7 +71,7 @@ returns-in_err-signature-clause-early g c = nothing-early c.args.self.now.handle
 pub returns-in_err-signature-clause-untold : goal.returns-in_err-signature-clause-untold
 returns-in_err-signature-clause-untold g c any =
     let o = opened-there c.args.self.now.handles c.args.handle c.object.result c.in-Some-object.object c.object.ensures.object c.in-Some-object.is in
-    let same = ap (λ (t : Told). t.files) c.in_ok-head.ensures.stays in
+    let same = ap (λ (t : Told). t.files) c.in_ok-head.ensures.reads.stays in
     carried c.read_signature.result c.from_residual-in_err-signature.result c.in_err-signature.field-0.0 (λ _. (g.F.Folder.told c.args.folder.now).files ≡ None) c.in_err-signature.was c.from_residual-in_err-signature.ensures.1
     (if_damaged_weaker c.read_signature.result _ _ (λ damage none. sym same ∙ none)
     (c.read_signature.ensures.untold (λ image there. (any image (sym same ∙ there)).1.files)
@@ -84,7 +84,7 @@ returns-in_err-signature-clause-untold g c any =
 pub returns-then-head-eq-SPARSE-clause-asked : goal.returns-then-head-eq-SPARSE-clause-asked
 returns-then-head-eq-SPARSE-clause-asked g c image there state k =
     let o = opened-there c.args.self.now.handles c.args.handle c.object.result c.in-Some-object.object c.object.ensures.object c.in-Some-object.is in
-    let at = ap (λ (t : Told). t.files) c.in_ok-head.ensures.stays ∙ there in
+    let at = ap (λ (t : Told). t.files) c.in_ok-head.ensures.reads.stays ∙ there in
     found-parent c.args.self.now state image k c.args.handle c.args.offset c.args.count o.b o.bound c.in_ok-head.head (subst (λ (x : OpenObject). IsRecordHead image x.entry c.in_ok-head.head) o.opened (c.in_ok-head.ensures.head image there))
     (sym c.refuses_range.ensures ∙ c.in_default.is) (goes-live c.args.self.now.handles c.args.handle c.args.offset c.args.count (sym c.refuses_range.ensures ∙ c.in_default.is) o.b o.bound) c.if-head-eq-SPARSE.true
     _ (ap (λ (x : OpenObject). x.node) o.opened) (ap (λ (x : OpenObject). x.entry) o.opened)

@@ -75,5 +75,5 @@ returns-in_err-head-clause-cause g c =
     let o = opened-there c.args.self.now.handles c.args.handle c.object.result c.in-Some-object.object c.object.ensures.object c.in-Some-object.is in
     let p = names-parts c.args.self.now.files c.in-Some-object.object.entry (opened-stands c.args.self.now.files c.args.self.now.handles c.args.self.now.stand c.args.handle c.in-Some-object.object o).1 in
     handed c.read_head.result c.from_residual.result c.in_err-head.field-0.0 _ c.args.self.now.files (g.F.Folder.told c.read_head.new.folder)
-    (λ damage wrong. moved c.args.self.now.files (g.F.Folder.told c.args.folder.now) (g.F.Folder.told c.read_head.new.folder) damage c.read_head.ensures.stays (head-checked c.args.self.now.files (g.F.Folder.told c.args.folder.now) c.in-Some-object.object.entry damage p.1.0 p.1.1 wrong))
+    (λ damage wrong. moved c.args.self.now.files (g.F.Folder.told c.args.folder.now) (g.F.Folder.told c.read_head.new.folder) damage c.read_head.ensures.reads.stays (head-checked c.args.self.now.files (g.F.Folder.told c.args.folder.now) c.in-Some-object.object.entry damage p.1.0 p.1.1 wrong))
     c.in_err-head.was c.from_residual.ensures.1 c.read_head.ensures.damaged

@@ -58,11 +58,11 @@ read_charge-requires g c =
 
 pub returns-in_err-charge-in-Last-clause-stops : goal.returns-in_err-charge-in-Last-clause-stops
 returns-in_err-charge-in-Last-clause-stops g c moment =
-    nothing-stops (KeepsState c.args.self.now) (says-kept c.args.self.now) (g.F.Folder.told c.args.folder.now) (g.F.Folder.told c.read_charge.new.folder) moment (to_close c.args.handle) c.in_err-charge-in-Last.ensures.stays
+    nothing-stops (KeepsState c.args.self.now) (says-kept c.args.self.now) (g.F.Folder.told c.args.folder.now) (g.F.Folder.told c.read_charge.new.folder) moment (to_close c.args.handle) c.in_err-charge-in-Last.ensures.reads.stays
 
 pub returns-in_err-charge-in-Last-clause-is_open : goal.returns-in_err-charge-in-Last-clause-is_open
 returns-in_err-charge-in-Last-clause-is_open g c image now =
-    subst (λ (files : BlockFiles). IsOpen files image) (sym c.release.ensures.others.files) (c.requires.is_open image (ap (λ (t : Told). t.files) (sym c.in_err-charge-in-Last.ensures.stays) ∙ now))
+    subst (λ (files : BlockFiles). IsOpen files image) (sym c.release.ensures.others.files) (c.requires.is_open image (ap (λ (t : Told). t.files) (sym c.in_err-charge-in-Last.ensures.reads.stays) ∙ now))
 
 pub returns-in_err-charge-in-Last-clause-untold : goal.returns-in_err-charge-in-Last-clause-untold
 returns-in_err-charge-in-Last-clause-untold g c any =
@@ -77,7 +77,7 @@ returns-in_err-charge-in-Last-clause-untold g c any =
 
 pub end_last-requires-clause-is_open : goal.end_last-requires-clause-is_open
 end_last-requires-clause-is_open g c image now =
-    subst (λ (files : BlockFiles). IsOpen files image) (sym c.release.ensures.others.files) (c.requires.is_open image (ap (λ (t : Told). t.files) (sym c.in_ok-charge-in-Last.ensures.stays) ∙ now))
+    subst (λ (files : BlockFiles). IsOpen files image) (sym c.release.ensures.others.files) (c.requires.is_open image (ap (λ (t : Told). t.files) (sym c.in_ok-charge-in-Last.ensures.reads.stays) ∙ now))
 
 pub end_last-requires-clause-address : goal.end_last-requires-clause-address
 end_last-requires-clause-address g c =
@@ -107,7 +107,7 @@ pub returns-in_err-end_last-in-Last-clause-stops : goal.returns-in_err-end_last-
 returns-in_err-end_last-in-Last-clause-stops g c moment =
     let b = bound-there c.args.self.now.handles c.args.handle c.object.result c.object.ensures.object (c.is_none.ensures ∙ ap not c.if-is_none.false) in
     let w = was-last c.args.self.now.handles c.release.new.self.handles c.args.handle b.0 b.1 c.release.result c.in-Last.object c.in-Last.is c.release.ensures.answer in
-    closed-stops c.args.self.now (g.F.Folder.told c.args.folder.now) (g.F.Folder.told c.read_charge.new.folder) (g.F.Folder.told c.end_last.new.folder) c.in_ok-charge-in-Last.ensures.stays c.args.handle (omega (arith, c.ranges.handle.fits)) b.0 b.1 c.release.new.self c.release.ensures.frees c.release.ensures.others c.in-Last.object w
+    closed-stops c.args.self.now (g.F.Folder.told c.args.folder.now) (g.F.Folder.told c.read_charge.new.folder) (g.F.Folder.told c.end_last.new.folder) c.in_ok-charge-in-Last.ensures.reads.stays c.args.handle (omega (arith, c.ranges.handle.fits)) b.0 b.1 c.release.new.self c.release.ensures.frees c.release.ensures.others c.in-Last.object w
     (g.met.F.Folder.are_bytes c.read_charge.new.folder)
     (last-stands c.args.self.now.files c.args.self.now.files c.args.self.now.handles c.release.new.self.handles c.args.self.now.stand refl c.args.handle b.0 b.1 c.in-Last.object w)
     c.end_last.result (λ e. subst (λ (fs : BlockFiles). Cleans fs (g.F.Folder.told c.read_charge.new.folder) (g.F.Folder.told c.end_last.new.folder) c.in-Last.object c.end_last.result) c.end_last.ensures.counts.files (c.end_last.ensures.cleans e)) c.end_last.ensures.frees moment
@@ -116,7 +116,7 @@ pub returns-in_ok-end_last-in-Last-clause-stops : goal.returns-in_ok-end_last-in
 returns-in_ok-end_last-in-Last-clause-stops g c moment =
     let b = bound-there c.args.self.now.handles c.args.handle c.object.result c.object.ensures.object (c.is_none.ensures ∙ ap not c.if-is_none.false) in
     let w = was-last c.args.self.now.handles c.release.new.self.handles c.args.handle b.0 b.1 c.release.result c.in-Last.object c.in-Last.is c.release.ensures.answer in
-    closed-stops c.args.self.now (g.F.Folder.told c.args.folder.now) (g.F.Folder.told c.read_charge.new.folder) (g.F.Folder.told c.end_last.new.folder) c.in_ok-charge-in-Last.ensures.stays c.args.handle (omega (arith, c.ranges.handle.fits)) b.0 b.1 c.release.new.self c.release.ensures.frees c.release.ensures.others c.in-Last.object w
+    closed-stops c.args.self.now (g.F.Folder.told c.args.folder.now) (g.F.Folder.told c.read_charge.new.folder) (g.F.Folder.told c.end_last.new.folder) c.in_ok-charge-in-Last.ensures.reads.stays c.args.handle (omega (arith, c.ranges.handle.fits)) b.0 b.1 c.release.new.self c.release.ensures.frees c.release.ensures.others c.in-Last.object w
     (g.met.F.Folder.are_bytes c.read_charge.new.folder)
     (last-stands c.args.self.now.files c.args.self.now.files c.args.self.now.handles c.release.new.self.handles c.args.self.now.stand refl c.args.handle b.0 b.1 c.in-Last.object w)
     c.end_last.result (λ e. subst (λ (fs : BlockFiles). Cleans fs (g.F.Folder.told c.read_charge.new.folder) (g.F.Folder.told c.end_last.new.folder) c.in-Last.object c.end_last.result) c.end_last.ensures.counts.files (c.end_last.ensures.cleans e)) c.end_last.ensures.frees moment
@@ -127,18 +127,18 @@ returns-in_err-end_last-in-Last-clause-untold g c any =
     let mid : Told = g.F.Folder.told c.read_charge.new.folder in
     let b = bound-there c.args.self.now.handles c.args.handle c.object.result c.object.ensures.object (c.is_none.ensures ∙ ap not c.if-is_none.false) in
     let w = was-last c.args.self.now.handles c.release.new.self.handles c.args.handle b.0 b.1 c.release.result c.in-Last.object c.in-Last.is c.release.ensures.answer in
-    let same : mid.files ≡ old.files = ap (λ (t : Told). t.files) c.in_ok-charge-in-Last.ensures.stays in
+    let same : mid.files ≡ old.files = ap (λ (t : Told). t.files) c.in_ok-charge-in-Last.ensures.reads.stays in
     carried c.end_last.result c.from_residual-in_err-end_last-in-Last.result c.in_err-end_last-in-Last.field-0.0 (λ _. old.files ≡ None) c.in_err-end_last-in-Last.was c.from_residual-in_err-end_last-in-Last.ensures.1
     (if_damaged_weaker c.end_last.result (λ _. mid.files ≡ None) (λ _. old.files ≡ None) (λ damage none. sym same ∙ none)
     (c.end_last.ensures.untold
-    (closed-may c.args.self.now old mid mid c.in_ok-charge-in-Last.ensures.stays c.args.handle (omega (arith, c.ranges.handle.fits)) b.0 b.1 c.release.new.self c.release.ensures.frees c.release.ensures.others c.in-Last.object w (g.met.F.Folder.are_bytes c.read_charge.new.folder)
+    (closed-may c.args.self.now old mid mid c.in_ok-charge-in-Last.ensures.reads.stays c.args.handle (omega (arith, c.ranges.handle.fits)) b.0 b.1 c.release.new.self c.release.ensures.frees c.release.ensures.others c.in-Last.object w (g.met.F.Folder.are_bytes c.read_charge.new.folder)
     (last-stands c.args.self.now.files c.args.self.now.files c.args.self.now.handles c.release.new.self.handles c.args.self.now.stand refl c.args.handle b.0 b.1 c.in-Last.object w) any)))
 
 pub returns-in_ok-end_last-in-Last-clause-does : goal.returns-in_ok-end_last-in-Last-clause-does
 returns-in_ok-end_last-in-Last-clause-does g c moment =
     let b = bound-there c.args.self.now.handles c.args.handle c.object.result c.object.ensures.object (c.is_none.ensures ∙ ap not c.if-is_none.false) in
     let w = was-last c.args.self.now.handles c.release.new.self.handles c.args.handle b.0 b.1 c.release.result c.in-Last.object c.in-Last.is c.release.ensures.answer in
-    closed-done c.args.self.now (g.F.Folder.told c.args.folder.now) (g.F.Folder.told c.read_charge.new.folder) (g.F.Folder.told c.end_last.new.folder) c.in_ok-charge-in-Last.ensures.stays c.args.handle (omega (arith, c.ranges.handle.fits)) b.0 b.1 c.release.new.self c.release.ensures.frees c.release.ensures.others c.in-Last.object w
+    closed-done c.args.self.now (g.F.Folder.told c.args.folder.now) (g.F.Folder.told c.read_charge.new.folder) (g.F.Folder.told c.end_last.new.folder) c.in_ok-charge-in-Last.ensures.reads.stays c.args.handle (omega (arith, c.ranges.handle.fits)) b.0 b.1 c.release.new.self c.release.ensures.frees c.release.ensures.others c.in-Last.object w
     (g.met.F.Folder.are_bytes c.read_charge.new.folder)
     (last-stands c.args.self.now.files c.args.self.now.files c.args.self.now.handles c.release.new.self.handles c.args.self.now.stand refl c.args.handle b.0 b.1 c.in-Last.object w)
     (Ok c.in_ok-end_last-in-Last.field-0) (λ e. subst (λ (fs : BlockFiles). Cleans fs (g.F.Folder.told c.read_charge.new.folder) (g.F.Folder.told c.end_last.new.folder) c.in-Last.object (Ok c.in_ok-end_last-in-Last.field-0)) c.end_last.ensures.counts.files (c.in_ok-end_last-in-Last.ensures.cleans e)) c.in_ok-end_last-in-Last.ensures.frees moment
@@ -150,7 +150,7 @@ returns-in_err-charge-in-Last-clause-damaged g c =
     let w = was-last c.args.self.now.handles c.release.new.self.handles c.args.handle b.0 b.1 c.release.result c.in-Last.object c.in-Last.is c.release.ensures.answer in
     let parts = names-parts c.release.new.self.files c.in-Last.object.entry (last-named c.args.self.now.files c.release.new.self.files c.args.self.now.handles c.release.new.self.handles c.args.self.now.stand c.release.ensures.others.files c.args.handle b.0 b.1 c.in-Last.object w) in
     handed c.read_charge.result c.from_residual.result c.in_err-charge-in-Last.field-0.0 _ c.release.new.self.files (g.F.Folder.told c.read_charge.new.folder)
-    (λ damage wrong. moved c.release.new.self.files (g.F.Folder.told c.args.folder.now) (g.F.Folder.told c.read_charge.new.folder) damage c.read_charge.ensures.stays (head-checked c.release.new.self.files (g.F.Folder.told c.args.folder.now) c.in-Last.object.entry damage parts.1.0 parts.1.1 wrong))
+    (λ damage wrong. moved c.release.new.self.files (g.F.Folder.told c.args.folder.now) (g.F.Folder.told c.read_charge.new.folder) damage c.read_charge.ensures.reads.stays (head-checked c.release.new.self.files (g.F.Folder.told c.args.folder.now) c.in-Last.object.entry damage parts.1.0 parts.1.1 wrong))
     c.in_err-charge-in-Last.was c.from_residual.ensures.1 c.read_charge.ensures.damaged
 
 -- The name is free.

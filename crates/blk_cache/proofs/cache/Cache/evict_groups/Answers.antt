@@ -69,7 +69,7 @@ pub returns-in_err-found-clause-stops : goal.returns-in_err-found-clause-stops
 returns-in_err-found-clause-stops g c image there state k covered are =
     let h = c.loop.invariant.evicted image there state k covered are in
     let valid = k.kept.entries.valid in
-    so-far-passes _ state covered c.args.parts.now valid _ _ _ _ _ _ _ _ _ _ h (g.F.Folder.told c.last_unpinned.new.folder) c.in_err-found.ensures.stays
+    so-far-passes _ state covered c.args.parts.now valid _ _ _ _ _ _ _ _ _ _ h (g.F.Folder.told c.last_unpinned.new.folder) c.in_err-found.ensures.reads.stays
 
 pub returns-in_err-found-clause-front : goal.returns-in_err-found-clause-front
 returns-in_err-found-clause-front g c image there state k covered are =
@@ -78,7 +78,7 @@ returns-in_err-found-clause-front g c image there state k covered are =
     so-far-front _ state covered c.args.parts.now valid _ _ _ _ _ _ _ _ _ _ h
 
 pub returns-in_err-found-clause-is_open : goal.returns-in_err-found-clause-is_open
-returns-in_err-found-clause-is_open g c image there = c.loop.invariant.is_open image (told_now image (sym c.in_err-found.ensures.stays) there)
+returns-in_err-found-clause-is_open g c image there = c.loop.invariant.is_open image (told_now image (sym c.in_err-found.ensures.reads.stays) there)
 
 pub returns-in_err-found-clause-untold : goal.returns-in_err-found-clause-untold
 returns-in_err-found-clause-untold g c any =
@@ -97,7 +97,7 @@ returns-in_default-clause-evicted g c image there state k covered are now then_t
     let none : c.in_ok-found.field-0 ≡ None = search rules in
     let pinned = subst (λ (o : Option Unpinned). IsLast (without h.first state) h.at.kept.layout covered o) none (c.in_ok-found.ensures.last h.image h.there (without h.first state) h.at.kept covered h.at.lie h.at.pinned) in
     let done = all-gone _ state covered c.args.parts.now valid _ _ _ _ _ _ _ _ _ _ h (inr pinned) in
-    gone-kept _ state covered c.args.parts.now valid _ _ _ _ _ _ _ _ _ _ h done now (told_now now (sym c.in_ok-found.ensures.stays) then_there)
+    gone-kept _ state covered c.args.parts.now valid _ _ _ _ _ _ _ _ _ _ h done now (told_now now (sym c.in_ok-found.ensures.reads.stays) then_there)
 
 pub returns-in_default-clause-counts : goal.returns-in_default-clause-counts
 returns-in_default-clause-counts g c image there state k covered are =
@@ -121,7 +121,7 @@ pub returns-in_default-clause-stops : goal.returns-in_default-clause-stops
 returns-in_default-clause-stops g c image there state k covered are =
     let h = c.loop.invariant.evicted image there state k covered are in
     let valid = k.kept.entries.valid in
-    so-far-passes _ state covered c.args.parts.now valid _ _ _ _ _ _ _ _ _ _ h (g.F.Folder.told c.last_unpinned.new.folder) c.in_ok-found.ensures.stays
+    so-far-passes _ state covered c.args.parts.now valid _ _ _ _ _ _ _ _ _ _ h (g.F.Folder.told c.last_unpinned.new.folder) c.in_ok-found.ensures.reads.stays
 
 pub returns-in_default-clause-front : goal.returns-in_default-clause-front
 returns-in_default-clause-front g c image there state k covered are =
@@ -130,10 +130,10 @@ returns-in_default-clause-front g c image there state k covered are =
     so-far-front _ state covered c.args.parts.now valid _ _ _ _ _ _ _ _ _ _ h
 
 pub returns-in_default-clause-is_open : goal.returns-in_default-clause-is_open
-returns-in_default-clause-is_open g c image there = c.loop.invariant.is_open image (told_now image (sym c.in_ok-found.ensures.stays) there)
+returns-in_default-clause-is_open g c image there = c.loop.invariant.is_open image (told_now image (sym c.in_ok-found.ensures.reads.stays) there)
 
 pub evict-requires-clause-is_open : goal.evict-requires-clause-is_open
-evict-requires-clause-is_open g c image there = c.loop.invariant.is_open image (told_now image (sym c.in_ok-found.ensures.stays) there)
+evict-requires-clause-is_open g c image there = c.loop.invariant.is_open image (told_now image (sym c.in_ok-found.ensures.reads.stays) there)
 
 pub returns-in_err-evict-clause-stops : goal.returns-in_err-evict-clause-stops
 returns-in_err-evict-clause-stops g c image there state k covered are =
@@ -142,8 +142,8 @@ returns-in_err-evict-clause-stops g c image there state k covered are =
     let wants : is_met c.args.goal.now (without h.first state) ≡ false = sym (c.is_met.ensures.met (without h.first state) h.image h.at.kept) ∙ (let e : c.is_met.result ≡ false = search rules in e) in
     let some : c.in_ok-found.field-0 ≡ Some c.in-Some.found = search rules in
     let last = subst (λ (o : Option Unpinned). IsLast (without h.first state) h.at.kept.layout covered o) some (c.in_ok-found.ensures.last h.image h.there (without h.first state) h.at.kept covered h.at.lie h.at.pinned) in
-    let mid = told_now h.image c.in_ok-found.ensures.stays h.there in
-    next-passes _ state covered c.args.parts.now valid _ _ _ _ _ _ _ _ _ _ h wants c.in-Some.found last (g.F.Folder.told c.last_unpinned.new.folder) (g.F.Folder.told c.evict.new.folder) c.in_ok-found.ensures.stays (c.in_err-evict.ensures.stops h.image mid (without h.first state) h.at.kept last.goes)
+    let mid = told_now h.image c.in_ok-found.ensures.reads.stays h.there in
+    next-passes _ state covered c.args.parts.now valid _ _ _ _ _ _ _ _ _ _ h wants c.in-Some.found last (g.F.Folder.told c.last_unpinned.new.folder) (g.F.Folder.told c.evict.new.folder) c.in_ok-found.ensures.reads.stays (c.in_err-evict.ensures.stops h.image mid (without h.first state) h.at.kept last.goes)
 
 pub returns-in_err-evict-clause-front : goal.returns-in_err-evict-clause-front
 returns-in_err-evict-clause-front g c image there state k covered are =
@@ -152,19 +152,19 @@ returns-in_err-evict-clause-front g c image there state k covered are =
     let wants : is_met c.args.goal.now (without h.first state) ≡ false = sym (c.is_met.ensures.met (without h.first state) h.image h.at.kept) ∙ (let e : c.is_met.result ≡ false = search rules in e) in
     let some : c.in_ok-found.field-0 ≡ Some c.in-Some.found = search rules in
     let last = subst (λ (o : Option Unpinned). IsLast (without h.first state) h.at.kept.layout covered o) some (c.in_ok-found.ensures.last h.image h.there (without h.first state) h.at.kept covered h.at.lie h.at.pinned) in
-    let mid = told_now h.image c.in_ok-found.ensures.stays h.there in
+    let mid = told_now h.image c.in_ok-found.ensures.reads.stays h.there in
     next-front _ state covered c.args.parts.now valid _ _ _ _ _ _ _ _ _ _ h wants c.in-Some.found last (g.K.Sink.written c.evict.new.out) (λ e. (c.in_err-evict.ensures.quiet e).1) (c.in_err-evict.ensures.front h.image mid (without h.first state) h.at.kept last.goes)
 
 pub returns-in_err-evict-clause-untold : goal.returns-in_err-evict-clause-untold
 returns-in_err-evict-clause-untold g c any =
     carried c.evict.result c.from_residual-in_err-evict.result c.in_err-evict.field-0.0 (λ _. (g.F.Folder.told c.args.folder.now).files ≡ None) c.in_err-evict.was c.from_residual-in_err-evict.ensures.1
-    (untold-on c.evict.result (g.F.Folder.told c.args.folder.now) (g.F.Folder.told c.last_unpinned.new.folder) (KeepsThatMayGo c.loop.self c.in-Some.found) (λ none. ap (λ (t : Told). t.files) c.in_ok-found.ensures.stays ∙ c.loop.invariant.silent none)
+    (untold-on c.evict.result (g.F.Folder.told c.args.folder.now) (g.F.Folder.told c.last_unpinned.new.folder) (KeepsThatMayGo c.loop.self c.in-Some.found) (λ none. ap (λ (t : Told). t.files) c.in_ok-found.ensures.reads.stays ∙ c.loop.invariant.silent none)
     (λ from e.
     let a = any from e in
     let h = c.loop.invariant.evicted from e a.state a.kept a.covered a.are in
     let some : c.in_ok-found.field-0 ≡ Some c.in-Some.found = search rules in
     let last = subst (λ (o : Option Unpinned). IsLast (without h.first a.state) h.at.kept.layout a.covered o) some (c.in_ok-found.ensures.last h.image h.there (without h.first a.state) h.at.kept a.covered h.at.lie h.at.pinned) in
-    (h.image, told_now h.image c.in_ok-found.ensures.stays h.there, record { state = without h.first a.state; kept = h.at.kept; at = last.goes }))
+    (h.image, told_now h.image c.in_ok-found.ensures.reads.stays h.there, record { state = without h.first a.state; kept = h.at.kept; at = last.goes }))
     c.evict.ensures.untold)
 
 pub loop-preserved : goal.loop-preserved
@@ -185,8 +185,8 @@ loop-preserved g c =
         mark = more.mark ∙ before.mark;
         notes = more.notes ∙ before.notes;
       };
-      silent = λ none. c.in_ok-evict.ensures.silent (ap (λ (t : Told). t.files) c.in_ok-found.ensures.stays ∙ c.loop.invariant.silent none);
-      later = omega (arith, c.loop.invariant.later, c.in_ok-found.ensures.later, c.in_ok-evict.ensures.later);
+      silent = λ none. c.in_ok-evict.ensures.writes.silent (ap (λ (t : Told). t.files) c.in_ok-found.ensures.reads.stays ∙ c.loop.invariant.silent none);
+      later = omega (arith, c.loop.invariant.later, c.in_ok-found.ensures.reads.later, c.in_ok-evict.ensures.writes.later);
       sink_later = goes_on c.loop.invariant.sink_later c.in_ok-evict.ensures.sink_later;
       quiet = λ failed. let i = c.loop.invariant.quiet failed in let q = c.in_ok-evict.ensures.quiet i.0 in (q.0, q.1 ∙ i.1);
       fails = faults-on c.args.failed.now c.loop.failed c.evict.new.failed (g.K.Sink.faults c.args.out.now) (g.K.Sink.faults c.loop.out) (g.K.Sink.faults c.evict.new.out) c.loop.invariant.fails c.in_ok-evict.ensures.fails c.loop.invariant.sink_later.later c.in_ok-evict.ensures.sink_later.later;
@@ -196,8 +196,8 @@ loop-preserved g c =
           let wants : is_met c.args.goal.now (without h.first state) ≡ false = sym (c.is_met.ensures.met (without h.first state) h.image h.at.kept) ∙ (let e : c.is_met.result ≡ false = search rules in e) in
           let some : c.in_ok-found.field-0 ≡ Some c.in-Some.found = search rules in
           let last = subst (λ (o : Option Unpinned). IsLast (without h.first state) h.at.kept.layout covered o) some (c.in_ok-found.ensures.last h.image h.there (without h.first state) h.at.kept covered h.at.lie h.at.pinned) in
-          let mid = told_now h.image c.in_ok-found.ensures.stays h.there in
-          next-out _ state covered c.args.parts.now valid _ _ _ _ _ _ _ _ _ _ h wants c.in-Some.found last (g.F.Folder.told c.last_unpinned.new.folder) (g.F.Folder.told c.evict.new.folder) c.evict.new.self c.evict.new.failed (g.K.Sink.written c.evict.new.out) c.in_ok-found.ensures.stays
+          let mid = told_now h.image c.in_ok-found.ensures.reads.stays h.there in
+          next-out _ state covered c.args.parts.now valid _ _ _ _ _ _ _ _ _ _ h wants c.in-Some.found last (g.F.Folder.told c.last_unpinned.new.folder) (g.F.Folder.told c.evict.new.folder) c.evict.new.self c.evict.new.failed (g.K.Sink.written c.evict.new.out) c.in_ok-found.ensures.reads.stays
           (c.in_ok-evict.ensures.stops h.image mid (without h.first state) h.at.kept last.goes) (c.in_ok-evict.ensures.evicted h.image mid (without h.first state) h.at.kept last.goes) (c.in_ok-evict.ensures.prints h.image mid (without h.first state) h.at.kept last.goes);
     }
 

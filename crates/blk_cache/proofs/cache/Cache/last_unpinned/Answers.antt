@@ -44,7 +44,7 @@ pub returns-in_err-entry-clause-untold : goal.returns-in_err-entry-clause-untold
 returns-in_err-entry-clause-untold g c holds =
     let some : c.in_ok-node.field-0 ≡ Some c.in-Some.node = search rules in
     carried c.entry_named.result c.from_residual-in_err-entry.result c.in_err-entry.field-0.0 (λ _. (g.F.Folder.told c.args.folder.now).files ≡ None) c.in_err-entry.was c.from_residual-in_err-entry.ensures.1
-    (subst (λ (t : Told). ForSome t.files (Agrees c.args.self.now.files) → ForSome t.files (λ image. (loaded : Loaded) × LoadsAt c.in-Some.node loaded image) → IfDamaged c.entry_named.result (λ _. t.files ≡ None)) (c.in_ok-node.ensures.stays ∙ c.loop.invariant.told) c.entry_named.ensures.untold
+    (subst (λ (t : Told). ForSome t.files (Agrees c.args.self.now.files) → ForSome t.files (λ image. (loaded : Loaded) × LoadsAt c.in-Some.node loaded image) → IfDamaged c.entry_named.result (λ _. t.files ≡ None)) (c.in_ok-node.ensures.reads.stays ∙ c.loop.invariant.told) c.entry_named.ensures.untold
     (λ image there. let h = holds image there in h.kept.files)
     (λ image there.
     let h = holds image there in
@@ -61,7 +61,7 @@ returns-then-not-pins-clause-last g c image there state kept covered lie pinned 
     (sym some ∙ c.in_ok-node.ensures.node image (told_now image c.loop.invariant.told there) kept.files (nodes_of kept.layout p.from.front) (front-is c.args.self.now state image kept covered c.loop.behind p.from))
     c.args.parts.now lie
     (record { node = c.in-Some.node; entry = c.in_ok-entry.entry; behind = c.loop.behind }) refl
-    (c.in_ok-entry.ensures.entry image (told_now image (c.in_ok-node.ensures.stays ∙ c.loop.invariant.told) there)) refl closed
+    (c.in_ok-entry.ensures.entry image (told_now image (c.in_ok-node.ensures.reads.stays ∙ c.loop.invariant.told) there)) refl closed
 
 pub returns-then-not-pins-clause-record_stands : goal.returns-then-not-pins-clause-record_stands
 returns-then-not-pins-clause-record_stands g c =
@@ -87,14 +87,14 @@ loop-preserved g c =
           node-passed c.args.self.now.files NodeView.PREV c.args.behind c.loop.behind c.loop.counter image c.in-Some.node (c.loop.invariant.passed image there)
           (subst (λ (o : Option ℕ). GoesTo NodeView.PREV image c.loop.behind o) some (c.in_ok-node.ensures.word image (told_now image c.loop.invariant.told there)))
           (subst (λ (o : Option ℕ). IfSome o (λ node. IsTrue (is_node_among c.args.self.now.files node))) some c.in_ok-node.ensures.stands);
-      told = c.in_ok-entry.ensures.stays ∙ (c.in_ok-node.ensures.stays ∙ c.loop.invariant.told);
-      later = omega (arith, c.loop.invariant.later, c.in_ok-node.ensures.later, c.in_ok-entry.ensures.later);
+      told = c.in_ok-entry.ensures.reads.stays ∙ (c.in_ok-node.ensures.reads.stays ∙ c.loop.invariant.told);
+      later = omega (arith, c.loop.invariant.later, c.in_ok-node.ensures.reads.later, c.in_ok-entry.ensures.reads.later);
       pinned = λ image there state kept covered lie pinned.
           let p = c.loop.invariant.pinned image there state kept covered lie pinned in
           more-so-far c.args.self.now state image kept covered c.loop.behind p.from c.in-Some.node
           (sym some ∙ c.in_ok-node.ensures.node image (told_now image c.loop.invariant.told there) kept.files (nodes_of kept.layout p.from.front) (front-is c.args.self.now state image kept covered c.loop.behind p.from))
           c.args.parts.now lie
-          c.loop.counter p.many c.in_ok-entry.entry (c.in_ok-entry.ensures.entry image (told_now image (c.in_ok-node.ensures.stays ∙ c.loop.invariant.told) there)) open_ (Some c.in-Some.node) refl;
+          c.loop.counter p.many c.in_ok-entry.entry (c.in_ok-entry.ensures.entry image (told_now image (c.in_ok-node.ensures.reads.stays ∙ c.loop.invariant.told) there)) open_ (Some c.in-Some.node) refl;
     }
 
 -- after the loop
@@ -124,8 +124,8 @@ pub returns-in_err-end_walk-clause-damaged : goal.returns-in_err-end_walk-clause
 returns-in_err-end_walk-clause-damaged g c =
     handed c.end_walk.result c.from_residual-in_err-end_walk.result c.in_err-end_walk.field-0.0 _ c.args.self.now.files (g.F.Folder.told c.in_front-2.new.folder)
     (λ damage behind. walk-too-long c.args.self.now.files (g.F.Folder.told c.in_front-2.new.folder) NodeView.PREV c.args.behind c.loop.behind c.in_ok-next.next c.loop.counter damage (inr refl) (omega (arith, c.loop-test.false)) c.loop.invariant.stands c.in_ok-next.ensures.stands
-    (λ image now. c.loop.invariant.passed image (ap (λ (t : Told). t.files) (sym (c.in_ok-next.ensures.stays ∙ c.loop.invariant.told)) ∙ now))
-    (λ image now. c.in_ok-next.ensures.word image (ap (λ (t : Told). t.files) (sym c.in_ok-next.ensures.stays) ∙ now)) behind)
+    (λ image now. c.loop.invariant.passed image (ap (λ (t : Told). t.files) (sym (c.in_ok-next.ensures.reads.stays ∙ c.loop.invariant.told)) ∙ now))
+    (λ image now. c.in_ok-next.ensures.word image (ap (λ (t : Told). t.files) (sym c.in_ok-next.ensures.reads.stays) ∙ now)) behind)
     c.in_err-end_walk.was c.from_residual-in_err-end_walk.ensures.1 c.end_walk.ensures.damaged
 
 pub returns-clause-last : goal.returns-clause-last

@@ -16,7 +16,7 @@ returns-in_err-count-clause-untold g c any =
 
 pub returns-clause-does : goal.returns-clause-does
 returns-clause-does g c moment =
-    nothing-done (KeepsState c.args.self.now) (g.F.Folder.told c.args.folder.now) (g.F.Folder.told c.word.new.f) moment to_list _ c.in_ok-count.ensures.stays
+    nothing-done (KeepsState c.args.self.now) (g.F.Folder.told c.args.folder.now) (g.F.Folder.told c.word.new.f) moment to_list _ c.in_ok-count.ensures.reads.stays
     (λ image there state k.
     let q = quiet-keep state moment 0 0 in
     (q.0, ap answer.Listed (c.from.ensures ∙ c.in_ok-count.ensures.word image there ∙ rows-said state k.layout image k.kept) ∙ sym (list-answer state moment)))
@@ -24,5 +24,5 @@ returns-clause-does g c moment =
 pub returns-in_err-count-clause-cause : goal.returns-in_err-count-clause-cause
 returns-in_err-count-clause-cause g c =
     handed c.word.result c.from_residual.result c.in_err-count.field-0.0 _ c.args.self.now.files (g.F.Folder.told c.word.new.f)
-    (λ damage short. moved c.args.self.now.files (g.F.Folder.told c.args.folder.now) (g.F.Folder.told c.word.new.f) damage c.word.ensures.stays (short-checked c.args.self.now.files (g.F.Folder.told c.args.folder.now) _ _ _ damage short))
+    (λ damage short. moved c.args.self.now.files (g.F.Folder.told c.args.folder.now) (g.F.Folder.told c.word.new.f) damage c.word.ensures.reads.stays (short-checked c.args.self.now.files (g.F.Folder.told c.args.folder.now) _ _ _ damage short))
     c.in_err-count.was c.from_residual.ensures.1 c.word.ensures.short

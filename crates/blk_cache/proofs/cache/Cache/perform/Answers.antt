@@ -78,7 +78,7 @@ pub returns-in-Size-clause-does : goal.returns-in-Size-clause-does
 returns-in-Size-clause-does g c = subst (λ (cmd : Command). IfOk c.size.result (λ given. Does (KeepsState c.args.self.now) (KeepsState c.args.self.now) (g.F.Folder.told c.args.folder.now) (g.F.Folder.told c.size.new.folder) c.args.moment (request_of cmd) given)) (sym c.in-Size.is) (c.size.ensures.does c.args.moment)
 
 pub returns-in-Size-clause-stops : goal.returns-in-Size-clause-stops
-returns-in-Size-clause-stops g c = nothing-stops (KeepsState c.args.self.now) (says-kept c.args.self.now) (g.F.Folder.told c.args.folder.now) (g.F.Folder.told c.size.new.folder) c.args.moment (request_of c.args.command.now) c.size.ensures.stays
+returns-in-Size-clause-stops g c = nothing-stops (KeepsState c.args.self.now) (says-kept c.args.self.now) (g.F.Folder.told c.args.folder.now) (g.F.Folder.told c.size.new.folder) c.args.moment (request_of c.args.command.now) c.size.ensures.reads.stays
 
 pub returns-in-Size-clause-says : goal.returns-in-Size-clause-says
 returns-in-Size-clause-says g c = subst (λ (cmd : Command). OnOk c.size.result (SaysEvicted c.args.self.now (g.F.Folder.told c.args.folder.now) c.args.moment (request_of cmd) c.args.failed.now c.args.failed.now (g.K.Sink.written c.args.out.now) (g.K.Sink.written c.args.out.now))) (sym c.in-Size.is)
@@ -99,7 +99,7 @@ pub returns-in-Trim-clause-front : goal.returns-in-Trim-clause-front
 returns-in-Trim-clause-front g c = subst (λ (cmd : Command). SaysPrefix c.args.self.now (g.F.Folder.told c.args.folder.now) c.args.moment (request_of cmd) (g.K.Sink.written c.args.out.now) (g.K.Sink.written c.trim.new.out)) (sym c.in-Trim.is) (c.trim.ensures.front c.args.moment)
 
 pub returns-in-Size-clause-is_open : goal.returns-in-Size-clause-is_open
-returns-in-Size-clause-is_open g c = on-ok c.size.result (ForSome (g.F.Folder.told c.size.new.folder).files (IsOpen c.args.self.now.files)) (λ image now. c.requires.is_open image (ap (λ (t : Told). t.files) (sym c.size.ensures.stays) ∙ now))
+returns-in-Size-clause-is_open g c = on-ok c.size.result (ForSome (g.F.Folder.told c.size.new.folder).files (IsOpen c.args.self.now.files)) (λ image now. c.requires.is_open image (ap (λ (t : Told). t.files) (sym c.size.ensures.reads.stays) ∙ now))
 
 pub returns-in-Read-clause-does : goal.returns-in-Read-clause-does
 returns-in-Read-clause-does g c = subst (λ (cmd : Command). IfOk c.use_read.result (λ given. Does (KeepsState c.args.self.now) (KeepsState c.args.self.now) (g.F.Folder.told c.args.folder.now) (g.F.Folder.told c.use_read.new.folder) c.args.moment (request_of cmd) given)) (sym c.in-Read.is) c.use_read.ensures.does
@@ -120,7 +120,7 @@ pub returns-in-List-clause-does : goal.returns-in-List-clause-does
 returns-in-List-clause-does g c = subst (λ (cmd : Command). IfOk c.list.result (λ given. Does (KeepsState c.args.self.now) (KeepsState c.args.self.now) (g.F.Folder.told c.args.folder.now) (g.F.Folder.told c.list.new.folder) c.args.moment (request_of cmd) given)) (sym c.in-List.is) (c.list.ensures.does c.args.moment)
 
 pub returns-in-List-clause-stops : goal.returns-in-List-clause-stops
-returns-in-List-clause-stops g c = nothing-stops (KeepsState c.args.self.now) (says-kept c.args.self.now) (g.F.Folder.told c.args.folder.now) (g.F.Folder.told c.list.new.folder) c.args.moment (request_of c.args.command.now) c.list.ensures.stays
+returns-in-List-clause-stops g c = nothing-stops (KeepsState c.args.self.now) (says-kept c.args.self.now) (g.F.Folder.told c.args.folder.now) (g.F.Folder.told c.list.new.folder) c.args.moment (request_of c.args.command.now) c.list.ensures.reads.stays
 
 pub returns-in-List-clause-says : goal.returns-in-List-clause-says
 returns-in-List-clause-says g c = subst (λ (cmd : Command). OnOk c.list.result (SaysEvicted c.args.self.now (g.F.Folder.told c.args.folder.now) c.args.moment (request_of cmd) c.args.failed.now c.args.failed.now (g.K.Sink.written c.args.out.now) (g.K.Sink.written c.args.out.now))) (sym c.in-List.is)
@@ -132,7 +132,7 @@ returns-in-List-clause-front g c = subst (λ (cmd : Command). SaysPrefix c.args.
     (prefix-nothing c.args.self.now (g.F.Folder.told c.args.folder.now) c.args.moment to_list tt c.args.failed.now (g.K.Sink.written c.args.out.now))
 
 pub returns-in-List-clause-is_open : goal.returns-in-List-clause-is_open
-returns-in-List-clause-is_open g c = on-ok c.list.result (ForSome (g.F.Folder.told c.list.new.folder).files (IsOpen c.args.self.now.files)) (λ image now. c.requires.is_open image (ap (λ (t : Told). t.files) (sym c.list.ensures.stays) ∙ now))
+returns-in-List-clause-is_open g c = on-ok c.list.result (ForSome (g.F.Folder.told c.list.new.folder).files (IsOpen c.args.self.now.files)) (λ image now. c.requires.is_open image (ap (λ (t : Told). t.files) (sym c.list.ensures.reads.stays) ∙ now))
 
 pub returns-in-Write-clause-stops : goal.returns-in-Write-clause-stops
 returns-in-Write-clause-stops g c = subst (λ (cmd : Command). MayStopAtEach (KeepsState c.args.self.now) (g.F.Folder.told c.args.folder.now) (g.F.Folder.told c.write.new.folder) c.args.moment (request_of cmd)) (sym c.in-Write.is) c.write.ensures.stops

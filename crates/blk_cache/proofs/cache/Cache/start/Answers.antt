@@ -31,8 +31,12 @@ returns-in_err-opened-clause-unwritten g c = open-damaged-on c.from_residual-in_
 pub returns-in_err-opened-clause-memory : goal.returns-in_err-opened-clause-memory
 returns-in_err-opened-clause-memory g c = open-memory-on c.from_residual-in_err-opened.result c.in_err-opened.field-0.0 c.from_residual-in_err-opened.ensures.1 _ c.in_err-opened.ensures.memory
 
-pub returns-in_err-opened-clause-device : goal.returns-in_err-opened-clause-device
-returns-in_err-opened-clause-device g c = open-device-on c.from_residual-in_err-opened.result c.in_err-opened.field-0.0 c.from_residual-in_err-opened.ensures.1 _ c.in_err-opened.ensures.device
+pub returns-in_err-opened-clause-writes : goal.returns-in_err-opened-clause-writes
+returns-in_err-opened-clause-writes g c = record {
+  silent = c.in_err-opened.ensures.writes.silent;
+  later = c.in_err-opened.ensures.writes.later;
+  failed = open-device-on c.from_residual-in_err-opened.result c.in_err-opened.field-0.0 c.from_residual-in_err-opened.ensures.1 _ c.in_err-opened.ensures.writes.failed;
+}
 
 pub invariant_of-result : goal.invariant_of-result
 invariant_of-result g c = record { stand = none-stand c.in_ok-opened.opened.files c.in_ok-names.names.handles c.in_ok-names.ensures.free; room = c.in_ok-names.ensures.room }

@@ -56,7 +56,7 @@ reply-requires g c = record {
 
 pub returns-in_err-reply-clause-stepped : goal.returns-in_err-reply-clause-stepped
 returns-in_err-reply-clause-stepped g c =
-    subst (λ (t : Told). ForKept (KeepsState c.args.self.now) (g.F.Folder.told c.args.f.now) (IsStepped (g.F.Folder.told c.args.f.now) t c.args.moment (request_of c.args.command.now) (note_number (c.args.self.now.notes + 1)))) (sym c.in_err-reply.ensures.stays)
+    subst (λ (t : Told). ForKept (KeepsState c.args.self.now) (g.F.Folder.told c.args.f.now) (IsStepped (g.F.Folder.told c.args.f.now) t c.args.moment (request_of c.args.command.now) (note_number (c.args.self.now.notes + 1)))) (sym c.in_err-reply.ensures.reads.stays)
     (noted-steps c.args.self.now c.perform.new.self c.note.new.self (g.F.Folder.told c.args.f.now) (g.F.Folder.told c.perform.new.folder) (g.F.Folder.told c.note.new.folder) c.args.moment (request_of c.args.command.now) (note_number (c.args.self.now.notes + 1)) c.in_ok-answer.ensures.stops c.in_ok-answer.answer c.in_ok-answer.ensures.does
     (made c.args.self.now.notes c.perform.new.self.notes (g.F.Folder.told c.perform.new.folder) (g.F.Folder.told c.note.new.folder) c.in_ok-answer.ensures.notes c.in_ok-note.ensures.done) c.in_ok-note.ensures.others)
 
@@ -70,7 +70,7 @@ returns-in_err-reply-clause-front g c =
 pub returns-in_err-reply-clause-unanswered : goal.returns-in_err-reply-clause-unanswered
 returns-in_err-reply-clause-unanswered g c =
     failed-behind c.from_residual-in_err-reply.result c.args.self.now (g.F.Folder.told c.args.f.now) (g.F.Folder.told c.reply.new.folder) c.args.moment (request_of c.args.command.now) (note_number (c.args.self.now.notes + 1)) (g.K.Sink.written c.args.out.now) (g.K.Sink.written c.reply.new.out)
-    (subst (λ (t : Told). ForKept (KeepsState c.args.self.now) (g.F.Folder.told c.args.f.now) (IsNoted (g.F.Folder.told c.args.f.now) t c.args.moment (request_of c.args.command.now) (note_number (c.args.self.now.notes + 1)))) (sym c.in_err-reply.ensures.stays)
+    (subst (λ (t : Told). ForKept (KeepsState c.args.self.now) (g.F.Folder.told c.args.f.now) (IsNoted (g.F.Folder.told c.args.f.now) t c.args.moment (request_of c.args.command.now) (note_number (c.args.self.now.notes + 1)))) (sym c.in_err-reply.ensures.reads.stays)
     (noted-ends c.args.self.now c.perform.new.self c.note.new.self (g.F.Folder.told c.args.f.now) (g.F.Folder.told c.perform.new.folder) (g.F.Folder.told c.note.new.folder) c.args.moment (request_of c.args.command.now) (note_number (c.args.self.now.notes + 1)) c.in_ok-answer.ensures.stops c.in_ok-answer.answer c.in_ok-answer.ensures.does
     (made c.args.self.now.notes c.perform.new.self.notes (g.F.Folder.told c.perform.new.folder) (g.F.Folder.told c.note.new.folder) c.in_ok-answer.ensures.notes c.in_ok-note.ensures.done) c.in_ok-note.ensures.others))
 
@@ -90,13 +90,13 @@ returns-in_err-reply-clause-untold g c any =
 
 pub returns-then-failed-clause-kept : goal.returns-then-failed-clause-kept
 returns-then-failed-clause-kept g c image there state k =
-    kept-behind c.note.new.self c.reply.new.self (g.F.Folder.told c.note.new.folder) (g.F.Folder.told c.reply.new.folder) c.in_ok-reply.ensures.others c.in_ok-reply.ensures.stays (step state c.args.moment (request_of c.args.command.now)).state
+    kept-behind c.note.new.self c.reply.new.self (g.F.Folder.told c.note.new.folder) (g.F.Folder.told c.reply.new.folder) c.in_ok-reply.ensures.others c.in_ok-reply.ensures.reads.stays (step state c.args.moment (request_of c.args.command.now)).state
     (noted-does c.args.self.now c.perform.new.self c.note.new.self (g.F.Folder.told c.args.f.now) (g.F.Folder.told c.perform.new.folder) (g.F.Folder.told c.note.new.folder) c.args.moment (request_of c.args.command.now) (note_number (c.args.self.now.notes + 1)) c.in_ok-answer.ensures.stops c.in_ok-answer.answer c.in_ok-answer.ensures.does
     (made c.args.self.now.notes c.perform.new.self.notes (g.F.Folder.told c.perform.new.folder) (g.F.Folder.told c.note.new.folder) c.in_ok-answer.ensures.notes c.in_ok-note.ensures.done) c.in_ok-note.ensures.others image there state k).kept
 
 pub returns-then-failed-clause-stepped : goal.returns-then-failed-clause-stepped
 returns-then-failed-clause-stepped g c =
-    subst (λ (t : Told). ForKept (KeepsState c.args.self.now) (g.F.Folder.told c.args.f.now) (IsStepped (g.F.Folder.told c.args.f.now) t c.args.moment (request_of c.args.command.now) (note_number (c.args.self.now.notes + 1)))) (sym c.in_ok-reply.ensures.stays)
+    subst (λ (t : Told). ForKept (KeepsState c.args.self.now) (g.F.Folder.told c.args.f.now) (IsStepped (g.F.Folder.told c.args.f.now) t c.args.moment (request_of c.args.command.now) (note_number (c.args.self.now.notes + 1)))) (sym c.in_ok-reply.ensures.reads.stays)
     (noted-steps c.args.self.now c.perform.new.self c.note.new.self (g.F.Folder.told c.args.f.now) (g.F.Folder.told c.perform.new.folder) (g.F.Folder.told c.note.new.folder) c.args.moment (request_of c.args.command.now) (note_number (c.args.self.now.notes + 1)) c.in_ok-answer.ensures.stops c.in_ok-answer.answer c.in_ok-answer.ensures.does
     (made c.args.self.now.notes c.perform.new.self.notes (g.F.Folder.told c.perform.new.folder) (g.F.Folder.told c.note.new.folder) c.in_ok-answer.ensures.notes c.in_ok-note.ensures.done) c.in_ok-note.ensures.others)
 
@@ -109,25 +109,25 @@ returns-then-failed-clause-front g c =
 
 pub returns-then-failed-clause-noted : goal.returns-then-failed-clause-noted
 returns-then-failed-clause-noted g c =
-    subst (λ (t : Told). ForKept (KeepsState c.args.self.now) (g.F.Folder.told c.args.f.now) (IsNoted (g.F.Folder.told c.args.f.now) t c.args.moment (request_of c.args.command.now) (note_number (c.args.self.now.notes + 1)))) (sym c.in_ok-reply.ensures.stays)
+    subst (λ (t : Told). ForKept (KeepsState c.args.self.now) (g.F.Folder.told c.args.f.now) (IsNoted (g.F.Folder.told c.args.f.now) t c.args.moment (request_of c.args.command.now) (note_number (c.args.self.now.notes + 1)))) (sym c.in_ok-reply.ensures.reads.stays)
     (noted-ends c.args.self.now c.perform.new.self c.note.new.self (g.F.Folder.told c.args.f.now) (g.F.Folder.told c.perform.new.folder) (g.F.Folder.told c.note.new.folder) c.args.moment (request_of c.args.command.now) (note_number (c.args.self.now.notes + 1)) c.in_ok-answer.ensures.stops c.in_ok-answer.answer c.in_ok-answer.ensures.does
     (made c.args.self.now.notes c.perform.new.self.notes (g.F.Folder.told c.perform.new.folder) (g.F.Folder.told c.note.new.folder) c.in_ok-answer.ensures.notes c.in_ok-note.ensures.done) c.in_ok-note.ensures.others)
 
 pub returns-then-failed-clause-refused : goal.returns-then-failed-clause-refused
 returns-then-failed-clause-refused g c =
-    subst (λ (t : Told). ForKept (KeepsState c.args.self.now) (g.F.Folder.told c.args.f.now) (λ state. IsRefused (answer_of (step state c.args.moment (request_of c.args.command.now)).reply) → Applies (g.F.Folder.told c.args.f.now) t (Note (note_number (c.args.self.now.notes + 1)) ∷ []))) (sym c.in_ok-reply.ensures.stays)
+    subst (λ (t : Told). ForKept (KeepsState c.args.self.now) (g.F.Folder.told c.args.f.now) (λ state. IsRefused (answer_of (step state c.args.moment (request_of c.args.command.now)).reply) → Applies (g.F.Folder.told c.args.f.now) t (Note (note_number (c.args.self.now.notes + 1)) ∷ []))) (sym c.in_ok-reply.ensures.reads.stays)
     (refused-notes c.args.self.now c.perform.new.self c.note.new.self (g.F.Folder.told c.args.f.now) (g.F.Folder.told c.perform.new.folder) (g.F.Folder.told c.note.new.folder) c.args.moment (request_of c.args.command.now) (note_number (c.args.self.now.notes + 1)) c.in_ok-answer.ensures.stops c.in_ok-answer.answer c.in_ok-answer.ensures.does
     (made c.args.self.now.notes c.perform.new.self.notes (g.F.Folder.told c.perform.new.folder) (g.F.Folder.told c.note.new.folder) c.in_ok-answer.ensures.notes c.in_ok-note.ensures.done) c.in_ok-note.ensures.others c.in_ok-answer.ensures.quiet)
 
 pub returns-then-failed-clause-idle : goal.returns-then-failed-clause-idle
 returns-then-failed-clause-idle g c =
-    subst (λ (t : Told). ForKept (KeepsState c.args.self.now) (g.F.Folder.told c.args.f.now) (λ state. FlushesClean state (request_of c.args.command.now) → Applies (g.F.Folder.told c.args.f.now) t (Note (note_number (c.args.self.now.notes + 1)) ∷ []))) (sym c.in_ok-reply.ensures.stays)
+    subst (λ (t : Told). ForKept (KeepsState c.args.self.now) (g.F.Folder.told c.args.f.now) (λ state. FlushesClean state (request_of c.args.command.now) → Applies (g.F.Folder.told c.args.f.now) t (Note (note_number (c.args.self.now.notes + 1)) ∷ []))) (sym c.in_ok-reply.ensures.reads.stays)
     (clean-notes c.args.self.now (g.F.Folder.told c.args.f.now) (g.F.Folder.told c.perform.new.folder) (g.F.Folder.told c.note.new.folder) (request_of c.args.command.now) (note_number (c.args.self.now.notes + 1)) c.in_ok-answer.ensures.idle
     (made c.args.self.now.notes c.perform.new.self.notes (g.F.Folder.told c.perform.new.folder) (g.F.Folder.told c.note.new.folder) c.in_ok-answer.ensures.notes c.in_ok-note.ensures.done))
 
 pub returns-then-failed-clause-is_open : goal.returns-then-failed-clause-is_open
 returns-then-failed-clause-is_open g c =
-    open-behind c.note.new.self c.reply.new.self (g.F.Folder.told c.note.new.folder) (g.F.Folder.told c.reply.new.folder) c.in_ok-reply.ensures.others c.in_ok-reply.ensures.stays
+    open-behind c.note.new.self c.reply.new.self (g.F.Folder.told c.note.new.folder) (g.F.Folder.told c.reply.new.folder) c.in_ok-reply.ensures.others c.in_ok-reply.ensures.reads.stays
     (open-on c.perform.new.self c.note.new.self (g.F.Folder.told c.perform.new.folder) (g.F.Folder.told c.note.new.folder) (same-files (g.F.Folder.told c.perform.new.folder) (g.F.Folder.told c.note.new.folder) _ c.in_ok-note.ensures.done) c.in_ok-note.ensures.others c.in_ok-answer.ensures.is_open)
 
 -- It is done, and answered.
@@ -138,13 +138,13 @@ returns-else-failed-clause-answered g c image there state k =
 
 pub returns-else-failed-clause-kept : goal.returns-else-failed-clause-kept
 returns-else-failed-clause-kept g c image there state k =
-    kept-behind c.note.new.self c.reply.new.self (g.F.Folder.told c.note.new.folder) (g.F.Folder.told c.reply.new.folder) c.in_ok-reply.ensures.others c.in_ok-reply.ensures.stays (step state c.args.moment (request_of c.args.command.now)).state
+    kept-behind c.note.new.self c.reply.new.self (g.F.Folder.told c.note.new.folder) (g.F.Folder.told c.reply.new.folder) c.in_ok-reply.ensures.others c.in_ok-reply.ensures.reads.stays (step state c.args.moment (request_of c.args.command.now)).state
     (noted-does c.args.self.now c.perform.new.self c.note.new.self (g.F.Folder.told c.args.f.now) (g.F.Folder.told c.perform.new.folder) (g.F.Folder.told c.note.new.folder) c.args.moment (request_of c.args.command.now) (note_number (c.args.self.now.notes + 1)) c.in_ok-answer.ensures.stops c.in_ok-answer.answer c.in_ok-answer.ensures.does
     (made c.args.self.now.notes c.perform.new.self.notes (g.F.Folder.told c.perform.new.folder) (g.F.Folder.told c.note.new.folder) c.in_ok-answer.ensures.notes c.in_ok-note.ensures.done) c.in_ok-note.ensures.others image there state k).kept
 
 pub returns-else-failed-clause-stepped : goal.returns-else-failed-clause-stepped
 returns-else-failed-clause-stepped g c =
-    subst (λ (t : Told). ForKept (KeepsState c.args.self.now) (g.F.Folder.told c.args.f.now) (IsStepped (g.F.Folder.told c.args.f.now) t c.args.moment (request_of c.args.command.now) (note_number (c.args.self.now.notes + 1)))) (sym c.in_ok-reply.ensures.stays)
+    subst (λ (t : Told). ForKept (KeepsState c.args.self.now) (g.F.Folder.told c.args.f.now) (IsStepped (g.F.Folder.told c.args.f.now) t c.args.moment (request_of c.args.command.now) (note_number (c.args.self.now.notes + 1)))) (sym c.in_ok-reply.ensures.reads.stays)
     (noted-steps c.args.self.now c.perform.new.self c.note.new.self (g.F.Folder.told c.args.f.now) (g.F.Folder.told c.perform.new.folder) (g.F.Folder.told c.note.new.folder) c.args.moment (request_of c.args.command.now) (note_number (c.args.self.now.notes + 1)) c.in_ok-answer.ensures.stops c.in_ok-answer.answer c.in_ok-answer.ensures.does
     (made c.args.self.now.notes c.perform.new.self.notes (g.F.Folder.told c.perform.new.folder) (g.F.Folder.told c.note.new.folder) c.in_ok-answer.ensures.notes c.in_ok-note.ensures.done) c.in_ok-note.ensures.others)
 
@@ -157,7 +157,7 @@ returns-else-failed-clause-front g c =
 
 pub returns-else-failed-clause-noted : goal.returns-else-failed-clause-noted
 returns-else-failed-clause-noted g c =
-    subst (λ (t : Told). ForKept (KeepsState c.args.self.now) (g.F.Folder.told c.args.f.now) (IsNoted (g.F.Folder.told c.args.f.now) t c.args.moment (request_of c.args.command.now) (note_number (c.args.self.now.notes + 1)))) (sym c.in_ok-reply.ensures.stays)
+    subst (λ (t : Told). ForKept (KeepsState c.args.self.now) (g.F.Folder.told c.args.f.now) (IsNoted (g.F.Folder.told c.args.f.now) t c.args.moment (request_of c.args.command.now) (note_number (c.args.self.now.notes + 1)))) (sym c.in_ok-reply.ensures.reads.stays)
     (noted-ends c.args.self.now c.perform.new.self c.note.new.self (g.F.Folder.told c.args.f.now) (g.F.Folder.told c.perform.new.folder) (g.F.Folder.told c.note.new.folder) c.args.moment (request_of c.args.command.now) (note_number (c.args.self.now.notes + 1)) c.in_ok-answer.ensures.stops c.in_ok-answer.answer c.in_ok-answer.ensures.does
     (made c.args.self.now.notes c.perform.new.self.notes (g.F.Folder.told c.perform.new.folder) (g.F.Folder.told c.note.new.folder) c.in_ok-answer.ensures.notes c.in_ok-note.ensures.done) c.in_ok-note.ensures.others)
 
@@ -170,19 +170,19 @@ returns-else-failed-clause-printed g c =
 
 pub returns-else-failed-clause-refused : goal.returns-else-failed-clause-refused
 returns-else-failed-clause-refused g c =
-    subst (λ (t : Told). ForKept (KeepsState c.args.self.now) (g.F.Folder.told c.args.f.now) (λ state. IsRefused (answer_of (step state c.args.moment (request_of c.args.command.now)).reply) → Applies (g.F.Folder.told c.args.f.now) t (Note (note_number (c.args.self.now.notes + 1)) ∷ []))) (sym c.in_ok-reply.ensures.stays)
+    subst (λ (t : Told). ForKept (KeepsState c.args.self.now) (g.F.Folder.told c.args.f.now) (λ state. IsRefused (answer_of (step state c.args.moment (request_of c.args.command.now)).reply) → Applies (g.F.Folder.told c.args.f.now) t (Note (note_number (c.args.self.now.notes + 1)) ∷ []))) (sym c.in_ok-reply.ensures.reads.stays)
     (refused-notes c.args.self.now c.perform.new.self c.note.new.self (g.F.Folder.told c.args.f.now) (g.F.Folder.told c.perform.new.folder) (g.F.Folder.told c.note.new.folder) c.args.moment (request_of c.args.command.now) (note_number (c.args.self.now.notes + 1)) c.in_ok-answer.ensures.stops c.in_ok-answer.answer c.in_ok-answer.ensures.does
     (made c.args.self.now.notes c.perform.new.self.notes (g.F.Folder.told c.perform.new.folder) (g.F.Folder.told c.note.new.folder) c.in_ok-answer.ensures.notes c.in_ok-note.ensures.done) c.in_ok-note.ensures.others c.in_ok-answer.ensures.quiet)
 
 pub returns-else-failed-clause-idle : goal.returns-else-failed-clause-idle
 returns-else-failed-clause-idle g c =
-    subst (λ (t : Told). ForKept (KeepsState c.args.self.now) (g.F.Folder.told c.args.f.now) (λ state. FlushesClean state (request_of c.args.command.now) → Applies (g.F.Folder.told c.args.f.now) t (Note (note_number (c.args.self.now.notes + 1)) ∷ []))) (sym c.in_ok-reply.ensures.stays)
+    subst (λ (t : Told). ForKept (KeepsState c.args.self.now) (g.F.Folder.told c.args.f.now) (λ state. FlushesClean state (request_of c.args.command.now) → Applies (g.F.Folder.told c.args.f.now) t (Note (note_number (c.args.self.now.notes + 1)) ∷ []))) (sym c.in_ok-reply.ensures.reads.stays)
     (clean-notes c.args.self.now (g.F.Folder.told c.args.f.now) (g.F.Folder.told c.perform.new.folder) (g.F.Folder.told c.note.new.folder) (request_of c.args.command.now) (note_number (c.args.self.now.notes + 1)) c.in_ok-answer.ensures.idle
     (made c.args.self.now.notes c.perform.new.self.notes (g.F.Folder.told c.perform.new.folder) (g.F.Folder.told c.note.new.folder) c.in_ok-answer.ensures.notes c.in_ok-note.ensures.done))
 
 pub returns-else-failed-clause-is_open : goal.returns-else-failed-clause-is_open
 returns-else-failed-clause-is_open g c =
-    open-behind c.note.new.self c.reply.new.self (g.F.Folder.told c.note.new.folder) (g.F.Folder.told c.reply.new.folder) c.in_ok-reply.ensures.others c.in_ok-reply.ensures.stays
+    open-behind c.note.new.self c.reply.new.self (g.F.Folder.told c.note.new.folder) (g.F.Folder.told c.reply.new.folder) c.in_ok-reply.ensures.others c.in_ok-reply.ensures.reads.stays
     (open-on c.perform.new.self c.note.new.self (g.F.Folder.told c.perform.new.folder) (g.F.Folder.told c.note.new.folder) (same-files (g.F.Folder.told c.perform.new.folder) (g.F.Folder.told c.note.new.folder) _ c.in_ok-note.ensures.done) c.in_ok-note.ensures.others c.in_ok-answer.ensures.is_open)
 
 pub returns-in_err-reply-clause-damaged : goal.returns-in_err-reply-clause-damaged

@@ -20,34 +20,34 @@ use Rattle.blk_cache.proofs.cache.Cache.use_sparse.Goals as goal
 
 pub returns-in_err-asked-clause-stops : goal.returns-in_err-asked-clause-stops
 returns-in_err-asked-clause-stops g c =
-    nothing-stops (KeepsState c.args.self.now) (says-kept c.args.self.now) (g.F.Folder.told c.args.folder.now) (g.F.Folder.told c.ask_sparse.new.folder) c.args.moment (to_use_sparse c.args.wanted c.args.handle c.args.offset c.args.count) c.in_err-asked.ensures.stays
+    nothing-stops (KeepsState c.args.self.now) (says-kept c.args.self.now) (g.F.Folder.told c.args.folder.now) (g.F.Folder.told c.ask_sparse.new.folder) c.args.moment (to_use_sparse c.args.wanted c.args.handle c.args.offset c.args.count) c.in_err-asked.ensures.reads.stays
 
 pub returns-in_err-asked-clause-is_open : goal.returns-in_err-asked-clause-is_open
-returns-in_err-asked-clause-is_open g c = subst (λ (t : Told). ForSome t.files (IsOpen c.args.self.now.files)) (sym c.in_err-asked.ensures.stays) c.requires.is_open
+returns-in_err-asked-clause-is_open g c = subst (λ (t : Told). ForSome t.files (IsOpen c.args.self.now.files)) (sym c.in_err-asked.ensures.reads.stays) c.requires.is_open
 
 pub returns-in-Refused-clause-does : goal.returns-in-Refused-clause-does
 returns-in-Refused-clause-does g c =
-    sparse-refuses c.args.self.now (g.F.Folder.told c.args.folder.now) (g.F.Folder.told c.ask_sparse.new.folder) c.in_ok-asked.ensures.stays c.args.moment c.args.handle c.args.offset c.args.count c.args.wanted c.in-Refused.why
+    sparse-refuses c.args.self.now (g.F.Folder.told c.args.folder.now) (g.F.Folder.told c.ask_sparse.new.folder) c.in_ok-asked.ensures.reads.stays c.args.moment c.args.handle c.args.offset c.args.count c.args.wanted c.in-Refused.why
     (λ image there state k. four-refuse state c.args.moment c.args.handle c.args.offset c.args.count c.args.wanted c.in-Refused.why (subst (IsAskedSparse state k.layout c.args.handle c.args.offset c.args.count) c.in-Refused.is (c.in_ok-asked.ensures.asked image there state k)))
 
 pub returns-in-Refused-clause-stops : goal.returns-in-Refused-clause-stops
 returns-in-Refused-clause-stops g c =
-    nothing-stops (KeepsState c.args.self.now) (says-kept c.args.self.now) (g.F.Folder.told c.args.folder.now) (g.F.Folder.told c.ask_sparse.new.folder) c.args.moment (to_use_sparse c.args.wanted c.args.handle c.args.offset c.args.count) c.in_ok-asked.ensures.stays
+    nothing-stops (KeepsState c.args.self.now) (says-kept c.args.self.now) (g.F.Folder.told c.args.folder.now) (g.F.Folder.told c.ask_sparse.new.folder) c.args.moment (to_use_sparse c.args.wanted c.args.handle c.args.offset c.args.count) c.in_ok-asked.ensures.reads.stays
 
 pub returns-in-Refused-clause-is_open : goal.returns-in-Refused-clause-is_open
-returns-in-Refused-clause-is_open g c = subst (λ (t : Told). ForSome t.files (IsOpen c.args.self.now.files)) (sym c.in_ok-asked.ensures.stays) c.requires.is_open
+returns-in-Refused-clause-is_open g c = subst (λ (t : Told). ForSome t.files (IsOpen c.args.self.now.files)) (sym c.in_ok-asked.ensures.reads.stays) c.requires.is_open
 
 pub returns-in-Plain-clause-does : goal.returns-in-Plain-clause-does
 returns-in-Plain-clause-does g c =
-    sparse-refuses c.args.self.now (g.F.Folder.told c.args.folder.now) (g.F.Folder.told c.ask_sparse.new.folder) c.in_ok-asked.ensures.stays c.args.moment c.args.handle c.args.offset c.args.count c.args.wanted refusal.NotSparse
+    sparse-refuses c.args.self.now (g.F.Folder.told c.args.folder.now) (g.F.Folder.told c.ask_sparse.new.folder) c.in_ok-asked.ensures.reads.stays c.args.moment c.args.handle c.args.offset c.args.count c.args.wanted refusal.NotSparse
     (λ image there state k. plain-refused state c.args.moment c.args.handle c.args.offset c.args.count c.args.wanted k.layout c.in-Plain.field-0 (subst (IsAskedSparse state k.layout c.args.handle c.args.offset c.args.count) c.in-Plain.is (c.in_ok-asked.ensures.asked image there state k)))
 
 pub returns-in-Plain-clause-stops : goal.returns-in-Plain-clause-stops
 returns-in-Plain-clause-stops g c =
-    nothing-stops (KeepsState c.args.self.now) (says-kept c.args.self.now) (g.F.Folder.told c.args.folder.now) (g.F.Folder.told c.ask_sparse.new.folder) c.args.moment (to_use_sparse c.args.wanted c.args.handle c.args.offset c.args.count) c.in_ok-asked.ensures.stays
+    nothing-stops (KeepsState c.args.self.now) (says-kept c.args.self.now) (g.F.Folder.told c.args.folder.now) (g.F.Folder.told c.ask_sparse.new.folder) c.args.moment (to_use_sparse c.args.wanted c.args.handle c.args.offset c.args.count) c.in_ok-asked.ensures.reads.stays
 
 pub returns-in-Plain-clause-is_open : goal.returns-in-Plain-clause-is_open
-returns-in-Plain-clause-is_open g c = subst (λ (t : Told). ForSome t.files (IsOpen c.args.self.now.files)) (sym c.in_ok-asked.ensures.stays) c.requires.is_open
+returns-in-Plain-clause-is_open g c = subst (λ (t : Told). ForSome t.files (IsOpen c.args.self.now.files)) (sym c.in_ok-asked.ensures.reads.stays) c.requires.is_open
 
 pub returns-in-Plain-clause-refuses : goal.returns-in-Plain-clause-refuses
 returns-in-Plain-clause-refuses g c =
@@ -72,10 +72,10 @@ pub use_range-requires-clause-inside : goal.use_range-requires-clause-inside
 use_range-requires-clause-inside g c = (subst (FindsInside (early_sparse_refusal c.args.self.now.handles c.args.handle c.args.offset c.args.count) c.args.offset c.args.count) c.in-Parent.is c.in_ok-asked.ensures.inside).inside
 
 pub use_range-requires-clause-is_open : goal.use_range-requires-clause-is_open
-use_range-requires-clause-is_open g c = subst (λ (t : Told). ForSome t.files (IsOpen c.args.self.now.files)) (sym c.in_ok-asked.ensures.stays) c.requires.is_open
+use_range-requires-clause-is_open g c = subst (λ (t : Told). ForSome t.files (IsOpen c.args.self.now.files)) (sym c.in_ok-asked.ensures.reads.stays) c.requires.is_open
 
 pub returns-in_err-found-in-Parent-clause-stops : goal.returns-in_err-found-in-Parent-clause-stops
-returns-in_err-found-in-Parent-clause-stops g c = sparse-stops c.args.self.now (g.F.Folder.told c.args.folder.now) (g.F.Folder.told c.ask_sparse.new.folder) (g.F.Folder.told c.use_range.new.folder) c.in_ok-asked.ensures.stays c.args.moment c.args.handle c.args.offset c.args.count c.args.wanted c.in-Parent.parent (λ image there state k. subst (IsAskedSparse state k.layout c.args.handle c.args.offset c.args.count) c.in-Parent.is (c.in_ok-asked.ensures.asked image there state k)) c.use_range.ensures.stops
+returns-in_err-found-in-Parent-clause-stops g c = sparse-stops c.args.self.now (g.F.Folder.told c.args.folder.now) (g.F.Folder.told c.ask_sparse.new.folder) (g.F.Folder.told c.use_range.new.folder) c.in_ok-asked.ensures.reads.stays c.args.moment c.args.handle c.args.offset c.args.count c.args.wanted c.in-Parent.parent (λ image there state k. subst (IsAskedSparse state k.layout c.args.handle c.args.offset c.args.count) c.in-Parent.is (c.in_ok-asked.ensures.asked image there state k)) c.use_range.ensures.stops
 
 pub returns-in_err-found-in-Parent-clause-refuses : goal.returns-in_err-found-in-Parent-clause-refuses
 returns-in_err-found-in-Parent-clause-refuses g c =
@@ -84,11 +84,11 @@ returns-in_err-found-in-Parent-clause-refuses g c =
 
 pub returns-in_err-found-in-Parent-clause-untold : goal.returns-in_err-found-in-Parent-clause-untold
 returns-in_err-found-in-Parent-clause-untold g c any =
-    let same = ap (λ (t : Told). t.files) c.in_ok-asked.ensures.stays in
+    let same = ap (λ (t : Told). t.files) c.in_ok-asked.ensures.reads.stays in
     by-files c.from_residual-in_err-found-in-Parent.result (g.F.Folder.told c.args.folder.now).files (λ image there.
     let at = same ∙ there in
     let one = any image there in
-    let p = sparse-parent c.args.self.now (g.F.Folder.told c.args.folder.now) (g.F.Folder.told c.ask_sparse.new.folder) (g.F.Folder.told c.use_range.new.folder) c.in_ok-asked.ensures.stays c.args.moment c.args.handle c.args.offset c.args.count c.args.wanted c.in-Parent.parent (λ image there state k. subst (IsAskedSparse state k.layout c.args.handle c.args.offset c.args.count) c.in-Parent.is (c.in_ok-asked.ensures.asked image there state k)) image at one.0 one.1 in
+    let p = sparse-parent c.args.self.now (g.F.Folder.told c.args.folder.now) (g.F.Folder.told c.ask_sparse.new.folder) (g.F.Folder.told c.use_range.new.folder) c.in_ok-asked.ensures.reads.stays c.args.moment c.args.handle c.args.offset c.args.count c.args.wanted c.in-Parent.parent (λ image there state k. subst (IsAskedSparse state k.layout c.args.handle c.args.offset c.args.count) c.in-Parent.is (c.in_ok-asked.ensures.asked image there state k)) image at one.0 one.1 in
     carried c.use_range.result c.from_residual-in_err-found-in-Parent.result c.in_err-found-in-Parent.field-0.0 (λ _. (g.F.Folder.told c.args.folder.now).files ≡ None) c.in_err-found-in-Parent.was c.from_residual-in_err-found-in-Parent.ensures.1
     (if_damaged_weaker c.use_range.result _ _ (λ damage none. sym same ∙ none)
     (c.use_range.ensures.untold image at one.0 one.1.layout [] p.0 p.1.0 p.1.1)))
@@ -96,10 +96,10 @@ returns-in_err-found-in-Parent-clause-untold g c any =
 pub returns-in_ok-found-in-Parent-clause-does : goal.returns-in_ok-found-in-Parent-clause-does
 returns-in_ok-found-in-Parent-clause-does g c =
     rw c.told_of_run.ensures
-    (sparse-does c.args.self.now (g.F.Folder.told c.args.folder.now) (g.F.Folder.told c.ask_sparse.new.folder) (g.F.Folder.told c.use_range.new.folder) c.in_ok-asked.ensures.stays c.args.moment c.args.handle c.args.offset c.args.count c.args.wanted c.in-Parent.parent (λ image there state k. subst (IsAskedSparse state k.layout c.args.handle c.args.offset c.args.count) c.in-Parent.is (c.in_ok-asked.ensures.asked image there state k)) _ (record { limits = refl; items = refl; bytes = refl; open_bytes = refl; handles = refl; files = refl; mark = refl; notes = refl }) c.in_ok-found-in-Parent.ensures.is_open c.in_ok-found-in-Parent.found c.in_ok-found-in-Parent.ensures.run c.in_ok-found-in-Parent.ensures.used)
+    (sparse-does c.args.self.now (g.F.Folder.told c.args.folder.now) (g.F.Folder.told c.ask_sparse.new.folder) (g.F.Folder.told c.use_range.new.folder) c.in_ok-asked.ensures.reads.stays c.args.moment c.args.handle c.args.offset c.args.count c.args.wanted c.in-Parent.parent (λ image there state k. subst (IsAskedSparse state k.layout c.args.handle c.args.offset c.args.count) c.in-Parent.is (c.in_ok-asked.ensures.asked image there state k)) _ (record { limits = refl; items = refl; bytes = refl; open_bytes = refl; handles = refl; files = refl; mark = refl; notes = refl }) c.in_ok-found-in-Parent.ensures.is_open c.in_ok-found-in-Parent.found c.in_ok-found-in-Parent.ensures.run c.in_ok-found-in-Parent.ensures.used)
 
 pub returns-in_ok-found-in-Parent-clause-stops : goal.returns-in_ok-found-in-Parent-clause-stops
-returns-in_ok-found-in-Parent-clause-stops g c = sparse-stops c.args.self.now (g.F.Folder.told c.args.folder.now) (g.F.Folder.told c.ask_sparse.new.folder) (g.F.Folder.told c.use_range.new.folder) c.in_ok-asked.ensures.stays c.args.moment c.args.handle c.args.offset c.args.count c.args.wanted c.in-Parent.parent (λ image there state k. subst (IsAskedSparse state k.layout c.args.handle c.args.offset c.args.count) c.in-Parent.is (c.in_ok-asked.ensures.asked image there state k)) c.use_range.ensures.stops
+returns-in_ok-found-in-Parent-clause-stops g c = sparse-stops c.args.self.now (g.F.Folder.told c.args.folder.now) (g.F.Folder.told c.ask_sparse.new.folder) (g.F.Folder.told c.use_range.new.folder) c.in_ok-asked.ensures.reads.stays c.args.moment c.args.handle c.args.offset c.args.count c.args.wanted c.in-Parent.parent (λ image there state k. subst (IsAskedSparse state k.layout c.args.handle c.args.offset c.args.count) c.in-Parent.is (c.in_ok-asked.ensures.asked image there state k)) c.use_range.ensures.stops
 
 pub returns-in_ok-found-in-Parent-clause-refuses : goal.returns-in_ok-found-in-Parent-clause-refuses
 returns-in_ok-found-in-Parent-clause-refuses g c =

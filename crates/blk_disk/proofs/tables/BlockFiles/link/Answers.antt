@@ -14,7 +14,7 @@ returns-in_err-head-clause-damaged g c =
 
 pub returns-clause-linked : goal.returns-clause-linked
 returns-clause-linked g c image there =
-    let there_then = ap (λ (t : Told). t.files) (sym c.in_ok-head.ensures.stays) ∙ there in
+    let there_then = ap (λ (t : Told). t.files) (sym c.in_ok-head.ensures.reads.stays) ∙ there in
     let read = c.in_ok-head.ensures.read image there_then in
     follows_next c.args.kind c.args.self.now c.join.new.self image c.args.n c.in_ok-head.head c.requires.block_kind c.join.ensures (c.requires.next image there_then) read.0 read.1
 

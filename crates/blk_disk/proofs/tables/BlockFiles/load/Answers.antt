@@ -10,7 +10,7 @@ follow-requires-clause-begun g c image there = follows_none c.none-files.result 
 
 pub returns-clause-loaded : goal.returns-clause-loaded
 returns-clause-loaded g c image there =
-    let stays = c.in_ok-follow-4.ensures.stays ∙ c.in_ok-follow-3.ensures.stays ∙ c.in_ok-follow-2.ensures.stays ∙ c.in_ok-follow.ensures.stays in
+    let stays = c.in_ok-follow-4.ensures.reads.stays ∙ c.in_ok-follow-3.ensures.reads.stays ∙ c.in_ok-follow-2.ensures.reads.stays ∙ c.in_ok-follow.ensures.reads.stays in
     follows_all c.follow-4.new.self image (c.in_ok-follow-4.ensures.followed image (ap (λ (t : Told). t.files) stays ∙ there))
 
 pub follow-requires-clause-numbers : goal.follow-requires-clause-numbers

@@ -55,8 +55,8 @@ loop-place-preserved g c =
           more_behind c.args.self.now.kept.items c.args.hash c.in-Some.i here (λ one. (loaded : shown.Loaded) → IsLoadedFrom image loaded one → is_sought c.args.sought c.args.key.now loaded ≡ false) c.before-place.result c.in-Some-at.kept last (sym c.at.ensures ∙ c.in-Some-at.is)
           (λ loaded known. sym (c.in_ok-fits.ensures.fits image (told_now image c.loop-place.invariant.stays there) agrees loaded known) ∙ c.if-branch.false)
           (subst (λ (p : Option ℕ). HoldsBehind c.args.self.now.kept.items c.args.hash p (λ one. (loaded : shown.Loaded) → IsLoadedFrom image loaded one → is_sought c.args.sought c.args.key.now loaded ≡ false)) c.in-Some.is (c.loop-place.invariant.looked image there agrees));
-      stays = c.in_ok-fits.ensures.stays ∙ c.loop-place.invariant.stays;
-      later = omega (arith, c.in_ok-fits.ensures.later, c.loop-place.invariant.later);
+      stays = c.in_ok-fits.ensures.reads.stays ∙ c.loop-place.invariant.stays;
+      later = omega (arith, c.in_ok-fits.ensures.reads.later, c.loop-place.invariant.later);
     }
 
 pub returns-clause-has : goal.returns-clause-has

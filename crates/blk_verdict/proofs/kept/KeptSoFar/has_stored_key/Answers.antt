@@ -28,11 +28,11 @@ returns-clause-has g c =
     (λ has is image there agrees kept given are known.
     let key = keys-found image known.node given c.args.loaded.now known.loads known.is in
     let read = c.in_ok-read_key_of.ensures.key image there given.key key in
-    is image (told_now image c.in_ok-read_key_of.ensures.stays there) agrees (known.is.hash ∙ ap hash_of (sym read)) kept are ∙ ap (λ (k : List ℕ). list_any (is_sought c.args.sought k) kept) read)
+    is image (told_now image c.in_ok-read_key_of.ensures.reads.stays there) agrees (known.is.hash ∙ ap hash_of (sym read)) kept are ∙ ap (λ (k : List ℕ). list_any (is_sought c.args.sought k) kept) read)
     c.has.ensures.has
 
 pub returns-clause-untold : goal.returns-clause-untold
 returns-clause-untold g c agrees keys =
-    if_damaged_weaker c.has.result _ _ (λ damage none. ap (λ (t : Told). t.files) (sym c.in_ok-read_key_of.ensures.stays) ∙ none)
-    (c.has.ensures.untold (told_stays (Agrees c.args.files.now) c.in_ok-read_key_of.ensures.stays agrees)
-    (told_stays (λ (image : Image). HaveKeys image c.args.self.now.kept.items) c.in_ok-read_key_of.ensures.stays (λ image there. all_others (HasItsKey image) c.args.loaded.now c.args.self.now.kept.items (keys image there))))
+    if_damaged_weaker c.has.result _ _ (λ damage none. ap (λ (t : Told). t.files) (sym c.in_ok-read_key_of.ensures.reads.stays) ∙ none)
+    (c.has.ensures.untold (told_stays (Agrees c.args.files.now) c.in_ok-read_key_of.ensures.reads.stays agrees)
+    (told_stays (λ (image : Image). HaveKeys image c.args.self.now.kept.items) c.in_ok-read_key_of.ensures.reads.stays (λ image there. all_others (HasItsKey image) c.args.loaded.now c.args.self.now.kept.items (keys image there))))

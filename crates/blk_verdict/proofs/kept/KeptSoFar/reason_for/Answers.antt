@@ -27,21 +27,21 @@ returns-then-branch-clause-answer g c image there agrees kept given are known na
 pub returns-in_err-is_orphan-clause-untold : goal.returns-in_err-is_orphan-clause-untold
 returns-in_err-is_orphan-clause-untold g c agrees keys =
     carried c.is_orphan.result c.from_residual-in_err-is_orphan.result c.in_err-is_orphan.field-0.0 _ c.in_err-is_orphan.was c.from_residual-in_err-is_orphan.ensures.1
-    (if_damaged_weaker c.is_orphan.result _ _ (λ damage none. ap (λ (t : Told). t.files) (sym c.in_ok-shares_key.ensures.stays) ∙ none)
-    (c.is_orphan.ensures.untold (told_stays (Agrees c.args.files.now) c.in_ok-shares_key.ensures.stays agrees) (told_stays (λ (image : Image). HaveKeys image c.args.self.now.kept.items) c.in_ok-shares_key.ensures.stays
+    (if_damaged_weaker c.is_orphan.result _ _ (λ damage none. ap (λ (t : Told). t.files) (sym c.in_ok-shares_key.ensures.reads.stays) ∙ none)
+    (c.is_orphan.ensures.untold (told_stays (Agrees c.args.files.now) c.in_ok-shares_key.ensures.reads.stays agrees) (told_stays (λ (image : Image). HaveKeys image c.args.self.now.kept.items) c.in_ok-shares_key.ensures.reads.stays
     (λ image there. all_others (HasItsKey image) c.args.loaded.now c.args.self.now.kept.items (keys image there)))))
 
 pub returns-then-branch-2-clause-answer : goal.returns-then-branch-2-clause-answer
 returns-then-branch-2-clause-answer g c image there agrees kept given are known named =
     answer_parent kept given (sym (collides_is image kept given c.args.self.now.kept.items c.args.loaded.now are known) ∙ sym (c.collides.ensures c.requires.order.indexed.claims) ∙ c.if-collides.false)
     (sym (c.in_ok-shares_key.ensures.shares image there agrees kept given are known named) ∙ c.if-branch.false)
-    (sym (c.in_ok-is_orphan.ensures.orphan image (told_now image c.in_ok-shares_key.ensures.stays there) agrees kept given are known named) ∙ c.if-branch-2.true)
+    (sym (c.in_ok-is_orphan.ensures.orphan image (told_now image c.in_ok-shares_key.ensures.reads.stays there) agrees kept given are known named) ∙ c.if-branch-2.true)
 
 pub returns-clause-answer : goal.returns-clause-answer
 returns-clause-answer g c image there agrees kept given are known named =
     answer_none kept given (sym (collides_is image kept given c.args.self.now.kept.items c.args.loaded.now are known) ∙ sym (c.collides.ensures c.requires.order.indexed.claims) ∙ c.if-collides.false)
     (sym (c.in_ok-shares_key.ensures.shares image there agrees kept given are known named) ∙ c.if-branch.false)
-    (sym (c.in_ok-is_orphan.ensures.orphan image (told_now image c.in_ok-shares_key.ensures.stays there) agrees kept given are known named) ∙ c.if-branch-2.false)
+    (sym (c.in_ok-is_orphan.ensures.orphan image (told_now image c.in_ok-shares_key.ensures.reads.stays there) agrees kept given are known named) ∙ c.if-branch-2.false)
 
 -- two lists of addresses that repeat nothing and share nothing
 apart_by : (owned words : List ℕ) (t : Bool) → repeats (claims_of_all owned) ≡ false → t ≡ (repeats (claims_of_all words) || overlap (claims_of_all owned) (claims_of_all words)) → t ≡ false → repeats (claims_of_all (owned ++ words)) ≡ false
