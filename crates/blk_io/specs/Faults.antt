@@ -1,7 +1,7 @@
 -- The answers of calls that read and check.
 use Rattle.std.specs.Prelude.{◌≡◌, ℕ, ◌-◌, ◌<◌, min, Result, Ok, Err}
 use Rattle.std.specs.Option.{ForSome}
-use Rattle.spec_image.specs.Image.{File, length_of}
+use Rattle.spec_image.specs.Image.{File, HasRange, Image, length_of}
 use Rattle.spec_image.specs.Told.{Told}
 use Rattle.spec_image.specs.Checks as checks
 use Rattle.blk_io.specs.declared.folder.FileId.{FileId}
@@ -42,3 +42,7 @@ pub record IsOfWord (file : FileId) (place found : ℕ) (damage : Damage) : Type
   pub of_file : damage.file ≡ file
   pub at_place : damage.at ≡ place
   pub of_word : damage.found ≡ found
+
+-- the file has so many bytes from a place on
+abbrev pub HasBytesAt : FileId → (place count : ℕ) → Image → Type 0
+HasBytesAt file place count image = HasRange image (file_of file) place count

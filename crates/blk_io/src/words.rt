@@ -1,12 +1,12 @@
 // Words and bytes that are read whole, and words that are written one by one or side by side.
-ghost use Rattle.std.specs.Prelude.{◌≡◌, ◌⊎◌, ◌+◌, ◌*◌, ◌%◌, ◌^◌, ◌≤◌, ◌<◌, All, length, map, OnOk, OnErr, IfOk, take};
+ghost use Rattle.std.specs.Prelude.{◌≡◌, ◌⊎◌, ◌+◌, ◌*◌, ◌%◌, ◌^◌, ◌≤◌, ◌<◌, All, None, length, map, OnOk, OnErr, IfOk, take};
 ghost use Rattle.std.specs.Option.{ForSome};
 ghost use Rattle.spec_image.specs.Bytes.{range_at, word_bytes};
 ghost use Rattle.spec_image.specs.Image.{HasRange, byte, word};
 ghost use Rattle.spec_image.specs.Steps.{word_step, word_steps};
 ghost use Rattle.spec_image.specs.Told.{Applies, AppliesPrefix, Rises, ReadsOnly};
 ghost use Rattle.blk_io.specs.FileNames.{file_of};
-ghost use Rattle.blk_io.specs.Faults.{IfDamaged, IfDevice, IsShort};
+ghost use Rattle.blk_io.specs.Faults.{HasBytesAt, IfDamaged, IfDevice, IsShort};
 ghost use Rattle.blk_io.specs.Neighbours.{AreSideBySide, run_from};
 
 use crate::{Damage, Failed, Fault, FileId, Folder};
@@ -150,6 +150,7 @@ pub fn read_exact<F: Folder>(
     ensures bytes { OnOk result (ForSome (F.told folder.old).files (λ image. out.new ≡ range_at (byte image (file_of file)) at (length out.old))) }
     ensures inside { OnOk result (ForSome (F.told folder.old).files (λ image. HasRange image (file_of file) at (length out.old) ⊎ (length out.old ≡ 0))) }
     ensures short { IfDamaged result (IsShort (F.told folder.old) file at (length out.old)) }
+    ensures untold { ForSome (F.told folder.old).files (HasBytesAt file at (length out.old)) → IfDamaged result (λ _. (F.told folder.old).files ≡ None) }
     ensures reads { ReadsOnly F.told F.faults folder.old folder.new (IfDevice result) }
 {
     let n = folder.read_at(file, at, out)?;
@@ -165,6 +166,7 @@ pub fn read_word<F: Folder>(folder: &mut F, file: FileId, at: u64) -> Result<u32
     ensures word { IfOk result (λ w. ForSome (F.told folder.old).files (λ image. w ≡ word image (file_of file) at)) }
     ensures inside { OnOk result (ForSome (F.told folder.old).files (λ image. HasRange image (file_of file) at 4)) }
     ensures short { IfDamaged result (IsShort (F.told folder.old) file at 4) }
+    ensures untold { ForSome (F.told folder.old).files (HasBytesAt file at 4) → IfDamaged result (λ _. (F.told folder.old).files ≡ None) }
     ensures reads { ReadsOnly F.told F.faults folder.old folder.new (IfDevice result) }
 {
     let mut word = [0u8; 4];

@@ -10,7 +10,6 @@ use Rattle.blk_addr.specs.Kind.{kind_number}
 use Rattle.blk_io.specs.declared.folder.FileId.TheVariants as names
 use Rattle.blk_io.specs.Faults.{IfDamaged, IsShort}
 use Rattle.blk_io.proofs.Carried.{carried, if_damaged_weaker, untold_where}
-use Rattle.blk_io.proofs.Shorts.{untold_if}
 use Rattle.blk_disk.specs.Tables.{Agrees, blocks_of}
 use Rattle.blk_disk.proofs.KeptOnce.{counts}
 use Rattle.blk_disk.proofs.WholeHeaders.{all_head}
@@ -33,7 +32,7 @@ returns-in_err-hint-clause-cause g c =
 pub returns-in_err-hint-clause-untold : goal.returns-in_err-hint-clause-untold
 returns-in_err-hint-clause-untold g c both =
     carried c.read_word.result c.from_residual.result c.in_err-hint.field-0.0 _ c.in_err-hint.was c.from_residual.ensures.1
-    (untold_if c.read_word.result (g.F.Folder.told c.args.folder.now) (names.Block c.args.blocks.file) (40 + 4 * c.from.result) 4 c.read_word.ensures.short
+    (c.read_word.ensures.untold
     (λ image there. let long = (all_head c.args.files.now image c.args.blocks.file (both image there).0 (member_all c.args.files.now c.args.kind c.args.blocks.file c.requires.block_kind c.requires.linked)).header in let is = c.from.ensures in omega (arith, long, is, c.requires.small)))
 
 pub first_met-requires : goal.first_met-requires

@@ -2,8 +2,6 @@ use Rattle.std.proofs.Common.{◌≡◌, ℕ, Option, None, Some, refl, sym, ◌
 use Rattle.std.specs.Option.{ForSome}
 use Rattle.spec_image.specs.Image.{Index, length_of}
 use Rattle.spec_image.specs.Told.{Told}
-use Rattle.blk_io.specs.declared.folder.FileId.TheVariants as names
-use Rattle.blk_io.proofs.Shorts.{untold_if}
 use Rattle.spec_image.proofs.Runs.{told_whole, part_whole}
 use Rattle.spec_format.specs.Headers.{index_length}
 use Rattle.blk_external.specs.Numbers.{IsSearched}
@@ -22,7 +20,7 @@ returns-in_err-last-clause-stops g c = passes_free (makes_none c.in_err-last.ens
 pub returns-in_err-last-clause-untold : goal.returns-in_err-last-clause-untold
 returns-in_err-last-clause-untold g c free =
     carried c.read_word.result c.from_residual.result c.in_err-last.field-0.0 _ c.in_err-last.was c.from_residual.ensures.1
-    (untold_if c.read_word.result (g.F.Folder.told c.args.f.now) names.Index 16 4 c.read_word.ensures.short
+    (c.read_word.ensures.untold
     (λ image there. let size = c.requires.complete image there in omega (arith, size)))
 
 pub returns-in_err-number-clause-prefix : goal.returns-in_err-number-clause-prefix

@@ -1,7 +1,5 @@
 use Rattle.std.proofs.Common.{◌≡◌, ◌∙◌, None, arith}
-use Rattle.blk_io.specs.declared.folder.FileId.TheVariants.{Index}
 use Rattle.blk_io.proofs.Carried.{carried}
-use Rattle.blk_io.proofs.Shorts.{untold_if}
 use Rattle.blk_index.proofs.Pieces.{long_read}
 use Rattle.blk_index.proofs.words.long.Goals as goal
 
@@ -11,5 +9,5 @@ returns-clause-number g c image there = c.read_u64.ensures ∙ long_read image c
 pub returns-in_err-read_exact-clause-untold : goal.returns-in_err-read_exact-clause-untold
 returns-in_err-read_exact-clause-untold g c whole =
     carried c.read_exact.result c.from_residual.result c.in_err-read_exact.field-0.0 (λ _. (g.F.Folder.told c.args.folder.now).files ≡ None) c.in_err-read_exact.was c.from_residual.ensures.1
-    (untold_if c.read_exact.result (g.F.Folder.told c.args.folder.now) Index c.args.at 8 c.read_exact.ensures.short
+    (c.read_exact.ensures.untold
     (λ image there. let size = whole image there in omega (arith, size, c.requires.inside)))

@@ -1,7 +1,5 @@
-use Rattle.std.proofs.Common.{◌≡◌, ◌+◌, ◌*◌, ◌∙◌, None, length, arith}
-use Rattle.blk_io.specs.declared.folder.FileId.TheVariants.{Index}
+use Rattle.std.proofs.Common.{◌≡◌, ◌∙◌, None, length, arith}
 use Rattle.blk_io.proofs.Carried.{carried}
-use Rattle.blk_io.proofs.Shorts.{untold_if}
 use Rattle.blk_index.proofs.Pieces.{bucket_read}
 use Rattle.blk_index.proofs.words.read_piece.Goals as goal
 
@@ -12,5 +10,5 @@ returns-clause-words g c image there k below =
 pub returns-in_err-read_exact-clause-untold : goal.returns-in_err-read_exact-clause-untold
 returns-in_err-read_exact-clause-untold g c whole =
     carried c.read_exact.result c.from_residual.result c.in_err-read_exact.field-0.0 (λ _. (g.F.Folder.told c.args.folder.now).files ≡ None) c.in_err-read_exact.was c.from_residual.ensures.1
-    (untold_if c.read_exact.result (g.F.Folder.told c.args.folder.now) Index (368 + 4 * c.from.result) (length c.args.bytes.now) c.read_exact.ensures.short
+    (c.read_exact.ensures.untold
     (λ image there. let size = whole image there in omega (arith, size, c.from.ensures, c.requires.inside, c.requires.size, c.ranges.first)))

@@ -3,8 +3,6 @@ use Rattle.std.proofs.lemmas.List.Folds.{flat_map-map}
 use Rattle.spec_image.specs.Bytes.{content}
 use Rattle.spec_image.specs.Image.{Block, byte}
 use Rattle.spec_format.specs.BlockFiles.{is_among}
-use Rattle.blk_io.specs.declared.folder.FileId.TheVariants as names
-use Rattle.blk_io.proofs.Shorts.{untold_if}
 use Rattle.blk_disk.specs.Tables.{all_files, blocks_of}
 use Rattle.blk_audit.proofs.Carrying.{converted}
 use Rattle.blk_inspect.specs.Findings.{findings_text, word_said}
@@ -21,7 +19,7 @@ pub returns-in_err-read_exact-clause-untold : goal.returns-in_err-read_exact-cla
 returns-in_err-read_exact-clause-untold g c agrees =
     let among : is_among (all_files c.args.files.now) c.args.file ≡ true = sym (some_is (is_among (all_files c.args.files.now) c.args.file) (blocks_of c.args.files.now c.args.file) c.max_entries.result c.max_entries.ensures) ∙ c.if-is_none.ensures in
     converted c.read_exact.result c.from_residual.result c.in_err-read_exact.field-0.0 _ c.in_err-read_exact.was c.from_residual.ensures.1
-    (untold_if c.read_exact.result (g.F.Folder.told c.args.folder.now) (names.Block c.args.file) 0 80 c.read_exact.ensures.short (λ image there. header_there c.args.files.now image c.args.file (agrees image there) among))
+    (c.read_exact.ensures.untold (λ image there. header_there c.args.files.now image c.args.file (agrees image there) among))
 
 pub returns-clause-found : goal.returns-clause-found
 unfolding findings_text

@@ -6,7 +6,6 @@ use Rattle.spec_image.specs.Told.{Told}
 use Rattle.blk_io.specs.declared.folder.FileId.TheVariants as names
 use Rattle.blk_io.specs.Faults.{IsShort}
 use Rattle.blk_io.proofs.Carried.{if_damaged_weaker}
-use Rattle.blk_io.proofs.Shorts.{untold_if}
 use Rattle.blk_audit.proofs.Carrying.{converted}
 use Rattle.blk_inspect.specs.Findings.{findings_text, word_said}
 use Rattle.blk_inspect.specs.Texts.{index_text, index_words, word_line, words_text}
@@ -27,4 +26,4 @@ returns-in_err-read_exact-clause-damaged g c =
 pub returns-in_err-read_exact-clause-untold : goal.returns-in_err-read_exact-clause-untold
 returns-in_err-read_exact-clause-untold g c whole =
     converted c.read_exact.result c.from_residual.result c.in_err-read_exact.field-0.0 _ c.in_err-read_exact.was c.from_residual.ensures.1
-    (untold_if c.read_exact.result (g.F.Folder.told c.args.folder.now) names.Index 0 368 c.read_exact.ensures.short (λ image there. let e = whole image there in omega (arith, e)))
+    (c.read_exact.ensures.untold (λ image there. let e = whole image there in omega (arith, e)))

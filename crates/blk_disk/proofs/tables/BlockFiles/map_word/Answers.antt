@@ -1,20 +1,15 @@
-use Rattle.std.proofs.Common.{◌≡◌, ℕ, ◌+◌, ◌*◌, ◌∙◌, ap, subst}
+use Rattle.std.proofs.Common.{◌≡◌, ℕ, ◌+◌, ◌*◌, ◌∙◌, ap}
 use Rattle.spec_image.specs.Bytes.{range_at}
 use Rattle.spec_image.specs.Image.{Block, byte}
-use Rattle.blk_io.specs.declared.folder.FileId.TheVariants as names
-use Rattle.blk_io.specs.Faults.{IfDamaged, IsShort}
 use Rattle.blk_io.proofs.Carried.{carried}
-use Rattle.blk_io.proofs.Shorts.{untold_if}
 use Rattle.blk_disk.proofs.WholeHeaders.{word_inside}
 use Rattle.blk_disk.proofs.tables.BlockFiles.map_word.Goals as goal
 
 pub returns-in_err-read_exact-clause-untold : goal.returns-in_err-read_exact-clause-untold
 returns-in_err-read_exact-clause-untold g c agrees =
-    let at : 80 + 4 * c.from.result ≡ 80 + 4 * c.args.number = ap (λ (k : ℕ). 80 + 4 * k) c.from.ensures in
     carried c.read_exact.result c.from_residual.result c.in_err-read_exact.field-0.0 _ c.in_err-read_exact.was c.from_residual.ensures.1
-    (untold_if c.read_exact.result (g.F.Folder.told c.args.f.now) (names.Block c.args.file) (80 + 4 * c.args.number) 4
-    (subst (λ (p : ℕ). IfDamaged c.read_exact.result (IsShort (g.F.Folder.told c.args.f.now) (names.Block c.args.file) p 4)) at c.read_exact.ensures.short)
-    (word_inside c.args.self.now c.args.file c.args.number (g.F.Folder.told c.args.f.now) agrees c.requires.linked c.requires.below))
+    (c.read_exact.ensures.untold
+    (λ image there. let inside = word_inside c.args.self.now c.args.file c.args.number (g.F.Folder.told c.args.f.now) agrees c.requires.linked c.requires.below image there in omega (arith, inside, c.from.ensures)))
 
 pub returns-clause-word : goal.returns-clause-word
 returns-clause-word g c image there =
