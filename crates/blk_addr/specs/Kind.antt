@@ -4,7 +4,7 @@ use Rattle.spec_format.specs.Address.{external, rankings, blocks_256, blocks_1k,
 use Rattle.blk_addr.specs.declared.kinds.Kind.{Kind}
 use Rattle.blk_addr.specs.declared.kinds.Kind.TheVariants.{External, Rankings, B256, B1K, B4K}
 
--- the number of a kind
+-- the number of a kind in an address
 abbrev pub kind_number : Kind → ℕ
 kind_number External = external
 kind_number Rankings = rankings

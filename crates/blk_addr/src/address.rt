@@ -9,7 +9,7 @@ use crate::file_id::FileId;
 use crate::kinds::Kind;
 use std::marker::Model;
 
-/// The place of blocks in a block file, or an external file. It is seen as its word.
+/// The address of blocks in a block file, or of an external file. In clauses it is its word.
 #[derive(Clone, Copy, PartialEq, Eq, Debug)]
 pub struct Addr {
     word: u32,

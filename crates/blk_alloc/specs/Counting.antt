@@ -5,36 +5,36 @@ use Rattle.blk_io.specs.declared.folder.FileId.TheVariants as names
 use Rattle.blk_io.specs.declared.fault.Damage.{Damage}
 use Rattle.blk_alloc.specs.declared.counters.Counters.{Counters}
 
--- the largest number of 32 bits
+-- the largest 32-bit number
 abbrev pub largest : ℕ
 largest = 2 ^ 32 - 1
 
--- these are the counters of a header with this content
+-- `counters` are the counters in a header with content f
 pub record AreCounters (f : ℕ → ℕ) (counters : Counters) : Type 0 where
   pub allocations : counters.allocations ≡ allocations_of f
   pub empty : (i : ℕ) → i < 4 → slice_index counters.empty i ≡ empty_of f i
 
--- how often word i of `empty` counts a group whose longest free run is so long
+-- by how much a group whose longest free run is `run` raises word i of `empty`: 1 where the run is i + 1 blocks
 abbrev pub counted : ℕ → ℕ → ℕ
 counted run i = if run == i + 1 then 1 else 0
 
--- one allocation more where a place is used, and one less where it is freed
+-- a counter of allocations goes up by one where blocks come into use, and down by one where they are freed
 abbrev pub IsCounted : Bool → ℕ → ℕ → Type 0
 IsCounted used old new = new + (if used then 0 else 1) ≡ old + (if used then 1 else 0)
 
--- a group that had one longest free run has another, and one allocation is more or less
+-- the longest free run of one group changed from `before` to `later`, and one allocation was added or removed: how the counters change
 pub record MovesRun (old new : Counters) (before later : ℕ) (used : Bool) : Type 0 where
   pub allocations : IsCounted used old.allocations new.allocations
   pub empty : (i : ℕ) → i < 4 → slice_index new.empty i + counted before i ≡ slice_index old.empty i + counted later i
 
--- each counter may move so, and stays in its range
+-- the counters can follow a change of a group's longest free run from `before` to `later`, with one allocation more or less, and none leaves its range
 pub record MayMoveRun (counters : Counters) (before later : ℕ) (used : Bool) : Type 0 where
   pub more : used ≡ true → counters.allocations < largest
   pub less : used ≡ false → 0 < counters.allocations
   pub enough : (i : ℕ) → i < 4 → counted before i ≤ slice_index counters.empty i
   pub room : (i : ℕ) → i < 4 → slice_index counters.empty i + counted later i ≤ largest
 
--- the word of `empty` that counts the groups with a longest free run of so many blocks has a number: the error has its place, and finds it
+-- the word of `empty` that counts the groups with a longest free run of `run` blocks is `number`: the error has its offset and this word
 pub record IsEmptyAt (counters : Counters) (run number : ℕ) (damage : Damage) : Type 0 where
   pub i : ℕ
   pub of_run : run ≡ i + 1
@@ -42,7 +42,8 @@ pub record IsEmptyAt (counters : Counters) (run number : ℕ) (damage : Damage) 
   pub found : damage.found ≡ slice_index counters.empty i
   pub is : damage.found ≡ number
 
--- a counter would leave its range where an allocation comes or goes and the longest free run of a group turns from one into another: num_entries is the largest number where it was to be raised and 0 where it was to be lowered, or the word that counts the old run, which was to be lowered, is 0, or the one that counts the new run, which was to be raised, is the largest number
+-- a counter can't follow a change: num_entries is at its end (the largest number to be raised, 0 to be lowered); or the longest free run of the group changes,
+-- and the word of `empty` for the old run is 0, or that for the new run is the largest number
 pub record IsAtEnd (counters : Counters) (n before later : ℕ) (used : Bool) (damage : Damage) : Type 0 where
   pub of_file : damage.file ≡ names.Block n
   pub counter : ((damage.at ≡ allocations_place) × (damage.found ≡ counters.allocations) × (damage.found ≡ (if used then largest else 0)))

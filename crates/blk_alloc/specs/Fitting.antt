@@ -1,4 +1,4 @@
--- Where blocks fit: in the first file of a kind that has space by its counters, in the group to which its hints lead.
+-- Where blocks are allocated: the first file of a kind with space by its counters, and in it the group to which its hints lead.
 use Rattle.std.specs.Prelude.{◌≡◌, ◌≢◌, ◌⊎◌, ℕ, ◌+◌, ◌*◌, ◌/◌, ◌%◌, ◌<◌, ◌≤◌, Bool, List, ◌∷◌, ◌++◌, true}
 use Rattle.std.specs.List.{All}
 use Rattle.std.specs.Option.{ForSome}
@@ -16,26 +16,27 @@ use Rattle.blk_disk.specs.Tables.{blocks_of, files_of}
 use Rattle.blk_alloc.specs.declared.blocks.Blocks.{Blocks}
 use Rattle.blk_alloc.specs.Places.{is_place, AreNoPlaces}
 
--- The file.
+-- Which file.
 
 -- a file has no space for so many blocks: `empty` counts no group with a longest free run of so many or more
 abbrev pub HasNoRoom : Image → ℕ → ℕ → Type 0
 HasNoRoom image count n = (i : ℕ) → i < 4 → count ≤ i + 1 → empty_of (byte image (Block n)) i ≡ 0
 
--- a file has space for so many blocks, and i + 1 is the length of the free run that is sought for them: the least, from so many on, of which `empty` counts a group
+-- a file has space for `count` blocks, and i + 1 is the length of the free run that is sought for them: the least, from `count` on, of which `empty` counts a
+-- group
 pub record IsGroupSought (image : Image) (n count i : ℕ) : Type 0 where
   pub small : i < 4
   pub enough : count ≤ i + 1
   pub counted : 0 < empty_of (byte image (Block n)) i
   pub least : (j : ℕ) → j < i → count ≤ j + 1 → empty_of (byte image (Block n)) j ≡ 0
 
--- The group.
+-- Which group.
 
--- the group that is met after so many others, from a hint on and round to the front
+-- the group at which a search is after so many steps, from the hint on and around the end
 abbrev pub group_after : (groups hint turns : ℕ) → ℕ
 group_after groups hint turns = (hint + turns) % groups
 
--- the first group that is met, from a hint on and round to the front, whose longest free run is so long
+-- `group` is the first group whose longest free run is `run` blocks, in a search from the hint on and around the end
 pub record IsFirstMet (marked : ℕ → Bool) (groups hint run group : ℕ) : Type 0 where
   pub turns : ℕ
   pub few : turns < groups
@@ -43,18 +44,19 @@ pub record IsFirstMet (marked : ℕ → Bool) (groups hint run group : ℕ) : Ty
   pub longest : longest_run marked group ≡ run
   pub none_before : (k : ℕ) → k < turns → longest_run marked (group_after groups hint k) ≢ run
 
--- block `start` is the least of its group where so many free blocks begin
+-- block `start` is the first of its group from which `count` free blocks lie inside the group
 pub record IsLeastOfGroup (marked : ℕ → Bool) (count start : ℕ) : Type 0 where
   pub place : is_place marked count start ≡ true
   pub least : AreNoPlaces marked count (group_size * (start / group_size)) start
 
--- so many blocks from `start` on lie in the first group with a longest free run of i + 1, of so many groups of a file from hint i on, and at the least place there
+-- the blocks from `start` on are those to which hint i leads in file n: in the first group, from the hint on, whose longest free run is i + 1, and as near its
+-- front as they fit
 pub record IsByHint (image : Image) (n groups count i start : ℕ) : Type 0 where
   pub there : start / group_size < groups
   pub first : IsFirstMet (is_block_marked image n) groups (hints_of (byte image (Block n)) i) (i + 1) (start / group_size)
   pub least : IsLeastOfGroup (is_block_marked image n) count start
 
--- the first file of a list that has space gives the blocks to which its counters and hints lead
+-- the first file of the list that has space gives the blocks at `place`, to which its counters and hints lead
 pub record IsFit (image : Image) (files : List ℕ) (count : ℕ) (place : Blocks) : Type 0 where
   pub before : List ℕ
   pub behind : List ℕ
@@ -65,7 +67,7 @@ pub record IsFit (image : Image) (files : List ℕ) (count : ℕ) (place : Block
   pub blocks : IsByHint image place.file (groups_of (max_entries_in image place.file)) count i place.start
   pub counted : place.count ≡ count
 
--- blocks in a file of a kind, so many and in one group, of which the first is below the file's number of blocks
+-- `place` has `count` blocks of one group of a linked file of a kind, and the first of them is below the file's number of blocks
 pub record IsPlace (files : BlockFiles) (kind count : ℕ) (place : Blocks) : Type 0 where
   pub linked : is_among (files_of files kind) place.file ≡ true
   pub number : place.file < 256
@@ -74,31 +76,31 @@ pub record IsPlace (files : BlockFiles) (kind count : ℕ) (place : Blocks) : Ty
   pub group : place.start % 4 + count ≤ group_size
   pub counted : place.count ≡ count
 
--- What is read, and why none are found.
+-- What a search reads, and why it fails.
 
--- this is word `number` of the map of a file
+-- w is word `number` of the map of file n
 abbrev pub IsMapWord : Image → (n number word : ℕ) → Type 0
 IsMapWord image n number w = word_bytes w ≡ range_at (byte image (Block n)) (map_place + 4 * number) 4
 
--- the place of hint i
+-- the offset of hint i in a header
 abbrev pub hint_place : ℕ → ℕ
 hint_place i = 40 + 4 * i
 
--- what the search of a file of so many blocks reads of its header, by place and number of bytes: its fields, one of its hints, and words of its map
+-- the reads of a search in the header of a file of so many blocks, by offset and length: its fields, one of its hints, and words of its map
 abbrev pub IsSearchRead : (blocks place count : ℕ) → Type 0
 IsSearchRead blocks place count =
     ((place ≡ 0) × (count ≡ block_fields_length))
     ⊎ ((i : ℕ) × (i < 4) × (place ≡ hint_place i) × (count ≡ 4))
     ⊎ ((number : ℕ) × (32 * number < blocks) × (place ≡ map_place + 4 * number) × (count ≡ 4))
 
--- such a read of a file gave too few bytes
+-- a read of a search in file n gave too few bytes
 pub record IsShortSearch (files : BlockFiles) (n : ℕ) (told : Told) (damage : Damage) : Type 0 where
   pub place : ℕ
   pub count : ℕ
   pub read : IsSearchRead (blocks_of files n) place count
   pub short : IsShort told (names.Block n) place count damage
 
--- `empty` counts a group that one round of the map doesn't have: the error has the place of the word that counts it, and finds this word
+-- `empty` of file n counts a group with a longest free run of i + 1, and the map has none: the error has the offset of this word of `empty`, and the word
 pub record IsMiscount (files : BlockFiles) (n : ℕ) (told : Told) (damage : Damage) : Type 0 where
   pub i : ℕ
   pub small : i < 4
@@ -108,7 +110,7 @@ pub record IsMiscount (files : BlockFiles) (n : ℕ) (told : Told) (damage : Dam
   pub found : ForSome told.files (λ image. damage.found ≡ empty_of (byte image (Block n)) i)
   pub none : ForSome told.files (λ image. (g : ℕ) → g < groups_of (blocks_of files n) → longest_run (is_block_marked image n) g ≢ i + 1)
 
--- why no blocks are found in one of the files of a kind, whether or not it has space
+-- why a search for blocks in some file of a kind failed: a read gave too few bytes, or `empty` counts a group that the map doesn't have
 pub record IsFittingDamage (files : BlockFiles) (kind : ℕ) (told : Told) (damage : Damage) : Type 0 where
   pub file : ℕ
   pub linked : is_among (files_of files kind) file ≡ true

@@ -1,4 +1,4 @@
--- Laws on what is asked of maps and counters: how it comes about, and that other changes leave it.
+-- Lemmas: how the preconditions on maps and counters come about, and which changes keep them.
 use Rattle.std.specs.Prelude.{◌≡◌, ◌⊎◌, ℕ, ◌<◌, [], ◌∷◌, true, false, Some}
 use Rattle.spec_image.specs.Bytes.{zeros}
 use Rattle.spec_image.specs.Image.{Block, File, Image}
@@ -12,28 +12,28 @@ use Rattle.blk_disk.specs.Growth.{header_words}
 use Rattle.blk_alloc.specs.Owning.{CanBeFreed}
 use Rattle.blk_alloc.specs.Allocating.{Allocates, AreCounted}
 
--- no byte of a block file's header is touched, and the length and presence of no file
+-- the footprint touches no byte of a block file's header, and neither the length nor the presence of any file
 pub record SparesHeadersAndSizes (footprint : Footprint) : Type 0 where
   pub headers : (n i : ℕ) → i < header_size → footprint.bytes (Block n) i ≡ false
   pub sizes : (file : File) → footprint.sizes file ≡ false
 
--- the one file of a kind, just made, is counted
+-- the files of a kind have counted allocations where the kind has one file that was just made
 abbrev pub NewFilesAreCounted : Type 0
 NewFilesAreCounted = (files : BlockFiles) (image : Image) (kind n : ℕ) → files_of files kind ≡ n ∷ [] → image (Block n) ≡ Some (with_words (header_words kind n) (zeros header_size)) → AreCounted files kind image
 
--- what was allocated in a file of a counted kind, or in one that wasn't there, may be freed
+-- address w may be freed after it was allocated in a file of a kind with counted allocations, or in a file that was added
 abbrev pub AllocatedMayBeFreed : Type 0
 AllocatedMayBeFreed = (files : BlockFiles) (kind w : ℕ) (from image : Image) → AreCounted files kind from
     → (is_among (files_of files kind) (file_selector w) ≡ true) ⊎ (is_among (all_files files) (file_selector w) ≡ false) → (is_among (files_of files kind) (file_selector w) ≡ true → is_among (all_files files) (file_selector w) ≡ true)
     → Allocates files from w image → CanBeFreed image w
 
--- counted files stay so under changes that spare headers and sizes
+-- a change that spares headers and sizes keeps the allocations of the files of a kind counted
 abbrev pub CountedFilesStay : Type 0
 CountedFilesStay =
     (footprint : Footprint) (files : BlockFiles) (kind : ℕ) (from image : Image) → SparesHeadersAndSizes footprint → SameOutside footprint from image
     → Agrees files from → is_block_kind kind ≡ true → AreCounted files kind from → AreCounted files kind image
 
--- and what may be freed may be freed still
+-- an address that may be freed may be freed after a change that spares headers and sizes
 abbrev pub MayBeFreedStill : Type 0
 MayBeFreedStill =
     (footprint : Footprint) (files : BlockFiles) (w : ℕ) (from image : Image) → SparesHeadersAndSizes footprint → SameOutside footprint from image

@@ -1,4 +1,4 @@
--- Blocks of a file are taken: the file is lengthened to its blocks, and the blocks are marked.
+-- Blocks of a file come into use: the file is lengthened to its blocks, and the blocks are marked.
 use Rattle.std.specs.Prelude.{◌≡◌, ◌≢◌, ◌⊎◌, ℕ, ◌+◌, ◌/◌, ◌<◌, ◌≤◌, List, ◌∷◌, true, false, if◌then◌else◌}
 use Rattle.spec_image.specs.Image.{Block, Image, byte, length_of}
 use Rattle.spec_image.specs.Footprint.{Footprint, SameOutside, either, one_word, range, size_of}
@@ -14,7 +14,7 @@ use Rattle.blk_alloc.specs.Fitting.{hint_place}
 use Rattle.blk_alloc.specs.Counting.{counted, IsCounted}
 use Rattle.blk_alloc.specs.Owning.{is_of}
 
--- blocks that may be taken: they are free, and the counters of their file are true
+-- the blocks at `place` may be marked: they are free, and the counters of their file can follow
 pub record CanBeMarked (image : Image) (place : Blocks) : Type 0 where
   pub ready : CanChangeMarks image place.file place.start place.count true
   pub free : are_free (is_block_marked image place.file) place.start place.count ≡ true
@@ -23,21 +23,23 @@ pub record CanBeMarked (image : Image) (place : Blocks) : Type 0 where
 abbrev pub hints_of_file : ℕ → Footprint
 hints_of_file n = range (Block n) (hint_place 0) 16
 
--- what is touched: the length of the file, its hints, its map and its counters
+-- the frame of taking blocks of file n: its length, its hints, its map and its counters
 abbrev pub taking_of : ℕ → Footprint
 taking_of n = either (size_of (Block n)) (either (hints_of_file n) (map_of n))
 
--- what says nothing of blocks: the hints and updating
+-- the fields of file n that say nothing of which blocks are used: its hints and updating
 abbrev pub hints_and_updating : ℕ → Footprint
 hints_and_updating n = either (hints_of_file n) (one_word (Block n) updating_place)
 
--- in the midst of it: nothing else differs, the file is no shorter, and where more than the length, hints and updating differ, updating is 1
+-- in the midst of taking blocks of file n: nothing outside the frame has changed, the file is no shorter, and where more than length, hints and updating has
+-- changed, updating is 1
 pub record MarksUsedInProgress (n : ℕ) (from image : Image) : Type 0 where
   pub same : SameOutside (taking_of n) from image
   pub longer : length_of from (Block n) ≤ length_of image (Block n)
   pub updating : (updating_of (byte image (Block n)) ≡ 1) ⊎ SameOutside (either (size_of (Block n)) (hints_and_updating n)) from image
 
--- the blocks of an address are taken: they were free and are marked now, no other mark has changed, each file has its allocations and its file one more, the counters are true, and updating is 0
+-- the blocks of address w were taken: they were free and are marked now, no other mark has changed, w is one more allocation of its file and the other files
+-- keep theirs, the counters agree, and updating is 0
 pub record MarksUsed (files : BlockFiles) (from : Image) (w : ℕ) (image : Image) : Type 0 where
   pub same : SameOutside (taking_of (file_selector w)) from image
   pub longer : length_of from (Block (file_selector w)) ≤ length_of image (Block (file_selector w))
@@ -49,22 +51,23 @@ pub record MarksUsed (files : BlockFiles) (from : Image) (w : ℕ) (image : Imag
   pub empty_elsewhere : (n : ℕ) → n ≢ file_selector w → EmptyAgrees from n → EmptyAgrees image n
   pub updating : updating_of (byte image (Block (file_selector w))) ≡ 0
 
--- blocks of a file from one on are counted as used, whatever its counters were: num_entries is one more, and `empty` counts the new longest free run of their group in place of the old one
+-- the counters of file n follow the marking of blocks from `start` on, whether or not they agreed before: num_entries is one more, and `empty` counts the group
+-- by its new longest free run instead of the old one
 pub record CountsUsed (n start : ℕ) (from image : Image) : Type 0 where
   pub allocations : IsCounted true (allocations_of (byte from (Block n))) (allocations_of (byte image (Block n)))
   pub counts : (i : ℕ) → i < 4 → empty_of (byte image (Block n)) i + counted (longest_run (is_block_marked from n) (start / 4)) i
       ≡ empty_of (byte from (Block n)) i + counted (longest_run (is_block_marked image n) (start / 4)) i
 
--- the hints of all files are as before
+-- no hint of any file has changed
 abbrev pub KeepsHints : Image → Image → Type 0
 KeepsHints from image = (n i : ℕ) → i < 4 → hints_of (byte image (Block n)) i ≡ hints_of (byte from (Block n)) i
 
--- hint i of a file is a number now, and nothing else differs
+-- hint i of file n is `number` now, and nothing else has changed
 pub record HasHint (n i number : ℕ) (from image : Image) : Type 0 where
   pub same : SameOutside (one_word (Block n) (hint_place i)) from image
   pub set : hints_of (byte image (Block n)) i ≡ number
 
--- hint i of a file is a number now, and each other hint of each file is as before
+-- hint i of file n is `number` now, and no other hint of any file has changed
 pub record HasHintAmong (n i number : ℕ) (from image : Image) : Type 0 where
   pub set : hints_of (byte image (Block n)) i ≡ number
   pub others : (m j : ℕ) → j < 4 → (m ≢ n) ⊎ (j ≢ i) → hints_of (byte image (Block m)) j ≡ hints_of (byte from (Block m)) j

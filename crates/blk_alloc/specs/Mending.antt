@@ -1,4 +1,4 @@
--- Words that are written only where they differ.
+-- Writes that are made only where they change something.
 use Rattle.std.specs.Prelude.{◌≡◌, ◌≢◌, ℕ, ◌+◌, ◌*◌, ◌<◌, ◌≤◌, List, [], ◌∷◌, length}
 use Rattle.std.specs.Option.{ForSome}
 use Rattle.spec_image.specs.Bytes.{content, range_at}
@@ -7,19 +7,19 @@ use Rattle.spec_image.specs.Steps.{TrailStep, Word, SetLength, Delete, Note, app
 use Rattle.spec_image.specs.Footprint.{SameOutside, range}
 use Rattle.spec_image.specs.Told.{Told, Along, Applies, IsQuiet}
 
--- a step is needed: it writes bytes that aren't there already, or lengthens a file
+-- a step is needed: it writes bytes that differ from those there, or lengthens a file
 abbrev pub IsNeeded : Image → TrailStep → Type 0
 IsNeeded image (Word file place bytes) = range_at (byte image file) place (length bytes) ≢ bytes
 IsNeeded image (SetLength file n) = length_of image file < n
 IsNeeded image (Delete file) = ⊥
 IsNeeded image (Note number) = ⊥
 
--- each of these steps is needed where it is made
+-- each of the steps is needed in the image in which it is made
 abbrev pub AreNeeded : Image → List TrailStep → Type 0
 AreNeeded image [] = Unit {0}
 AreNeeded image (step ∷ steps) = IsNeeded image step × AreNeeded (applied step image) steps
 
--- steps were made, none of them a note, and each of them needed; P holds of the files before each of them, and after the last
+-- steps were made, none of them a note and each of them needed; P holds of the image before each step and after the last
 pub record PassesNeeded (old new : Told) (P : Image → Type 0) : Type 0 where
   pub steps : List TrailStep
   pub applies : Applies old new steps
@@ -27,20 +27,20 @@ pub record PassesNeeded (old new : Told) (P : Image → Type 0) : Type 0 where
   pub along : ForSome old.files (λ image. Along P image steps)
   pub needed : ForSome old.files (λ image. AreNeeded image steps)
 
--- the first so many of some bytes are at a place
+-- the first `count` of the bytes are in the file, from offset `place` on
 abbrev pub StandAt : (file : File) (place : ℕ) (bytes : List ℕ) (count : ℕ) → Image → Type 0
 StandAt file place bytes count image = (i : ℕ) → i < count → content bytes i ≡ byte image file (place + i)
 
--- a file has the length that it had
+-- the length of the file hasn't changed
 abbrev pub KeepsLength : File → Image → Image → Type 0
 KeepsLength file from image = length_of image file ≡ length_of from file
 
--- the first so many of some bytes are at a place, and nothing else differs
+-- the first `count` of the bytes were written to the file from offset `place` on, and nothing else has changed
 pub record AreBytesWritten (file : File) (place : ℕ) (bytes : List ℕ) (count : ℕ) (from image : Image) : Type 0 where
   pub same : SameOutside (range file place count) from image
   pub there : (i : ℕ) → i < count → byte image file (place + i) ≡ content bytes i
 
--- the first words of some bytes are at a place, and nothing else differs
+-- the first so many whole words of the bytes were written to the file from offset `place` on, and nothing else has changed
 pub record IsPrefixWritten (file : File) (place : ℕ) (bytes : List ℕ) (from image : Image) : Type 0 where
   pub words : ℕ
   pub most : 4 * words ≤ length bytes

@@ -1,4 +1,4 @@
--- Allocations of block files that come and go.
+-- Allocations of block files: how one is freed, and why it isn't.
 use Rattle.std.specs.Prelude.{◌≡◌, ◌≢◌, ◌⊎◌, ℕ, ◌+◌, ◌*◌, ◌/◌, ◌%◌, ◌<◌, List, filter, Bool, true, false, not, ◌&&◌, ◌==◌, if◌then◌else◌}
 use Rattle.std.specs.Option.{ForSome}
 use Rattle.spec_image.specs.Bytes.{range_at}
@@ -18,7 +18,7 @@ use Rattle.blk_alloc.specs.declared.counters.Counters.{Counters}
 use Rattle.blk_alloc.specs.Counting.{AreCounters, IsAtEnd, IsCounted, counted as counted_run}
 use Rattle.blk_alloc.specs.Changes.{map_of, with_marks, IsMapInProgress}
 
--- whether a block of a file is one of an address
+-- block b of file n is one of the blocks of address w
 unfoldable pub is_of : ℕ → ℕ → ℕ → Bool
 is_of w n b = (file_selector w == n) && is_between (first_block w) (first_block w + block_count w) b
 
@@ -28,7 +28,7 @@ pub record IsAllocated (image : Image) (w : ℕ) : Type 0 where
   pub are : AreAllocations image (file_selector w) words
   pub there : is_among words w ≡ true
 
--- the address words of a list but for one
+-- the list without each occurrence of w
 abbrev pub others : ℕ → List ℕ → List ℕ
 others w words = filter (λ x. not (x == w)) words
 
@@ -37,7 +37,8 @@ pub record CanBeFreed (image : Image) (w : ℕ) : Type 0 where
   pub allocated : IsAllocated image w
   pub empty : EmptyAgrees image (file_selector w)
 
--- the blocks of an address are freed: their marks are cleared and no other, and the counters of its file go with them, true where they were true; updating is 0, and all other files are as before
+-- the blocks of address w are freed: their marks are cleared, and no other, w is no allocation of its file any more, the counters follow and agree where they
+-- did, updating is 0, and all other files are unchanged
 pub record IsFreed (from : Image) (w : ℕ) (image : Image) : Type 0 where
   pub same : SameOutside (map_of (file_selector w)) from image
   pub marks : (n b : ℕ) → b < most_blocks → is_block_marked image n b ≡ (if is_of w n b then false else is_block_marked from n b)
@@ -49,21 +50,23 @@ pub record IsFreed (from : Image) (w : ℕ) (image : Image) : Type 0 where
   pub updating : updating_of (byte image (Block (file_selector w))) ≡ 0
   pub elsewhere : (n : ℕ) → n ≢ file_selector w → KeepsFile from image n
 
--- before the last word of a free, at each word: only map, counters and updating of the file differ, and updating is 1 from the first to the last; block files have grown at most, so each block is still there with its bytes, and a well-formed folder is well formed
+-- invariant of a free, after each write but the last: nothing but map, counters and updating of the file has changed, and where more than updating has,
+-- updating is 1; block files have grown at most, and a well-formed folder is well formed
 pub record FreesInProgress (w : ℕ) (from image : Image) : Type 0 where
   pub marks : IsMapInProgress (file_selector w) from image
   pub stays : StaysWhole from image
 
--- a free is done, which its last word does
+-- a free is done, as its last write leaves it; block files have grown at most, and a well-formed folder is well formed
 pub record FreesAtLast (w : ℕ) (from image : Image) : Type 0 where
   pub freed : IsFreed from w image
   pub stays : StaysWhole from image
 
--- after the last word that was written: the free is done, or some of its words were left out
+-- a free is done, or it stopped at some write before its last
 abbrev pub FreesOrStops : ℕ → Image → Image → Type 0
 FreesOrStops w from image = FreesInProgress w from image ⊎ FreesAtLast w from image
 
--- a counter of a file would leave its range where so many blocks from one on, in one group, come into use or go out of it: by the fields of the header that were read, and the four bytes of the map that have the blocks
+-- a counter of file n would leave its range where `count` blocks from `start` on, in one group, come into use or are freed: by the counters that were read, and
+-- the map word that has the blocks
 pub record IsCounterDamage (told : Told) (n start count : ℕ) (used : Bool) (damage : Damage) : Type 0 where
   pub counters : Counters
   pub bytes : List ℕ
@@ -71,17 +74,17 @@ pub record IsCounterDamage (told : Told) (n start count : ℕ) (used : Bool) (da
   pub of_map : ForSome told.files (λ image. bytes ≡ range_at (byte image (Block n)) (map_place + 4 * (start / 32)) 4)
   pub at_end : IsAtEnd counters n (longest_run (has_bit bytes) (start % 32 / 4)) (longest_run (with_marks (has_bit bytes) (start % 32) count used) (start % 32 / 4)) used damage
 
--- what a change of blocks from `start` on reads of a header, by place and number of bytes: its fields, and the word of the map that has the blocks
+-- the reads of a change of blocks from `start` on, in a header, by offset and length: its fields, and the map word that has the blocks
 abbrev pub IsHeaderRead : ℕ → ℕ → ℕ → Type 0
 IsHeaderRead start place count = ((place ≡ 0) × (count ≡ block_fields_length)) ⊎ ((place ≡ map_place + 4 * (start / 32)) × (count ≡ 4))
 
--- such a read of a file gave too few bytes
+-- a read of a change of blocks in the header of file n gave too few bytes
 pub record IsShortHeader (told : Told) (n start : ℕ) (damage : Damage) : Type 0 where
   pub place : ℕ
   pub count : ℕ
   pub read : IsHeaderRead start place count
   pub short : IsShort told (names.Block n) place count damage
 
--- why the header of a file is corrupt where so many blocks from one on come into use or go out of it: a read of it gave too few bytes, or a counter would leave its range
+-- why the header of file n is corrupt where blocks come into use or are freed: a read gave too few bytes, or a counter would leave its range
 abbrev pub IsCause : Told → ℕ → ℕ → ℕ → Bool → Damage → Type 0
 IsCause told n start count used damage = IsShortHeader told n start damage ⊎ IsCounterDamage told n start count used damage

@@ -38,7 +38,7 @@ const WHOLE_GROUP: u32 = 3;
 // The last word of a map.
 const LAST_PLACE: u64 = BlockHead::HEADER_LEN - 4;
 
-// The failed check where a kind has 60 files and none may grow.
+// The failed check where a kind has 60 files and none may be extended.
 fn full_damage<F: Folder>(folder: &mut F, files: &BlockFiles, kind: Kind) -> Result<Damage, Fault>
     requires block_kind { kind_number kind ≢ external }
     requires number { most_files ≤ length (files_of files.now (kind_number kind)) }
@@ -59,8 +59,7 @@ fn full_damage<F: Folder>(folder: &mut F, files: &BlockFiles, kind: Kind) -> Res
     })
 }
 
-// Makes space for blocks, where no file of a kind has any: the first file that may grow grows, and where there is none
-// a file is added.
+// Makes space for blocks where no file of a kind has any: the first file that may be extended is, and where there is none a file is added.
 fn new_room<F: Folder>(
     folder: &mut F,
     files: &mut BlockFiles,
@@ -104,7 +103,7 @@ fn new_room<F: Folder>(
     Ok(place)
 }
 
-// Gives blocks where no file of a kind has space for them.
+// Allocates blocks where no file of a kind has space for them: in one that is extended or added.
 fn allocate_new<F: Folder, L: Ledger>(
     folder: &mut F,
     files: &mut BlockFiles,
@@ -205,7 +204,7 @@ pub fn allocate_counted<F: Folder, L: Ledger>(
     }
 }
 
-// The same with a count of its own.
+// Allocates blocks as `allocate_counted` does, with a counter of map words of its own.
 fn allocate_from<F: Folder, L: Ledger>(
     folder: &mut F,
     files: &mut BlockFiles,
@@ -253,7 +252,7 @@ fn allocate_from<F: Folder, L: Ledger>(
     allocate_counted(folder, files, kind, blocks, &mut steps)
 }
 
-/// Gives blocks as `allocate_counted` does, of which it does the work.
+/// Allocates blocks as `allocate_counted` does, which does the work, without the count of map words.
 pub fn allocate<F: Folder>(
     f: &mut F,
     files: &mut BlockFiles,

@@ -5,7 +5,7 @@ ghost use Rattle.spec_format.specs.Maps.{group_size};
 
 use blk_addr::{Addr, FileId};
 
-// So many blocks of a file from one on.
+// So many neighbouring blocks of a file, from `start` on.
 #[derive(Clone, Copy)]
 pub(crate) struct Blocks {
     pub file: u8,

@@ -1,4 +1,4 @@
-// The marks of blocks in one group of a file change, and the counters with them.
+// Marks of blocks in one group of a file are changed, and the counters follow.
 ghost use Rattle.std.specs.Prelude.{◌≡◌, ◌⊎◌, ◌≤◌, ◌<◌, ◌+◌, ◌/◌, ◌%◌, ◌^◌, None, OnOk};
 ghost use Rattle.std.specs.Option.{ForSome};
 ghost use Rattle.spec_image.specs.Image.{Block as block, length_of};
@@ -16,7 +16,7 @@ use crate::plan::Plan;
 use blk_io::{Fault, FileId, Folder, read_exact};
 use blk_record::BlockHead;
 
-// Marks so many blocks from one on, which lie in one group, or frees them, in a word of the map that was read.
+// Marks so many neighbouring blocks of one group as used, or clears their marks; the word of the map that has them was read.
 pub(crate) fn change<F: Folder>(
     folder: &mut F,
     file: u8,
@@ -43,7 +43,7 @@ pub(crate) fn change<F: Folder>(
     Ok(())
 }
 
-// The same, where the word of the map that has the blocks isn't read yet.
+// Marks blocks of one group as used or clears their marks, as `change` does, and first reads the word of the map that has them.
 pub(crate) fn read_and_change<F: Folder>(
     folder: &mut F,
     file: u8,

@@ -20,7 +20,7 @@ pub(crate) fn mark_claimed(claims: &Claims, file: u8, bytes: &mut [u8])
     }
 }
 
-// Counts one group more by its longest free run.
+// Counts one group more with this longest free run.
 fn count_run(empty: &mut [u32; 4], run: u32)
     requires run { run ≤ group_size }
     requires room { (i : ℕ) → i < 4 → slice_index empty.old i + 1 < 2 ^ 32 }
@@ -31,7 +31,7 @@ fn count_run(empty: &mut [u32; 4], run: u32)
     }
 }
 
-// Counts the first groups of a piece of a map by their longest free runs, beside those counted before.
+// Adds the groups of a piece of a map to the counts by longest free run.
 pub(crate) fn count_runs(bytes: &[u8], groups: u32, empty: &mut [u32; 4])
     requires few { groups < 2 ^ 16 }
     requires room { (i : ℕ) → i < 4 → slice_index empty.old i + groups < 2 ^ 32 }

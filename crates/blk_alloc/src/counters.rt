@@ -39,7 +39,7 @@ impl Counters {
         })
     }
 
-    // The counters after a group with one longest free run got another, with an allocation more or less.
+    // The counters after the longest free run of one group has changed, with an allocation more or less.
     pub(crate) fn moved(
         self,
         file: u8,
@@ -82,7 +82,7 @@ impl Counters {
         }
     }
 
-    // The counters with one group less that has a longest free run.
+    // The counters with one group less of those with this longest free run.
     fn lowered(self, file: u8, run: u32) -> Result<Counters, Fault>
         requires { run ≤ group_size }
         ensures allocations { IfOk result (λ counters. counters.allocations ≡ self.allocations) }
@@ -106,7 +106,7 @@ impl Counters {
         })
     }
 
-    // The counters with one group more that has a longest free run.
+    // The counters with one group more of those with this longest free run.
     fn raised(self, file: u8, run: u32) -> Result<Counters, Fault>
         requires { run ≤ group_size }
         ensures allocations { IfOk result (λ counters. counters.allocations ≡ self.allocations) }
@@ -131,7 +131,7 @@ impl Counters {
     }
 }
 
-// A counter would leave its range.
+// The failed check of a counter that would leave its range.
 fn at_end(file: u8, at: u64, found: u32) -> Fault
     ensures { result ≡ Fault.Damaged (record { file = FileId.Block file; at = at; found = found }) }
 {

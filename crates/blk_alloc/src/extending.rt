@@ -1,4 +1,4 @@
-// Files get space for blocks.
+// Files are extended or added, to get space for blocks.
 ghost use Rattle.std.specs.Prelude.{◌≡◌, ◌≢◌, ◌*◌, ◌/◌, ◌≤◌, ◌<◌, [], length, IfOk, OnOk, OnErr, IsTrue};
 ghost use Rattle.std.specs.Option.{ForSome};
 ghost use Rattle.spec_image.specs.Footprint.{either};
@@ -23,7 +23,7 @@ use blk_disk::BlockFiles;
 use blk_io::{Failed, Folder};
 use blk_record::BlockHead;
 
-// Gives a file more blocks, of which the first ones are the place.
+// Extends a file, and gives the first of its new blocks.
 pub(crate) fn grow_room<F: Folder>(
     folder: &mut F,
     files: &mut BlockFiles,
@@ -58,7 +58,7 @@ pub(crate) fn grow_room<F: Folder>(
     Ok(Blocks { file, start, count })
 }
 
-// Adds a file of a kind, and gives it blocks, of which the first ones are the place.
+// Adds a file of a kind, extends it, and gives its first blocks.
 pub(crate) fn add_room<F: Folder>(
     folder: &mut F,
     files: &mut BlockFiles,

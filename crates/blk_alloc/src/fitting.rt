@@ -38,7 +38,7 @@ pub(crate) fn blocks_in(files: &BlockFiles, file: u8) -> u32
     }
 }
 
-// Which word of `empty` counts the shortest free runs of so many blocks or more, where some group has one.
+// Which word of `empty` counts the groups with the shortest free run that is long enough for so many blocks, of those runs that some group has.
 fn sought(empty: &[u32; 4], count: u32) -> Option<u32>
     requires four { length empty.now ≡ 4 }
     requires some { 0 < count }
@@ -53,7 +53,7 @@ fn sought(empty: &[u32; 4], count: u32) -> Option<u32>
     None
 }
 
-// The failed check of a counter of groups that one round of the map doesn't have.
+// The failed check of a counter that counts a group which the map doesn't have.
 fn miscount(file: u8, i: u32, found: u32) -> Damage
     ensures { result ≡ record { file = FileId.Block file; at = 24 + 4 * i; found = found } }
 {

@@ -2,13 +2,15 @@
 
 ghost use Rattle.blk_alloc.specs.Laws.{AllocatedMayBeFreed, CountedFilesStay, MayBeFreedStill, NewFilesAreCounted};
 
-/// The files of a new folder are counted, and what is allocated may be freed.
+/// The preconditions of `allocate` and `free` come about: the allocations in the files of a new folder are counted, and an address that was allocated may be
+/// freed.
 pub fn counted_files()
     ensures made { NewFilesAreCounted }
     ensures allocated { AllocatedMayBeFreed }
 {}
 
-/// Changes that spare headers and sizes leave files counted, and what may be freed.
+/// Changes that leave headers and lengths alone keep the preconditions of `allocate` and `free`: counted files stay counted, and what may be freed may still
+/// be.
 pub fn counts_stay()
     ensures counted { CountedFilesStay }
     ensures freed { MayBeFreedStill }

@@ -12,7 +12,7 @@ use crate::layout::{ALLOCATIONS, EMPTY};
 use blk_io::{Failed, FileId, Folder};
 use blk_record::BlockHead;
 
-// Writes a word of a file, where it isn't the old one.
+// Writes a word of a file where it differs from the old one, which was read.
 pub(crate) fn mend_word<F: Folder>(
     folder: &mut F,
     file: u8,
@@ -36,7 +36,7 @@ pub(crate) fn mend_word<F: Folder>(
     folder.write_at(FileId::Block(file), at, new)
 }
 
-// Writes the words of a file from a place on that differ from the old ones.
+// Writes those words of a file, from an offset on, that differ from the old ones, which were read.
 pub(crate) fn mend<F: Folder>(
     folder: &mut F,
     file: u8,
@@ -61,7 +61,7 @@ pub(crate) fn mend<F: Folder>(
     Ok(())
 }
 
-// Makes the counters of a file, of those that were read, these ones, where they differ.
+// Writes those counters of a file that differ from the old ones, which were read.
 pub(crate) fn mend_counters<F: Folder>(
     folder: &mut F,
     file: u8,

@@ -1,4 +1,4 @@
-// Maps and counters are made anew, from the used blocks.
+// Maps and counters are rebuilt from the used blocks.
 ghost use Rattle.std.specs.Prelude.{◌≡◌, ℕ, ◌+◌, ◌/◌, ◌<◌, ◌≤◌, [], ◌∷◌, true, None, max, length, OnOk, OnErr, IsTrue};
 ghost use Rattle.std.specs.Option.{ForSome};
 ghost use Rattle.spec_image.specs.Bytes.{word_bytes};
@@ -53,7 +53,7 @@ fn mend_counts<F: Folder>(
     mend_counters(folder, file, fields, claims.allocations(file), &empty)
 }
 
-// Makes the map and the counters of a file those of the used blocks, and then says that they are no longer under way.
+// Makes the map and the counters of a file those of the used blocks, and then `updating` 0.
 fn mend_marks<F: Folder>(
     folder: &mut F,
     claims: &Claims,
@@ -164,7 +164,7 @@ fn rebuild_file<F: Folder>(
     remake(folder, claims, file, groups)
 }
 
-/// Makes the maps and the counters of all linked block files those of the used blocks, and `updating` 0. Hints stay.
+/// Rebuilds all linked block files: their maps and counters become those of the used blocks, and `updating` becomes 0. Hints stay.
 ///
 /// Before that, a file that is shorter than its header and blocks is lengthened to them. Of a header, which is read by
 /// two calls, only words that differ from what they have to be are written, each by a call of its own: of map and

@@ -29,7 +29,7 @@ pub(crate) struct Group {
     pub word: u32,
 }
 
-// The first of the eight groups of a word, from one on, whose longest free run is so long.
+// The first of the eight groups of a map word, from `first` on, whose longest free run is `run`.
 fn group_in(bytes: &[u8], first: u32, run: u32) -> Option<u32>
     ensures found { IfSome result (λ i. (first ≤ i) × (i < 8) × (maps.longest_run (has_bit bytes.now) i ≡ run)) }
     ensures none { result ≡ None → (i : ℕ) → first ≤ i → i < 8 → maps.longest_run (has_bit bytes.now) i ≢ run }
@@ -43,7 +43,7 @@ fn group_in(bytes: &[u8], first: u32, run: u32) -> Option<u32>
     None
 }
 
-// The group of a word with which an iteration of the round begins: in its first word that of the start.
+// The group of a word at which a step of the search begins: in its first word that of the hint, else 0.
 fn first_in(turn: u32, start: u32) -> u32
     ensures begins { turn ≡ 0 → result ≡ start % 8 }
     ensures goes_on { 0 < turn → result ≡ 0 }
@@ -51,7 +51,7 @@ fn first_in(turn: u32, start: u32) -> u32
     if turn == 0 { start % GROUPS_OF_WORD } else { 0 }
 }
 
-// The least block of a group where so many free blocks begin, where its longest free run is as long at least.
+// The first block of a group from which so many free blocks follow; the longest free run of the group is that long.
 pub(crate) fn least_of_group(bytes: &[u8], group: u32, count: u32) -> u32
     requires few { count ≤ group_size }
     requires some { 0 < count }
@@ -68,8 +68,7 @@ pub(crate) fn least_of_group(bytes: &[u8], group: u32, count: u32) -> u32
     unreachable!()
 }
 
-// The first group of a file, from a hint on and round to the front, whose longest free run is so long; or none
-// where one round has none.
+// The first group of a file, from a hint on and around the end, whose longest free run is `run`, or `None` where there is none.
 pub(crate) fn first_met<F: Folder, L: Ledger>(
     folder: &mut F,
     files: &BlockFiles,

@@ -1,4 +1,4 @@
--- The arguments taken apart: the values of each option, and the positional arguments.
+-- The arguments split into the values of each option and the positional arguments.
 use Rattle.std.specs.Prelude.{ℕ, List, [], ◌∷◌, ◌++◌, Option, Some, None}
 use Rattle.std.specs.Option.{option_map, option_to_list}
 use Rattle.std.specs.Borrow.{Bor}
@@ -9,26 +9,27 @@ use Rattle.blk_args.specs.declared.apart.Ordinary.TheVariants as ordinary
 use Rattle.blk_args.specs.declared.apart.Apart.{Apart}
 use Rattle.blk_args.specs.Kinds.{Word, ends, names, sets, says, unknown, word_of}
 
--- the values that are given to `--max` and to `--items`, and the positional arguments, each in its order
+-- the values given to `--max` and to `--items`, and the positional arguments, each in the order of the command line
 pub record Parts : Type 0 where
   pub maxes : List (List ℕ)
   pub counts : List (List ℕ)
   pub ordinary : List (List ℕ)
 
--- an option's value, before others
+-- the parts with a value of an option in front of its others
 abbrev pub with_value : Limit → List ℕ → Parts → Parts
 with_value limit.Bytes value parts = record { maxes = value ∷ parts.maxes; counts = parts.counts; ordinary = parts.ordinary }
 with_value limit.Items value parts = record { maxes = parts.maxes; counts = value ∷ parts.counts; ordinary = parts.ordinary }
 
--- a positional argument, before others
+-- the parts with a positional argument in front of its others
 abbrev pub with_word : List ℕ → Parts → Parts
 with_word word parts = record { maxes = parts.maxes; counts = parts.counts; ordinary = word ∷ parts.ordinary }
 
--- positional arguments alone
+-- the parts of positional arguments alone
 abbrev pub words_alone : List (List ℕ) → Parts
 words_alone words = record { maxes = []; counts = []; ordinary = words }
 
--- an argument and those after it; an option takes its value from the next argument
+-- the parts of an argument and those after it, where `behind` are the parts after it and `beyond` those after the next; an option without `=` takes its value
+-- from the next argument
 abbrev pub one_word : Word → List ℕ → List (List ℕ) → Option Parts → Option Parts → Option Parts
 one_word ends word words behind beyond = Some (words_alone words)
 one_word (names limit) word [] behind beyond = None
@@ -37,27 +38,26 @@ one_word (sets limit value) word words behind beyond = option_map (with_value li
 one_word says word words behind beyond = option_map (with_word word) behind
 one_word unknown word words behind beyond = None
 
--- the arguments taken apart, where each is an argument of the grammar: those after the first, and those after the second, are taken apart
--- alike
+-- the arguments split, or None where one of them isn't in the grammar
 unfoldable pub taken_apart : List (List ℕ) → Option Parts
 taken_apart [] = Some (words_alone [])
 taken_apart (word ∷ []) = one_word (word_of word) word [] (Some (words_alone [])) None
 taken_apart (word ∷ next ∷ words) = one_word (word_of word) word (next ∷ words) (taken_apart (next ∷ words)) (taken_apart words)
 
--- the parts as the program has them
+-- the positional arguments that the program has collected
 abbrev pub words_in : Ordinary → List (List ℕ)
 words_in ordinary.None = []
 words_in (ordinary.One a) = a.now ∷ []
 words_in (ordinary.Two a b) = a.now ∷ b.now ∷ []
 words_in (ordinary.Three a b c) = a.now ∷ b.now ∷ c.now ∷ []
 
--- the value that an option has, where it is there
+-- the value of an option, as a list of none or one
 abbrev pub value_in : Option (Bor (List ℕ)) → List (List ℕ)
 value_in value = option_to_list (option_map (λ (v : Bor (List ℕ)). v.now) value)
 
 abbrev pub parts_in : Apart → Parts
 parts_in apart = record { maxes = value_in apart.max; counts = value_in apart.items; ordinary = words_in apart.ordinary }
 
--- parts, and parts after them
+-- the parts of one command line followed by another
 abbrev pub joined : Parts → Parts → Parts
 joined a b = record { maxes = a.maxes ++ b.maxes; counts = a.counts ++ b.counts; ordinary = a.ordinary ++ b.ordinary }

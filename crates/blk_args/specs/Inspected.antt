@@ -1,4 +1,4 @@
--- The part of a folder that arguments name.
+-- The part of a folder that `inspect` is asked for.
 use Rattle.std.specs.Prelude.{ℕ, if◌then◌else◌, List, codes, Option, Some, None}
 use Rattle.std.specs.Option.{option_map}
 use Rattle.std.specs.Str.{bytes_eq}
@@ -6,14 +6,14 @@ use Rattle.blk_inspect.specs.declared.inspecting.Part.{Part}
 use Rattle.blk_inspect.specs.declared.inspecting.Part.TheVariants as part
 use Rattle.blk_args.specs.Numbers.{address_word, few_word}
 
--- the part that an argument names
+-- the part of a folder that one argument names
 unfoldable pub part_named : List ℕ → Option Part
 part_named name =
     if bytes_eq name (codes "index") then Some part.Index
     else if bytes_eq name (codes "list") then Some part.List
     else None
 
--- the part that an argument names with a number or an address after it
+-- the part of a folder that an argument names with a number or an address after it
 unfoldable pub part_numbered : List ℕ → List ℕ → Option Part
 part_numbered name value =
     if bytes_eq name (codes "file") then option_map part.File (few_word 255 value)

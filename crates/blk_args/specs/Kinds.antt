@@ -1,4 +1,4 @@
--- What an argument of the command line is, read by itself.
+-- The kinds of arguments of the command line, each read by itself.
 use Rattle.std.specs.Prelude.{ℕ, Bool, false, ◌==◌, if◌then◌else◌, List, ◌∷◌, length, take, drop, codes}
 use Rattle.std.specs.Str.{bytes_eq}
 use Rattle.blk_args.specs.declared.kinds.Limit.{Limit}
@@ -6,29 +6,29 @@ use Rattle.blk_args.specs.declared.kinds.Limit.TheVariants as limit
 use Rattle.blk_args.specs.declared.kinds.Kind.{Kind}
 use Rattle.blk_args.specs.declared.kinds.Kind.TheVariants as kind
 
--- an argument before the argument `--`
+-- the kind of an argument in front of `--`
 pub data Word : Type 0 where
-  -- it is `--`: the arguments after it are positional
+  -- `--`: the arguments after it are positional
   ends : Word
-  -- it names an option, and the next argument is its value
+  -- an option whose value is the next argument
   names : Limit → Word
-  -- it names an option and has its value
+  -- an option with its value after `=`
   sets : Limit → List ℕ → Word
-  -- it is a positional argument
+  -- a positional argument
   says : Word
-  -- it is no argument of the grammar
+  -- no argument of the grammar
   unknown : Word
 
--- an argument begins with a text
+-- the argument begins with this text
 abbrev pub begins_with : List ℕ → List ℕ → Bool
 begins_with front word = bytes_eq (take (length front) word) front
 
--- an argument begins with `-` and has a second character
+-- the argument begins with `-` and has a second character
 abbrev pub is_dashed : List ℕ → Bool
 is_dashed (first ∷ second ∷ rest) = first == 45
 is_dashed _ = false
 
--- what an argument is
+-- the kind of an argument
 unfoldable pub word_of : List ℕ → Word
 word_of word =
     if bytes_eq word (codes "--") then ends
@@ -39,7 +39,7 @@ word_of word =
     else if is_dashed word then unknown
     else says
 
--- an argument as the program has it
+-- the kind of an argument, as the program has it
 abbrev pub shown : Kind → Word
 shown kind.End = ends
 shown (kind.Name limit) = names limit

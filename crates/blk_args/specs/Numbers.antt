@@ -11,7 +11,7 @@ use Rattle.blk_script.specs.Line.{count_field}
 abbrev pub number_word : List ℕ → Option ℕ
 number_word word = result_ok (count_field word)
 
--- a number of at most so many
+-- a number of at most `most`
 abbrev pub few_word : ℕ → List ℕ → Option ℕ
 few_word most word = option_and_then (λ (n : ℕ). if nat_le n most then Some n else None) (number_word word)
 

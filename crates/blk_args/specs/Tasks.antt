@@ -1,4 +1,4 @@
--- What the positional arguments of the command line ask for.
+-- The subcommands: what the positional arguments ask for.
 use Rattle.std.specs.Prelude.{ℕ, ◌≡◌, if◌then◌else◌, List, [], ◌∷◌, codes, Option, Some, None, Ok}
 use Rattle.std.specs.Option.{option_and_then, option_map}
 use Rattle.std.specs.Result.{result_ok}
@@ -14,7 +14,7 @@ use Rattle.blk_args.specs.declared.verbs.Verb.TheVariants as verb
 use Rattle.blk_args.specs.Inspected.{part_named, part_numbered}
 use Rattle.blk_args.specs.Numbers.{few_word, number_word}
 
--- what the program is asked for, with keys as their bytes
+-- a subcommand with its arguments; keys are decoded to bytes
 pub data Task : Type 0 where
   do_session : Task
   do_count : Task
@@ -27,49 +27,49 @@ pub data Task : Type 0 where
   do_verify : Task
   do_generate : (seed turns : ℕ) → Task
 
--- a generator makes no more iterations
+-- the most iterations of the generator
 abbrev pub most_turns : ℕ
 most_turns = 100000
 
--- a key and a stream are spelled as in a script line
+-- a key, and below a stream, spelled as in a script line
 abbrev pub key_word : List ℕ → Option (List ℕ)
 key_word word = result_ok (key_field word)
 
 abbrev pub stream_word : List ℕ → Option ℕ
 stream_word word = result_ok (stream_field word)
 
--- no argument comes after the first
+-- a subcommand without arguments
 abbrev pub alone : Task → List (List ℕ) → Option Task
 alone task [] = Some task
 alone task (word ∷ words) = None
 
--- a key comes after it
+-- a subcommand with a key
 abbrev pub a_key : (List ℕ → Task) → List (List ℕ) → Option Task
 a_key make (key ∷ []) = option_map make (key_word key)
 a_key make _ = None
 
--- a number comes after it
+-- a subcommand with a number
 abbrev pub a_number : (ℕ → Task) → List (List ℕ) → Option Task
 a_number make (number ∷ []) = option_map make (number_word number)
 a_number make _ = None
 
--- a key and a stream come after it
+-- a subcommand with a key and a stream
 abbrev pub key_and_stream : (List ℕ → ℕ → Task) → List (List ℕ) → Option Task
 key_and_stream make (key ∷ stream ∷ []) = option_and_then (λ (k : List ℕ). option_map (make k) (stream_word stream)) (key_word key)
 key_and_stream make _ = None
 
--- the name of a part of a folder comes after it, alone or with a number or an address
+-- the subcommand `inspect`, with the name of a part of a folder, alone or with a number or an address
 abbrev pub a_part : List (List ℕ) → Option Task
 a_part (name ∷ []) = option_map do_inspect (part_named name)
 a_part (name ∷ value ∷ []) = option_map do_inspect (part_numbered name value)
 a_part _ = None
 
--- a seed and a number of iterations come after it
+-- the subcommand `gen`, with a seed and a number of iterations
 abbrev pub seed_and_turns : List (List ℕ) → Option Task
 seed_and_turns (seed ∷ turns ∷ []) = option_and_then (λ (s : ℕ). option_map (do_generate s) (few_word most_turns turns)) (number_word seed)
 seed_and_turns _ = None
 
--- what the arguments after a first argument say
+-- how the arguments of each subcommand are parsed
 unfoldable pub task_of : Verb → List (List ℕ) → Option Task
 task_of verb.Session = alone do_session
 task_of verb.Count = alone do_count
@@ -82,7 +82,7 @@ task_of verb.Inspect = a_part
 task_of verb.Verify = alone do_verify
 task_of verb.Gen = seed_and_turns
 
--- the first arguments as they are written
+-- the names of the subcommands
 unfoldable pub first_words : List (List ℕ × Verb)
 first_words =
     (codes "session", verb.Session)
@@ -97,17 +97,17 @@ first_words =
     ∷ (codes "gen", verb.Gen)
     ∷ []
 
--- the entry of a table that has an argument
+-- the subcommand of a name in the table, or None
 abbrev pub by_word : List ℕ → List (List ℕ × Verb) → Option Verb
 by_word word [] = None
 by_word word (line ∷ table) = if bytes_eq word line.0 then Some line.1 else by_word word table
 
--- what positional arguments ask for
+-- what the positional arguments ask for, or None where they aren't in the grammar
 unfoldable pub task_in : List (List ℕ) → Option Task
 task_in [] = None
 task_in (word ∷ words) = option_and_then (λ (v : Verb). task_of v words) (by_word word first_words)
 
--- what an order of the program asks for
+-- the subcommand that a parsed order of the program denotes
 abbrev pub task_given : Order → Task
 task_given order.Session = do_session
 task_given order.Count = do_count
@@ -120,7 +120,7 @@ task_given (order.Inspect part) = do_inspect part
 task_given order.Verify = do_verify
 task_given (order.Generate seed turns) = do_generate seed turns
 
--- the key of an order is spelled as a script line spells keys
+-- the key of an order, not decoded yet, is spelled as a script line spells keys
 abbrev pub HasSpelledKey : Order → Type 0
 HasSpelledKey (order.Get key stream) = key_field key.now ≡ Ok (percent_decode key.now)
 HasSpelledKey (order.Put key stream) = key_field key.now ≡ Ok (percent_decode key.now)

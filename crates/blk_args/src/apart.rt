@@ -53,7 +53,7 @@ pub struct Apart<'w> {
 }
 
 impl<'w> Apart<'w> {
-    // The same with this value of an option that has none yet.
+    // The parts with this value of an option that has none yet.
     fn set(self, limit: Limit, value: &'w [u8]) -> Option<Apart<'w>>
         ensures { MatchOption result ((behind : Parts) → asked_by (joined (parts_in self.entry) (with_value limit value.now behind)) ≡ None) (λ more. parts_in more ≡ joined (parts_in self.entry) (with_value limit value.now (words_alone []))) }
     {
@@ -95,7 +95,7 @@ impl<'w> Apart<'w> {
         }
     }
 
-    // The same with these positional arguments.
+    // The parts with these positional arguments.
     fn with(self, ordinary: Ordinary<'w>) -> Apart<'w>
         ensures { result ≡ record self.entry { ordinary = ordinary.entry } }
     {

@@ -9,14 +9,14 @@ file_numbers = 256
 abbrev pub nodes_of_piece : ℕ
 nodes_of_piece = 1024
 
--- the bytes of a block of a record
+-- the bytes of one block of a file with records
 abbrev pub record_block_size : ℕ
 record_block_size = 256
 
--- the blocks of records that one call reads
+-- how many blocks with records one call reads
 abbrev pub blocks_of_piece : ℕ
 blocks_of_piece = 128
 
--- and their bytes
+-- how many bytes of blocks with records one call reads
 abbrev pub piece_length : ℕ
 piece_length = 32768

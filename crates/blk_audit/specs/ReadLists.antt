@@ -1,4 +1,4 @@
--- What is kept of the LRU list and of the chains.
+-- What a scan keeps of the LRU list and of the chains.
 use Rattle.std.specs.Prelude.{◌≡◌, ℕ, ◌<◌, Bool, true, false, ◌&&◌, ◌==◌, List, slice_get, if◌then◌else◌}
 use Rattle.std.specs.Option.{option_and_then, option_map, option_map_or}
 use Rattle.std.specs.declared.option.Option.{Option}
@@ -24,40 +24,40 @@ use Rattle.blk_audit.specs.declared.nodes.Node.{Node}
 use Rattle.blk_audit.specs.declared.nodes.Nodes.{Nodes}
 use Rattle.blk_audit.specs.declared.scanning.Lists.{Lists}
 
--- what a node says of its record
+-- the record and the dirty flag of a kept node
 abbrev pub fields_by : Node → NodeFields
 fields_by node = record { contents = node.contents; dirty = node.dirty }
 
--- what the node says that a word names
+-- the record and the dirty flag of the kept node that word w names, if there is one
 abbrev pub fields_kept : Nodes → ℕ → Option NodeFields
 fields_kept nodes w = option_map fields_by (loaded_node nodes w)
 
--- the address of a record that a node names
+-- the record that a node names, if that word is the address of one
 abbrev pub record_by : Node → Option ℕ
 record_by node = if is_address node.contents && (kind_of node.contents == blocks_256) then Some node.contents else None
 
--- the address of a record that one of these nodes names
+-- the record that the node at this place names, of a place and a node that may be None
 abbrev pub record_of : Nodes → Option ℕ → Option ℕ
 record_of nodes w = option_and_then (λ w. option_and_then record_by (node_of nodes w)) w
 
--- whether the first block of a record is named
+-- the first block of a record is among those that nodes name
 abbrev pub is_claimed_first : Claims → ℕ → Bool
 is_claimed_first named w = contains_claim named (BlockOf (file_selector w) (first_block w))
 
--- the first block of a record has one, and so have those that had one before
+-- the first block of record w is among the named ones now, and so are those that were before
 pub record IsMore (old new : Claims) (w : ℕ) : Type 0 where
   pub here : is_claimed_first new w ≡ true
   pub before : (v : ℕ) → is_claimed_first old v ≡ true → is_claimed_first new v ≡ true
 
--- the records that the first n of these nodes name have their first blocks among the named ones
+-- the first blocks of all records that the first n walked nodes name are among the named ones
 abbrev pub AreNamedUpTo : Nodes → List ℕ → Claims → ℕ → Type 0
 AreNamedUpTo nodes walked named n = (i w : ℕ) → i < n → record_of nodes (slice_get walked i) ≡ Some w → is_claimed_first named w ≡ true
 
--- so it is for all of them
+-- the first blocks of all records that walked nodes name are among the named ones
 abbrev pub AreNamed : Nodes → List ℕ → Claims → Type 0
 AreNamed nodes walked named = (i w : ℕ) → record_of nodes (slice_get walked i) ≡ Some w → is_claimed_first named w ≡ true
 
--- what is kept of the lists is that of an image
+-- what a scan keeps of LRU list and chains is that of an image: the walked nodes, the reached records, and what they say
 pub record AreListsOf (image : Image) (lists : Lists) : Type 0 where
   pub walked : nodes_walked lists.walked ≡ completed_walk image
   pub met : AreMet lists.walked
@@ -68,17 +68,17 @@ pub record AreListsOf (image : Image) (lists : Lists) : Type 0 where
   pub records : AreRecordsOf image lists.records
   pub named : AreNamed lists.nodes (nodes_walked lists.walked) lists.named
 
--- the walked nodes and the reached records are valid among the block files, and each bucket has its end among the records
+-- by the table the walked nodes and the reached records are valid, and the records are cut into all buckets
 pub record AreListsAmong (files : BlockFiles) (lists : Lists) : Type 0 where
   pub nodes : NodesStand files (nodes_walked lists.walked)
   pub records : RecordsStand files (words_reached lists.reached)
   pub buckets : HasBuckets lists.reached
 
--- that is what a node of an image says
+-- the image has at this node the record and the dirty flag that a scan keeps of it
 abbrev pub IsSaidAt : Image → WalkedNode → Type 0
 IsSaidAt image said = (store_of image).node_fields said.addr ≡ Some (record { contents = said.contents; dirty = said.dirty })
 
--- this is one of the walked nodes, which checks, and what an image says at it
+-- `said` is what a scan keeps of walked node i, whose checksum matches or is absent in the image
 pub record IsWalkedNode (image : Image) (walked : Walked) (i : ℕ) (said : WalkedNode) : Type 0 where
   pub addr : slice_get (nodes_walked walked) i ≡ Some said.addr
   pub fields : IsSaidAt image said
@@ -86,6 +86,6 @@ pub record IsWalkedNode (image : Image) (walked : Walked) (i : ℕ) (said : Walk
   pub checks : node_checks (node_at image said.addr) ≡ true
   pub bare : said.bare ≡ ((node_at image said.addr).self_hash == 0)
 
--- whether a node of an image is walked and names a record
+-- in the image, the node is walked and names this record
 abbrev pub is_named_by : Image → ℕ → ℕ → Bool
 is_named_by image node entry = is_among (completed_walk image) node && option_map_or (λ node_fields. node_fields.contents == entry) ((store_of image).node_fields node) false

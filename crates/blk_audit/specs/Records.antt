@@ -1,4 +1,4 @@
--- What is read of a record.
+-- What a scan keeps of a record.
 use Rattle.std.specs.Prelude.{ℕ, ◌≡◌, Bool, true, List, All, take, drop, length, nat_le, ◌&&◌, ◌==◌}
 use Rattle.std.specs.declared.option.Option.TheVariants.{Some}
 use Rattle.spec_image.specs.Bytes.{content, word_at, words_at}
@@ -13,7 +13,7 @@ use Rattle.blk_audit.specs.declared.record_words.RecordWords.{RecordWords}
 use Rattle.blk_audit.specs.declared.records.ReadRecord.{ReadRecord}
 use Rattle.blk_audit.specs.declared.record_files.Records.{Records}
 
--- the words of a record with these bytes
+-- the words of a record, by its bytes
 abbrev pub record_words_in : List ℕ → RecordWords
 record_words_in bytes = record {
   checks = checks 92 bytes;
@@ -29,7 +29,7 @@ record_words_in bytes = record {
   flags = word_at (content bytes) 72;
 }
 
--- what the words say of their record
+-- the fields of a record that are judged, from its words
 abbrev pub fields_said : RecordWords → RecordFields
 fields_said words = record {
   checks = words.checks;
@@ -43,34 +43,34 @@ fields_said words = record {
   flags = words.flags;
 }
 
--- these are the words of the record that a word of an image names
+-- `words` are those of the record at address `entry` of an image
 pub record AreWordsOf (image : Image) (entry : ℕ) (words : RecordWords) : Type 0 where
   pub fields : fields_said words ≡ fields_of (entry_at image entry)
   pub next : words.next ≡ (entry_at image entry).next
   pub bare : words.bare ≡ ((entry_at image entry).self_hash == 0)
 
--- a hash is that of a short key of a length, which lies in front of these bytes
+-- `sum` is the hash of a short key of this length, which is at the front of the bytes
 abbrev pub is_hash_in : ℕ → ℕ → List ℕ → Bool
 is_hash_in sum key_len bytes = (nat_le key_len longest_short_key && nat_le key_len (length bytes)) && (hash (take key_len bytes) == sum)
 
--- what a record says whose bytes are these, or the first of these
+-- what a scan keeps of a record, by its bytes or a prefix of them: its words, and whether its hash is known to be that of its key
 abbrev pub record_in : List ℕ → ReadRecord
 record_in bytes = record { words = record_words_in (take entry_size bytes); hash_is_right = is_hash_in (record_words_in (take entry_size bytes)).hash (record_words_in (take entry_size bytes)).key_len (drop entry_size bytes) }
 
--- this is the hash of the key of a record with these words, where the key is stored
+-- `sum` is the hash of the record's key, if the image has that key by these words
 abbrev pub IsHashOfKey : Image → ℕ → RecordWords → ℕ → Type 0
 IsHashOfKey image entry words sum = (key : List ℕ) → stored_key (store_of image) entry (fields_said words) ≡ Some key → sum ≡ hash key
 
--- where the hash of a record is said to be right, it is that of its key
+-- if a scan tells that the hash of a record is right, it is that of its key in the image
 abbrev pub IsRightWhereSaid : Image → ℕ → ReadRecord → Type 0
 IsRightWhereSaid image entry said = said.hash_is_right ≡ true → IsHashOfKey image entry said.words said.words.hash
 
--- that is what the record says that lies at the place that a word of an image names, and its bytes are there
+-- `said` is what a scan keeps of the record at address w of an image, whose file has its bytes
 pub record IsSaidBy (image : Image) (w : ℕ) (said : ReadRecord) : Type 0 where
   pub words : AreWordsOf image w said.words
   pub hash : IsRightWhereSaid image w said
   pub there : HasRange image (Block (file_selector w)) (place w) entry_size
 
--- the records that were read in pieces are those of an image
+-- all records that were read in pieces are kept as the image has them
 abbrev pub AreRecordsOf : Image → Records → Type 0
 AreRecordsOf image records = All (λ placed. IsSaidBy image placed.first placed.said) records.placed.items

@@ -1,4 +1,4 @@
--- A walk as it goes.
+-- The walk of the LRU list, step by step.
 use Rattle.std.specs.Prelude.{ℕ, suc, ◌≡◌, All, Bool, true, false, List, [], ◌∷◌, ◌++◌}
 use Rattle.std.specs.declared.option.Option.{Option}
 use Rattle.std.specs.declared.option.Option.TheVariants.{None, Some}
@@ -18,48 +18,48 @@ use Rattle.blk_audit.specs.declared.list_walk.Standing.{Standing}
 use Rattle.blk_audit.specs.declared.nodes.Nodes.{Nodes}
 use Rattle.blk_audit.specs.Nodes.{HasNodes, loaded_node}
 
--- the walked nodes, in order
+-- the nodes that were walked so far, in order
 abbrev pub nodes_walked : Walked → List ℕ
 nodes_walked walk = walk.nodes.items
 
--- these are addresses of nodes that are there
+-- the words are addresses of valid nodes
 abbrev pub NodesStand : BlockFiles → List ℕ → Type 0
 NodesStand files words = All (λ w. is_node_among files w ≡ true) words
 
--- a word is the address of a node
+-- w is an address, and one of a node by its kind
 pub record IsNodeWord (w : ℕ) : Type 0 where
   pub address : is_address w ≡ true
   pub kind : kind_of w ≡ rankings
 
--- the walked nodes are those that were met
+-- invariant of a walk: its set of nodes that were met has exactly the walked ones
 pub record AreMet (walk : Walked) : Type 0 where
   pub claims : IsClaimsOf walk.met walk.nodes.items
   pub nodes : (w : ℕ) → is_among walk.nodes.items w ≡ true → IsNodeWord w
 
--- a step of a walk: it ends with what is walked from the word on, or it goes on after the node of the word
+-- one step of a walk, at the link's word: it ends there, and nothing more is walked; or it walks the node of the word and goes on at `next`
 abbrev pub IsWalkStep : ListView → List ℕ → Link → List ℕ → Option Link → Type 0
 IsWalkStep list old link new None = (most : ℕ) → new ≡ old ++ walk_from list.checks list.next list.prev (suc most) old link.before link.word
 IsWalkStep list old link new (Some next) =
     (new ≡ old ++ link.word ∷ [])
     × ((most : ℕ) → walk_from list.checks list.next list.prev (suc most) old link.before link.word ≡ link.word ∷ walk_from list.checks list.next list.prev most new next.before next.word)
 
--- there is a node at the address that a word is
+-- `found` is the kept node at address w
 pub record IsStanding (nodes : Nodes) (w : ℕ) (found : Standing) : Type 0 where
   pub addr : found.addr ≡ w
   pub node : loaded_node nodes w ≡ Some found.node
   pub is : IsNodeWord w
 
--- a node was added to these, or it was among them
+-- the node was added to the list (true), or it was in it already and nothing has changed
 abbrev pub IsAdded : List ℕ → ℕ → List ℕ → Bool → Type 0
 IsAdded old node new true = (is_among old node ≡ false) × (new ≡ old ++ node ∷ [])
 IsAdded old node new false = (is_among old node ≡ true) × (new ≡ old)
 
--- the ends of the LRU list that are read are there: the word of the head, and what completing reads
+-- the files have the bytes of what a walk reads beside nodes: the head, and what the redo of the operation in flight reads
 pub record HasEnds (files : BlockFiles) (image : Image) : Type 0 where
   pub head : HasRange image Index IndexHead.HEADS 4
   pub flight : HasFlight files image
 
--- what is read of the LRU list is there: the nodes that are there, and its ends
+-- the files have all bytes that a walk of the LRU list reads
 pub record HasLruList (files : BlockFiles) (image : Image) : Type 0 where
   pub nodes : HasNodes files image
   pub ends : HasEnds files image

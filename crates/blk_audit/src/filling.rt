@@ -18,7 +18,7 @@ use blk_record::{BlockHead, NodeView, Record};
 // The most nodes that are read by one call.
 const NODES_OF_PIECE: usize = 1024;
 
-// What a node with these bytes says.
+// What a scan keeps of a node with these bytes.
 fn said(window: &[u8]) -> Node
     requires { length window.now ≡ node_size }
     ensures { result ≡ node_said window.now }

@@ -69,8 +69,7 @@ pub(crate) fn walk_nodes(
     Ok(walk)
 }
 
-// Walks the node of a word, where there is one that checks, was not met, and has the node before it as its prev. Gives
-// where the walk goes on.
+// Walks the node of a word, if there is one that passes its check, wasn't met yet, and has the node before it as its prev. Gives where the walk goes on.
 fn visit(
     nodes: &Nodes,
     writes: &[Write],

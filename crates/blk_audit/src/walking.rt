@@ -45,7 +45,7 @@ pub fn walk<F: Folder>(
     walk_over(alloc, folder, files, &nodes)
 }
 
-// Walks `nodes`, the nodes of the folder, as completing the operation in flight would link them.
+// Walks `nodes`, the nodes of the folder, as the redo of the operation in flight would link them.
 pub(crate) fn walk_over<F: Folder>(
     alloc: Global,
     folder: &mut F,

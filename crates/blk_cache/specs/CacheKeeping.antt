@@ -1,4 +1,4 @@
--- When a cache keeps a state of the map on an image.
+-- The invariant of a cache between two commands: it keeps a state of the model, on the image of its folder.
 use Rattle.std.specs.Prelude.{◌≡◌, ◌≤◌, ℕ, ◌+◌, not, List, [], ◌∷◌, length, sum_by, if◌then◌else◌}
 use Rattle.std.specs.declared.option.Option.{Option}
 use Rattle.std.specs.declared.option.Option.TheVariants.{None, Some}
@@ -16,9 +16,9 @@ use Rattle.blk_object.specs.Writing.{node_of_object}
 use Rattle.blk_handles.specs.Bindings.{Binding, binding_of, open_count}
 use Rattle.blk_cache.specs.declared.cache.Cache.{Cache}
 
--- Names.
+-- Handles.
 
--- a name is bound to the record and the node of the object with a number, which is marked doomed exactly where it is doomed, and dirty exactly where it is dirty
+-- in memory a handle is bound to node and record of object `number`, and to whether the object is doomed and whether it is dirty
 pub record IsBoundTo (state : State) (layout : Layout) (number : ℕ) (binding : Binding) : Type 0 where
   pub object : Object
   pub here : object_at state number ≡ Some object
@@ -29,7 +29,7 @@ pub record IsBoundTo (state : State) (layout : Layout) (number : ℕ) (binding :
   pub doomed : binding.doomed ≡ not object.live
   pub dirty : binding.dirty ≡ not object.settled
 
--- a name is bound to the object that the state's name names, or both name nothing
+-- a handle is bound in memory as the state has it: to the same object, or to nothing
 abbrev pub IsBoundAs : State → Layout → Option ℕ → Option Binding → Type 0
 IsBoundAs state layout None None = Unit {0}
 IsBoundAs state layout (Some number) (Some binding) = IsBoundTo state layout number binding
@@ -38,7 +38,7 @@ IsBoundAs state layout (Some number) None = ⊥
 
 -- Open objects.
 
--- the objects of some slots that handles name, where the slots are numbered from a number on
+-- those of the objects in these slots that a handle names, where the first slot has the number `number`
 abbrev pub named_from : State → ℕ → List (Option Object) → List Object
 named_from state number [] = []
 named_from state number (None ∷ slots) = named_from state (number + 1) slots
@@ -50,25 +50,25 @@ named_from state number (Some object ∷ slots) =
 abbrev pub named_objects : State → List Object
 named_objects state = named_from state 0 state.objects
 
--- The cache.
+-- The invariant.
 
--- a cache keeps a state on an image, by some layout
+-- the invariant of a cache: it keeps the state on the image of its folder, by some layout
 pub record KeepsState (cache : Cache) (state : State) (image : Image) : Type 0 where
   pub layout : Layout
-  -- the image has the state by the layout, with no word unlinked
+  -- the folder keeps the state by the layout, with no address unlinked
   pub kept : Keeps state layout [] image
-  -- limits, items and bytes are those of the state
+  -- the limits, the number of items and the sum of their costs are those of the state
   pub limits : state.limits ≡ bounds_of cache.limits
   pub items_are : cache.items ≡ items state
   pub bytes_are : cache.bytes ≡ total state
-  -- and they are no more items than any cache may keep, whatever its own limit is
+  -- the items are no more than any cache may have, whatever its own limit is
   pub few : items state ≤ most_items
-  -- so many objects have a name, with these charges as main items
+  -- how many objects have a handle, and the sum of the costs of their main items
   pub open_objects : open_count cache.handles ≡ length (named_objects state)
   pub open_bytes : cache.open_bytes ≡ sum_by own_charge (named_objects state)
-  -- the names are bound as they are in the state
+  -- each handle is bound as the state has it
   pub names : (name : ℕ) → IsBoundAs state layout (named_by state name) (binding_of cache.handles name)
-  -- the block files are those of the image
+  -- the table of block files agrees with the image
   pub files : Agrees cache.files image
-  -- what is dirty is marked by the number of the session
+  -- the dirty flag that the cache sets is the number of its session
   pub mark : cache.mark ≡ this_id_of (byte image Index)

@@ -1,8 +1,8 @@
--- What the cache counts when the last name of an object is freed.
+-- How the counters of a cache change when the last handle of an object is closed.
 use Rattle.std.specs.Prelude.{◌≡◌, ◌-◌, ℕ, Bool, if◌then◌else◌}
 use Rattle.blk_cache.specs.declared.cache.Cache.{Cache}
 
--- a closed object with this charge is an open one no longer, and a doomed one is no item any more; but for that all is as before
+-- an object of this cost is open no longer, and if it is doomed it is counted no longer as an item; the cache is otherwise unchanged
 pub record CountsClosed (old new : Cache) (doomed : Bool) (charge : ℕ) : Type 0 where
   pub open_bytes : new.open_bytes ≡ old.open_bytes - charge
   pub items : new.items ≡ (if doomed then old.items - 1 else old.items)

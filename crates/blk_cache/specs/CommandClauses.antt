@@ -1,4 +1,4 @@
--- What a command of the cache owes beside the map's answer and the next state.
+-- Clauses of commands of a cache, beside the model's answer and the next state.
 use Rattle.std.specs.Prelude.{◌≡◌, ◌⊎◌, ℕ, ◌+◌, ◌-◌, ◌^◌, Bool, List, [], ◌∷◌, if◌then◌else◌, is_some, min, true}
 use Rattle.std.specs.declared.option.Option.{Option}
 use Rattle.spec_image.specs.Image.{Image}
@@ -20,16 +20,16 @@ use Rattle.blk_cache.specs.declared.cache.Cache.{Cache}
 use Rattle.blk_cache.specs.CacheKeeping.{KeepsState}
 use Rattle.blk_evict.specs.Looking.{IsLookUpDamage}
 
--- an answer is a refusal
+-- the answer is a refusal
 abbrev pub IsRefused : Answer → Type 0
 IsRefused (answer.Refused why) = Unit {0}
 IsRefused _ = ⊥
 
--- a cache keeps some state on an image
+-- the cache keeps some state on the image
 abbrev pub KeepsAny : Cache → Image → Type 0
 KeepsAny cache image = (state : State) × KeepsState cache state image
 
--- all but the names and what the open objects are charged is as before
+-- nothing of the cache but its handles and the cost of its open objects has changed
 pub record OnlyNamesChange (old new : Cache) : Type 0 where
   pub limits : new.limits ≡ old.limits
   pub items : new.items ≡ old.items
@@ -38,7 +38,7 @@ pub record OnlyNamesChange (old new : Cache) : Type 0 where
   pub mark : new.mark ≡ old.mark
   pub notes : new.notes ≡ old.notes
 
--- all but the number of notes is as before
+-- nothing of the cache but its count of completion markers has changed
 pub record OnlyNotesChange (old new : Cache) : Type 0 where
   pub limits : new.limits ≡ old.limits
   pub items : new.items ≡ old.items
@@ -50,27 +50,27 @@ pub record OnlyNotesChange (old new : Cache) : Type 0 where
 
 -- Flush.
 
--- a request is a Flush of a clean object
+-- the request is a Flush of a clean object
 abbrev pub FlushesClean : State → Request → Type 0
 FlushesClean state (to_flush handle) = (number : ℕ) × ((object : Object) × (Names state handle number object × (object.settled ≡ true)))
 FlushesClean state _ = ⊥
 
 -- Open.
 
--- why an Open is refused by what the names and the key tell
+-- the refusal of an Open that the key and the table of handles tell: a key that none can have, a number that is no handle, or a handle that is in use
 abbrev pub open_refusal : Bindings → ℕ → List ℕ → Option Refusal
 open_refusal bindings handle key = first_refusal ((no_key key, refusal.BadKey) ∷ (no_name handle, refusal.BadHandle) ∷ (is_some (binding_of bindings handle), refusal.HandleBusy) ∷ [])
 
--- what the open objects are charged with one object more, unless it was open: at most the last value of a u64
+-- the cost of all open objects after an Open of one with this cost, unless that was open already; it saturates at the last value of a u64
 abbrev pub charged_with : (charged : ℕ) → (was_open : Bool) → (charge : ℕ) → ℕ
 charged_with charged was_open charge = if was_open then charged else min (charged + charge) (2 ^ 64 - 1)
 
--- the node of an object that was found was used wrongly
+-- the access to the node of the object that was found failed a check
 pub record IsUseDamage (files : BlockFiles) (old new : Told) (damage : Damage) : Type 0 where
   pub node : ℕ
   pub stands : is_node_among files node ≡ true
   pub wrong : IsTouchDamage node files old new damage
 
--- the failed checks of an Open: of the search for the key, or of the use of what was found
+-- the failed checks of an Open: of the search for the key, or of the access to what was found
 abbrev pub IsOpenDamage : BlockFiles → (old new : Told) → List ℕ → Damage → Type 0
 IsOpenDamage files old new key damage = IsLookUpDamage files old key damage ⊎ IsUseDamage files old new damage

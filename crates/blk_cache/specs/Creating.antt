@@ -1,4 +1,4 @@
--- A new object in a cache: which states can have one, and what the cache counts then.
+-- A Create in a cache: when it is refused, which states may have the new object, and how the cache counts it.
 use Rattle.std.specs.Prelude.{◌≡◌, ℕ, ◌+◌, ◌-◌, ◌^◌, ◌≤◌, Bool, List, length, min, if◌then◌else◌}
 use Rattle.std.specs.declared.option.Option.{Option}
 use Rattle.std.specs.declared.option.Option.TheVariants.{None, Some}
@@ -18,51 +18,51 @@ use Rattle.blk_cache.specs.CacheKeeping.{KeepsState}
 
 -- Refusals.
 
--- why a Create is refused: an early reason, that holds whether there is space or not, or else that there is no space
+-- the refusal of a Create: an early reason, which holds whatever the space, or else Full where there is no space
 abbrev pub create_refusal : (early : Option Refusal) → (no_room : Bool) → Option Refusal
 create_refusal (Some why) no_room = Some why
 create_refusal None no_room = if no_room then Some refusal.Full else None
 
--- whatever state a cache keeps, a Create is refused for nothing but lack of space
+-- in each state that the cache keeps, the Create is refused only if there is no space
 abbrev pub WantsRoomAlone : Cache → Told → (moment handle : ℕ) → List ℕ → Type 0
 WantsRoomAlone cache told moment handle key = ForKept (KeepsState cache) told (λ state. refused moment (to_create handle key) state ≡ create_refusal None (no_room moment (to_create handle key) state))
 
--- and it isn't refused
+-- in no state that the cache keeps is the Create refused
 abbrev pub IsNotRefused : Cache → Told → (moment handle : ℕ) → List ℕ → Type 0
 IsNotRefused cache told moment handle key = ForKept (KeepsState cache) told (λ state. refused moment (to_create handle key) state ≡ None)
 
 -- The new object.
 
--- a state can have a new object with a key by a handle, and its bytes are within the limit
+-- the state may have a new object of this key by this handle, and the sum of costs with it is within the limit
 pub record HasRoomFor (state : State) (handle : ℕ) (key : List ℕ) : Type 0 where
   pub can : CanHaveNew state handle key
   pub room : total state + length key ≤ state.limits.max_bytes
 
--- a cache keeps some state that can have a new object
+-- the cache keeps some state that may have a new object of this key by this handle
 pub record KeepsWithRoom (cache : Cache) (handle : ℕ) (key : List ℕ) (image : Image) : Type 0 where
   pub state : State
   pub kept : KeepsState cache state image
   pub can : CanHaveNew state handle key
 
--- a cache keeps what a Create leaves of a state once all that it evicts is out, and the Create isn't refused
+-- all evictions of a Create of `state` are done: the Create isn't refused, and the cache keeps the state after the evictions
 pub record IsReadyToCreate (cache : Cache) (state : State) (moment handle : ℕ) (key : List ℕ) (image : Image) : Type 0 where
   pub valid : IsValidState state
   pub passes : refused moment (to_create handle key) state ≡ None
   pub kept : KeepsState cache (with_room state moment (to_create handle key)) image
 
--- for some state and some moment, a cache is ready for this Create
+-- the cache is ready for this Create, of some state at some moment
 pub record IsReadyForSome (cache : Cache) (handle : ℕ) (key : List ℕ) (image : Image) : Type 0 where
   pub state : State
   pub moment : ℕ
   pub ready : IsReadyToCreate cache state moment handle key image
 
--- What is counted.
+-- Counters.
 
--- a sum, at most the last value of a u64
+-- the sum of two numbers, which saturates at the last value of a u64
 abbrev pub sum_within : ℕ → ℕ → ℕ
 sum_within a b = min (a + b) (2 ^ 64 - 1)
 
--- one item more is counted, which is open, with its charge; but for the names all else is as before
+-- the cache counts one item more, which is open, with its cost; it is otherwise unchanged, but for its handles
 pub record CountsOneMore (old new : Cache) (charge : ℕ) : Type 0 where
   pub items : new.items ≡ sum_within old.items 1
   pub bytes : new.bytes ≡ sum_within old.bytes charge

@@ -1,4 +1,4 @@
--- The laws of a Create in a cache.
+-- Lemmas on the space for a Create.
 use Rattle.std.specs.Prelude.{◌≡◌, ℕ, ◌≤◌, List, [], None, length}
 use Rattle.blk_model.specs.Refusals.{refused, room_for}
 use Rattle.blk_model.specs.Request.{IsRequest, to_create}
@@ -8,11 +8,11 @@ use Rattle.blk_model.specs.State.{State, IsValidState}
 use Rattle.law_state.specs.CommandStates.{with_room}
 use Rattle.blk_cache.specs.Creating.{HasRoomFor}
 
--- a Create needs space for the bytes of its key, and for one item
+-- a Create needs space for one item, whose cost is the length of its key
 abbrev pub CreatesWantRoomForOneItem : Type 0
 CreatesWantRoomForOneItem = (state : State) (moment handle : ℕ) (key : List ℕ) → room_for moment (to_create handle key) state ≡ room state [] (length key) 1
 
--- and where it isn't refused, there is space for its object once all that it evicts is out
+-- when all evictions of a Create that isn't refused are done, there is space for its object
 abbrev pub CreatesHaveRoom : Type 0
 CreatesHaveRoom = (state : State) (moment handle : ℕ) (key : List ℕ) → IsValidState state → state.limits.max_items ≤ most_items → IsRequest (to_create handle key) → refused moment (to_create handle key) state ≡ None
     → HasRoomFor (with_room state moment (to_create handle key)) handle key

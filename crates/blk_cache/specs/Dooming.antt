@@ -1,4 +1,4 @@
--- Objects are doomed: what is refused, which object is meant, and what a cache counts then.
+-- Dooming of objects by a cache: refusals, which object is meant, and how the cache counts it.
 use Rattle.std.specs.Prelude.{◌≡◌, ℕ, ◌-◌, List, [], ◌∷◌, false, is_none}
 use Rattle.std.specs.Option.{option_map_or}
 use Rattle.std.specs.declared.option.Option.{Option}
@@ -18,24 +18,25 @@ use Rattle.blk_cache.specs.CacheKeeping.{KeepsState}
 
 -- Refusals.
 
--- why a Doom or a Flush is refused, by what its name is bound to
+-- the refusal of a Doom or a Flush by a handle: the handle names nothing, or a doomed object
 abbrev pub doom_refusal : Bindings → ℕ → Option Refusal
 doom_refusal bindings handle = first_refusal ((is_none (binding_of bindings handle), refusal.BadHandle) ∷ (option_map_or (λ object. object.doomed) (binding_of bindings handle) false, refusal.Doomed) ∷ [])
 
 -- Which object is meant.
 
--- what holds of each live object that a handle names, at this node with this record, of a state that a cache keeps
+-- P holds of each live object with this node and this record that a handle names, in each state that the cache keeps
 abbrev pub ForEachOpen : Cache → (node entry : ℕ) → Image → (State → ℕ → Object → Type 0) → Type 0
 ForEachOpen cache node entry image P = (state : State) (kept : KeepsState cache state image) (number : ℕ) (object : Object) → LiesOpen state kept.layout number object node entry → P state number object
 
--- what holds of each object with a key that lies as a target in such a state
+-- P holds of each object with this key that lies where `target` says, in each state that the cache keeps
 abbrev pub ForEachKept : Cache → List ℕ → Target → Image → (State → ℕ → Object → Type 0) → Type 0
 ForEachKept cache key target image P =
     (state : State) (kept : KeepsState cache state image) (number : ℕ) (object : Object) → LiesAsTarget (is_named state number) state kept.layout number object target → object.key ≡ key → P state number object
 
--- What is counted.
+-- Counters.
 
--- the names of a record, if it has some, are bound to a doomed object, and so much is counted no longer; but for that all is as before
+-- the handles of the object at record `entry`, if any, now name a doomed object, and its items and costs are subtracted from the counters; the cache is
+-- otherwise unchanged
 pub record CountsDoomed (old new : Cache) (entry : ℕ) (gone : Gone) : Type 0 where
   pub handles : new.handles ≡ with_change with_doom entry old.handles
   pub items : new.items ≡ old.items - gone.items

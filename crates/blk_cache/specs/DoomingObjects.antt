@@ -1,4 +1,4 @@
--- Objects are doomed in a folder: what lies there, and what is left.
+-- Dooming of objects in a folder: where they lie before, and what state is kept afterwards.
 use Rattle.std.specs.Prelude.{◌≡◌, ℕ, ◌+◌, List, [], Bool, false, true}
 use Rattle.std.specs.declared.option.Option.{Option}
 use Rattle.std.specs.declared.option.Option.TheVariants.{None, Some}
@@ -21,15 +21,16 @@ use Rattle.blk_evict.specs.declared.item_names.EntryKind.{EntryKind}
 use Rattle.blk_evict.specs.declared.item_names.EntryKind.TheVariants.{Parent, Part, Plain}
 use Rattle.blk_evict.specs.EvictingGroups.{kind_of_role}
 
--- What lies there.
+-- Before.
 
--- whether an entry of a kind has an index of parts
+-- an entry of this kind has an index of parts
 abbrev pub has_index : EntryKind → Bool
 has_index Parent = true
 has_index Plain = false
 has_index Part = false
 
--- a live object, which a handle names or none does, lies as a target: at its node with its record, after the record before that, with an entry of its kind and its charge
+-- a live object, which a handle names (`held`) or none does, lies where `target` says: node, record, the record before that in its chain, kind of entry and
+-- cost
 pub record LiesAsTarget (held : Bool) (state : State) (layout : Layout) (number : ℕ) (object : Object) (target : Target) : Type 0 where
   pub here : object_at state number ≡ Some object
   pub live : object.live ≡ true
@@ -38,15 +39,15 @@ pub record LiesAsTarget (held : Bool) (state : State) (layout : Layout) (number 
   pub kind : kind_of_role lies.was.role ≡ target.kind
   pub charge : target.charge ≡ charge_of lies.was
 
--- what holds of each such object of a state that is kept
+-- P holds of each object that lies where `target` says, wherever the folder keeps a state
 abbrev pub ForEachDoomTarget : (held : Bool) → Target → Image → (State → Layout → ℕ → Object → Type 0) → Type 0
 ForEachDoomTarget held target image P = (state : State) (layout : Layout) (number : ℕ) (object : Object) → Keeps state layout [] image → LiesAsTarget held state layout number object target → P state layout number object
 
--- and of each with this key
+-- P holds of each object with this key that lies where `target` says, wherever the folder keeps a state
 abbrev pub ForEachWithKey : (held : Bool) → List ℕ → Target → Image → (State → Layout → ℕ → Object → Type 0) → Type 0
 ForEachWithKey held key target image P = ForEachDoomTarget held target image (λ state layout number object. object.key ≡ key → P state layout number object)
 
--- the live object with a key lies as a target
+-- the state has a live object with this key, which lies where `target` says
 pub record IsTargetAt (state : State) (layout : Layout) (key : List ℕ) (target : Target) : Type 0 where
   pub number : ℕ
   pub is : live_with state key ≡ Some number
@@ -54,12 +55,12 @@ pub record IsTargetAt (state : State) (layout : Layout) (key : List ℕ) (target
   pub of_key : object.key ≡ key
   pub lies : LiesAsTarget (is_named state number) state layout number object target
 
--- what is found for a key: nothing where no live object has it
+-- the answer of a search for a key to be doomed: where its live object lies, or None where no live object has the key
 abbrev pub IsDoomTarget : State → Layout → List ℕ → Option Target → Type 0
 IsDoomTarget state layout key None = live_with state key ≡ None
 IsDoomTarget state layout key (Some target) = IsTargetAt state layout key target
 
--- a live object that a handle names lies at this node with this record
+-- a live object that a handle names has this node and this record
 pub record LiesOpen (state : State) (layout : Layout) (number : ℕ) (object : Object) (node entry : ℕ) : Type 0 where
   pub loaded : Loaded
   pub lies : IsPlacedAsLive state layout number object loaded
@@ -67,19 +68,20 @@ pub record LiesOpen (state : State) (layout : Layout) (number : ℕ) (object : O
   pub node_is : layout.place (main object.key) ≡ node
   pub entry_is : loaded.contents ≡ entry
 
--- what holds of each such object of a state that is kept
+-- P holds of each live object with this node and this record that a handle names, wherever the folder keeps a state
 abbrev pub ForEachOpenAt : (node entry : ℕ) → Image → (State → Layout → ℕ → Object → Type 0) → Type 0
 ForEachOpenAt node entry image P = (state : State) (layout : Layout) (number : ℕ) (object : Object) → Keeps state layout [] image → LiesOpen state layout number object node entry → P state layout number object
 
--- What is left.
+-- Afterwards.
 
--- each object that a handle names lies where it lay, doomed or not
+-- each object that a handle names has the node that it had, doomed or not, and what lies there is the same
 abbrev pub NamedObjectsLieOn : (state after : State) → (old new : Layout) → Type 0
 NamedObjectsLieOn state after old new =
     (number : ℕ) (object left : Object) → object_at state number ≡ Some object → is_named state number ≡ true → object_at after number ≡ Some left
     → (node_of_object new number left ≡ node_of_object old number object) × (new.at (node_of_object old number object) ≡ old.at (node_of_object old number object))
 
--- an object is doomed: the state with it doomed is kept, in the same session, the objects that handles name lie where they lay, and so much is counted no longer
+-- the object was doomed: the folder keeps the state in which it is, `gone` tells the items and costs that left, objects with handles lie where they lay, and
+-- the session is unchanged
 pub record IsDoomed (state : State) (layout : Layout) (number : ℕ) (object : Object) (gone : Gone) (from image : Image) : Type 0 where
   pub left : Layout
   pub kept : Keeps (doomed number state (Some object)) left [] image

@@ -1,4 +1,4 @@
--- Groups are evicted one after another, until there is enough.
+-- Eviction units are evicted one after another, until a goal is met.
 use Rattle.std.specs.Prelude.{◌≡◌, ℕ, Bool, List, ◌++◌, length, nat_le, sum_by}
 use Rattle.spec_image.specs.Image.{Image}
 use Rattle.blk_model.specs.Holding.{rest}
@@ -14,23 +14,23 @@ use Rattle.blk_cache.specs.CacheKeeping.{KeepsState}
 use Rattle.blk_evict.specs.RoomLaws.{group_for}
 use Rattle.blk_evict.specs.ListPlaces.{MayGoAt}
 
--- whether a goal is met: so many more bytes and items fit below the low-water mark, or no more bytes are left
+-- the goal of an eviction is met: what is to be added fits below the low watermark, or no more than so many bytes are left
 abbrev pub is_met : Goal → State → Bool
 is_met (Room bytes items) state = fits (low state) bytes items state
 is_met (Bytes most) state = nat_le (total state) most
 
--- how many items some groups have
+-- how many items these eviction units have together
 abbrev pub count_of_groups : List Group → ℕ
 count_of_groups groups = sum_by (λ group. length (items_of_group group)) groups
 
--- while groups of a state go one after another: the durable contents without the first of them are recovered
+-- while eviction units of a state are evicted one after another, recovery gives the durable contents without a prefix of them
 pub record IsEvicting (groups : List Group) (state : State) (image : Image) : Type 0 where
   pub first : List Group
   pub others : List Group
   pub split : groups ≡ first ++ others
   pub finds : Finds (rest (without first state)) image
 
--- all but the items, their bytes and the buffers for names is as before
+-- nothing of the cache but its items, the sum of their costs and its key buffer has changed
 pub record OnlyItemsChange (old new : Cache) : Type 0 where
   pub limits : new.limits ≡ old.limits
   pub open_bytes : new.open_bytes ≡ old.open_bytes
@@ -39,16 +39,16 @@ pub record OnlyItemsChange (old new : Cache) : Type 0 where
   pub mark : new.mark ≡ old.mark
   pub notes : new.notes ≡ old.notes
 
--- a cache keeps a state, with the nodes of its items as in a layout
+-- the cache keeps the state, by some layout in which each item has the node that it has in `layout`
 pub record KeepsInPlaces (cache : Cache) (state : State) (layout : Layout) (image : Image) : Type 0 where
   pub kept : KeepsState cache state image
   pub places : kept.layout.place ≡ layout.place
 
--- what holds of each state that a cache keeps in which this item may be evicted: by its layout, and the group of the item
+-- P holds, with layout and eviction unit, wherever the cache keeps a state in which the item that was found may be evicted
 abbrev pub ForEachThatMayGo : Cache → Unpinned → Image → (State → Layout → Group → Type 0) → Type 0
 ForEachThatMayGo cache found image P = (state : State) (kept : KeepsState cache state image) (at : MayGoAt state kept.layout found) → P state kept.layout (group_for at.item at.front)
 
--- a cache keeps some state in which this item may be evicted
+-- the cache keeps some state in which the item that was found may be evicted
 pub record KeepsThatMayGo (cache : Cache) (found : Unpinned) (image : Image) : Type 0 where
   pub state : State
   pub kept : KeepsState cache state image

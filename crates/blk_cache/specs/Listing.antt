@@ -2,7 +2,7 @@
 use Rattle.std.specs.Prelude.{◌≡◌}
 use Rattle.blk_cache.specs.declared.cache.Cache.{Cache}
 
--- all but the buffers for names is as before
+-- nothing of the cache but its key buffer has changed
 pub record OnlyRoomChanges (old new : Cache) : Type 0 where
   pub limits : new.limits ≡ old.limits
   pub items : new.items ≡ old.items

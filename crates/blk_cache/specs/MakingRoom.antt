@@ -1,4 +1,4 @@
--- Space that is made.
+-- The making of space for what a command adds.
 use Rattle.std.specs.Prelude.{◌≡◌, ℕ, Bool, List, false, true}
 use Rattle.spec_image.specs.Told.{Told}
 use Rattle.blk_model.specs.Refusals.{evicted_for, is_full}
@@ -10,11 +10,11 @@ use Rattle.blk_cache.specs.Covering.{ForCovered}
 use Rattle.blk_cache.specs.declared.making_room.Room.{Room}
 use Rattle.blk_cache.specs.declared.making_room.Room.TheVariants.{Full, Made}
 
--- whether an answer says that there is no space
+-- the answer says that there is no space
 abbrev pub says_full : Room → Bool
 says_full Full = true
 says_full Made = false
 
--- what holds of each state that a cache keeps in which there is space for so many more bytes and items, and of the groups that are evicted for them
+-- P holds, with the eviction units that are evicted for them, of each state that the cache keeps in which there is space for so many more bytes and items
 abbrev pub ForRoom : Cache → Covered → Told → (bytes more : ℕ) → (State → List Group → Type 0) → Type 0
 ForRoom cache parts told bytes more P = ForCovered cache parts told (λ state covered. is_full (room state covered bytes more) ≡ false → P state (evicted_for (room state covered bytes more)))

@@ -1,4 +1,4 @@
--- What an opening leaves, and what it may meet.
+-- What opening a folder leaves, and which checks may fail in it.
 use Rattle.std.specs.Prelude.{◌≡◌, ◌⊎◌, ℕ}
 use Rattle.std.specs.declared.option.Option.TheVariants.{Some}
 use Rattle.spec_image.specs.Image.{Image, Index, byte}
@@ -22,11 +22,12 @@ use Rattle.blk_repair.specs.Repair.{IsRepairDamage}
 use Rattle.blk_cache.specs.Opening.{opened_id}
 use Rattle.blk_cache.specs.declared.opening.Opened.{Opened}
 
--- a folder was made at some moment
+-- the folder is one that was just made, at some moment
 abbrev pub IsJustMade : Image → Type 0
 IsJustMade image = (moment : ℕ) × IsMade moment image
 
--- a folder was opened, and this is kept of it: it keeps what was found at the entry, opened in the next session
+-- the folder was opened: it keeps the recovered contents of the image `entry`, opened in the next session, and `opened` has the number of items, the sum of
+-- costs, the block files and the session's number
 pub record IsOpenedAs (entry : Image) (opened : Opened) (image : Image) : Type 0 where
   pub keeps : (limits : Bounds) → KeepsSome (open_state (found entry) limits) image
   pub items_are : (limits : Bounds) → opened.items ≡ items (open_state (found entry) limits)
@@ -37,16 +38,16 @@ pub record IsOpenedAs (entry : Image) (opened : Opened) (image : Image) : Type 0
 
 -- Failed checks.
 
--- the index is finished, and this is the first check of the folder that fails
+-- the index is initialized, and `damage` is the first check of the folder that fails
 pub record IsFirstDamage (damage : Damage) (image : Image) : Type 0 where
   pub finished : IsUnfinished image → ⊥
   pub first : first_damage image ≡ Some (damage_of damage)
 
--- a failed check was met after the checks of the headers: while what the folder holds was read, or in its repair
+-- a check failed after those of the headers: while the folder was scanned, or in its recovery
 pub record IsMendingDamage (told : Told) (damage : Damage) : Type 0 where
   pub files : BlockFiles
   pub cause : IsScanDamage files told damage ⊎ IsRepairDamage files told damage
 
--- a failed check was met in an opening: a check of the index or of the block files failed, or too little was given of one of these, or it was after the checks
+-- a check failed in an opening: one of the index or of the block files (or too few bytes of these came), or, after these, one of the scan or of the recovery
 abbrev pub IsOpeningDamage : Told → Damage → Type 0
 IsOpeningDamage told damage = IsLookDamage told damage ⊎ (IsLoadDamage told damage ⊎ IsMendingDamage told damage)

@@ -1,4 +1,4 @@
--- What the opening and the closing of a cache owe.
+-- The contracts of opening and of closing a cache.
 use Rattle.std.specs.Prelude.{◌≡◌, ◌⊎◌, ℕ, Result, Ok, Err, if◌then◌else◌}
 use Rattle.spec_image.specs.Image.{Image, Index, byte}
 use Rattle.spec_image.specs.Told.{Told}
@@ -19,37 +19,39 @@ use Rattle.blk_repair.specs.Repair.{next_id}
 use Rattle.blk_cache.specs.declared.fault.OpenFault.{OpenFault}
 use Rattle.blk_cache.specs.declared.fault.OpenFault.TheVariants.{Device, Damaged, Memory}
 
--- a folder that a cache may be opened on
+-- a cache may be opened on the folder: it is uninitialized, or no check of its headers fails
 abbrev pub IsUsable : Image → Type 0
 IsUsable image = IsUnfinished image ⊎ IsWellFormed image
 
--- the same is found as in another image, and the folder is well formed where that was, and unfinished or well formed where that was so
+-- recovery gives the same for both images; the second is well formed where the first is, and usable where the first is
 pub record HoldsStill (entry image : Image) : Type 0 where
   pub usable : IsUsable entry → IsUsable image
   pub formed : IsWellFormed entry → IsWellFormed image
   pub found_same : found image ≡ found entry
 
--- the folder stands for the state that is opened on what was found in another image
+-- the folder represents the state that is opened on the recovered contents of the image `entry`
 abbrev pub StandsOpened : Image → Image → Type 0
 StandsOpened entry image = (limits : Bounds) → StandsFor image (open_state (found entry) limits)
 
--- a folder was opened: at each step it holds what it held, none is a note, and the last one alone marks a session as open; there the folder stands for what was found, opened
+-- a folder was opened: after each write recovery gives what it gave before, no completion marker was made, and the last write alone sets the crash word; there
+-- the folder represents the recovered contents, opened
 abbrev pub OpensFolder : Image → Told → Told → Type 0
 OpensFolder entry old new = EndsWithCrashWord old new (HoldsStill entry) (StandsOpened entry)
 
--- so it was, or the opening broke off: at each step made the folder holds what it held, none is a note, and none marks a session as open
+-- a folder was opened, or the opening broke off: after each write made recovery gives what it gave before, no completion marker was made, and none but the last
+-- write of a whole opening sets the crash word
 abbrev pub OpensOrBreaksOff : Image → Told → Told → Type 0
 OpensOrBreaksOff entry old new = EndsOrBreaksOff old new (HoldsStill entry) (StandsOpened entry)
 
--- the number of the session that is opened on a folder: the first where it is made
+-- the number of the session that is opened on a folder: 1 for a folder that is made, else the one after the index's number
 abbrev pub opened_id : Image → ℕ
 opened_id image = if unfinished image then 1 else next_id (this_id_of (byte image Index))
 
--- a folder was made at this moment, as its index says
+-- by its index the folder was made at this moment
 abbrev pub WasMadeAt : ℕ → Image → Type 0
 WasMadeAt moment image = create_time_of (byte image Index) ≡ moment
 
--- a cache ended: the folder is sound, no session is open, and its index has the version that is made now
+-- a session was closed: the folder is consistent, its crash word is 0, and its index has the version that is made now
 pub record EndsSession (image : Image) : Type 0 where
   pub sound : IsSound image
   pub closed : crash_of (byte image Index) ≡ 0
@@ -57,32 +59,32 @@ pub record EndsSession (image : Image) : Type 0 where
 
 -- Answers.
 
--- a fault of a call on a folder as one of an opening
+-- the fault of an opening that a failed call on the folder causes
 abbrev pub of_fault : Fault → OpenFault
 of_fault fault.Device = Device
 of_fault (fault.Damaged damage) = Damaged damage
 
--- a fault of a scan as one of an opening
+-- the fault of an opening that a failed scan causes
 abbrev pub of_scan_fault : ScanFault → OpenFault
 of_scan_fault scan.Device = Device
 of_scan_fault (scan.Damaged damage) = Damaged damage
 of_scan_fault scan.Memory = Memory
 
--- where the answer is that the device failed, this holds
+-- where the answer is an I/O error, P holds; any other answer is fine
 abbrev pub IfOpenDevice : {A : Type 0} → Result A OpenFault → Type 0 → Type 0
 IfOpenDevice (Ok a) P = Unit {0}
 IfOpenDevice (Err Device) P = P
 IfOpenDevice (Err (Damaged damage)) P = Unit {0}
 IfOpenDevice (Err Memory) P = Unit {0}
 
--- where it is a failed check, that check is so
+-- where the answer is a failed check, it has the property P; any other answer is fine
 abbrev pub IfOpenDamaged : {A : Type 0} → Result A OpenFault → (Damage → Type 0) → Type 0
 IfOpenDamaged (Ok a) P = Unit {0}
 IfOpenDamaged (Err Device) P = Unit {0}
 IfOpenDamaged (Err (Damaged damage)) P = P damage
 IfOpenDamaged (Err Memory) P = Unit {0}
 
--- where it is out of memory, this holds
+-- where the answer is out of memory, P holds; any other answer is fine
 abbrev pub IfOpenMemory : {A : Type 0} → Result A OpenFault → Type 0 → Type 0
 IfOpenMemory (Ok a) P = Unit {0}
 IfOpenMemory (Err Device) P = Unit {0}

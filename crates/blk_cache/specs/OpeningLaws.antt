@@ -1,4 +1,4 @@
--- The laws of an opening and of an end.
+-- Lemmas on the opening of a folder and on its closing.
 use Rattle.std.specs.Prelude.{◌≡◌, ℕ, length}
 use Rattle.spec_image.specs.Image.{AreBytes, Image, Index, byte}
 use Rattle.spec_format.specs.Headers.{index_version, version_of}
@@ -20,36 +20,36 @@ use Rattle.blk_cache.specs.BoundNames.{AreAllFree}
 use Rattle.blk_cache.specs.CacheKeeping.{KeepsState}
 use Rattle.blk_cache.specs.Opening.{HoldsStill}
 
--- Of a folder.
+-- Opening.
 
--- a folder that was just made may be repaired by the empty scan
+-- a folder that was just made can be recovered with the empty scan
 abbrev pub MadeFoldersAreRepairable : Type 0
 MadeFoldersAreRepairable = (moment : ℕ) (image : Image) (scan : Scan) → IsMade moment image → IsEmptyScan scan → IsRepairable scan image
 
--- once a folder is repaired it keeps what was found at the entry, opened
+-- a folder whose recovery is done keeps the recovered contents of the image `entry`, opened
 abbrev pub RepairedFoldersKeepTheirState : Type 0
 RepairedFoldersKeepTheirState = (entry image : Image) (limits : Bounds) → IsRepaired entry image → AreBytes image → KeepsSome (open_state (found entry) limits) image
 
--- what a scan told are the items and the bytes of what is found at the entry, opened
+-- a scan tells the number of items and the sum of costs of the recovered contents of the image `entry`, opened
 pub record AreTotalsTold (scan : Scan) (entry : Image) (limits : Bounds) : Type 0 where
   pub items_told : length scan.kept.items ≡ items (open_state (found entry) limits)
   pub bytes_told : scan.bytes ≡ total (open_state (found entry) limits)
 
--- and its items and bytes are those that were told at the entry
+-- where the recovery of `entry` is done, the scan of `entry` told the number of items and the sum of costs of its recovered contents
 abbrev pub RepairedFoldersHaveTheToldTotals : Type 0
 RepairedFoldersHaveTheToldTotals = (scan : Scan) (entry image : Image) (limits : Bounds) → IsScanOf entry scan → IsRepaired entry image → AreBytes image → AreTotalsTold scan entry limits
 
--- Of a cache.
+-- Closing.
 
--- where a cache keeps a state on a folder, that may be written
+-- where a cache keeps a state on a folder, its table of block files agrees with that, and the index has its length, as writes need
 abbrev pub KeptFoldersAreOpen : Type 0
 KeptFoldersAreOpen = (cache : Cache) (state : State) (image : Image) → KeepsState cache state image → IsOpen cache.files image
 
--- and where it has no name bound, the same is found while the crash word changes
+-- where a cache keeps a state and no handle names anything, recovery gives the same whatever the crash word is
 abbrev pub FreeCachesHoldStill : Type 0
 FreeCachesHoldStill = (cache : Cache) (state : State) (from image : Image) → KeepsState cache state from → AreAllFree cache.handles → SameOutside (one_word Index crash_place) from image → HoldsStill from image
 
--- and the folder is sound then, and its index has the version that is made now
+-- where a cache keeps a state and no handle names anything, the folder is consistent whatever the crash word is, and its index has the version that is made now
 abbrev pub FreeCachesEndSound : Type 0
 FreeCachesEndSound = (cache : Cache) (state : State) (from image : Image) → KeepsState cache state from → AreAllFree cache.handles → SameOutside (one_word Index crash_place) from image → AreBytes image
     → IsSound image × (version_of (byte image Index) ≡ index_version)

@@ -1,4 +1,4 @@
--- The bytes of a Read, as they are printed.
+-- The bytes of a Read or a SparseRead, as they are printed.
 use Rattle.std.specs.Prelude.{◌≡◌, ◌≤◌, ◌+◌, ◌^◌, ◌&&◌, ℕ, Bool, List, length, nat_lt, true}
 use Rattle.std.specs.declared.option.Option.TheVariants.{None}
 use Rattle.spec_image.specs.Image.{Image}
@@ -19,13 +19,14 @@ use Rattle.blk_cache.specs.Asking.{stream_refusal}
 use Rattle.blk_cache.specs.CacheKeeping.{KeepsState}
 use Rattle.blk_cache.specs.Reading.{bytes_there}
 
--- what holds of the text of a Read's reply, in each state that is kept where the handle names an object with that stream, of which there is this number of bytes to be read
+-- P holds of the printed reply of a Read, for each state that the cache keeps in which the handle names an object with this stream and `number` bytes are there
+-- to be read
 abbrev pub ForRead : Cache → Told → (handle stream offset number : ℕ) → (List ℕ → Type 0) → Type 0
 ForRead cache told handle stream offset number P =
     ForKept (KeepsState cache) told (λ state. (n count : ℕ) (object : Object) → Names state handle n object → stream_refusal state handle stream ≡ None → number ≡ bytes_there (length (stream_of object stream)) offset count
     → P (reply_text (gave (bytes_from (stream_of object stream) offset count))))
 
--- a cache keeps some state in which there is this number of bytes to be read
+-- the cache keeps some state in which the handle names an object with this stream and `number` bytes are there to be read
 pub record KeepsToRead (cache : Cache) (handle stream offset number : ℕ) (image : Image) : Type 0 where
   pub state : State
   pub kept : KeepsState cache state image
@@ -36,13 +37,13 @@ pub record KeepsToRead (cache : Cache) (handle stream offset number : ℕ) (imag
   pub passes : stream_refusal state handle stream ≡ None
   pub number_is : number ≡ bytes_there (length (stream_of object stream)) offset count
 
--- whether an object has a stream with this number, and so many bytes from an offset on end where a u64 can tell
+-- an object may have a stream of this number, and the range doesn't go beyond the values of a u64
 abbrev pub can_be_read : (stream offset number : ℕ) → Bool
 can_be_read stream offset number = nat_lt stream stream_count && nat_lt (offset + number) (2 ^ 64)
 
--- Of sparse data.
+-- Sparse data.
 
--- a handle names a live sparse object, of which so many bytes from an offset on are all present
+-- the handle names a live sparse object of which `number` bytes from the offset on are all valid
 pub record NamesPresent (state : State) (handle offset number : ℕ) : Type 0 where
   pub n : ℕ
   pub object : Object
@@ -53,11 +54,11 @@ pub record NamesPresent (state : State) (handle offset number : ℕ) : Type 0 wh
   pub few : number ≤ part_size
   pub inside : offset + number ≤ largest_offset
 
--- what holds of the text of a SparseRead's reply, in each state that is kept where there is such an object
+-- P holds of the printed reply of a SparseRead, for each state that the cache keeps in which these bytes are all valid
 abbrev pub ForPresent : Cache → Told → (handle offset number : ℕ) → (List ℕ → Type 0) → Type 0
 ForPresent cache told handle offset number P = ForKept (KeepsState cache) told (λ state. (p : NamesPresent state handle offset number) → P (reply_text (gave (sparse_bytes p.object offset number))))
 
--- a cache keeps some state in which there is one
+-- the cache keeps some state in which the handle names a live sparse object and these bytes of it are all valid
 pub record KeepsPresent (cache : Cache) (handle offset number : ℕ) (image : Image) : Type 0 where
   pub state : State
   pub kept : KeepsState cache state image

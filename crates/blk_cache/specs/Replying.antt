@@ -1,4 +1,4 @@
--- The reply of a command, as it is printed once the command is done and noted.
+-- The reply of a command, as it is printed once the command is done and has its completion marker.
 use Rattle.std.specs.Prelude.{◌≡◌, ℕ, List, [], ◌++◌}
 use Rattle.std.specs.List.{flat_map}
 use Rattle.spec_image.specs.Image.{Image}
@@ -18,42 +18,42 @@ use Rattle.law_state.specs.Commands.{ForKept}
 use Rattle.blk_cache.specs.declared.cache.Cache.{Cache}
 use Rattle.blk_cache.specs.CacheKeeping.{KeepsState}
 
--- the line of the bytes that a request reads in a state, which its use of items leaves
+-- the printed line of the bytes that a Read or a SparseRead gives, by the state after it
 abbrev pub bytes_text : Request → State → List ℕ
 bytes_text (to_read handle stream offset count) state = reply_text (gave (bytes_from (stream_of (object_of state handle) stream) offset count))
 bytes_text (to_sparse_read handle offset count) state = reply_text (gave (sparse_bytes (object_of state handle) offset count))
 bytes_text _ state = []
 
--- the lines of the rows of a state, and then the line of an answer
+-- the printed rows of a state, and then the line of an answer
 abbrev pub rows_text : Answer → State → List ℕ
 rows_text given state = flat_map row_line (rows state) ++ reply_text (answered given)
 
--- the text of the reply with an answer, by the state after its command: of bytes their line, of a list its rows and its end, and else the line of the answer
+-- the printed reply with an answer, by the state after the command: a line of bytes, the rows of a List with their end, or the line of the answer
 abbrev pub text_of_reply : Request → Answer → State → List ℕ
 text_of_reply request (answer.Bytes n) state = bytes_text request state
 text_of_reply request (answer.Listed n) state = rows_text (answer.Listed n) state
 text_of_reply request given state = reply_text (answered given)
 
--- a state is the one after a request with this answer
+-- the state is one after the request, by the model, with this answer
 pub record IsStateAfter (request : Request) (given : Answer) (state : State) : Type 0 where
   pub before : State
   pub moment : ℕ
   pub given_is : given ≡ answer_of (step before moment request).reply
   pub state_is : state ≡ (step before moment request).state
 
--- what holds of the text of a reply, by each state that is kept and is the one after the request
+-- P holds of the printed reply, for each state that the cache keeps and that is one after the request with this answer
 abbrev pub ForReply : Cache → Told → Request → Answer → (List ℕ → Type 0) → Type 0
 ForReply cache told request given P = ForKept (KeepsState cache) told (λ state. IsStateAfter request given state → P (text_of_reply request given state))
 
--- of the line of the bytes that it reads, where it answers that there is this number of them
+-- P holds of the line of bytes that the request reads, for each state that the cache keeps and that is one after it with `number` bytes
 abbrev pub ForBytes : Cache → Told → Request → (number : ℕ) → (List ℕ → Type 0) → Type 0
 ForBytes cache told request number P = ForKept (KeepsState cache) told (λ state. IsStateAfter request (answer.Bytes number) state → P (bytes_text request state))
 
--- of the rows of each state that is kept, and of the line of an answer after them
+-- P holds of the printed rows and the line of the answer, for each state that the cache keeps
 abbrev pub ForRows : Cache → Told → Answer → (List ℕ → Type 0) → Type 0
 ForRows cache told given P = ForKept (KeepsState cache) told (λ state. P (rows_text given state))
 
--- a cache keeps some state that is the one after a request with this answer
+-- the cache keeps some state that is one after the request with this answer
 pub record KeepsAfter (cache : Cache) (request : Request) (given : Answer) (image : Image) : Type 0 where
   pub state : State
   pub kept : KeepsState cache state image

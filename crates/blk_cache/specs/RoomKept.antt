@@ -1,4 +1,4 @@
--- What a cache keeps once a group is evicted.
+-- The invariant of a cache after an eviction unit is evicted.
 use Rattle.std.specs.Prelude.{◌≡◌, ℕ, ◌+◌, List, [], ◌∷◌, length, sum_by}
 use Rattle.spec_image.specs.Image.{Image, Index, byte}
 use Rattle.spec_format.specs.Headers.{this_id_of}
@@ -15,7 +15,7 @@ use Rattle.blk_cache.specs.declared.cache.Cache.{Cache}
 use Rattle.blk_cache.specs.CacheKeeping.{KeepsState}
 use Rattle.blk_evict.specs.RoomLaws.{MayGo, NamedObjectsStay, group_for, item_charge}
 
--- a cache has so many items and bytes less; its names, its limits and its mark are as before
+-- the cache has `item_count` items and `charged` bytes of cost less; its handles, its limits and its session's number are unchanged
 pub record HasFewer (old new : Cache) (item_count charged : ℕ) : Type 0 where
   pub items_less : old.items ≡ new.items + item_count
   pub bytes_less : old.bytes ≡ new.bytes + charged
@@ -24,7 +24,7 @@ pub record HasFewer (old new : Cache) (item_count charged : ℕ) : Type 0 where
   pub handles : new.handles ≡ old.handles
   pub mark : new.mark ≡ old.mark
 
--- the folder keeps a state without a group by a layout, in the same session, and the cache has as many items and bytes less as the group
+-- the eviction unit is evicted: the folder keeps the state without it in the same session, and the cache counts its items and costs no longer
 pub record IsEvicted (state : State) (group : Group) (layout left : Layout) (old new : Cache) (from image : Image) : Type 0 where
   pub kept : Keeps (without (group ∷ []) state) left [] image
   pub stay : NamedObjectsStay (without (group ∷ []) state) layout left
@@ -32,25 +32,25 @@ pub record IsEvicted (state : State) (group : Group) (layout left : Layout) (old
   pub files : Agrees new.files image
   pub session : this_id_of (byte image Index) ≡ this_id_of (byte from Index)
 
--- a cache keeps a state by a layout
+-- the cache keeps the state on the image, by this layout
 pub record KeepsBy (cache : Cache) (state : State) (layout : Layout) (image : Image) : Type 0 where
   pub kept : KeepsState cache state image
   pub layout_is : kept.layout ≡ layout
 
--- then the cache keeps the state without the group by that layout, where it is the group of an item that may be evicted
+-- once the eviction unit of an item that may be evicted is evicted, the cache keeps the state without it, by the layout that is left
 abbrev pub EvictedStatesAreKept : Type 0
 EvictedStatesAreKept =
     (state : State) (front : List Item) (item : Item) (behind : List Item) (left : Layout) (old new : Cache) (from image : Image) (k : KeepsState old state from)
     → MayGo state front item behind → IsEvicted state (group_for item front) k.layout left old new from image
     → KeepsBy new (without (group_for item front ∷ []) state) left image
 
--- where an item goes alone that may go, each object that a handle names lies where it lay
+-- where a single item is evicted, each object that a handle names has the node that it had
 abbrev pub NamedObjectsLieApart : Type 0
 NamedObjectsLieApart =
     (cache : Cache) (state : State) (image : Image) (front : List Item) (item : Item) (behind : List Item) (contents : ℕ) (k : KeepsState cache state image) → MayGo state front item behind
     → NamedObjectsStay (without (group_for item front ∷ []) state) k.layout (layout_removed k.layout (k.layout.place item) contents)
 
--- and so where a whole object goes that no handle names, with its parts
+-- where an object that no handle names is evicted with its parts, each object that a handle names has the node that it had
 abbrev pub WholeGroupsLieApart : Type 0
 WholeGroupsLieApart =
     (cache : Cache) (state : State) (image : Image) (front : List Item) (key : List ℕ) (behind : List Item) (chains : ℕ → List ℕ) (k : KeepsState cache state image) → MayGo state front (main key) behind

@@ -1,4 +1,4 @@
--- A cache keeps a state in which the last item that isn't pinned is searched.
+-- The invariant of the search for the last item that isn't pinned.
 use Rattle.std.specs.Prelude.{ℕ, List}
 use Rattle.std.specs.declared.option.Option.{Option}
 use Rattle.spec_image.specs.Image.{Image}
@@ -10,7 +10,8 @@ use Rattle.blk_cache.specs.declared.covered.Covered.{Covered}
 use Rattle.blk_cache.specs.CacheKeeping.{KeepsState}
 use Rattle.blk_cache.specs.Covering.{LieCovered}
 
--- the cache keeps some state, whose items are pinned from a node on, where parts are covered
+-- the cache keeps some state in which all items from the node `behind` on to the end of the LRU list are pinned (none yet where it is None), with the parts in
+-- range pinned too
 pub record KeepsPinnedFrom (cache : Cache) (parts : Covered) (behind : Option ℕ) (image : Image) : Type 0 where
   pub state : State
   pub kept : KeepsState cache state image

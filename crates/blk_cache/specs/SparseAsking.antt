@@ -1,4 +1,4 @@
--- The live object that a request on sparse data names by a handle, or why there is none.
+-- The live object that a request on sparse data names by a handle, or why it is refused.
 use Rattle.std.specs.Prelude.{◌≡◌, ◌≤◌, ◌<◌, ◌+◌, ℕ, [], ◌∷◌, false, is_none, nat_lt, true}
 use Rattle.std.specs.Int.{cast_unsigned, w64}
 use Rattle.std.specs.Option.{option_map_or}
@@ -25,20 +25,20 @@ use Rattle.blk_cache.specs.declared.sparse_asking.PlainObject.{PlainObject}
 
 -- Refusals.
 
--- why a request on sparse data is refused by what is kept in memory: the names, the range, and whether the object is doomed
+-- the refusal of a request on sparse data that needs no read of the folder: by the table of handles, the range, and whether the object is doomed
 abbrev pub early_sparse_refusal : Bindings → (handle offset count : ℕ) → Option Refusal
 early_sparse_refusal bindings handle offset count =
     first_refusal ((is_none (binding_of bindings handle), refusal.BadHandle) ∷ (nat_lt part_size count, refusal.TooLarge) ∷ (past_end offset count, refusal.RangeEnd)
     ∷ (option_map_or (λ object. object.doomed) (binding_of bindings handle) false, refusal.Doomed) ∷ [])
 
--- why a state has no live object for a handle and a range, the first reason of four
+-- the refusal of a request on sparse data, the first that applies: no such handle, a range that is too long, one that ends too far, a doomed object
 abbrev pub sparse_refusal : State → (handle offset count : ℕ) → Option Refusal
 sparse_refusal state handle offset count =
     first_refusal ((names_none state handle, refusal.BadHandle) ∷ (nat_lt part_size count, refusal.TooLarge) ∷ (past_end offset count, refusal.RangeEnd) ∷ (is_doomed state handle, refusal.Doomed) ∷ [])
 
 -- What is found.
 
--- a live object that a handle names: its main item lies at this node with this record
+-- the handle names a live object whose main item has this node and this record
 pub record IsLiveNamed (state : State) (layout : Layout) (handle node entry : ℕ) : Type 0 where
   pub number : ℕ
   pub object : Object
@@ -49,14 +49,14 @@ pub record IsLiveNamed (state : State) (layout : Layout) (handle node entry : �
   pub lies : layout.at (layout.place (main object.key)) ≡ Some was
   pub record_is : was.contents ≡ entry
 
--- it is plain, and this is whether it has one stream alone
+-- the handle names a live plain object, and `found` tells whether it has no other stream than its first
 pub record IsPlainNamed (state : State) (layout : Layout) (handle offset count : ℕ) (found : PlainObject) : Type 0 where
   pub passes : sparse_refusal state handle offset count ≡ None
   pub its : IsLiveNamed state layout handle found.node found.entry
   pub is_plain : its.object.shape ≡ plain
   pub one_stream : found.one_stream ≡ has_one_stream its.object
 
--- it is sparse, and this is the signature of it and of its index
+-- the handle names a live sparse object, and `parent` has the generation of it and of its index
 pub record IsParentNamed (state : State) (layout : Layout) (handle offset count : ℕ) (parent : Parent) : Type 0 where
   pub passes : sparse_refusal state handle offset count ≡ None
   pub its : IsLiveNamed state layout handle parent.node parent.entry
@@ -65,27 +65,27 @@ pub record IsParentNamed (state : State) (layout : Layout) (handle offset count 
   pub role : its.was.role ≡ IsParent index
   pub same : index.signature ≡ cast_unsigned w64 parent.signature
 
--- the object, plain or sparse, or why there is none
+-- the answer for a handle and a range: the plain or the sparse object that it names, or why the request is refused
 abbrev pub IsAskedSparse : State → Layout → (handle offset count : ℕ) → AskedSparse → Type 0
 IsAskedSparse state layout handle offset count (asked.Refused why) = sparse_refusal state handle offset count ≡ Some why
 IsAskedSparse state layout handle offset count (asked.Plain found) = IsPlainNamed state layout handle offset count found
 IsAskedSparse state layout handle offset count (asked.Parent parent) = IsParentNamed state layout handle offset count parent
 
--- On every folder.
+-- Clauses that hold of an opaque folder too.
 
--- what is found are a node and a record among the block files, and a signature
+-- what was found are a valid node and a valid record by the table of block files, and a generation that sparse entries may have
 abbrev pub IsAmongFiles : BlockFiles → AskedSparse → Type 0
 IsAmongFiles files (asked.Refused why) = Unit {0}
 IsAmongFiles files (asked.Plain found) = (is_node_among files found.node ≡ true) × (is_record_among files found.entry ≡ true)
 IsAmongFiles files (asked.Parent parent) = (is_node_among files parent.node ≡ true) × ((is_record_among files parent.entry ≡ true) × (cast_unsigned w64 parent.signature < signatures))
 
--- where an object is found nothing refuses early: so the range lies inside of what sparse data may have
+-- no early refusal applies, and the range has at most one part's length and ends inside sparse data
 pub record IsRangeInside (early : Option Refusal) (offset count : ℕ) : Type 0 where
   pub passes : early ≡ None
   pub few : count ≤ part_size
   pub inside : offset + count ≤ largest_offset
 
--- where an object is found the range is so
+-- where an object was found, no early refusal applies, and the range lies inside sparse data
 abbrev pub FindsInside : (early : Option Refusal) → (offset count : ℕ) → AskedSparse → Type 0
 FindsInside early offset count (asked.Refused why) = Unit {0}
 FindsInside early offset count (asked.Plain found) = IsRangeInside early offset count

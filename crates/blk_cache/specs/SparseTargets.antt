@@ -32,69 +32,69 @@ use Rattle.blk_cache.specs.SparseWriting.{IsRaisedBy, IsSignedBy, covered_of, in
 
 -- The object.
 
--- a plain object gets the signature of the moment
+-- what a SparseWrite writes to, of a plain object: it gets a generation from the moment
 abbrev pub plain_target : (moment : ℕ) → PlainObject → Target
 plain_target moment found = record { parent = record { entry = found.entry; node = found.node; signature = cast_signed w64 (moment % signatures) }; plain = true }
 
--- a plain object gets sparse data where it has one stream alone
+-- a plain object may get sparse data if it has no other stream than its first; else the SparseWrite is refused
 abbrev pub asked_plain : (moment : ℕ) → PlainObject → AskedTarget
 asked_plain moment found = if found.one_stream then target.Found (plain_target moment found) else target.Refused refusal.NotSparse
 
--- what gets sparse data, or why nothing does
+-- what a SparseWrite writes to, by what the handle names, or why it is refused
 abbrev pub asked_target : (moment : ℕ) → AskedSparse → AskedTarget
 asked_target moment (asked.Refused why) = target.Refused why
 asked_target moment (asked.Plain found) = asked_plain moment found
 asked_target moment (asked.Parent parent) = target.Found (record { parent = parent; plain = false })
 
--- a live object that a handle names, which may get sparse data: its main item lies at the target's node with its record, and a plain one gets the signature of the moment
+-- the handle names a live object that may get sparse data and has the target's node and record; a plain one gets its generation from the moment
 pub record IsTargetNamed (state : State) (layout : Layout) (moment handle offset count : ℕ) (found : Target) : Type 0 where
   pub passes : sparse_refusal state handle offset count ≡ None
   pub its : IsLiveNamed state layout handle found.parent.node found.parent.entry
   pub may : MayGetParts its.object its.was found
   pub signed : IsSignedBy moment found
 
--- the object, or why a SparseWrite is refused
+-- the answer for a SparseWrite: the object that it writes to, or why it is refused
 abbrev pub IsAskedTarget : State → Layout → (moment handle offset : ℕ) → List ℕ → AskedTarget → Type 0
 IsAskedTarget state layout moment handle offset bytes (target.Refused why) = refused moment (to_sparse_write handle offset bytes) state ≡ Some why
 IsAskedTarget state layout moment handle offset bytes (target.Found found) = IsTargetNamed state layout moment handle offset (length bytes) found
 
--- whatever state a cache keeps, a handle names the object in it
+-- in each state that the cache keeps, the handle names the object that the target tells
 abbrev pub NamesTarget : Cache → Told → (moment handle offset count : ℕ) → Target → Type 0
 NamesTarget cache told moment handle offset count found = ForSome told.files (λ image. (state : State) (kept : KeepsState cache state image) → IsTargetNamed state kept.layout moment handle offset count found)
 
--- On every folder.
+-- Clauses that hold of an opaque folder too.
 
--- what is found are a node and a record among the block files, and a signature
+-- the target has a valid node and a valid record by the table of block files, and a generation that sparse entries may have
 pub record IsAmong (files : BlockFiles) (found : Target) : Type 0 where
   pub node : is_node_among files found.parent.node ≡ true
   pub entry : is_record_among files found.parent.entry ≡ true
   pub signature : signature_to found < signatures
 
--- what is found lies in the block files, and where nothing was refused before, the range lies inside of sparse data
+-- where a target was found, its node and record are valid, no early refusal applies, and the range lies inside sparse data
 abbrev pub FindsTarget : BlockFiles → (early : Option Refusal) → (offset count : ℕ) → AskedTarget → Type 0
 FindsTarget files early offset count (target.Refused why) = Unit {0}
 FindsTarget files early offset count (target.Found found) = IsAmong files found × IsRangeInside early offset count
 
 -- What is added.
 
--- the covered parts as they are measured, with the index of an object that is plain
+-- what a SparseWrite adds: the parts in range as they were measured, and the index if the object is plain
 abbrev pub rise_of : Target → Measured → Rise
 rise_of found measured = record { parts = covered_of measured; bytes = measured.bytes + index_charge found; items = measured.items }
 
--- so much more is kept after some bytes, and so many items more, beside these covered parts
+-- with the bytes written, the state has `rise.bytes` of cost and `rise.items` items more, and `rise.parts` are the parts in range
 pub record IsRise (state : State) (layout : Layout) (moment handle offset : ℕ) (bytes : List ℕ) (rise : Rise) : Type 0 where
   pub parts : AreCovered state layout (covered (to_sparse_write handle offset bytes) state) rise.parts
   pub raised : IsRaisedBy state moment handle offset bytes rise.bytes rise.items
 
--- an object that may get sparse data, and what these raise
+-- the handle names an object that may get the bytes, and `rise` is what they add
 pub record IsToStore (state : State) (layout : Layout) (moment handle offset : ℕ) (bytes : List ℕ) (found : Target) (rise : Rise) : Type 0 where
   pub named : IsTargetNamed state layout moment handle offset (length bytes) found
   pub rises : IsRise state layout moment handle offset bytes rise
 
--- it is so in whatever state a cache keeps
+-- in each state that the cache keeps, the handle names an object that may get the bytes, and `rise` is what they add
 abbrev pub AsksToStore : Cache → Told → (moment handle offset : ℕ) → List ℕ → Target → Rise → Type 0
 AsksToStore cache told moment handle offset bytes found rise = ForSome told.files (λ image. (state : State) (kept : KeepsState cache state image) → IsToStore state kept.layout moment handle offset bytes found rise)
 
--- and the SparseWrite isn't refused
+-- in each state that the cache keeps, the handle names an object that may get the bytes, `rise` is what they add, and the SparseWrite isn't refused
 abbrev pub HasRoomToStore : Cache → Told → (moment handle offset : ℕ) → List ℕ → Target → Rise → Type 0
 HasRoomToStore cache told moment handle offset bytes found rise = ForSome told.files (λ image. (state : State) (kept : KeepsState cache state image) → IsToStore state kept.layout moment handle offset bytes found rise × (refused moment (to_sparse_write handle offset bytes) state ≡ None))

@@ -1,4 +1,4 @@
--- A SparseWrite: what is asked of its end, and what the cache counts then.
+-- A SparseWrite: the precondition of its end, and how the cache counts it.
 use Rattle.std.specs.Prelude.{◌≡◌, ◌<◌, ◌≤◌, ◌+◌, ◌%◌, ◌^◌, ℕ, List, [], false, if◌then◌else◌, length, map, true}
 use Rattle.std.specs.declared.option.Option.TheVariants.{None}
 use Rattle.spec_image.specs.Image.{Image}
@@ -26,22 +26,22 @@ use Rattle.blk_cache.specs.Creating.{sum_within}
 
 -- The object.
 
--- an object is plain, with nothing in its second and its third stream, or sparse with the signature
+-- the object is plain with empty second and third streams, or sparse with the target's generation
 pub record IsTargetOf (object : Object) (target : Target) : Type 0 where
   pub of_plain : target.plain ≡ true → (object.shape ≡ plain) × ((object.streams.1 ≡ []) × (object.streams.2 ≡ []))
   pub of_sparse : target.plain ≡ false → object.shape ≡ sparse (signature_to target)
 
--- a plain one gets the signature of the moment
+-- a plain object gets its generation from the moment
 abbrev pub IsSignedBy : (moment : ℕ) → Target → Type 0
 IsSignedBy moment target = target.plain ≡ true → signature_to target ≡ moment % signatures
 
--- the same with this node and this record
+-- the target with this node and this record
 abbrev pub own_target : (node entry : ℕ) → Target → Target
 own_target node entry target = record { parent = record { entry = entry; node = node; signature = target.parent.signature }; plain = target.plain }
 
 -- The change.
 
--- the live object of a handle is dirty, and gets the bytes: the state with them is charged for so much more and so many items more, which a cache may have
+-- the handle names a dirty live object that may get the bytes; with them the state has `more_bytes` of cost and `more_items` items more, which a cache may have
 pub record CanStore (state : State) (handle offset : ℕ) (bytes : List ℕ) (target : Target) (more_bytes more_items : ℕ) : Type 0 where
   pub number : ℕ
   pub object : Object
@@ -54,19 +54,19 @@ pub record CanStore (state : State) (handle offset : ℕ) (bytes : List ℕ) (ta
   pub few : items state + more_items ≤ most_items
   pub within : total state + more_bytes < 2 ^ 64
 
--- a cache keeps some state whose object can get them
+-- the cache keeps some state whose object may get the bytes
 pub record KeepsToStore (cache : Cache) (handle offset : ℕ) (bytes : List ℕ) (target : Target) (more_bytes more_items : ℕ) (image : Image) : Type 0 where
   pub state : State
   pub kept : KeepsState cache state image
   pub can : CanStore state handle offset bytes target more_bytes more_items
 
--- What is counted.
+-- Counters.
 
--- how much more an object is charged as a main item once it is sparse
+-- by how much the cost of the main item rises when the object becomes sparse: 0 if it is sparse already
 abbrev pub index_charge : Target → ℕ
 index_charge target = if target.plain then parts_index_charge else 0
 
--- the items and the bytes are so many more, and those of the open objects by the index of a plain one; all else is as before
+-- the cache counts so many items and bytes of cost more, and for the open objects the index of an object that was plain; it is otherwise unchanged
 pub record CountsParts (old new : Cache) (target : Target) (more_bytes more_items : ℕ) : Type 0 where
   pub items : new.items ≡ sum_within old.items more_items
   pub bytes : new.bytes ≡ sum_within old.bytes more_bytes
@@ -79,7 +79,8 @@ pub record CountsParts (old new : Cache) (target : Target) (more_bytes more_item
 
 -- The end.
 
--- a cache keeps what a SparseWrite leaves of a state once all that it evicts is out; it isn't refused, and it raises what is kept by so much and so many items
+-- all evictions of a SparseWrite of `state` are done: the write isn't refused, the cache keeps the state after the evictions, and the bytes add `more_bytes` of
+-- cost and `more_items` items
 pub record IsReadyToStore (cache : Cache) (state : State) (moment handle offset : ℕ) (bytes : List ℕ) (target : Target) (more_bytes more_items : ℕ) (image : Image) : Type 0 where
   pub valid : IsValidState state
   pub passes : refused moment (to_sparse_write handle offset bytes) state ≡ None
@@ -95,7 +96,7 @@ pub record IsReadyToStore (cache : Cache) (state : State) (moment handle offset 
   pub few : items (with_room state moment (to_sparse_write handle offset bytes)) + more_items ≤ most_items
   pub within : total (with_room state moment (to_sparse_write handle offset bytes)) + more_bytes < 2 ^ 64
 
--- a cache is ready for a SparseWrite of some state
+-- the cache is ready for this SparseWrite, of some state at some moment
 pub record IsReadyToStoreSome (cache : Cache) (handle offset : ℕ) (bytes : List ℕ) (target : Target) (more_bytes more_items : ℕ) (image : Image) : Type 0 where
   pub state : State
   pub moment : ℕ
@@ -103,23 +104,23 @@ pub record IsReadyToStoreSome (cache : Cache) (handle offset : ℕ) (bytes : Lis
 
 -- Before space is made.
 
--- the parts that a SparseWrite covers, as they are measured
+-- the parts in range of a SparseWrite, from their measure: the nodes, and the sum of their costs
 abbrev pub covered_of : Measured → Covered
 covered_of found = record { first = found.first; second = found.second; bytes = found.charged }
 
--- are covered so
+-- where a cache keeps a state, the parts that were measured lie at the measured nodes and pin what was measured
 abbrev pub MeasuredPartsAreCovered : Type 0
 MeasuredPartsAreCovered =
     (cache : Cache) (state : State) (image : Image) (k : KeepsState cache state image) (handle number : ℕ) (object : Object) (target : Target) (offset count : ℕ) (found : Measured) → Names state handle number object → object.live ≡ true
     → IsTargetOf object target → 1 ≤ count → count ≤ part_size → IsMeasured k.layout (with_signature object (signature_to target)) (signature_to target) offset count found
     → AreCovered state k.layout (map (part object.key) (covered_parts offset count)) (covered_of found)
 
--- so much more is kept after some bytes, and so many items more
+-- with the bytes written, the state has `more_bytes` of cost and `more_items` items more
 pub record IsRaisedBy (state : State) (moment handle offset : ℕ) (bytes : List ℕ) (more_bytes more_items : ℕ) : Type 0 where
   pub total_more : total (effect moment (to_sparse_write handle offset bytes) state) ≡ total state + more_bytes
   pub items_more : items (effect moment (to_sparse_write handle offset bytes) state) ≡ items state + more_items
 
--- as it is measured, with the index of an object that is plain
+-- a SparseWrite raises cost and items of the state as measured, plus the index where the object is plain
 abbrev pub SparseWritesRaiseAsMeasured : Type 0
 SparseWritesRaiseAsMeasured =
     (state : State) (moment handle number : ℕ) (object : Object) (target : Target) (offset : ℕ) (bytes : List ℕ) (layout : Layout) (found : Measured) → IsValidState state → Names state handle number object

@@ -1,4 +1,4 @@
--- What a step of a cache owes: one command, with what it prints and its note.
+-- The contract of one step of a cache: a command, what it prints, and its completion marker.
 use Rattle.std.specs.Prelude.{ℕ, Bool, List, ◌++◌, Result, Ok, Err}
 use Rattle.std.specs.declared.option.Option.{Option}
 use Rattle.spec_image.specs.Told.{Told}
@@ -16,53 +16,53 @@ use Rattle.blk_cache.specs.declared.fault.StepFault.TheVariants as step_fault
 use Rattle.blk_cache.specs.CacheKeeping.{KeepsState}
 use Rattle.blk_evict.specs.RoomPrinting.{PrintsUnlessFailed}
 
--- Texts.
+-- Printed texts.
 
--- the lines of what a command evicts, one for each item
+-- the printed lines of what a command evicts, one for each item
 abbrev pub evicted_first : Outcome → List ℕ
 evicted_first outcome = evicted_text outcome.groups
 
--- the text of a command: the lines of what it evicts, and then its reply
+-- all that a command prints: the lines of what it evicts, and then its reply
 abbrev pub outcome_text : Outcome → List ℕ
 outcome_text outcome = evicted_first outcome ++ reply_text outcome.reply
 
--- what a command evicts was printed, unless the sink failed, whatever state was kept before
+-- the lines of what the command evicts were printed, unless the output failed, for each state that the cache kept before
 abbrev pub SaysEvicted : Cache → Told → (moment : ℕ) → Request → (failed_before failed : Bool) → (old new : Option (List ℕ)) → Type 0
 SaysEvicted cache told moment request failed_before failed old new = ForKept (KeepsState cache) told (λ state. PrintsUnlessFailed failed_before failed old new (evicted_first (step state moment request)))
 
--- a prefix of it was printed
+-- a prefix of the lines of what the command evicts was printed, for each state that the cache kept before
 abbrev pub SaysPrefix : Cache → Told → (moment : ℕ) → Request → (old new : Option (List ℕ)) → Type 0
 SaysPrefix cache told moment request old new = ForKept (KeepsState cache) told (λ state. Appends old new (evicted_first (step state moment request)))
 
 -- Answers.
 
--- a fault of a call on the folder as one of a step
+-- the fault of a step that a failed call on the folder causes
 abbrev pub of_step_fault : Fault → StepFault
 of_step_fault fault.Device = step_fault.Device
 of_step_fault (fault.Damaged damage) = step_fault.Damaged damage
 
--- where the command is done, this holds: it is answered, or only the sink failed
+-- where the command is done, P holds: it was answered, or only the output failed
 abbrev pub IfDone : {A : Type 0} → Result A StepFault → Type 0 → Type 0
 IfDone (Ok a) P = P
 IfDone (Err step_fault.Sink) P = P
 IfDone (Err step_fault.Device) P = Unit {0}
 IfDone (Err (step_fault.Damaged damage)) P = Unit {0}
 
--- where the answer is that the sink failed, this holds
+-- where the answer is that the output failed, P holds; any other answer is fine
 abbrev pub IfSink : {A : Type 0} → Result A StepFault → Type 0 → Type 0
 IfSink (Err step_fault.Sink) P = P
 IfSink (Err step_fault.Device) P = Unit {0}
 IfSink (Err (step_fault.Damaged damage)) P = Unit {0}
 IfSink (Ok a) P = Unit {0}
 
--- where it is that the folder failed
+-- where the answer is that the folder failed (an I/O error), P holds; any other answer is fine
 abbrev pub IfStepDevice : {A : Type 0} → Result A StepFault → Type 0 → Type 0
 IfStepDevice (Err step_fault.Device) P = P
 IfStepDevice (Err step_fault.Sink) P = Unit {0}
 IfStepDevice (Err (step_fault.Damaged damage)) P = Unit {0}
 IfStepDevice (Ok a) P = Unit {0}
 
--- where it is a failed check, that check is so
+-- where the answer is a failed check, it has the property P; any other answer is fine
 abbrev pub IfStepDamaged : {A : Type 0} → Result A StepFault → (Damage → Type 0) → Type 0
 IfStepDamaged (Err (step_fault.Damaged damage)) P = P damage
 IfStepDamaged (Err step_fault.Device) P = Unit {0}

@@ -1,4 +1,4 @@
--- A Write: why it is refused, what is asked of its end, and what the cache counts then.
+-- A Write: its refusals, the precondition of its end, and how the cache counts it.
 use Rattle.std.specs.Prelude.{◌≡◌, ◌<◌, ◌≤◌, ◌+◌, ◌-◌, ◌&&◌, ℕ, Bool, List, [], ◌∷◌, false, true, if◌then◌else◌, is_none, length, nat_lt}
 use Rattle.std.specs.declared.option.Option.{Option}
 use Rattle.std.specs.declared.option.Option.TheVariants.{None, Some}
@@ -30,29 +30,29 @@ use Rattle.blk_cache.specs.Creating.{sum_within}
 
 -- Refusals.
 
--- why a Write is refused, by what the names, the number of the stream and the length tell
+-- the refusal of a Write that needs no read of the folder: by the table of handles, the stream's number and the length
 abbrev pub early_write_refusal : Cache → (handle stream offset count : ℕ) → Option Refusal
 early_write_refusal cache handle stream offset count =
     first_refusal ((is_none (binding_of cache.handles handle), refusal.BadHandle) ∷ (no_stream stream, refusal.BadStream) ∷ (nat_lt (longest_stream cache.limits.max_bytes) (offset + count), refusal.TooLarge) ∷ [])
 
--- a stream of an object that a handle names is found, and may be written unless there is no space
+-- the stream of an object that the handle names was found, and the Write is refused only if there is no space
 pub record MayBeWritten (state : State) (layout : Layout) (moment handle stream offset : ℕ) (cut : Bool) (bytes : List ℕ) (found : NamedStream) : Type 0 where
   pub named : IsNamedStream state layout handle stream found
   pub unless_full : refused moment (to_write handle stream offset cut bytes) state ≡ (if no_room moment (to_write handle stream offset cut bytes) state then Some refusal.Full else None)
 
--- it is found, or this is why the Write is refused
+-- the answer for a Write: the stream that it writes to, or why it is refused
 abbrev pub IsAskedToWrite : State → Layout → (moment handle stream offset : ℕ) → Bool → List ℕ → Asked → Type 0
 IsAskedToWrite state layout moment handle stream offset cut bytes (asked.Refused why) = refused moment (to_write handle stream offset cut bytes) state ≡ Some why
 IsAskedToWrite state layout moment handle stream offset cut bytes (asked.Stream found) = MayBeWritten state layout moment handle stream offset cut bytes found
 
--- where a stream is found nothing early refuses the Write
+-- where a stream was found, no early refusal applies
 abbrev pub IsNotRefusedEarly : (early : Option Refusal) → Asked → Type 0
 IsNotRefusedEarly early (asked.Refused why) = Unit {0}
 IsNotRefusedEarly early (asked.Stream found) = early ≡ None
 
 -- The end.
 
--- a cache keeps what a Write leaves of a state once all that it evicts is out, the Write isn't refused, and the stream has so many bytes
+-- all evictions of a Write of `state` are done: the write isn't refused, the cache keeps the state after the evictions, and the stream has `size` bytes
 pub record IsReadyToWrite (cache : Cache) (state : State) (moment handle stream offset : ℕ) (cut : Bool) (bytes : List ℕ) (size : ℕ) (image : Image) : Type 0 where
   pub valid : IsValidState state
   pub passes : refused moment (to_write handle stream offset cut bytes) state ≡ None
@@ -62,7 +62,7 @@ pub record IsReadyToWrite (cache : Cache) (state : State) (moment handle stream 
   pub names : Names (with_room state moment (to_write handle stream offset cut bytes)) handle number object
   pub size_is : size ≡ length (stream_of object stream)
 
--- a cache is ready for a Write of some state
+-- the cache is ready for this Write, of some state at some moment
 pub record IsReadyToWriteSome (cache : Cache) (handle stream offset : ℕ) (cut : Bool) (bytes : List ℕ) (size : ℕ) (image : Image) : Type 0 where
   pub state : State
   pub moment : ℕ
@@ -70,7 +70,7 @@ pub record IsReadyToWriteSome (cache : Cache) (handle stream offset : ℕ) (cut 
 
 -- The change.
 
--- the object of a handle is dirty, and can get bytes in a stream, which has so many now: where it gets longer, the state with them is within the limit
+-- the handle names a dirty object whose stream of `size` bytes may get the bytes: if it gets longer, the sum of costs is within the limit afterwards
 pub record CanGetBytes (state : State) (handle stream offset : ℕ) (cut : Bool) (bytes : List ℕ) (size : ℕ) : Type 0 where
   pub number : ℕ
   pub object : Object
@@ -80,15 +80,15 @@ pub record CanGetBytes (state : State) (handle stream offset : ℕ) (cut : Bool)
   pub size_is : size ≡ length (stream_of object stream)
   pub within : size < length (stream_after cut (stream_of object stream) offset bytes) → total (written handle stream offset cut bytes state) ≤ state.limits.max_bytes
 
--- a cache keeps some state whose object can get them
+-- the cache keeps some state whose object may get the bytes
 pub record KeepsToWrite (cache : Cache) (handle stream offset : ℕ) (cut : Bool) (bytes : List ℕ) (size : ℕ) (image : Image) : Type 0 where
   pub state : State
   pub kept : KeepsState cache state image
   pub can : CanGetBytes state handle stream offset cut bytes size
 
--- The use.
+-- The access.
 
--- a state is kept in which the main item of a dirty live object lies at a node
+-- the folder keeps a state (but for the counters) in which the main item of a dirty live object has this node
 pub record IsToBeUsed (state : State) (layout : Layout) (number : ℕ) (object : Object) (node : ℕ) (image : Image) : Type 0 where
   pub kept : KeepsUncounted state layout [] image
   pub here : object_at state number ≡ Some object
@@ -96,11 +96,12 @@ pub record IsToBeUsed (state : State) (layout : Layout) (number : ℕ) (object :
   pub unsettled : object.settled ≡ false
   pub node_is : node ≡ layout.place (main object.key)
 
--- what holds of each such object
+-- P holds of each dirty live object whose main item has this node, wherever the folder keeps a state
 abbrev pub ForEachToUse : (node : ℕ) → Image → (State → Layout → Object → Type 0) → Type 0
 ForEachToUse node from P = (state : State) (layout : Layout) (number : ℕ) (object : Object) → IsToBeUsed state layout number object node from → P state layout object
 
--- the state with the item in front is kept, and the bytes that the index counts are less by one number and more by another
+-- the main item was accessed, and then the counter of bytes in the index was lowered by `less` and raised by `more`; the folder keeps the state with the item
+-- in front of the LRU list
 pub record IsUsedAndCounted (state : State) (layout : Layout) (object : Object) (less more : ℕ) (from image : Image) : Type 0 where
   pub touched : Image
   pub kept : KeepsUncounted (with_used state (main object.key)) layout [] touched
@@ -108,9 +109,9 @@ pub record IsUsedAndCounted (state : State) (layout : Layout) (object : Object) 
   pub counted : IsRiseCounted less more touched image
   pub kept_still : KeepsUncounted (with_used state (main object.key)) layout [] image
 
--- What is counted.
+-- Counters.
 
--- the bytes, and those of the open objects, are less by one number and more by another; all else is as before
+-- the cache's bytes, and those of its open objects, are lowered by `less` and raised by `more`; it is otherwise unchanged
 pub record CountsRise (old new : Cache) (less more : ℕ) : Type 0 where
   pub bytes : new.bytes ≡ sum_within (old.bytes - less) more
   pub open_bytes : new.open_bytes ≡ sum_within (old.open_bytes - less) more

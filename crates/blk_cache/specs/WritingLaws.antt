@@ -1,4 +1,4 @@
--- The laws of a Write in a cache.
+-- Lemmas on the space for a Write.
 use Rattle.std.specs.Prelude.{◌≡◌, ◌-◌, ℕ, Bool, List, [], false, length}
 use Rattle.blk_model.specs.Effects.{stream_after, stream_of}
 use Rattle.blk_model.specs.Refusals.{is_kept_from_streams, room_for}

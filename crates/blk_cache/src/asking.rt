@@ -90,7 +90,7 @@ impl Cache {
     }
 }
 
-// Whether a record with these flags keeps a stream to itself: a sparse one all but the first.
+// Whether a record with these flags keeps a stream to itself: that of a sparse entry keeps all but stream 0.
 fn keeps_stream(flags: u32, stream: u8) -> bool
     ensures { result ≡ keeps_stream flags stream }
 {

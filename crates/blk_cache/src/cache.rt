@@ -7,7 +7,7 @@ use blk_disk::BlockFiles;
 use blk_handles::Handles;
 use blk_model::Limits;
 
-/// A cache: what it keeps in memory of its folder and of its clients.
+/// A cache: what it has in memory of its folder and of its clients' handles.
 ///
 /// All its memory is taken when it is opened.
 #[derive(Drop)]

@@ -108,7 +108,7 @@ impl Cache {
         end_object(folder, &self.files, object)
     }
 
-    // Counts a closed object with its charge as open no longer, and a doomed one as no item.
+    // Subtracts a closed object from the counters of open objects, and a doomed one from those of items too.
     fn count_closed(&mut self, doomed: bool, charge: u64)
         ensures counts { CountsClosed self.old self.new doomed charge }
     {

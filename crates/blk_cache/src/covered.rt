@@ -4,18 +4,18 @@ ghost use Rattle.blk_cache.specs.Covering.{covers, no_parts, one_if_some, part_c
 
 use blk_addr::Addr;
 
-/// The parts of an open object that a command covers, as they lie in the folder: none of them goes while it runs.
+/// The parts of an open object that are in the range of a command, by their nodes: none of them is evicted while it runs.
 #[derive(Clone, Copy)]
 pub(crate) struct Covered {
-    /// The nodes of those that there are, two at most.
+    /// The nodes of those that exist, two at most.
     pub first: Option<Addr>,
     pub second: Option<Addr>,
-    /// What these are charged.
+    /// The sum of their costs.
     pub bytes: u64,
 }
 
 impl Covered {
-    /// No part is covered.
+    /// No part is in range.
     pub(crate) fn none() -> Covered
         ensures { result ≡ no_parts }
     {
@@ -26,14 +26,14 @@ impl Covered {
         }
     }
 
-    /// Whether a node is that of a covered part.
+    /// Whether a node is that of a part in range.
     pub(crate) fn has(&self, node: Addr) -> bool
         ensures { result ≡ covers self.now node }
     {
         self.first == Some(node) || self.second == Some(node)
     }
 
-    /// How many parts there are.
+    /// How many parts in range exist.
     pub(crate) fn count(&self) -> u64
         ensures { result ≡ part_count self.now }
     {

@@ -101,7 +101,7 @@ impl Cache {
         requires free { binding_of self.old.handles handle ≡ None }
         requires is_open { ForSome (F.told folder.old).files (IsOpen self.old.files) }
 
-        // It is the map's Create, and may crash at each word.
+        // The Create is done as in the model, and after each single write the folder is as a crash in it may leave it.
         ensures does { WantsRoomAlone self.old (F.told folder.old) moment handle key.now → IfOk result (λ answer. Does (KeepsState self.old) (KeepsState self.new) (F.told folder.old) (F.told folder.new) moment (to_create handle key.now) answer) }
         ensures stops { WantsRoomAlone self.old (F.told folder.old) moment handle key.now → MayStopAtEach (KeepsState self.old) (F.told folder.old) (F.told folder.new) moment (to_create handle key.now) }
 
@@ -142,7 +142,7 @@ impl Cache {
         self.is_full(key.len() as u64, 1, &Covered::none())
     }
 
-    // Makes a new object by a Create that isn't refused, once all that has to be evicted for it is out.
+    // Makes a new object by a Create that isn't refused, after its evictions.
     fn create_with_room<F: Folder, K: Sink>(
         &mut self,
         folder: &mut F,
@@ -158,7 +158,7 @@ impl Cache {
         requires free { binding_of self.old.handles handle ≡ None }
         requires is_open { ForSome (F.told folder.old).files (IsOpen self.old.files) }
 
-        // It is done, and may crash at each word.
+        // The Create is done as in the model, and after each single write the folder is as a crash in it may leave it.
         ensures does { IsNotRefused self.old (F.told folder.old) moment handle key.now → IfOk result (λ answer. Does (KeepsState self.old) (KeepsState self.new) (F.told folder.old) (F.told folder.new) moment (to_create handle key.now) answer) }
         ensures stops { IsNotRefused self.old (F.told folder.old) moment handle key.now → MayStopAtEach (KeepsState self.old) (F.told folder.old) (F.told folder.new) moment (to_create handle key.now) }
 
@@ -183,8 +183,7 @@ impl Cache {
         self.end_create(folder, handle, key, moment)
     }
 
-    // Ends a Create that isn't refused, once all that it evicts is out: its object is made, with a free handle name
-    // bound to it.
+    // Ends a Create that isn't refused, after its evictions: its object is made, and a free handle names it.
     pub(crate) fn end_create<F: Folder>(
         &mut self,
         folder: &mut F,
@@ -198,7 +197,7 @@ impl Cache {
         requires free { binding_of self.old.handles handle ≡ None }
         requires is_open { ForSome (F.told folder.old).files (IsOpen self.old.files) }
 
-        // It is done, whatever state the Create began with, and may crash at each word.
+        // The Create is done, whatever state it began with, and after each single write the folder is as a crash in it may leave it.
         ensures does { IfOk result (λ answer. ForSome (F.told folder.old).files (λ from. (state : State) → IsReadyToCreate self.old state moment handle key.now from → IsDone (KeepsState self.new) (F.told folder.new) moment (to_create handle key.now) answer state)) }
         ensures stops { ForSome (F.told folder.old).files (λ from. (state : State) → IsReadyToCreate self.old state moment handle key.now from → Passes (F.told folder.old) (F.told folder.new) (MayStop state moment (to_create handle key.now))) }
 
@@ -260,8 +259,8 @@ impl Cache {
         Ok(())
     }
 
-    // Why a Create is refused, but for lack of space: with `BadKey`, `BadHandle` or `HandleBusy`, by what the names and
-    // the key tell, or with `Exists` where a live object has the key, the first of these. Nothing is written.
+    // Why a Create is refused, but for lack of space: with `BadKey`, `BadHandle` or `HandleBusy`, by the key and the table of handles, or with `Exists` where a
+    // live object has the key, the first of these. Nothing is written.
     pub(crate) fn refuses_create<F: Folder>(
         &self,
         folder: &mut F,
@@ -288,7 +287,7 @@ impl Cache {
         }
     }
 
-    // Binds a free name to a new object, which is dirty, and counts it.
+    // Gives a free handle to a new object, which is dirty, and counts it.
     fn bind_new(&mut self, name: u16, new: &Live, node: Addr)
         requires known { name < handle_names }
         requires free { binding_of self.old.handles name ≡ None }

@@ -1,7 +1,7 @@
 //! The laws of a Create, each the contract of a function with an empty body.
 ghost use Rattle.blk_cache.specs.CreatingLaws.{CreatesHaveRoom, CreatesWantRoomForOneItem};
 
-/// A Create that isn't refused has space for its object once all that it evicts is out.
+/// After all evictions of a Create that isn't refused, there is space for its object.
 pub fn creates_have_room()
     ensures wants { CreatesWantRoomForOneItem }
     ensures has { CreatesHaveRoom }

@@ -79,7 +79,7 @@ impl Cache {
         Ok(())
     }
 
-    /// Counts what went of a doomed object no longer, and marks the object as doomed where it is open.
+    /// Subtracts what was removed of a doomed object from the cache's counters, and marks the object as doomed for its handles.
     pub(crate) fn count_doomed(&mut self, entry: Addr, gone: &Gone)
         ensures counts { CountsDoomed self.old self.new entry gone.now }
     {

@@ -1,4 +1,4 @@
-// Groups are evicted until there is enough.
+// Eviction units are evicted until a goal is met.
 ghost use Rattle.std.specs.Prelude.{◌≡◌, ◌+◌, [], ◌∷◌, IfOk, IsTrue, None, OnOk, true};
 ghost use Rattle.std.specs.Option.{ForSome};
 ghost use Rattle.spec_image.specs.Told.{Passes, MayWrite};
@@ -65,7 +65,7 @@ impl Cache {
         Ok(before.saturating_sub(self.items))
     }
 
-    // Evicts groups until enough is evicted or each item is pinned.
+    // Evicts eviction units until the goal is met or each item is pinned.
     fn evict_groups<F: Folder, K: Sink>(
         &mut self,
         folder: &mut F,
@@ -104,7 +104,7 @@ impl Cache {
         Ok(())
     }
 
-    // Evicts the group of an item that isn't pinned, and prints its items: a main item with its parts, or a part alone.
+    // Evicts the eviction unit of an item that isn't pinned, and prints its items: a main item with its parts, or a part alone.
     fn evict<F: Folder, K: Sink>(
         &mut self,
         folder: &mut F,

@@ -1,4 +1,4 @@
-// The memory that a session has for names.
+// The memory that a session takes for handles and keys.
 ghost use Rattle.std.specs.Prelude.{◌≡◌, IfOk, length};
 ghost use Rattle.blk_handles.specs.Bindings.{all_free};
 ghost use Rattle.blk_evict.specs.NameBuffer.{name_buffer_len};
@@ -9,10 +9,10 @@ use blk_handles::Handles;
 use blk_ranges::LONGEST_KEY;
 use std::alloc::Global;
 
-// How many bytes there are for names: for the key of a parent, and for the name of a part.
+// The bytes of the key buffer: the key of a parent, and behind it the name of a part.
 const NAME_BUFFER_LEN: usize = LONGEST_KEY as usize + LONGEST_NAME as usize;
 
-// The handle names, and buffers for names of objects.
+// The table of handles, and the key buffer.
 #[derive(Drop)]
 pub(crate) struct Names {
     pub(crate) handles: Handles,

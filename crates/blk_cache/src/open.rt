@@ -67,7 +67,7 @@ impl Cache {
         Ok(Answer::Done)
     }
 
-    // The refusals of an Open that the names and the key tell.
+    // The refusals of an Open that the key and the table of handles tell.
     pub(crate) fn refuses_open(&self, handle: u16, key: &[u8]) -> Option<Refusal>
         ensures { result ≡ open_refusal self.now.handles handle key.now }
     {
@@ -82,7 +82,7 @@ impl Cache {
         }
     }
 
-    // The node of a live object that was found: the one that its names have where it is open.
+    // The node of a live object that was found: where it is open, that in the table of handles.
     pub(crate) fn node_of(&self, live: &Live) -> Addr
         requires stands { IsTrue (is_node_among self.now.files live.now.node) }
         ensures same { ForSome (open_with self.now.handles live.now.entry) (λ object. object.node ≡ result) }
@@ -95,7 +95,7 @@ impl Cache {
         }
     }
 
-    // Binds a free name to a live object, which is charged where it wasn't open.
+    // Gives a free handle to a live object, whose cost is added to that of the open objects where it wasn't open.
     fn bind_live(&mut self, name: u16, live: &Live, node: Addr)
         requires known { name < handle_names }
         requires free { binding_of self.old.handles name ≡ None }
@@ -116,7 +116,7 @@ impl Cache {
     }
 }
 
-// What the open objects are charged with one more, unless it was open.
+// The cost of the open objects with one more, unless that was open already.
 fn charged_with(charged: u64, was_open: bool, charge: u64) -> u64
     ensures { result ≡ charged_with charged was_open charge }
 {

@@ -1,4 +1,4 @@
-// A folder is opened: it is made or checked, and repaired by what it holds.
+// A folder is opened: it is made or checked, and recovered by its scan.
 ghost use Rattle.std.specs.Prelude.{◌≡◌, IfOk, None, OnOk, Some};
 ghost use Rattle.std.specs.Option.{ForSome};
 ghost use Rattle.spec_image.specs.Image.{Index as index, byte};
@@ -123,7 +123,7 @@ fn open_loaded<F: Folder>(
     Ok(mend(folder, files, &scan)?)
 }
 
-// Repairs a folder by its scan, and reads the number of the session.
+// Recovers a folder by its scan, and reads the session's number.
 fn mend<F: Folder>(folder: &mut F, files: BlockFiles, scan: &Scan) -> Result<Opened, Fault>
     requires stand { StandAmong files scan.now }
     requires is_open { ForSome (F.told folder.old).files (IsOpen files) }

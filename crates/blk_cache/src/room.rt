@@ -1,4 +1,4 @@
-// Where there is space.
+// Whether there is space below the limits.
 ghost use Rattle.std.specs.Prelude.{◌≡◌, ◌&&◌, ◌+◌, ◌<◌, ◌==◌, ◌^◌, List, nat_le, nat_lt, not};
 ghost use Rattle.spec_image.specs.Image.{Image};
 ghost use Rattle.blk_model.specs.Items.{Item};
@@ -14,7 +14,7 @@ ghost use Rattle.blk_cache.specs.RoomTold.{is_over};
 use crate::cache::Cache;
 use crate::covered::Covered;
 
-// A cache goes down to its limit less so much of it, once items are evicted.
+// The low watermark is below the limit by this share of the limit.
 const FREE_SHARE: u64 = 16;
 
 impl Cache {
@@ -26,7 +26,7 @@ impl Cache {
         self.asks_too_much(bytes, items, parts)
     }
 
-    // Whether something is asked for, and the open objects, the covered parts and what is added exceed a limit.
+    // Whether something is to be added, and the open objects, the parts in range and what is added exceed a limit.
     fn asks_too_much(&self, bytes: u64, items: u64, parts: &Covered) -> bool
         ensures { result ≡ (not (bytes == 0 && items == 0) && is_over (bounds_of self.now.limits) (self.now.open_bytes + parts.now.bytes) (open_count self.now.handles + part_count parts.now) bytes items) }
     {
@@ -39,7 +39,7 @@ impl Cache {
             || exceed(open, parts.count(), items, most_items)
     }
 
-    /// Whether so many more bytes and items fit.
+    /// Whether so many more bytes and items fit below the limits.
     pub(crate) fn fits(&self, bytes: u64, items: u64) -> bool
         ensures fits { (state : State) (image : Image) → KeepsState self.now state image → result ≡ fits state.limits.max_bytes bytes items state }
     {
@@ -47,7 +47,7 @@ impl Cache {
         self.fits_below(most, bytes, items)
     }
 
-    /// Whether enough items are evicted for so many more bytes and items: they fit below the low-water mark.
+    /// Whether enough items are evicted for so many more bytes and items: they fit below the low watermark.
     pub(crate) fn is_enough(&self, bytes: u64, items: u64) -> bool
         ensures enough { (state : State) (image : Image) → KeepsState self.now state image → result ≡ fits (low state) bytes items state }
     {
@@ -55,7 +55,7 @@ impl Cache {
         self.fits_below(most - most / FREE_SHARE, bytes, items)
     }
 
-    // Whether there are no more bytes than these then, and no more items than the limit.
+    // Whether with what is added there are no more bytes than `most`, and no more items than the limit.
     fn fits_below(&self, most: u64, bytes: u64, items: u64) -> bool
         requires small { most < 2 ^ 63 }
         ensures { (state : State) (image : Image) → KeepsState self.now state image → result ≡ fits most bytes items state }

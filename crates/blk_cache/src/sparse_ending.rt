@@ -27,8 +27,8 @@ use blk_sparse::{Parent, Target, store_sparse};
 pub(crate) const PARTS_INDEX: u64 = 8256;
 
 impl Cache {
-    /// Ends a SparseWrite of some bytes that isn't refused, once all that it evicts is out: its object is dirty, and
-    /// then it gets the bytes, which raise what is kept by so many bytes and items.
+    /// Ends a SparseWrite that isn't refused, after its evictions: its object is dirty, and then gets the bytes, which add so many bytes of cost and so many
+    /// items.
     pub(crate) fn end_sparse_write<F: Folder>(
         &mut self,
         folder: &mut F,
@@ -47,7 +47,7 @@ impl Cache {
         requires inside { offset + length bytes.now ≤ largest_offset }
         requires is_open { ForSome (F.told folder.old).files (IsOpen self.old.files) }
 
-        // It is done, whatever state the SparseWrite began with, and may crash at each word.
+        // The SparseWrite is done, whatever state it began with, and after each single write the folder is as a crash in it may leave it.
         ensures does { IfOk result (λ answer. ForSome (F.told folder.old).files (λ from. (state : State) → IsReadyToStore self.old state moment handle offset bytes.now target.now more_bytes more_items from → IsDone (KeepsState self.new) (F.told folder.new) moment (to_sparse_write handle offset bytes.now) answer state)) }
         ensures stops { ForSome (F.told folder.old).files (λ from. (state : State) → IsReadyToStore self.old state moment handle offset bytes.now target.now more_bytes more_items from → Passes (F.told folder.old) (F.told folder.new) (MayStop state moment (to_sparse_write handle offset bytes.now))) }
 
@@ -66,7 +66,7 @@ impl Cache {
         Ok(Answer::Wrote(bytes.len() as u64))
     }
 
-    // Gives a dirty object some bytes of sparse data, and counts what they raise.
+    // Writes sparse data to a dirty object, and counts what is added in the index.
     fn store_to_dirty<F: Folder>(
         &mut self,
         folder: &mut F,
@@ -117,7 +117,7 @@ impl Cache {
         Ok(())
     }
 
-    // Counts so many bytes and items more, and the index of an object that was plain.
+    // Counts what was added in the cache: so many bytes and items, and the index of an object that was plain.
     fn count_parts(&mut self, target: &Target, more_bytes: u64, more_items: u64)
         ensures counts { CountsParts self.old self.new target.now more_bytes more_items }
     {

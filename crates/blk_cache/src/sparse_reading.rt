@@ -82,7 +82,7 @@ impl Cache {
     }
 }
 
-// What is told of the first run of present bytes.
+// The answer from the first run of valid bytes: how many there are at the offset, or the run.
 fn told_of_run(wanted: Wanted, offset: u64, run: (u64, u64)) -> Answer
     ensures { result ≡ told_of_run wanted offset (run.0, run.1) }
 {

@@ -21,7 +21,7 @@ use crate::sparse_ending::PARTS_INDEX;
 use blk_io::{Fault, Folder};
 use blk_sparse::{Measured, Target, measure, measure_plain};
 
-/// What a SparseWrite adds: by how many bytes and items there is more then, beside the covered parts that there are.
+/// What a SparseWrite adds: so many bytes of cost and so many items, beside the parts in range that exist.
 #[derive(Clone, Copy)]
 pub(crate) struct Rise {
     pub(crate) parts: Covered,
@@ -60,7 +60,7 @@ impl Cache {
         Ok(rise_of(target, &found))
     }
 
-    // Measures the parts that so many bytes cover, of an object as one that is sparse.
+    // Measures the parts in a range of so many bytes, of the object as a sparse one.
     fn measure_parts<F: Folder>(
         &mut self,
         folder: &mut F,
@@ -103,7 +103,7 @@ impl Cache {
     }
 }
 
-// The covered parts as they are measured, with the index of an object that is plain.
+// What a SparseWrite adds, by the measure of the parts in range, with the index of an object that is plain.
 fn rise_of(target: &Target, found: &Measured) -> Rise
     requires light { found.now.bytes < 2 ^ 36 }
     ensures { result ≡ rise_of target.now found.now }

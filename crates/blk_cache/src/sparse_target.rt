@@ -1,4 +1,4 @@
-// The object that gets sparse data.
+// The object that a SparseWrite writes to.
 ghost use Rattle.std.specs.Prelude.{◌≡◌, IfOk, IfSome, None, Ok, length};
 ghost use Rattle.std.specs.Option.{ForSome};
 ghost use Rattle.spec_image.specs.Told.{ReadsOnly};
@@ -56,7 +56,7 @@ impl Cache {
     }
 }
 
-// What gets sparse data, or why nothing does.
+// What a SparseWrite writes to, by what its handle names, or why it is refused.
 fn asked_target(asked: AskedSparse, moment: u64) -> AskedTarget
     ensures { result ≡ asked_target moment asked }
 {
@@ -70,7 +70,7 @@ fn asked_target(asked: AskedSparse, moment: u64) -> AskedTarget
     }
 }
 
-// A plain object gets sparse data where it has one stream alone.
+// A plain object gets sparse data if it has no other stream than its first.
 fn asked_plain(found: &PlainObject, moment: u64) -> AskedTarget
     ensures { result ≡ asked_plain moment found.now }
 {

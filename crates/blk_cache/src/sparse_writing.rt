@@ -104,7 +104,7 @@ impl Cache {
         requires inside { offset + length bytes.now ≤ largest_offset }
         requires is_open { ForSome (F.told folder.old).files (IsOpen self.old.files) }
 
-        // It is the map's SparseWrite, and may crash at each word.
+        // The SparseWrite is done as in the model, and after each single write the folder is as a crash in it may leave it.
         ensures does { NamesTarget self.old (F.told folder.old) moment handle offset (length bytes.now) target.now → IfOk result (λ answer. Does (KeepsState self.old) (KeepsState self.new) (F.told folder.old) (F.told folder.new) moment (to_sparse_write handle offset bytes.now) answer) }
         ensures stops { NamesTarget self.old (F.told folder.old) moment handle offset (length bytes.now) target.now → MayStopAtEach (KeepsState self.old) (F.told folder.old) (F.told folder.new) moment (to_sparse_write handle offset bytes.now) }
 
@@ -152,7 +152,7 @@ impl Cache {
         requires inside { offset + length bytes.now ≤ largest_offset }
         requires is_open { ForSome (F.told folder.old).files (IsOpen self.old.files) }
 
-        // It is the map's SparseWrite, and may crash at each word.
+        // The SparseWrite is done as in the model, and after each single write the folder is as a crash in it may leave it.
         ensures does { NamesTarget self.old (F.told folder.old) moment handle offset (length bytes.now) target.now → IfOk result (λ answer. Does (KeepsState self.old) (KeepsState self.new) (F.told folder.old) (F.told folder.new) moment (to_sparse_write handle offset bytes.now) answer) }
         ensures stops { NamesTarget self.old (F.told folder.old) moment handle offset (length bytes.now) target.now → MayStopAtEach (KeepsState self.old) (F.told folder.old) (F.told folder.new) moment (to_sparse_write handle offset bytes.now) }
 
@@ -179,7 +179,7 @@ impl Cache {
         )
     }
 
-    // Writes them where there is space for what they add, which is known before anything is evicted or written.
+    // Writes the bytes if there is space for what they add, which is known before anything is evicted or written.
     fn write_where_room<F: Folder, K: Sink>(
         &mut self,
         folder: &mut F,
@@ -201,7 +201,7 @@ impl Cache {
         requires inside { offset + length bytes.now ≤ largest_offset }
         requires is_open { ForSome (F.told folder.old).files (IsOpen self.old.files) }
 
-        // It is the map's SparseWrite, and may crash at each word.
+        // The SparseWrite is done as in the model, and after each single write the folder is as a crash in it may leave it.
         ensures does { AsksToStore self.old (F.told folder.old) moment handle offset bytes.now target.now rise.now → IfOk result (λ answer. Does (KeepsState self.old) (KeepsState self.new) (F.told folder.old) (F.told folder.new) moment (to_sparse_write handle offset bytes.now) answer) }
         ensures stops { AsksToStore self.old (F.told folder.old) moment handle offset bytes.now target.now rise.now → MayStopAtEach (KeepsState self.old) (F.told folder.old) (F.told folder.new) moment (to_sparse_write handle offset bytes.now) }
 
@@ -230,7 +230,7 @@ impl Cache {
         )
     }
 
-    // Writes them once all that has to be evicted for them is out, where nothing refuses it.
+    // Writes the bytes after all evictions for them, where nothing refuses the SparseWrite.
     fn write_with_room<F: Folder, K: Sink>(
         &mut self,
         folder: &mut F,
@@ -252,7 +252,7 @@ impl Cache {
         requires inside { offset + length bytes.now ≤ largest_offset }
         requires is_open { ForSome (F.told folder.old).files (IsOpen self.old.files) }
 
-        // It is the map's SparseWrite, and may crash at each word.
+        // The SparseWrite is done as in the model, and after each single write the folder is as a crash in it may leave it.
         ensures does { HasRoomToStore self.old (F.told folder.old) moment handle offset bytes.now target.now rise.now → IfOk result (λ answer. Does (KeepsState self.old) (KeepsState self.new) (F.told folder.old) (F.told folder.new) moment (to_sparse_write handle offset bytes.now) answer) }
         ensures stops { HasRoomToStore self.old (F.told folder.old) moment handle offset bytes.now target.now rise.now → MayStopAtEach (KeepsState self.old) (F.told folder.old) (F.told folder.new) moment (to_sparse_write handle offset bytes.now) }
 

@@ -134,7 +134,7 @@ impl Cache {
         self.handles.least_name().is_some()
     }
 
-    // Does a command but for its note and its reply.
+    // Does a command without its completion marker and its reply.
     fn perform<F: Folder, K: Sink>(
         &mut self,
         folder: &mut F,
@@ -206,7 +206,7 @@ impl Cache {
         }
     }
 
-    // Notes that one command more is done.
+    // Makes the completion marker of a command.
     fn note<F: Folder>(&mut self, folder: &mut F) -> Result<(), Fault>
         ensures done { OnOk result (Applies (F.told folder.old) (F.told folder.new) (Note (note_number (self.old.notes + 1)) ∷ [])) }
         ensures undone { OnErr result (Stays (F.told folder.old) (F.told folder.new)) }

@@ -10,7 +10,7 @@ use crate::cache::Cache;
 use blk_model::Answer;
 
 impl Cache {
-    /// The number of items and the bytes that they are charged, doomed open objects among them. No folder is asked.
+    /// The number of items and the sum of their costs, doomed open objects included. No folder call is made.
     pub(crate) fn total(&self) -> Answer
         ensures answer { result ≡ answer.Totals self.now.items self.now.bytes }
         ensures does { (told : Told) (moment : ℕ) → Does (KeepsState self.now) (KeepsState self.now) told told moment to_total result }

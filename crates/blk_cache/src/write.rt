@@ -101,7 +101,7 @@ impl Cache {
         }
     }
 
-    // Ends a Write that isn't refused, once all that it evicts is out: its object is dirty, and then written.
+    // Ends a Write that isn't refused, after its evictions: its object is dirty, and then written.
     pub(crate) fn end_write<F: Folder>(
         &mut self,
         folder: &mut F,
@@ -116,7 +116,7 @@ impl Cache {
         requires passes { early_write_refusal self.old handle stream offset (length bytes.now) ≡ None }
         requires is_open { ForSome (F.told folder.old).files (IsOpen self.old.files) }
 
-        // It is done, whatever state the Write began with, and may crash at each word.
+        // The Write is done, whatever state it began with, and after each single write the folder is as a crash in it may leave it.
         ensures does { IfOk result (λ answer. ForSome (F.told folder.old).files (λ from. (state : State) → IsReadyToWrite self.old state moment handle stream offset cut bytes.now size from → IsDone (KeepsState self.new) (F.told folder.new) moment (to_write handle stream offset cut bytes.now) answer state)) }
         ensures stops { ForSome (F.told folder.old).files (λ from. (state : State) → IsReadyToWrite self.old state moment handle stream offset cut bytes.now size from → Passes (F.told folder.old) (F.told folder.new) (MayStop state moment (to_write handle stream offset cut bytes.now))) }
 
@@ -133,8 +133,8 @@ impl Cache {
         Ok(Answer::Wrote(bytes.len() as u64))
     }
 
-    // Writes bytes over a stream of so many of the object that a handle names, which is dirty: then the item of a live
-    // object is used, and its rise is counted in the index; and that of any in the cache.
+    // Writes bytes over a stream of so many of the dirty object that the handle names; then the item of a live object is accessed, and the change of its cost
+    // is counted in the index; that of any object is counted in the cache.
     fn write_to_dirty<F: Folder>(
         &mut self,
         folder: &mut F,
@@ -235,8 +235,8 @@ impl Cache {
     }
 }
 
-// Uses the item of a live object whose stream had so many bytes and has so many after, and counts the rise in the index.
-// A doomed one has no item, and isn't counted.
+// Accesses the item of a live object whose stream had so many bytes and has so many after, and counts the difference in the index. A doomed object has no item,
+// and isn't counted there.
 fn use_and_count<F: Folder>(
     folder: &mut F,
     files: &BlockFiles,
@@ -286,7 +286,7 @@ fn length_after(cut: bool, size: u32, offset: u64, bytes: &[u8]) -> u64
     if cut { end } else { end.max(u64::from(size)) }
 }
 
-// By how many bytes it is longer then.
+// By how many bytes the stream is longer after the write.
 fn rise(cut: bool, size: u32, offset: u64, bytes: &[u8]) -> u64
     requires most { offset + length bytes.now ≤ most_stream_bytes }
     ensures { result ≡ size_after cut size offset (length bytes.now) - size }

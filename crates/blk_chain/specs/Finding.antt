@@ -1,4 +1,4 @@
--- A record is found by its key and its child flag, in the chain of the key's bucket.
+-- The search for a record by its key and its child flag, in the hash chain of the key's bucket.
 use Rattle.std.specs.Prelude.{◌≡◌, ◌≢◌, ◌⊎◌, ℕ, ◌+◌, ◌<◌, ◌≤◌, List, [], ◌∷◌, ◌++◌, length, Bool, true, false, ◌==◌, IfSome}
 use Rattle.std.specs.declared.option.Option.{Option}
 use Rattle.std.specs.declared.option.Option.TheVariants.{None, Some}
@@ -26,22 +26,22 @@ use Rattle.blk_chain.specs.declared.finding.Step.TheVariants.{Here, On}
 use Rattle.spec_folder.specs.Searches.{bucket_of_key, chained_for, HasKey, IsWholeChain, NoneHasKey}
 use Rattle.blk_chain.specs.Unlinking.{StandsBehind, next_record}
 
--- the most records of a chain that is searched: as many as a list has nodes
+-- the most records of a chain that a search follows: as many as an LRU list has nodes
 abbrev pub most_searched : ℕ
 most_searched = most_nodes
 
--- the chain of a key's bucket can be searched: it ends at the word 0, it isn't too long, and each of its records has a key
+-- precondition of a search: the chain of the key's bucket ends at the word 0, has no more records than a search follows, and each of them has a readable key
 pub record CanBeSearched (key : List ℕ) (image : Image) : Type 0 where
   pub whole : IsWholeChain (store_of image) (bucket_of_key key)
   pub few : length (chained_for (store_of image) key) ≤ most_searched
   pub keys : (w : ℕ) → is_among (chained_for (store_of image) key) w ≡ true → HasReadableKey w image
 
--- words up to one, if there is one
+-- the words of the list up to and including `before`, if there is one
 abbrev pub up_to : List ℕ → Option ℕ → List ℕ
 up_to prefix None = prefix
 up_to prefix (Some before) = prefix ++ before ∷ []
 
--- a record has this key and child flag, it is in the chain after this one, and it is the first there that has
+-- the search result: the record has this key and child flag, it comes after `before` in its chain (or is the first), and no record in front of it has both
 pub record IsFound (key : List ℕ) (is_child : Bool) (entry : ℕ) (before : Option ℕ) (image : Image) : Type 0 where
   pub has_key : HasKey (store_of image) key is_child entry
   pub prefix : List ℕ
@@ -49,70 +49,70 @@ pub record IsFound (key : List ℕ) (is_child : Bool) (entry : ℕ) (before : Op
   pub stands : StandsBehind (chained_for (store_of image) key) entry before prefix suffix
   pub first : NoneHasKey (store_of image) (up_to prefix before) key is_child
 
--- what a search gives: a record that is found, or nothing where no record of the chain has the key and the child flag
+-- the answer of a search: a record that was found, or None where no record of the chain has the key and the child flag
 abbrev pub IsAnswer : List ℕ → Bool → Option Found → Image → Type 0
 IsAnswer key is_child None image = NoneHasKey (store_of image) (chained_for (store_of image) key) key is_child
 IsAnswer key is_child (Some found) image = IsFound key is_child found.entry found.before image
 
--- A search as it goes, from record to record.
+-- A search from record to record, of any chain.
 
--- a record is the one that is sought: it has the hash of a key, the bytes of the key where its words say that its key lies, and this child flag
+-- record w is the one that is sought: it has the key's hash, the key's bytes lie where its words say, and it has this child flag
 pub record IsSought (key : List ℕ) (is_child : Bool) (w : ℕ) (image : Image) : Type 0 where
   pub bytes : HasBytesOf key w image
   pub flag : ((entry_at image w).flags == child) ≡ is_child
 
--- a word was followed: it names a record that is there, whose bytes are there and check
+-- word w was followed: it is the address of a valid record, whose bytes are there and whose checksum matches or is absent
 pub record IsFollowed (files : BlockFiles) (w : ℕ) (image : Image) : Type 0 where
   pub stands : is_record_among files w ≡ true
   pub whole : HasRecord w image
 
--- records are passed from a word on up to another one: each word was followed, and no record is the one that is sought
+-- a walk along a chain passes these records, from `word` up to the word `on`: each was followed, and none is the one that is sought
 abbrev pub Walks : BlockFiles → List ℕ → Bool → Image → ℕ → List ℕ → ℕ → Type 0
 Walks files key is_child image word [] on = word ≡ on
 Walks files key is_child image word (w ∷ words) on = (word ≡ w) × (IsFollowed files w image × ((IsSought key is_child w image → ⊥) × Walks files key is_child image (next_record image w) words on))
 
--- the last of words, or what was before them
+-- the last of the words, or `before` where there are none
 abbrev pub last_passed : Option ℕ → List ℕ → Option ℕ
 last_passed before [] = before
 last_passed before (w ∷ words) = last_passed (Some w) words
 
--- a search has passed so many records, from the word of the bucket on, and is at a word after the last of them
+-- a search has passed `count` records of the chain of the key, the last of them `before`, and goes on at `word`
 pub record HasPassed (files : BlockFiles) (key : List ℕ) (is_child : Bool) (word : ℕ) (before : Option ℕ) (count : ℕ) (image : Image) : Type 0 where
   pub passed : List ℕ
   pub many : length passed ≡ count
   pub last : last_passed None passed ≡ before
   pub walk : Walks files key is_child image ((store_of image).table (bucket_of_key key)) passed word
 
--- it ends at the word 0
+-- a search of the chain has passed some records and ends at the word 0
 pub record EndsUnfound (files : BlockFiles) (key : List ℕ) (is_child : Bool) (image : Image) : Type 0 where
   pub before : Option ℕ
   pub count : ℕ
   pub passed : HasPassed files key is_child 0 before count image
 
--- or at the record that is sought
+-- a search of the chain has passed some records and ends at `entry`, the record that is sought
 pub record EndsAt (files : BlockFiles) (key : List ℕ) (is_child : Bool) (entry : ℕ) (before : Option ℕ) (image : Image) : Type 0 where
   pub count : ℕ
   pub passed : HasPassed files key is_child entry before count image
   pub followed : IsFollowed files entry image
   pub sought : IsSought key is_child entry image
 
--- what a search gives of any chain: nothing where it ends at the word 0, or the record that is sought
+-- the outcome of a search of any chain: None where it ends at the word 0, or the record that is sought
 abbrev pub IsOutcome : BlockFiles → List ℕ → Bool → Option Found → Image → Type 0
 IsOutcome files key is_child None image = EndsUnfound files key is_child image
 IsOutcome files key is_child (Some found) image = EndsAt files key is_child found.entry found.before image
 
--- The failed checks of a search.
+-- Failed checks of a search.
 
--- a failed check is that of the word of a bucket, or of the next of a record
+-- the failed check is of a link in a chain: the word of the bucket, or the next of record `before`
 abbrev pub IsOfLink : ℕ → Option ℕ → Damage → Type 0
 IsOfLink bucket None damage = (damage.file ≡ names.Index) × (damage.at ≡ place_of_bucket bucket)
 IsOfLink bucket (Some before) damage = (damage.file ≡ names.Block (file_selector before)) × (damage.at ≡ place before + 4)
 
--- the record before, where there is one, is named by a word and is there
+-- `before`, if there is one, is the address of a valid record
 abbrev pub StandsBefore : BlockFiles → Option ℕ → Type 0
 StandsBefore files before = IfSome before (λ w. is_record_among files w ≡ true)
 
--- a word at which a chain goes on names no record that is there
+-- a link in the chain, not 0, isn't the address of a valid record; the error has the link
 pub record IsDanglingLink (files : BlockFiles) (bucket : ℕ) (damage : Damage) : Type 0 where
   pub before : Option ℕ
   pub stands : StandsBefore files before
@@ -120,7 +120,7 @@ pub record IsDanglingLink (files : BlockFiles) (bucket : ℕ) (damage : Damage) 
   pub some : damage.found ≢ 0
   pub dangling : is_record_among files damage.found ≡ false
 
--- a chain goes on after the last record that a search passes, which has passed one more than is searched
+-- a search has passed one record more than it follows, and the chain goes on; the error has the link behind the last one
 pub record IsTooLong (files : BlockFiles) (told : Told) (key : List ℕ) (is_child : Bool) (damage : Damage) : Type 0 where
   pub last : ℕ
   pub stands : is_record_among files last ≡ true
@@ -128,52 +128,52 @@ pub record IsTooLong (files : BlockFiles) (told : Told) (key : List ℕ) (is_chi
   pub some : damage.found ≢ 0
   pub passed : ForSome told.files (HasPassed files key is_child damage.found (Some last) (most_searched + 1))
 
--- a record that is there has too few bytes or doesn't check, or its key of so many bytes has a wrong length or place or too few bytes
+-- a valid record could not be read or its checksum doesn't match, or its key of so many bytes can't be read
 pub record IsWrongRecord (files : BlockFiles) (told : Told) (key_len : ℕ) (damage : Damage) : Type 0 where
   pub entry : ℕ
   pub stands : is_record_among files entry ≡ true
   pub wrong : IsKeyDamage files told entry key_len damage
 
--- a failed check of a chain that is followed: a word that names no record, a wrong record, or a chain that is too long
+-- why a chain can't be followed: a link to no valid record, a record that can't be read, or a chain that is too long
 abbrev pub IsChainDamage : BlockFiles → Told → List ℕ → Bool → Damage → Type 0
 IsChainDamage files told key is_child damage = IsDanglingLink files (bucket_of_key key) damage ⊎ (IsWrongRecord files told (length key) damage ⊎ IsTooLong files told key is_child damage)
 
--- a failed check of a search: too few bytes of the bucket's word, or one of the chain
+-- why a search fails: too few bytes of the bucket's word, or a chain that can't be followed
 abbrev pub IsSearchDamage : BlockFiles → Told → List ℕ → Bool → Damage → Type 0
 IsSearchDamage files told key is_child damage = IsShort told names.Index (place_of_bucket (bucket_of_key key)) 4 damage ⊎ IsChainDamage files told key is_child damage
 
--- Steps of a search.
+-- Parts of a search.
 
--- a word names a record that checks and has a key
+-- w is the address of a record whose checksum matches or is absent, and which has a readable key
 pub record IsKeyed (w : ℕ) (image : Image) : Type 0 where
   pub fields : RecordFields
   pub here : (store_of image).entry w ≡ Some fields
   pub good : fields.checks ≡ true
   pub key : HasReadableKey w image
 
--- a fault is a failed check of the word of a link
+-- the fault is a failed check of a link in a chain, with this word
 pub record IsFaultOfLink (bucket : ℕ) (before : Option ℕ) (found : ℕ) (fault : Fault) : Type 0 where
   pub damage : Damage
   pub is : fault ≡ Damaged damage
   pub link : IsOfLink bucket before damage
   pub of_word : damage.found ≡ found
 
--- what a step finds at a word: a record that is there, and the next record's word where it isn't the one
+-- the outcome of one step of a search at word w: its valid record, or the link behind it
 abbrev pub IsStepAt : BlockFiles → ℕ → Step → Type 0
 IsStepAt files w (Here entry) = (entry ≡ w) × (is_record_among files w ≡ true)
 IsStepAt files w (On link) = (link.before ≡ Some w) × (is_record_among files w ≡ true)
 
--- the word is followed, and the record is the one that is sought, or it isn't and the search goes on at its next
+-- one step of a search at word w: the record is the one that is sought, or it isn't and the search goes on at its next
 abbrev pub IsSearchStep : BlockFiles → List ℕ → Bool → ℕ → Step → Image → Type 0
 IsSearchStep files key is_child w (Here entry) image = IsFollowed files w image × IsSought key is_child w image
 IsSearchStep files key is_child w (On link) image = IsFollowed files w image × ((link.word ≡ next_record image w) × (IsSought key is_child w image → ⊥))
 
--- words end with this one, or there is none
+-- the words end with w, or are none
 abbrev pub EndsWith : List ℕ → Option ℕ → Type 0
 EndsWith words None = words ≡ []
 EndsWith words (Some w) = (prefix : List ℕ) × (words ≡ prefix ++ w ∷ [])
 
--- a search has passed some records, none of which is the one, and fewer than so many are linked from its word on
+-- a search under way: the records that it has passed aren't the one that is sought, and fewer than `left` records follow
 pub record IsOnTheWay (key : List ℕ) (is_child : Bool) (word : ℕ) (before : Option ℕ) (left : ℕ) (image : Image) : Type 0 where
   pub passed : List ℕ
   pub rest : List ℕ

@@ -1,4 +1,4 @@
--- What a link asks of a folder is met.
+-- The precondition of a link can be met.
 use Rattle.std.specs.Prelude.{◌≡◌, ℕ, [], ◌∷◌}
 use Rattle.spec_image.specs.Image.{Image}
 use Rattle.spec_format.specs.NewFolder.{new_index}
@@ -6,7 +6,7 @@ use Rattle.spec_image.specs.Image.{Index}
 use Rattle.std.specs.declared.option.Option.TheVariants.{Some}
 use Rattle.blk_chain.specs.Linking.{CanBeLinked, chained_with}
 
--- a folder whose index is that of one just made has a record that can be linked, as the first of its chain
+-- there is a folder, with the index of one just made, that has a record which can be linked as the first of its chain
 pub record FirstCanBeLinked : Type 0 where
   pub image : Image
   pub entry : ℕ
@@ -15,7 +15,7 @@ pub record FirstCanBeLinked : Type 0 where
   pub chained : chained_with image entry ≡ []
   pub linkable : CanBeLinked entry image
 
--- a folder with an entry has a record that can be linked in front of that of the entry
+-- there is a folder with a chain of one record that has another record which can be linked in front of it
 pub record NextCanBeLinked : Type 0 where
   pub image : Image
   pub entry : ℕ

@@ -1,4 +1,4 @@
--- A record is linked in front of its chain.
+-- A record is linked as the first of its hash chain.
 use Rattle.std.specs.Prelude.{◌≡◌, ℕ, List, ◌∷◌, true, false, ◌==◌}
 use Rattle.std.specs.declared.option.Option.TheVariants.{Some}
 use Rattle.spec_image.specs.Image.{Image, Index}
@@ -12,15 +12,16 @@ use Rattle.spec_folder.specs.View.{RecordFields, list_of, store_of}
 use Rattle.spec_folder.specs.Chains.{chain, IsChain, bucket_at}
 use Rattle.spec_folder.specs.Searches.{HasKey, IsWholeChain}
 
--- the records of the chain that the record of a word belongs to
+-- the records of the chain to which record w belongs by its hash
 abbrev pub chained_with : Image → ℕ → List ℕ
 chained_with image w = (chain (store_of image) (bucket_at image w)).reached
 
--- the place of the bucket's word in the index
+-- the offset in the index of the bucket to which record w belongs
 abbrev pub place_of_front : Image → ℕ → ℕ
 place_of_front image w = place_of_bucket (bucket_at image w)
 
--- a record that checks can be linked: its next is the word of its bucket, its hash is that of its key, the chain is whole, and none of the chain's records has its key and child flag
+-- precondition of a link: the record's checksum matches or is absent, its next is the first record of its chain, its hash is that of its key, the chain is
+-- whole, and no record of it has the same key and child flag
 pub record CanBeLinked (entry : ℕ) (image : Image) : Type 0 where
   pub fields : RecordFields
   pub here : (store_of image).entry entry ≡ Some fields
@@ -31,11 +32,11 @@ pub record CanBeLinked (entry : ℕ) (image : Image) : Type 0 where
   pub whole : IsWholeChain (store_of image) (bucket_at image entry)
   pub fresh : (w : ℕ) → is_among (chained_with image entry) w ≡ true → HasKey (store_of image) key (fields.flags == child) w → ⊥
 
--- the one step: the word of the bucket becomes the record
+-- the step of a link: the word of the bucket becomes the record's address
 abbrev pub link_front_steps : Image → ℕ → List TrailStep
 link_front_steps image entry = word_step Index (place_of_front image entry) entry
 
--- a record is linked: the word of its bucket is all that has changed, the record is in front of the old chain, and the other chains are as before
+-- a record was linked: the word of its bucket is all that has changed, it is the first of its chain now, and the other chains are unchanged
 pub record IsLinkedInFront (from : Image) (entry : ℕ) (image : Image) : Type 0 where
   pub list : list_of image ≡ list_of from
   pub store : store_of image ≡ record (store_of from) { table = put (store_of from).table (bucket_at from entry) entry }

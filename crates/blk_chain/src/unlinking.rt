@@ -18,7 +18,7 @@ use blk_index::set_bucket;
 use blk_io::{Fault, Folder};
 use blk_record::{EntryView, IndexHead};
 
-// Takes the record out of its chain that comes after this one: its next becomes that record's.
+// Unlinks the record that comes after `before`: the next of `before` becomes that of the record.
 fn unlink_behind<F: Folder>(
     folder: &mut F,
     files: &BlockFiles,
@@ -47,7 +47,7 @@ fn unlink_behind<F: Folder>(
     files.update_sealed(folder, before, &[(EntryView::NEXT, next)])
 }
 
-// Takes the first record of a chain out: the word of its bucket becomes its next.
+// Unlinks the first record of a chain: the word of its bucket becomes its next.
 fn unlink_first<F: Folder>(folder: &mut F, files: &BlockFiles, entry: Addr) -> Result<(), Fault>
     requires kind { kind_of entry ≡ blocks_256 }
     requires stands { IsTrue (stands_among files.now entry) }

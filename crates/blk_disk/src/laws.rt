@@ -8,7 +8,7 @@ pub fn files_are_linked_once()
     ensures one_kind { LinkedFilesHaveOneKind }
 {}
 
-/// Whatever is kept of block files, each is linked once, as of one kind, and has a number of blocks that files may have.
+/// In each table of block files a file is linked once, as of one kind, and has a number of blocks that the format allows.
 pub fn files_are_kept_once()
     ensures distinct { KeptFilesAreDistinct }
     ensures one_kind { KeptFilesHaveOneKind }

@@ -6,8 +6,7 @@ ghost use Rattle.blk_disk.specs.Names.{folder_name};
 use blk_addr::Addr;
 use blk_io::FileId;
 
-/// The file in which the blocks of an address are, or its external file: the same variant and
-/// number as `addr.file()`.
+/// The file of an address as the folder interface names it: the same variant and number as `addr.file()`.
 pub fn file_of(addr: Addr) -> FileId
     ensures { result ≡ folder_name (file_of_word addr) }
 {

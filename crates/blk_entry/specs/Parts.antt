@@ -1,4 +1,4 @@
--- A new part, once its record has its two streams.
+-- A new part, when its record has got its two streams.
 use Rattle.std.specs.Prelude.{◌≡◌, ℕ, ◌^◌, ◌<◌, ◌≤◌, List, [], ◌∷◌, length, true, unwrap_or}
 use Rattle.std.specs.declared.option.Option.TheVariants.{Some}
 use Rattle.std.specs.declared.result.Result.TheVariants.{Ok}
@@ -15,25 +15,25 @@ use Rattle.blk_disk.specs.declared.tables.BlockFiles.{BlockFiles}
 use Rattle.blk_entry.specs.declared.writing.NewEntry.{NewEntry}
 use Rattle.blk_entry.specs.Writing.{AreWords, FitsKey, IsShownNew, LiesApart, loaded_new}
 
--- the two streams of a part, its data and its index, each with the word of its storage
+-- the two streams of a part, its data and its validity bitmap with a header, each with its address
 pub record PartStreams : Type 0 where
   pub stored : List ℕ
   pub index : List ℕ
   pub stored_addr : ℕ
   pub index_addr : ℕ
 
--- the four words of a record that name them: the sizes of streams 1 and 2, and their addresses
+-- the changes of a part's record that set its streams 1 and 2, as offsets with words: their sizes and their addresses
 abbrev pub stream_changes : PartStreams → List (ℕ × ℕ)
 stream_changes s = (44, length s.stored) ∷ (48, length s.index) ∷ (60, s.stored_addr) ∷ (64, s.index_addr) ∷ []
 
--- bytes are stored where a word says, beside the record of an entry: at most so many as a stream may have, in none of the record's blocks
+-- the bytes are stored at this address, which has none of the record's blocks, and are no more than a stream may have
 pub record IsStoredBeside (entry : ℕ) (bytes : List ℕ) (addr : ℕ) (image : Image) : Type 0 where
   pub few : length bytes ≤ most_stream_bytes
   pub word : addr < 2 ^ 32
   pub stored : (store_of image).stored (length bytes) addr ≡ Some bytes
   pub clear : IsClear (has_claim (claims_of entry)) addr
 
--- what a new part with these streams loads
+-- what a new part with these streams is loaded as
 abbrev pub loaded_part : NewEntry → List ℕ → PartStreams → Role → Loaded
 loaded_part new key s role = record (loaded_new new key) {
   role = role;
@@ -41,7 +41,7 @@ loaded_part new key s role = record (loaded_new new key) {
   others = unwrap_or new.long_key 0 ∷ 0 ∷ s.stored_addr ∷ s.index_addr ∷ 0 ∷ [];
 }
 
--- a new part whose streams are stored, and whose record is given them by one sealed update, loads as the part that its name and its index say
+-- a new part whose streams are stored, and whose record got them in one update with a new checksum, loads as the part that its name and its index say
 abbrev pub WrittenPartsLoad : Type 0
 WrittenPartsLoad = (files : BlockFiles) (new : NewEntry) (key : List ℕ) (moment : ℕ) (streams : PartStreams) (role : Role) (from image : Image)
     → FitsKey files new key → AreWords new → LiesApart new.entry new.long_key → new.child ≡ true

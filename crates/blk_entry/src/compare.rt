@@ -118,7 +118,7 @@ fn data_is<F: Folder>(
     Ok(true)
 }
 
-// The same for a few bytes.
+// Whether these few bytes are those of the data of an address, from a position in it on.
 fn piece_is<F: Folder>(
     folder: &mut F,
     files: &BlockFiles,

@@ -2,15 +2,15 @@
 ghost use Rattle.blk_entry.specs.Covering.{NewClaimsAreSingle, NewPlacesAreCovered, NewPlacesAreShownApart};
 ghost use Rattle.blk_entry.specs.Parts.{WrittenPartsLoad};
 
-/// The places of a new entry are covered by the used blocks of its node, its record and its long key, no two of which are one; a change inside them is shown only
-/// there.
+/// The node, the record and the long key of a new entry lie in the blocks and files that it claims, none of which is claimed twice; a change inside them
+/// changes the view only there.
 pub fn new_entries_are_shown_apart()
     ensures covered { NewPlacesAreCovered }
     ensures apart { NewPlacesAreShownApart }
     ensures single { NewClaimsAreSingle }
 {}
 
-/// A new part whose streams are stored loads as a part once one sealed update has given its record their sizes and addresses.
+/// A new part whose streams are stored is loaded as a part after one update of its record, which sets their sizes and addresses with a new checksum.
 pub fn written_parts_load()
     ensures load { WrittenPartsLoad }
 {}

@@ -12,7 +12,7 @@ use blk_disk::BlockFiles;
 use blk_io::{Fault, Folder};
 use blk_record::NodeView;
 
-/// Marks a node dirty, with a number that isn't 0.
+/// Sets the dirty flag of a node to a number that isn't 0.
 ///
 /// The node is read by one folder call. Then its seal becomes 0, and by one call more the mark is written and the seal
 /// after it becomes the hash. A node that has too few bytes or doesn't check is corruption, and nothing is written.
@@ -33,7 +33,7 @@ pub fn set_dirty<F: Folder>(
     set_dirty_word(f, files, node, mark)
 }
 
-/// Marks a node clean: its dirty word becomes 0, in the same way.
+/// Sets the dirty flag of a node to 0, by the same calls as `set_dirty`.
 pub fn set_clean<F: Folder>(f: &mut F, files: &BlockFiles, node: Addr) -> Result<(), Fault>
     requires kind { kind_of node ≡ rankings }
     requires stands { IsTrue (stands_among files.now node) }

@@ -262,7 +262,7 @@ fn filled_record(words: &[(usize, u32)]) -> [u8; BLOCK]
     bytes
 }
 
-// A node, in the same way.
+// A node of these words, each at its offset, and zeros else, with its checksum.
 fn filled_node(words: &[(usize, u32)]) -> [u8; NodeView::SIZE]
     requires fields { All (λ word. IsField records.node_size word.0) words.now }
     ensures { result ≡ sealed.sealed records.node_seal_place (with_words words.now (zeros 36)) }

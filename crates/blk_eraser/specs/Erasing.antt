@@ -1,4 +1,4 @@
--- The zeros that are written before bytes go out of use.
+-- The zeros that are written over bytes before they go out of use.
 use Rattle.std.specs.Prelude.{ℕ, zero, suc, ◌+◌, ◌-◌, ◌*◌, Bool, not, ◌&&◌, if◌then◌else◌, List, [], ◌∷◌, ◌++◌, Option, min}
 use Rattle.std.specs.Option.{ForSome}
 use Rattle.spec_image.specs.Bytes.{content, spliced, zeros}
@@ -11,54 +11,54 @@ use Rattle.spec_format.specs.BlockFiles.{most_blocks}
 use Rattle.spec_format.specs.Headers.{entry_size_of}
 use Rattle.spec_format.specs.Maps.{is_block_marked_at}
 
--- the file has a map
+-- the file is a block file, so it has a map
 abbrev pub IsBlockFile : File → Type 0
 IsBlockFile (Block n) = Unit {0}
 IsBlockFile _ = ⊥
 
--- the place of block b in a file whose blocks have so many bytes
+-- the offset of block b in a file with blocks of so many bytes
 abbrev pub place_of_block : ℕ → ℕ → ℕ
 place_of_block size b = header_size + b * size
 
--- zeros over block b, as far as it lies inside the file's length
+-- the steps that write zeros over block b, as far as it lies inside the file's length
 abbrev pub zeros_over_block : File → ℕ → ℕ → ℕ → List TrailStep
 zeros_over_block file size long b = words file (place_of_block size b) (zeros (min size (long - place_of_block size b)))
 
--- zeros over each of the first n blocks that passes a test, in rising order
+-- the steps that write zeros over each of the first so many blocks that passes the test, in rising order
 unfoldable pub zeros_over_blocks : (ℕ → Bool) → File → ℕ → ℕ → ℕ → List TrailStep
 zeros_over_blocks test file size long zero = []
 zeros_over_blocks test file size long (suc b) = zeros_over_blocks test file size long b ++ (if test b then zeros_over_block file size long b else [])
 
--- whether a write of bytes over a block file takes the mark of block b away
+-- writing `new` at an offset of a block file with the bytes `old` clears the mark of block b in its map
 abbrev pub frees : List ℕ → ℕ → List ℕ → ℕ → Bool
 frees old place new b = is_block_marked_at (content old) b && not (is_block_marked_at (content (spliced place new old)) b)
 
--- zeros over the blocks that a write of bytes frees, by the header before it, in a file of this length
+-- the steps that write zeros over all blocks that a write into a header frees, in a file of this length
 abbrev pub zeros_over_freed : List ℕ → File → ℕ → ℕ → List ℕ → List TrailStep
 zeros_over_freed header file long place new = zeros_over_blocks (frees header place new) file (entry_size_of (content header)) long most_blocks
 
--- the blocks that a write to a map frees, overwritten by zeros; other files have no map
+-- the steps that write zeros over all blocks that a write into a file frees, before it; none for a file without a map
 abbrev pub zeros_before_write : Image → File → ℕ → List ℕ → List TrailStep
 zeros_before_write image Index place new = []
 zeros_before_write image (Block n) place new = zeros_over_blocks (frees (bytes_of image (Block n)) place new) (Block n) (entry_size_of (byte image (Block n))) (length_of image (Block n)) most_blocks
 zeros_before_write image (External n) place new = []
 
--- a write, after the zeros over what it frees
+-- the steps of a write into a file: the zeros over what it frees, and then the bytes
 abbrev pub write_steps : Image → File → ℕ → List ℕ → List TrailStep
 write_steps image file place new = zeros_before_write image file place new ++ words file place new
 
--- a change of the length, after the zeros over what it cuts off
+-- the steps of a change of a file's length: the zeros over what it cuts off, and then the new length
 abbrev pub length_steps : Image → File → ℕ → List TrailStep
 length_steps image file n = words file n (zeros (length_of image file - n)) ++ (SetLength file n ∷ [])
 
--- a deletion, after the zeros over all bytes of the file
+-- the steps of a deletion of a file: the zeros over all its bytes, and then the deletion
 abbrev pub delete_steps : Image → File → List TrailStep
 delete_steps image file = words file 0 (zeros (length_of image file)) ++ (Delete file ∷ [])
 
--- where the files are told, the steps that they ask for are made
+-- the steps that `steps` gives for the files were made, in an observable folder
 abbrev pub MakesSteps : Told → Told → (Image → List TrailStep) → Type 0
 MakesSteps old new steps = ForSome old.files (λ image. Applies old new (steps image))
 
--- where the files are told, the next of them after one
+-- the folder's next file behind `after` is `next`, in an observable folder
 abbrev pub TellsNext : Told → Option File → Option File → Type 0
 TellsNext told after next = ForSome told.files (λ image. IsNextFile image after next)

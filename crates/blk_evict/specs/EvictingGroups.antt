@@ -1,4 +1,4 @@
--- A group goes out of a folder: what its item is, by its record, and what is left once it is out.
+-- An eviction unit is removed from a folder: what its item is, by its record, and what is left.
 use Rattle.std.specs.Prelude.{◌≡◌, ◌==◌, ℕ, Bool, List, [], ◌∷◌, if◌then◌else◌, length, map, sum_by, take, true}
 use Rattle.std.specs.List.{flat_map}
 use Rattle.blk_script.specs.Reply.{evicted_line}
@@ -26,63 +26,64 @@ use Rattle.blk_evict.specs.ListPlaces.{MayGoAt}
 
 -- Items by their records.
 
--- what kind of entry a role is
+-- the kind of entry that a role is: plain, parent or part
 abbrev pub kind_of_role : Role → EntryKind
 kind_of_role IsPlain = Plain
 kind_of_role (IsParent index) = Parent
 kind_of_role (IsPart name index) = Part
 
--- what kind of entry the flags of a record say
+-- the kind of entry by the flags of its record
 abbrev pub kind_said : ℕ → EntryKind
 kind_said flags = if flags == parent then Parent else if flags == child then Part else Plain
 
--- these are the bytes of the key of a record
+-- the record's key, or its name if it is a part's, has these bytes
 abbrev pub IsItemName : (entry : ℕ) → List ℕ → Image → Type 0
 IsItemName entry name image = key_bytes image entry ≡ name
 
--- the kind of what lies there is told, and its charge, and its key is at the front of some bytes
+-- `named` tells the kind and the cost of an entry, and its key is at the front of `bytes`
 pub record IsNamedAs (loaded : Loaded) (named : Named) (bytes : List ℕ) : Type 0 where
   pub kind : named.kind ≡ kind_of_role loaded.role
   pub charge : named.owned.charge ≡ charge_of loaded
   pub key : take named.len bytes ≡ loaded.key
 
--- what holds of each listed item of a kept state that has this as the key or the name in its record
+-- P holds of each listed item whose record has this key (or this name of a part), wherever a folder keeps a state
 abbrev pub ForEachListed : (key : List ℕ) (is_child : Bool) → Image → (State → Layout → Item → Loaded → Type 0) → Type 0
 ForEachListed key is_child image P =
     (state : State) (layout : Layout) (unlinked : List ℕ) (item : Item) (was : Loaded)
     → KeepsUncounted state layout unlinked image → is_listed state item ≡ true → layout.at (layout.place item) ≡ Some was → was.key ≡ key → is_child_item item ≡ is_child → P state layout item was
 
--- The group.
+-- The eviction unit.
 
--- an item that may be evicted lies in a kept state, with an entry of this kind and this key or name
+-- the folder keeps a state in which the item that was found may be evicted; its entry has this kind and this key or name
 pub record GoesAs (state : State) (layout : Layout) (found : Unpinned) (kind : EntryKind) (key : List ℕ) (image : Image) : Type 0 where
   pub kept : Keeps state layout [] image
   pub last : MayGoAt state layout found
   pub kind_is : kind_of_role last.loaded.role ≡ kind
   pub key_is : last.loaded.key ≡ key
 
--- what holds wherever it does: by its state and layout, and its group
+-- P holds, with layout and eviction unit, wherever a folder keeps a state in which the item that was found may be evicted and has this kind and this key
 abbrev pub ForEachOfKind : Unpinned → EntryKind → List ℕ → Image → (State → Layout → Group → Type 0) → Type 0
 ForEachOfKind found kind key image P = (state : State) (layout : Layout) (is : GoesAs state layout found kind key image) → P state layout (group_for is.last.item is.last.front)
 
--- what holds wherever it lies in a kept state
+-- P holds, with layout and eviction unit, wherever a folder keeps a state in which the item that was found may be evicted
 abbrev pub ForEachGoing : Unpinned → Image → (State → Layout → Group → Type 0) → Type 0
 ForEachGoing found image P = (state : State) (layout : Layout) → Keeps state layout [] image → (last : MayGoAt state layout found) → P state layout (group_for last.item last.front)
 
--- what kind of entry goes alone: one without an index, or a part
+-- the kind of an entry that is evicted alone: a part, or an entry without parts
 abbrev pub alone_kind : Bool → EntryKind
 alone_kind is_child = if is_child then Part else Plain
 
--- the text of parts of a key that are evicted
+-- the printed lines of parts of a key that are evicted
 abbrev pub text_of_parts : List ℕ → List ℕ → List ℕ
 text_of_parts key numbers = flat_map evicted_line (map (part key) numbers)
 
--- what went is as many items as those of a group, and what they were charged
+-- `gone` tells the number of items of an eviction unit, and the sum of their costs
 pub record AreOfGroup (state : State) (group : Group) (gone : Gone) : Type 0 where
   pub items : gone.items ≡ length (items_of_group group)
   pub bytes : gone.bytes ≡ sum_by (item_charge state) (items_of_group group)
 
--- a group is out: the state without it is kept, in the same session; all other items, and the objects that handles name, lie where they lay; and what went is told
+-- the eviction unit is removed: the folder keeps the state without it in the same session, the other items and the objects that handles name have the nodes
+-- that they had, and `gone` tells what was removed
 pub record IsGroupOut (state : State) (layout : Layout) (group : Group) (gone : Gone) (from image : Image) : Type 0 where
   pub left : Layout
   pub kept : Keeps (without (group ∷ []) state) left [] image

@@ -1,4 +1,4 @@
--- Places of the LRU list as they are found in a folder, and the last item that isn't pinned.
+-- Places in the LRU list as a folder has it, and the last item that isn't pinned.
 use Rattle.std.specs.Prelude.{◌≡◌, ℕ, List, ◌++◌, true}
 use Rattle.std.specs.List.{AllByRecursion}
 use Rattle.std.specs.declared.option.Option.{Option}
@@ -14,17 +14,17 @@ use Rattle.blk_lru.specs.Lists.{first_node_of}
 use Rattle.blk_evict.specs.declared.list_places.Unpinned.{Unpinned}
 use Rattle.blk_evict.specs.RoomLaws.{AreAllPinned, IsLastUnpinned, MayGo}
 
--- these nodes are in front of a place of the list, where this node is next after it; none is at the end
+-- the list is idle, and has the nodes `front` before the node `behind`, or before its end where that is None
 pub record AreInPrefix (front : List ℕ) (behind : Option ℕ) (image : Image) : Type 0 where
   pub rest : List ℕ
   pub list : HasListAtRest (front ++ rest) image
   pub next : behind ≡ first_node_of rest
 
--- some nodes are in front of it
+-- `behind` is a node of the list, which is idle, or None for its end
 abbrev pub IsPlaceInList : Option ℕ → Image → Type 0
 IsPlaceInList behind image = (front : List ℕ) × AreInPrefix front behind image
 
--- the items from a node on are pinned, where these parts are covered; none is at the end
+-- all items from the node `behind` on to the end of the list are pinned, with the parts in range pinned too; None is the end of the list
 pub record IsPinnedFrom (state : State) (layout : Layout) (covered : List Item) (behind : Option ℕ) : Type 0 where
   pub front : List Item
   pub rest : List Item
@@ -32,7 +32,7 @@ pub record IsPinnedFrom (state : State) (layout : Layout) (covered : List Item) 
   pub pinned : AllByRecursion (λ item. is_pinned state covered item ≡ true) rest
   pub next : behind ≡ first_node_of (nodes_of layout rest)
 
--- an item that may be evicted, by its node and its record
+-- the item with this node and this record may be evicted
 pub record MayGoAt (state : State) (layout : Layout) (found : Unpinned) : Type 0 where
   pub front : List Item
   pub item : Item
@@ -43,13 +43,13 @@ pub record MayGoAt (state : State) (layout : Layout) (found : Unpinned) : Type 0
   pub here : layout.at (layout.place item) ≡ Some loaded
   pub entry : found.entry ≡ loaded.contents
 
--- the last item that isn't pinned, where these parts are covered; it may be evicted, and the node next after it is told
+-- the last item that isn't pinned, with the parts in range pinned too, has this node and this record; it may be evicted, and the node after it is told
 pub record IsLastAt (state : State) (layout : Layout) (covered : List Item) (found : Unpinned) : Type 0 where
   pub goes : MayGoAt state layout found
   pub last : IsLastUnpinned state covered goes.front goes.item goes.rest
   pub next : found.behind ≡ first_node_of (nodes_of layout goes.rest)
 
--- what is found: nothing where each item is pinned
+-- the answer of a search for the last item that isn't pinned, or None where all are
 abbrev pub IsLast : State → Layout → List Item → Option Unpinned → Type 0
 IsLast state layout covered None = AreAllPinned state covered
 IsLast state layout covered (Some found) = IsLastAt state layout covered found

@@ -1,4 +1,4 @@
--- The live object of a key, as it is found in a folder.
+-- The search for the live object of a key in a folder.
 use Rattle.std.specs.Prelude.{◌≡◌, ◌⊎◌, ℕ, ◌+◌, List, false, slice_index, true}
 use Rattle.std.specs.declared.option.Option.{Option}
 use Rattle.std.specs.declared.option.Option.TheVariants.{None, Some}
@@ -21,15 +21,15 @@ use Rattle.blk_chain.specs.Finding.{IsSearchDamage}
 use Rattle.law_state.specs.Keeping.{KeepsUncounted}
 use Rattle.blk_evict.specs.declared.looking.Live.{Live}
 
--- Charges.
+-- Costs.
 
--- the bytes of the key and of the three streams, as the words of the record say that a word names
+-- the cost of an entry by the words of its record: the lengths of its key and its three streams
 abbrev pub charge_at : Image → ℕ → ℕ
 charge_at image entry = (entry_at image entry).key_len + slice_index (entry_at image entry).data_size 0 + slice_index (entry_at image entry).data_size 1 + slice_index (entry_at image entry).data_size 2
 
 -- What is found.
 
--- the record and the node of the live object with a key, and what the object is charged
+-- the live object with this key: its record, its node and the cost of its main item
 pub record IsLiveAt (state : State) (layout : Layout) (key : List ℕ) (live : Live) : Type 0 where
   pub number : ℕ
   pub is : live_with state key ≡ Some number
@@ -41,12 +41,12 @@ pub record IsLiveAt (state : State) (layout : Layout) (key : List ℕ) (live : L
   pub entry : live.entry ≡ loaded.contents
   pub charge : live.charge ≡ own_charge object
 
--- what is found for a key: nothing where no live object has it
+-- the answer of a search for the live object of a key, or None where there is none
 abbrev pub IsLive : State → Layout → List ℕ → Option Live → Type 0
 IsLive state layout key None = live_with state key ≡ None
 IsLive state layout key (Some live) = IsLiveAt state layout key live
 
--- an image keeps some state, by some layout with some words unlinked
+-- the folder keeps some state (but for the counters)
 pub record KeepsSomeState (image : Image) : Type 0 where
   pub state : State
   pub layout : Layout
@@ -55,16 +55,16 @@ pub record KeepsSomeState (image : Image) : Type 0 where
 
 -- Failed checks.
 
--- a record fails its check or has too few bytes, or the word of its node names none
+-- the record can't be read or its checksum doesn't match, or its word for the node isn't the address of a valid node
 abbrev pub IsEntryDamage : BlockFiles → Told → ℕ → Damage → Type 0
 IsEntryDamage files told entry damage = IsHeadDamage told entry damage ⊎ IsNodeWordDamage files told (names.Block (file_selector entry)) (place entry + node_place) damage
 
--- a record that was found and is valid is so
+-- a valid record that was found can't be used, or its word for the node can't
 pub record IsWrongEntry (files : BlockFiles) (told : Told) (damage : Damage) : Type 0 where
   pub entry : ℕ
   pub stands : is_record_among files entry ≡ true
   pub wrong : IsEntryDamage files told entry damage
 
--- the failed checks of the search for a live object
+-- the failed checks of a search for the live object of a key: of the search of its chain, or of the record that was found
 abbrev pub IsLookUpDamage : BlockFiles → Told → List ℕ → Damage → Type 0
 IsLookUpDamage files told key damage = IsSearchDamage files told key false damage ⊎ IsWrongEntry files told damage

@@ -1,4 +1,4 @@
--- How groups are evicted, one after another from the back of the LRU list, and what one leaves.
+-- Lemmas on evictions: eviction units are evicted one after another from the end of the LRU list, and what one leaves.
 use Rattle.std.specs.Prelude.{◌≡◌, ◌⊎◌, ℕ, ◌+◌, Bool, true, false, List, [], ◌∷◌, ◌++◌, length, sum_by}
 use Rattle.std.specs.List.{AllByRecursion}
 use Rattle.std.specs.Option.{option_map_or}
@@ -13,12 +13,12 @@ use Rattle.blk_object.specs.Writing.{node_of_object}
 
 -- Eviction.
 
--- the group that is evicted for an item, where these are in front of it in the LRU list: a main item with its parts among them, in their order; a part alone
+-- the eviction unit of an item with these items in front of it in the LRU list: a main item with those of its parts that are among them; a part alone
 abbrev pub group_for : Item → List Item → Group
 group_for (main key) front = whole key (parts_among key front)
 group_for (part key n) front = single key n
 
--- an item is the last of the LRU list that isn't pinned
+-- the item is the last of the LRU list that isn't pinned, with `front` before it and `behind` after it
 pub record IsLastUnpinned (state : State) (covered front : List Item) (item : Item) (behind : List Item) : Type 0 where
   pub listed : state.uses ≡ front ++ item ∷ behind
   pub unpinned : is_pinned state covered item ≡ false
@@ -29,62 +29,62 @@ abbrev pub IsOfNamed : State → Item → Type 0
 IsOfNamed state (main key) = ⊥
 IsOfNamed state (part key n) = is_pinned state [] (main key) ≡ true
 
--- each of these items is a part of an object that a handle names, as the parts that a command covers are
+-- each of these items is a part of an object that a handle names, as the parts in range of a command are
 abbrev pub AreOfNamed : State → List Item → Type 0
 AreOfNamed state covered = AllByRecursion (IsOfNamed state) covered
 
--- an item may go with its group: no handle names its object, or it is a part; and of a main item all parts are in front of it
+-- the item may be evicted: it isn't pinned by handles, and all parts of a main item are in front of it in the LRU list
 pub record MayGo (state : State) (front : List Item) (item : Item) (behind : List Item) : Type 0 where
   pub listed : state.uses ≡ front ++ item ∷ behind
   pub unpinned : is_pinned state [] item ≡ false
   pub parts : (key : List ℕ) → item ≡ main key → parts_among key front ≡ parts_among key state.uses
 
--- each item is pinned
+-- all items of the state are pinned
 abbrev pub AreAllPinned : State → List Item → Type 0
 AreAllPinned state covered = AllByRecursion (λ item. is_pinned state covered item ≡ true) state.uses
 
--- until there is enough nothing is evicted, where there is enough or each item is pinned
+-- an eviction evicts nothing where its goal is met or each item is pinned
 abbrev pub NothingMoreGoes : Type 0
 NothingMoreGoes = (enough : State → Bool) (state : State) (covered : List Item) → (enough state ≡ true) ⊎ AreAllPinned state covered → evicted_until enough state covered ≡ []
 
--- else the group of the last item that isn't pinned goes, and then what is evicted from the state without it
+-- an eviction whose goal isn't met evicts the eviction unit of the last item that isn't pinned, and then what it evicts from the state without that unit
 abbrev pub TheLastUnpinnedGoesNext : Type 0
 TheLastUnpinnedGoesNext = (enough : State → Bool) (state : State) (covered front : List Item) (item : Item) (behind : List Item) → IsValidState state → IsLastUnpinned state covered front item behind → enough state ≡ false
     → evicted_until enough state covered ≡ group_for item front ∷ evicted_until enough (without (group_for item front ∷ []) state) covered
 
--- so once the first groups are out, the others are evicted from what is left
+-- an eviction that has evicted its first units evicts the others from the state that is left
 abbrev pub TheOthersGoFromWhatIsLeft : Type 0
 TheOthersGoFromWhatIsLeft = (enough : State → Bool) (state : State) (covered : List Item) (first others : List Group) → IsValidState state → evicted_until enough state covered ≡ first ++ others
     → evicted_until enough (without first state) covered ≡ others
 
--- an item that stays is pinned as before
+-- evictions don't change which of the items that stay are pinned
 abbrev pub ItemsThatStayArePinnedAsBefore : Type 0
 ItemsThatStayArePinnedAsBefore = (state : State) (covered : List Item) (groups : List Group) (item : Item) → is_out groups item ≡ false → is_pinned (without groups state) covered item ≡ is_pinned state covered item
 
--- where the covered parts are those of an object that a handle names, the last item that isn't pinned may be evicted
+-- where the parts in range are those of an object that a handle names, the last item that isn't pinned may be evicted
 abbrev pub TheLastUnpinnedMayGo : Type 0
 TheLastUnpinnedMayGo = (state : State) (covered front : List Item) (item : Item) (behind : List Item) → AreOfNamed state covered → IsLastUnpinned state covered front item behind → MayGo state front item behind
 
--- and such parts are so still where a group is out that may go
+-- the parts in range are still those of an object that a handle names after an eviction unit that may be evicted is
 abbrev pub CoveredPartsStayOfNamed : Type 0
 CoveredPartsStayOfNamed = (state : State) (covered front : List Item) (item : Item) (behind : List Item) → AreOfNamed state covered → MayGo state front item behind → AreOfNamed (without (group_for item front ∷ []) state) covered
 
--- What a group leaves.
+-- What is left by an eviction.
 
--- what an item of a state is charged
+-- the cost of an item of a state, or 0 where the state has no such item
 abbrev pub item_charge : State → Item → ℕ
 item_charge state item = option_map_or (row_charge state) (row_of state item) 0
 
--- without a group there are fewer items, by those of the group, and fewer bytes, by what these are charged
+-- without the eviction unit the state has so many items less as the unit has, and so much less cost
 pub record IsLessByGroup (state : State) (group : Group) : Type 0 where
   pub items_left : items state ≡ items (without (group ∷ []) state) + length (items_of_group group)
   pub bytes_left : total state ≡ total (without (group ∷ []) state) + sum_by (item_charge state) (items_of_group group)
 
--- so it is of the group of an item that may be evicted
+-- each eviction unit of an item that may be evicted counts with its items and their costs
 abbrev pub GroupsAreCountedLess : Type 0
 GroupsAreCountedLess = (state : State) (front : List Item) (item : Item) (behind : List Item) → IsValidState state → MayGo state front item behind → IsLessByGroup state (group_for item front)
 
--- each object that a handle names lies where it lay
+-- each object that a handle names has the node that it had, and what lies there is the same
 abbrev pub NamedObjectsStay : State → (old new : Layout) → Type 0
 NamedObjectsStay state old new =
     (number : ℕ) (object : Object) → object_at state number ≡ Some object → is_named state number ≡ true

@@ -1,4 +1,4 @@
-// A group goes out of a folder, and is printed.
+// An eviction unit is removed from a folder, and printed.
 ghost use Rattle.std.specs.Prelude.{◌≡◌, ◌≤◌, ◌<◌, ◌^◌, ◌+◌, [], ◌∷◌, All, IfOk, IfSome, IsTrue, None, OnOk, length, true};
 ghost use Rattle.std.specs.Option.{ForSome};
 ghost use Rattle.spec_image.specs.Told.{Passes, MayWrite, ReadsOnly};
@@ -244,8 +244,7 @@ pub fn parent_key<'a>(name: &'a [u8], child: &ChildName) -> &'a [u8]
     &behind[..child.key_len]
 }
 
-// Removes an item that goes alone, as an object without an index or a part, by its key or name, and by what was read of
-// its record.
+// Removes a single item, of an object without an index or a part, by its key or name, and by what was read of its record.
 fn remove_alone<F: Folder>(
     folder: &mut F,
     files: &BlockFiles,
@@ -273,8 +272,8 @@ fn remove_alone<F: Folder>(
     })
 }
 
-/// Finds the record of a listed item by its key or its name, and the one before it in its chain. Where it isn't found that
-/// is corruption, of the hash of its record.
+/// Finds the record of a listed item by its key or its name, and the record before it in its chain. If it isn't found, that is a failed check of the hash in
+/// its record.
 pub fn find_listed<F: Folder>(
     folder: &mut F,
     files: &BlockFiles,

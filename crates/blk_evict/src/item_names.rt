@@ -30,8 +30,7 @@ pub enum EntryKind {
     Part,
 }
 
-/// What the record of an item says: the kind of its entry, how many bytes its key or name has, and its places with what
-/// it is charged.
+/// What the record of an item says: the kind of its entry, the length of its key or name, and its addresses with its cost.
 #[derive(Clone, Copy)]
 pub struct Named {
     pub kind: EntryKind,
@@ -39,7 +38,7 @@ pub struct Named {
     pub owned: Owned,
 }
 
-/// Reads what an item is and what it has, and its key or name into the front of `buffer`: three folder calls.
+/// Reads what the record of an item says, and its key or name into the front of `buffer`: three folder calls.
 ///
 /// A failed check is one of `read_owned` or `key_piece`.
 pub fn read_name<F: Folder>(

@@ -25,7 +25,7 @@ use blk_io::{Fault, Folder};
 use blk_object::charge_of_head;
 use blk_record::EntryView;
 
-/// The record and the node of a live object, and what it is charged as a main item.
+/// A live object by its record and its node, and the cost of its main item.
 #[derive(Clone, Copy, Debug)]
 pub struct Live {
     pub entry: Addr,
@@ -33,7 +33,7 @@ pub struct Live {
     pub charge: u64,
 }
 
-/// What the record of an object says: its node, what kind of entry it has, and what it is charged as a main item.
+/// What the record of an object says: its node, the kind of its entry, and the cost of its main item.
 #[derive(Clone, Copy)]
 pub struct Said {
     pub node: Addr,
@@ -90,7 +90,7 @@ pub fn read_said<F: Folder>(folder: &mut F, files: &BlockFiles, entry: Addr) -> 
     })
 }
 
-/// Reads what the object of a record is charged as a main item, by one folder call.
+/// Reads the record of an object for the cost of its main item, by one folder call.
 ///
 /// A failed check is one of `read_head`.
 pub fn read_charge<F: Folder>(folder: &mut F, files: &BlockFiles, entry: Addr) -> Result<u64, Fault>

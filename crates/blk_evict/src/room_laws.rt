@@ -3,8 +3,8 @@
 ghost use Rattle.blk_evict.specs.RoomLaws.{CoveredPartsStayOfNamed, GroupsAreCountedLess, ItemsThatStayArePinnedAsBefore, NothingMoreGoes, TheLastUnpinnedMayGo, TheLastUnpinnedGoesNext, TheOthersGoFromWhatIsLeft};
 ghost use Rattle.blk_evict.specs.RoomPrinting.{FaultsGoOn, NothingIsPrinted, PrintsGoOn};
 
-/// Groups are evicted one after another: each is that of the last item that isn't pinned, in the LRU list as it is then,
-/// until there is enough or each item is pinned.
+/// Eviction units are evicted one after another, each that of the last item that isn't pinned in the LRU list as it is then, until the goal is met or each item
+/// is pinned.
 pub fn groups_go_one_after_another()
     ensures done { NothingMoreGoes }
     ensures next { TheLastUnpinnedGoesNext }
@@ -14,14 +14,14 @@ pub fn groups_go_one_after_another()
     ensures stay { CoveredPartsStayOfNamed }
 {}
 
-/// Texts are printed one after another, unless the sink failed.
+/// Texts are printed one after another, until the output fails.
 pub fn prints_go_on()
     ensures nothing { NothingIsPrinted }
     ensures on { PrintsGoOn }
     ensures faults { FaultsGoOn }
 {}
 
-/// Without the group of an item that may be evicted there are fewer items, and fewer bytes by what these are charged.
+/// Without the eviction unit of an item that may be evicted, a state has so many items less as the unit has, and so much less cost.
 pub fn groups_are_counted_less()
     ensures { GroupsAreCountedLess }
 {}

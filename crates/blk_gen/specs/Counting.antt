@@ -13,16 +13,16 @@ use Rattle.blk_gen.specs.declared.counting.Counts.{Counts}
 abbrev pub no_counts : Counts
 no_counts = record { commands = 0; refused = 0; evicted = 0; read = 0 }
 
--- how many bytes were read, by an answer
+-- how many bytes a Read gave, by its answer; 0 for other commands
 abbrev pub bytes_read : Answer → ℕ
 bytes_read (answer.Bytes n) = n
 bytes_read _ = 0
 
--- how many commands were refused, by the answer to one
+-- 1 if the answer is a refusal, else 0
 abbrev pub refusals_in : Answer → ℕ
 refusals_in a = if is_refusal (refusal_of a) then 1 else 0
 
--- the counts with one more command, by its answer and by how many items it evicted
+-- the counters with one more command, by its answer and by how many items it evicted
 abbrev pub with_answer : Answer → ℕ → Counts → Counts
 with_answer a evicted counts = record {
   commands = counts.commands + 1;
@@ -31,15 +31,15 @@ with_answer a evicted counts = record {
   read = counts.read + bytes_read a;
 }
 
--- how many items a command evicted, those that went with another too
+-- how many items a command evicted, parts included
 abbrev pub evicted_items : Outcome → ℕ
 evicted_items outcome = sum_by (λ group. length (items_of_group group)) outcome.groups
 
--- the counts with one more command of the map model, by its outcome
+-- the counters with one more command, by its outcome in the model
 abbrev pub with_outcome : Outcome → Counts → Counts
 with_outcome outcome counts = with_answer (answer_of outcome.reply) (evicted_items outcome) counts
 
--- the counts as 64 bits hold them: each stays at the last number of 64 bits
+-- the counters as 64-bit numbers have them: each saturates
 abbrev pub held : Counts → Counts
 held counts = record {
   commands = min counts.commands (2 ^ 64 - 1);
@@ -48,14 +48,14 @@ held counts = record {
   read = min counts.read (2 ^ 64 - 1);
 }
 
--- each count is a number of 64 bits
+-- each counter fits into 64 bits
 pub record AreLong (counts : Counts) : Type 0 where
   pub commands : counts.commands < 2 ^ 64
   pub refused : counts.refused < 2 ^ 64
   pub evicted : counts.evicted < 2 ^ 64
   pub read : counts.read < 2 ^ 64
 
--- the line of the counts
+-- the printed line of the counters
 abbrev pub counts_line : Counts → List ℕ
 counts_line counts =
     line (codes "commands" ∷ number_text counts.commands ∷ codes "refused" ∷ number_text counts.refused ∷ codes "evicted" ∷ number_text counts.evicted ∷ codes "read" ∷ number_text counts.read ∷ [])

@@ -1,4 +1,4 @@
--- What a run of the generator says, by the commands that it asked.
+-- Lemmas on what a run of the generator prints.
 use Rattle.std.specs.Prelude.{◌≡◌, ◌≤◌, ◌*◌, ℕ, false, List, [], ◌∷◌, length}
 use Rattle.blk_model.specs.State.{State}
 use Rattle.blk_io.specs.Streams.{Readings}
@@ -7,20 +7,20 @@ use Rattle.blk_gen.specs.declared.counting.Counts.{Counts}
 use Rattle.blk_gen.specs.Counting.{no_counts, with_outcome}
 use Rattle.blk_gen.specs.Generator.{closing_text, gen_script}
 
--- the counts after commands, one after another from a state on
+-- the counters after these commands were done one after another, from a state on
 unfoldable pub counts_after : Counts → State → List Stamped → Counts
 counts_after counts state [] = counts
 counts_after counts state (command ∷ commands) = counts_after (with_outcome (outcome_in state command) counts) (state_then state command) commands
 
--- what is printed are the counts of the commands, and the totals of the state after them; and nothing counts as a refusal
+-- a run prints the counters of its commands and the totals of the state after them, and has no line that counts as a refusal
 pub record SayCounts (counts : Counts) (from : State) (run : List Turn) : Type 0 where
   pub text : text_of run ≡ closing_text (counts_after counts from (commands_of run)) (state_after from (commands_of run))
   pub quiet : refuse run ≡ false
 
--- iterations of the generator say what was counted of their commands
+-- each run of the generator prints the counters of its commands and the totals of the state after them
 abbrev pub TurnsSayTheirCounts : Type 0
 TurnsSayTheirCounts = (seed count : ℕ) (from : State) (clock : Readings) → SayCounts no_counts from (turns (gen_script seed count) from clock)
 
--- each has five commands at the most
+-- a run of the generator has at most five commands for each iteration
 abbrev pub CommandsOfTurnsAreFew : Type 0
 CommandsOfTurnsAreFew = (seed count : ℕ) (from : State) (clock : Readings) → length (commands_of (turns (gen_script seed count) from clock)) ≤ 5 * count

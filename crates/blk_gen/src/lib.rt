@@ -14,8 +14,7 @@ pub use counting::Counts;
 pub use data::fill;
 pub use drawing::{Draws, Turn};
 
-/// What a run of the generator says is what was counted of the commands that it asked; these are at most five an
-/// iteration.
+/// A run of the generator prints the counters of the commands that it made; these are at most five for each iteration.
 pub fn turns_are_counted()
     ensures says { TurnsSayTheirCounts }
     ensures few { CommandsOfTurnsAreFew }

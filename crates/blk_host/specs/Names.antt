@@ -1,4 +1,4 @@
--- The names of the cache files that a folder has.
+-- The set of names of the cache files in a folder.
 use Rattle.std.specs.Prelude.{Bool, IsTrue, ℕ, Option, None, Some}
 use Rattle.std.specs.Ordering.{nat_cmp}
 use Rattle.std.specs.BTreeSet.{contains}
@@ -9,13 +9,13 @@ use Rattle.blk_io.specs.declared.folder.FileId.TheVariants.{Index, Block, Extern
 use Rattle.blk_host.specs.FileIds.{ComesBefore}
 use Rattle.blk_host.specs.declared.names.Names.{Names}
 
--- whether the file is among the names
+-- the set has the name of this file
 unfoldable pub has : Names → FileId → Bool
 has names Index = names.index
 has names (Block n) = contains nat_cmp names.blocks n
 has names (External n) = contains nat_cmp names.externals n
 
--- the least of the names of which P holds, or none where it holds of none
+-- the least name of the set, in the order of files, for which P holds; None where it holds for none
 abbrev pub IsLeastName : Names → (FileId → Type 0) → Option FileId → Type 0
 IsLeastName names P None = (file : FileId) → IsTrue (has names file) → P file → ⊥
 IsLeastName names P (Some next) = IsTrue (has names next) × P next

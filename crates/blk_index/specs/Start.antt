@@ -1,4 +1,4 @@
--- How a folder is at the start.
+-- The check of the index when a folder is opened.
 use Rattle.std.specs.Prelude.{◌≡◌, ◌≢◌, ◌≤◌, ◌⊎◌, ℕ, List, length, ◌++◌, Result, Ok, Err, Option, None, Some}
 use Rattle.spec_image.specs.Bytes.{content}
 use Rattle.spec_image.specs.Image.{Image, Index}
@@ -14,28 +14,29 @@ use Rattle.blk_io.specs.Faults.{damage_of, IsShort}
 use Rattle.blk_index.specs.declared.start.Start.{Start}
 use Rattle.blk_index.specs.declared.start.Start.TheVariants.{Unfinished, Finished}
 
--- the index is finished, and no check of it fails
+-- the index is initialized, and no check of it fails
 pub record IsFinished (image : Image) : Type 0 where
   pub finished : IsUnfinished image → ⊥
   pub undamaged : first_index_damage image ≡ None
 
--- an answer and the image that it is given for: the error is the first check that fails; a failed device says nothing of the image
+-- the answer of a look at the index, for an image: uninitialized, or initialized without a failed check, or the first check that fails; an I/O error says
+-- nothing
 abbrev pub LooksAs : Result Start Fault → Image → Type 0
 LooksAs (Ok Unfinished) image = IsUnfinished image
 LooksAs (Ok Finished) image = IsFinished image
 LooksAs (Err Device) image = Unit {0}
 LooksAs (Err (Damaged damage)) image = (IsUnfinished image → ⊥) × (first_index_damage image ≡ Some (damage_of damage))
 
--- all of the header was given, where the index has its length
+-- the whole header was read, where the index has its length
 abbrev pub IsGiven : ℕ → ℕ → Type 0
 IsGiven size given = size ≡ index_length → header_length ≤ given
 
--- the answer for a finished index of so many bytes, of which so many were given, and whose first failed check is this, if it has any
+-- the answer for an initialized index of which so many bytes were read, whose first failed check is this one, or None
 abbrev pub AnswersIndexHeader : Option checks.Damage → ℕ → ℕ → Result Start Fault → Type 0
 AnswersIndexHeader None size given answer = IsGiven size given → answer ≡ Ok Finished
 AnswersIndexHeader (Some damage) size given answer = IsGiven size given → (found : Damage) × (answer ≡ Err (Damaged found)) × (damage_of found ≡ damage)
 
--- this header and this length were read, of a finished index, and the error is the first check of them that fails
+-- the header and the length of an initialized index were read, and the error is the first check of them that fails
 pub record FailsIndexCheck (damage : Damage) : Type 0 where
   pub header : List ℕ
   pub size : ℕ
@@ -43,7 +44,6 @@ pub record FailsIndexCheck (damage : Damage) : Type 0 where
   pub finished : magic_of (content header) ≢ 0
   pub first : first_of (head_checks (content header) size ++ list_checks (content header)) ≡ Some (damage_of damage)
 
--- why a look finds a failed check, whether or not the folder is observable: too few bytes of the header came, or a check of what was read
--- fails
+-- why the look at the index fails, of an opaque folder too: too few bytes of the header came, or a check of what was read fails
 abbrev pub IsLookDamage : Told → Damage → Type 0
 IsLookDamage told damage = IsShort told names.Index 0 header_length damage ⊎ FailsIndexCheck damage

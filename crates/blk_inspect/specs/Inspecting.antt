@@ -1,4 +1,4 @@
--- What inspecting a folder promises.
+-- The contract of an inspection of a folder.
 use Rattle.std.specs.Prelude.{◌≡◌, ◌++◌, ◌⊎◌, ℕ, List, Result, Ok, Err, Some}
 use Rattle.std.specs.declared.option.Option.{Option}
 use Rattle.std.specs.Option.{option_map}
@@ -19,19 +19,19 @@ use Rattle.spec_run.specs.Opening.{IsUsable}
 use Rattle.blk_inspect.specs.declared.fault.InspectFault.{InspectFault}
 use Rattle.blk_inspect.specs.declared.fault.InspectFault.TheVariants.{Device, Damaged, Sink, Memory}
 
--- The answers.
+-- Answers.
 
--- the fault of a scan, as one of an inspection
+-- the fault of an inspection that a failed scan causes
 abbrev pub inspect_fault : ScanFault → InspectFault
 inspect_fault scan.Device = Device
 inspect_fault (scan.Damaged damage) = Damaged damage
 inspect_fault scan.Memory = Memory
 
--- a finished folder of which this is the first check of the headers that fails
+-- the folder is initialized, and `damage` is the first check of its headers that fails
 abbrev pub IsDamagedFirst : Damage → Image → Type 0
 IsDamagedFirst damage image = (IsUnfinished image → ⊥) × (first_damage image ≡ Some (damage_of damage))
 
--- each answer, and the folders that it is given for; a failed device and out of memory say nothing of the folder
+-- for each answer the folders that it may be given for; an I/O error and out of memory say nothing of the folder
 abbrev pub AnswersFor : {A : Type 0} → Result A InspectFault → Image → Type 0
 AnswersFor (Ok a) image = IsUsable image
 AnswersFor (Err Sink) image = IsUsable image
@@ -39,7 +39,7 @@ AnswersFor (Err (Damaged damage)) image = IsDamagedFirst damage image
 AnswersFor (Err Device) image = Unit {0}
 AnswersFor (Err Memory) image = Unit {0}
 
--- the text is printed, or a prefix of it where the sink failed, and nothing at any other answer
+-- what is printed by the answer: the text, a prefix of it where the output failed, and nothing at any other error
 abbrev pub PrintsAt : {A : Type 0} → Result A InspectFault → List ℕ → (old new : Option (List ℕ)) → Type 0
 PrintsAt (Ok a) text old new = new ≡ option_map (λ (w : List ℕ). w ++ text) old
 PrintsAt (Err Sink) text old new = Appends old new text
@@ -47,7 +47,7 @@ PrintsAt (Err Device) text old new = new ≡ old
 PrintsAt (Err (Damaged damage)) text old new = new ≡ old
 PrintsAt (Err Memory) text old new = new ≡ old
 
--- where the answer is a fault, this holds, unless the sink failed
+-- where the answer is an error, other than that the output failed, P holds
 abbrev pub UnlessSink : {A : Type 0} → Result A InspectFault → Type 0 → Type 0
 UnlessSink (Ok a) P = Unit {0}
 UnlessSink (Err Sink) P = Unit {0}
@@ -55,7 +55,7 @@ UnlessSink (Err Device) P = P
 UnlessSink (Err (Damaged damage)) P = P
 UnlessSink (Err Memory) P = P
 
--- where the answer is that the device failed, this holds
+-- where the answer is an I/O error of the folder, P holds; any other answer is fine
 abbrev pub IfInspectDevice : {A : Type 0} → Result A InspectFault → Type 0 → Type 0
 IfInspectDevice (Ok a) P = Unit {0}
 IfInspectDevice (Err Device) P = P
@@ -63,7 +63,7 @@ IfInspectDevice (Err (Damaged damage)) P = Unit {0}
 IfInspectDevice (Err Sink) P = Unit {0}
 IfInspectDevice (Err Memory) P = Unit {0}
 
--- where the answer is a failed check, that check is so
+-- where the answer is a failed check, it has the property P; any other answer is fine
 abbrev pub IfInspectDamaged : {A : Type 0} → Result A InspectFault → (Damage → Type 0) → Type 0
 IfInspectDamaged (Ok a) P = Unit {0}
 IfInspectDamaged (Err Device) P = Unit {0}
@@ -71,7 +71,7 @@ IfInspectDamaged (Err (Damaged damage)) P = P damage
 IfInspectDamaged (Err Sink) P = Unit {0}
 IfInspectDamaged (Err Memory) P = Unit {0}
 
--- where the answer is that the sink failed, this holds
+-- where the answer is that the output failed, P holds; any other answer is fine
 abbrev pub IfInspectSink : {A : Type 0} → Result A InspectFault → Type 0 → Type 0
 IfInspectSink (Ok a) P = Unit {0}
 IfInspectSink (Err Device) P = Unit {0}
@@ -79,20 +79,20 @@ IfInspectSink (Err (Damaged damage)) P = Unit {0}
 IfInspectSink (Err Sink) P = P
 IfInspectSink (Err Memory) P = Unit {0}
 
--- The causes of failed checks, which hold for an opaque folder too.
+-- Causes of failed checks, which hold for an opaque folder too.
 
--- the header of the index or of a block file was read, and its bytes are too few
+-- a read of the header of the index or of a block file gave too few bytes
 abbrev pub IsFileHeadDamage : Told → Damage → Type 0
 IsFileHeadDamage told damage = IsShort told names.Index 0 header_length damage ⊎ ((n : ℕ) × IsShort told (names.Block n) 0 block_fields_length damage)
 
--- so it was, or a scan found corruption
+-- a read of a header gave too few bytes, or a check of a scan failed
 abbrev pub IsInspectReadDamage : BlockFiles → Told → Damage → Type 0
 IsInspectReadDamage files told damage = IsFileHeadDamage told damage ⊎ IsScanDamage files told damage
 
--- a header was read with too few bytes, or the block files couldn't be loaded, or a scan by them found corruption
+-- why an initialized folder can't be inspected: too few bytes of a header, or a failed check while the block files were loaded or the folder scanned
 abbrev pub IsFinishedDamage : Told → Damage → Type 0
 IsFinishedDamage told damage = IsFileHeadDamage told damage ⊎ IsBlocksDamage told damage
 
--- a check of the index failed, or it was so with a finished folder
+-- why a folder can't be inspected: a check of the index, or one of an initialized folder
 abbrev pub IsInspectDamage : Told → Damage → Type 0
 IsInspectDamage told damage = IsLookDamage told damage ⊎ IsFinishedDamage told damage

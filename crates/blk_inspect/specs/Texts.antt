@@ -24,21 +24,21 @@ use Rattle.blk_inspect.specs.declared.inspecting.Part.TheVariants as part
 abbrev pub word_text : ℕ → List ℕ
 word_text w = hex_text 8 w
 
--- a folder whose index is unfinished
+-- the line of a folder whose index is uninitialized
 abbrev pub unfinished_line : List ℕ
 unfinished_line = line (codes "unfinished" ∷ [])
 
--- what is asked for isn't there
+-- the line where what is asked for doesn't exist
 abbrev pub none_line : List ℕ
 none_line = line (codes "none" ∷ [])
 
--- so many lines are before this one
+-- the line after n printed lines
 abbrev pub end_line : ℕ → List ℕ
 end_line n = answer_line (answer.Listed n)
 
 -- Words with their names.
 
--- a name, and a word
+-- the line of a name and a word
 abbrev pub word_line : List ℕ → ℕ → List ℕ
 word_line name w = line (name ∷ word_text w ∷ [])
 
@@ -46,7 +46,7 @@ word_line name w = line (name ∷ word_text w ∷ [])
 abbrev pub words_text : List (List ℕ × ℕ) → List ℕ
 words_text words = flat_map (λ word. word_line word.0 word.1) words
 
--- the words of the header of an index
+-- the words of the index header, with their names
 unfoldable pub index_words : (ℕ → ℕ) → List (List ℕ × ℕ)
 index_words f =
     (codes "magic", magic_of f)
@@ -66,7 +66,7 @@ index_words f =
     ∷ (codes "operation", operation_of f)
     ∷ []
 
--- the words of the header of a block file
+-- the words of a block file's header, with their names
 unfoldable pub file_words : (ℕ → ℕ) → List (List ℕ × ℕ)
 file_words f =
     (codes "magic", magic_of f)
@@ -87,7 +87,7 @@ file_words f =
     ∷ (codes "updating", updating_of f)
     ∷ []
 
--- the words of an entry record
+-- the words of an entry record, with their names
 unfoldable pub record_words : Entry → List (List ℕ × ℕ)
 record_words e =
     (codes "hash", e.hash)
@@ -110,7 +110,7 @@ record_words e =
 
 -- Addresses.
 
--- what an address names: the number of an external file; or the number of a kind, a file, the first block, and how many blocks
+-- the line of an address: the number of an external file; or the number of its kind, its file, its first block, and its number of blocks
 unfoldable pub place_line : ℕ → List ℕ
 place_line w =
     if kind_of w == external
@@ -119,29 +119,29 @@ place_line w =
 
 -- Nodes and records.
 
--- a node: its word, that of its record, and whether it is dirty
+-- the line of a node: its address, that of its record, and its dirty flag
 abbrev pub node_line : (w contents dirty : ℕ) → List ℕ
 node_line w contents dirty = line (codes "node" ∷ word_text w ∷ codes "contents" ∷ word_text contents ∷ codes "dirty" ∷ word_text dirty ∷ [])
 
--- a record: its word, and the hash of its key
+-- the line of a record: its address, and the hash of its key
 abbrev pub record_line : (w hash : ℕ) → List ℕ
 record_line w hash = line (codes "entry" ∷ word_text w ∷ codes "hash" ∷ word_text hash ∷ [])
 
--- the node that a word of an image names
+-- the line of the node at address w of an image
 abbrev pub node_line_at : Image → ℕ → List ℕ
 node_line_at image w = node_line w (node_at image w).contents (node_at image w).dirty
 
--- the record that one names
+-- the line of the record at address w of an image
 abbrev pub record_line_at : Image → ℕ → List ℕ
 record_line_at image w = record_line w (entry_at image w).hash
 
--- a line for each of these words, and how many they are
+-- a line for each of the words, and then one with their number
 abbrev pub listed_text : (ℕ → List ℕ) → List ℕ → List ℕ
 listed_text line_at words = flat_map line_at words ++ end_line (length words)
 
 -- What is dropped.
 
--- the number of a reason
+-- the printed number of a reason to drop a node
 abbrev pub number_of_reason : Reason → ℕ
 number_of_reason reason.Contents = 1
 number_of_reason reason.Seal = 2
@@ -160,7 +160,7 @@ number_of_reason reason.Name = 14
 number_of_reason reason.Parent = 15
 number_of_reason reason.Unlisted = 16
 
--- its name
+-- the printed name of a reason to drop a node
 abbrev pub name_of_reason : Reason → List ℕ
 name_of_reason reason.Contents = codes "Contents"
 name_of_reason reason.Seal = codes "Seal"
@@ -179,41 +179,41 @@ name_of_reason reason.Name = codes "Name"
 name_of_reason reason.Parent = codes "Parent"
 name_of_reason reason.Unlisted = codes "Unlisted"
 
--- so many nodes are kept
+-- the line with how many nodes are kept
 abbrev pub kept_line : ℕ → List ℕ
 kept_line n = line (codes "kept" ∷ number_text n ∷ [])
 
--- a node or a record that is dropped, and why
+-- the line of a node or a record that is dropped, with the reason
 abbrev pub dropped_line : ℕ × Reason → List ℕ
 dropped_line one = line (codes "dropped" ∷ word_text one.0 ∷ number_text (number_of_reason one.1) ∷ name_of_reason one.1 ∷ [])
 
--- The parts of a folder with a finished index.
+-- The parts of a folder with an initialized index.
 
--- the header of the index
+-- the text of the index header
 unfoldable pub index_text : Image → List ℕ
 index_text image = words_text (index_words (byte image Index))
 
--- the header of a block file, where it is linked
+-- the text of a block file's header, or `none` where the file isn't linked
 unfoldable pub file_text : ℕ → Image → List ℕ
 file_text n image = if is_some (linked_as image n) then words_text (file_words (byte image (Block n))) else none_line
 
--- what a word names, where it is an address
+-- the text of the place that an address names, or `none` where the word isn't an address
 unfoldable pub address_text : ℕ → List ℕ
 address_text w = if is_address w then place_line w else none_line
 
--- the walked nodes
+-- the text of the walked nodes of the LRU list
 unfoldable pub list_text : Image → List ℕ
 list_text image = listed_text (node_line_at image) (completed_walk image)
 
--- the reached records of a bucket
+-- the text of the records that the chain of a bucket reaches
 unfoldable pub chain_text : ℕ → Image → List ℕ
 chain_text bucket image = listed_text (record_line_at image) (chain (store_of image) bucket).reached
 
--- the entry record that a word names, where there is one
+-- the text of the entry record at address w, or `none` where there is no valid one
 unfoldable pub record_text : ℕ → Image → List ℕ
 record_text w image = if stands_as image blocks_256 w then words_text (record_words (entry_at image w)) else none_line
 
--- each of them
+-- the text of a part of a folder
 abbrev pub part_text : Part → Image → List ℕ
 part_text part.Index image = index_text image
 part_text (part.File n) image = file_text n image
@@ -224,18 +224,18 @@ part_text (part.Entry w) image = record_text w image
 
 -- Whole texts.
 
--- what is held in a folder with a finished index: how many nodes are kept, what is dropped, and the items and bytes of what is kept
+-- the text of a consistency check of an initialized folder: how many nodes are kept, what is dropped, and the number and the cost of what is kept
 unfoldable pub verdict_text : Image → List ℕ
 verdict_text image = kept_line (length (kept image)) ++ (flat_map dropped_line (dropped image) ++ totals_line (length (kept image)) (sum_by charge_of (kept image)))
 
--- what is printed of a folder that is unfinished, or has this text where it isn't
+-- the text, or for an uninitialized folder the line that says so
 abbrev pub text_or_unfinished : Image → List ℕ → List ℕ
 text_or_unfinished image text = if unfinished image then unfinished_line else text
 
--- what is printed of a part of a folder
+-- what `inspect` prints of a part of a folder
 abbrev pub inspect_text : Part → Image → List ℕ
 inspect_text part image = text_or_unfinished image (part_text part image)
 
--- what is printed of a folder that is verified
+-- what `verify` prints of a folder
 abbrev pub verify_text : Image → List ℕ
 verify_text image = text_or_unfinished image (verdict_text image)

@@ -12,9 +12,9 @@ use blk_model::Answer;
 use blk_script::Field::{Data, Word};
 use blk_script::{print_fields, print_reply};
 
-/// What is printed as one line.
+/// Something that is printed as one line.
 pub(crate) trait Row {
-    /// The line.
+    /// The printed line.
     ghost text: { Self → List ℕ };
 
     /// Prints the line, or a prefix of it where the sink fails.
@@ -43,7 +43,7 @@ impl Row for NamedWord {
     }
 }
 
-/// A node, with the word of its record and its mark.
+/// A node, with the address of its record and its dirty flag.
 #[derive(Clone, Copy)]
 pub(crate) struct NodeRow {
     pub(crate) node: u32,

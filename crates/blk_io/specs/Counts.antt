@@ -2,7 +2,8 @@
 use Rattle.std.specs.Prelude.{◌≡◌, ℕ, ◌+◌, ◌-◌, ◌^◌, ◌<◌, ◌==◌, ◌⊎◌, Bool, true, if◌then◌else◌, min, find, List, [], ◌∷◌, ◌++◌, Option, None, Some, is_some}
 use Rattle.std.specs.Option.{option_map}
 
--- the calls so far, those that ran out of memory, and those that failed; the calls that are to fail, each with the words that last
+-- how many calls there were so far, how many ran out of memory, and how many failed; and the calls that are to fail, each with how many of its words are
+-- written all the same
 pub record CallCounts : Type 0 where
   pub calls : ℕ
   pub lacks : ℕ
@@ -13,15 +14,15 @@ pub record CallCounts : Type 0 where
 abbrev pub no_calls : CallCounts
 no_calls = record { calls = 0; lacks = 0; faults = 0; listed = [] }
 
--- one more call is to fail
+-- the counts where one more call is listed to fail, after so many words of it are written
 abbrev pub with_listed : ℕ → ℕ → CallCounts → CallCounts
 with_listed call words counts = record { calls = counts.calls; lacks = counts.lacks; faults = counts.faults; listed = counts.listed ++ (call, words) ∷ [] }
 
--- one more, but a count that is at the last value of a u64 stays there
+-- a counter raised by one, which saturates at the last value of a u64
 abbrev pub one_more : ℕ → ℕ
 one_more n = min (n + 1) (2 ^ 64 - 1)
 
--- how many words of the next call last, where it is listed to fail; the first that is listed for a call counts
+-- how many words of the next call are written before it fails, or None where it isn't listed to fail; of two listings of a call the first counts
 abbrev pub next_failure : CallCounts → Option ℕ
 next_failure counts = option_map (λ (one : ℕ × ℕ). one.1) (find (λ (one : ℕ × ℕ). one.0 == one_more counts.calls) counts.listed)
 
@@ -29,17 +30,17 @@ next_failure counts = option_map (λ (one : ℕ × ℕ). one.1) (find (λ (one :
 abbrev pub fails_next : CallCounts → Bool
 fails_next counts = is_some (next_failure counts)
 
--- how many words may last, where so many steps are left
+-- how many words may be written: as many as steps are left, and where the call is listed to fail no more than it is listed with
 abbrev pub lasting : Option ℕ → ℕ → ℕ
 lasting None left = left
 lasting (Some words) left = min words left
 
--- no out-of-memory failure was counted, and their count isn't the last value of a u64
+-- no call between the two counts ran out of memory, and the counter of those that did isn't at the last value of a u64 (where it can't rise)
 pub record FindsMemory (old new : CallCounts) : Type 0 where
   pub same : new.lacks ≡ old.lacks
   pub small : new.lacks < 2 ^ 64 - 1
 
--- a call was counted, and whether it failed; it failed where it ran out of memory, and otherwise exactly where it had this cause
+-- one call was counted, and as a fault exactly where it failed; it failed if it ran out of memory, and otherwise it failed exactly if this cause was there
 pub record CountsCall (old new : CallCounts) (failed cause : Bool) : Type 0 where
   pub calls : new.calls ≡ one_more old.calls
   pub listed : new.listed ≡ old.listed
@@ -48,14 +49,14 @@ pub record CountsCall (old new : CallCounts) (failed cause : Bool) : Type 0 wher
   pub lacking : old.lacks < new.lacks → failed ≡ true
   pub exact : FindsMemory old new → failed ≡ cause
 
--- a call began
+-- the counts after the begin of a call: the counter of calls is raised
 abbrev pub begun : CallCounts → CallCounts
 begun counts = record { calls = one_more counts.calls; lacks = counts.lacks; faults = counts.faults; listed = counts.listed }
 
--- it failed
+-- the counts after a call failed: the error counter is raised
 abbrev pub failed : CallCounts → CallCounts
 failed counts = record { calls = counts.calls; lacks = counts.lacks; faults = one_more counts.faults; listed = counts.listed }
 
--- it failed when out of memory
+-- the counts after a call ran out of memory: the error counter and that of calls without memory are raised
 abbrev pub lacking : CallCounts → CallCounts
 lacking counts = record { calls = counts.calls; lacks = one_more counts.lacks; faults = one_more counts.faults; listed = counts.listed }

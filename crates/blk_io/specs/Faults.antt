@@ -1,4 +1,4 @@
--- The answers of calls that read and check.
+-- What the errors of calls that read and check say.
 use Rattle.std.specs.Prelude.{◌≡◌, ℕ, ◌-◌, ◌<◌, min, Result, Ok, Err}
 use Rattle.std.specs.Option.{ForSome}
 use Rattle.spec_image.specs.Image.{File, HasRange, Image, length_of}
@@ -10,34 +10,34 @@ use Rattle.blk_io.specs.declared.fault.Fault.{Fault}
 use Rattle.blk_io.specs.declared.fault.Fault.TheVariants.{Device, Damaged}
 use Rattle.blk_io.specs.FileNames.{file_of}
 
--- a failed check as a check of an image has it
+-- a failed check of a call as the specs of images have it: file, offset and word found
 abbrev pub damage_of : Damage → checks.Damage
 damage_of damage = record { file = file_of damage.file; at = damage.at; found = damage.found }
 
--- where the answer is a failed check, that check is so
+-- where the answer is a failed check, it has the property P; any other answer is fine
 abbrev pub IfDamaged : {A : Type 0} → Result A Fault → (Damage → Type 0) → Type 0
 IfDamaged (Ok a) P = Unit {0}
 IfDamaged (Err Device) P = Unit {0}
 IfDamaged (Err (Damaged damage)) P = P damage
 
--- where the answer is that the device failed, this holds
+-- where the answer is an I/O error, P holds; any other answer is fine
 abbrev pub IfDevice : {A : Type 0} → Result A Fault → Type 0 → Type 0
 IfDevice (Ok a) P = Unit {0}
 IfDevice (Err Device) P = P
 IfDevice (Err (Damaged damage)) P = Unit {0}
 
--- a read of so many bytes at a place gave fewer: the error has the place, and finds how many there were
+-- a read of so many bytes at an offset gave fewer: the error has the file and the offset, and as its word how many bytes there were
 pub record IsShort (told : Told) (file : FileId) (place count : ℕ) (damage : Damage) : Type 0 where
   pub of_file : damage.file ≡ file
   pub at_place : damage.at ≡ place
   pub few : damage.found < count
   pub many : ForSome told.files (λ image. damage.found ≡ min count (length_of image (file_of file) - place))
 
--- the same of a read at the front of a file, where so many bytes were given
+-- a read of so many bytes at the front of a file gave fewer: the error has the file, offset 0, and as its word how many were given
 abbrev pub IsShortAtStart : File → (count given : ℕ) → Damage → Type 0
 IsShortAtStart file count given damage = (given < count) × (damage_of damage ≡ record { file = file; at = 0; found = given })
 
--- a failed check is that of a word at a place of a file
+-- a failed check has this file, this offset and this word
 pub record IsOfWord (file : FileId) (place found : ℕ) (damage : Damage) : Type 0 where
   pub of_file : damage.file ≡ file
   pub at_place : damage.at ≡ place

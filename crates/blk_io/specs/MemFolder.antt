@@ -1,4 +1,4 @@
--- What a folder in memory tells, and what it counts.
+-- What contracts see of a folder in memory, and the counts of its calls.
 use Rattle.std.specs.Prelude.{◌≡◌, ℕ, List, [], Option, None, Some}
 use Rattle.std.specs.Option.{option_map}
 use Rattle.std.proofs.Common.{refl, sym, ◌∙◌, ap, subst}
@@ -11,19 +11,19 @@ use Rattle.blk_io.specs.Calls.{counts_in}
 use Rattle.blk_io.specs.Counts.{CallCounts}
 use Rattle.blk_io.specs.Trail.{told_of, kept_steps, IsTrailOf}
 
--- the files at the start, the files now, and the write trace
+-- what contracts see of a folder in memory: its files at the start, its files now, and the write trace between them
 abbrev pub mem_told : MemFolder → Told
 mem_told m = told_of m.start.items m.files.items (kept_steps m.trail)
 
--- the counts of the calls on it, and the calls that are to fail
+-- the counts of the calls on a folder in memory, and its calls that are listed to fail
 abbrev pub mem_counts : MemFolder → CallCounts
 mem_counts m = counts_in m.calls
 
--- these files are there at the start, and no step was made
+-- what contracts see of a folder with the files of an image and an empty write trace
 abbrev pub newly_told : Image → Told
 newly_told image = record { files = Some image; trail = Some (record { start = image; steps = [] }) }
 
--- the same, with a file more among those at the start and those now
+-- what contracts see of a folder where one more file with these bytes was there from the start: among the files at the start and those now
 abbrev pub told_with_file : File → List ℕ → Told → Told
 told_with_file file bytes told = record {
   files = option_map (λ (image : Image). with_file image file (Some bytes)) told.files;
@@ -33,7 +33,7 @@ told_with_file file bytes told = record {
 some_inj : {A : Type 0} {x y : A} → Some x ≡ Some y → x ≡ y
 some_inj e = cc
 
--- what is told agrees, since the folder keeps it so
+-- the files now are those at the start after the write trace, as the folder's invariant has it
 told_agrees : (start files : List MemFile) (steps : Option (List TrailStep)) → IsTrailOf start files steps → AgreesWithTrail (told_of start files steps)
 told_agrees start files None agrees image there trail kept = absurd (none_some kept)
   where

@@ -1,4 +1,4 @@
--- What a source, a sink and a clock in memory tell, and what they count.
+-- What contracts see of a source, a sink and a clock in memory, and the counts of their calls.
 use Rattle.std.specs.Prelude.{ℕ, List, drop}
 use Rattle.blk_io.specs.declared.mem_streams.MemSource.{MemSource}
 use Rattle.blk_io.specs.declared.mem_streams.MemSink.{MemSink}
@@ -8,11 +8,11 @@ use Rattle.blk_io.specs.Clock.{readings_from}
 use Rattle.blk_io.specs.Counts.{CallCounts}
 use Rattle.blk_io.specs.Streams.{Readings}
 
--- the bytes that are left of a source
+-- the bytes that are still to be read from a source
 abbrev pub source_left : MemSource → List ℕ
 source_left source = drop source.at source.bytes.items
 
--- the counts of its calls, and the calls that are to fail
+-- the counts of the calls on a source, and those that are listed to fail
 abbrev pub source_counts : MemSource → CallCounts
 source_counts source = counts_in source.calls
 
@@ -20,10 +20,10 @@ source_counts source = counts_in source.calls
 abbrev pub sink_written : MemSink → List ℕ
 sink_written sink = sink.bytes.items
 
--- the counts of its calls, and the calls that are to fail
+-- the counts of the calls on a sink, and those that are listed to fail
 abbrev pub sink_counts : MemSink → CallCounts
 sink_counts sink = counts_in sink.puts
 
--- the readings to come of a clock, and the one that is repeated after them
+-- the readings of a clock that are still to come, and the last one, which is repeated after them
 abbrev pub clock_readings : ListClock → Readings
 clock_readings clock = readings_from clock.readings.items clock.at

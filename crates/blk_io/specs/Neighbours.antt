@@ -1,12 +1,12 @@
--- Words that lie side by side.
+-- Words with their offsets that lie side by side in a file.
 use Rattle.std.specs.Prelude.{ℕ, ◌≡◌, ◌+◌, List, [], ◌∷◌}
 
--- words from a place on, each after the one before, with their places
+-- words with their offsets, where the first has this offset and each other one lies right behind the one before
 abbrev pub run_from : ℕ → List ℕ → List (ℕ × ℕ)
 run_from place [] = []
 run_from place (word ∷ words) = (place, word) ∷ run_from (place + 4) words
 
--- words, each with its place, of which each lies after the one before
+-- each word of the list has the offset right behind the word before (four bytes on)
 abbrev pub AreSideBySide : List (ℕ × ℕ) → Type 0
 AreSideBySide [] = Unit {0}
 AreSideBySide (word ∷ []) = Unit {0}

@@ -1,15 +1,15 @@
--- What an opaque folder counts, and what it passes calls on to.
+-- The parts of an opaque folder: the folder that it passes calls on to, and its counters.
 use Rattle.std.specs.Prelude.{ℕ}
 use Rattle.blk_io.specs.declared.silent.SilentFolder.{SilentFolder}
 
--- the folder inside
+-- the folder that an opaque folder passes its calls on to
 abbrev pub folder_of : {F : Type 0} → SilentFolder F → F
 folder_of s = s.inner
 
--- the calls so far
+-- how many calls were made on an opaque folder
 abbrev pub calls_of : {F : Type 0} → SilentFolder F → ℕ
 calls_of s = s.calls
 
--- the failures so far
+-- the error counter of an opaque folder
 abbrev pub faults_of : {F : Type 0} → SilentFolder F → ℕ
 faults_of s = s.faults

@@ -1,9 +1,9 @@
--- What an opaque folder tells.
+-- What contracts see of an opaque folder.
 use Rattle.std.specs.Prelude.{◌≡◌, None, Some}
 use Rattle.spec_image.specs.Image.{Image}
 use Rattle.spec_image.specs.Told.{Told, AgreesWithTrail, TellsBytes}
 
--- neither files nor a write trace
+-- nothing is observable: neither files nor a write trace
 abbrev pub untold : Told
 untold = record { files = None; trail = None }
 

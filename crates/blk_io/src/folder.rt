@@ -106,10 +106,10 @@ impl From<AllocError> for NoMemory {
 /// opaque. A call that answers `Failed` is counted in `faults`; a read then gave nothing, a write may have made some of
 /// its steps, from the first on, and any other call changed nothing.
 pub trait Folder {
-    /// What is told of the files now, and of the steps that made them.
+    /// What contracts see of the files now, and of the steps that made them.
     ghost told: { Self → Told };
 
-    /// How often the folder has failed.
+    /// The error counter: how often the folder has failed.
     ghost faults: { Self → ℕ };
 
     /// The file's length, or None where there is no such file.
@@ -149,7 +149,7 @@ pub trait Folder {
         ensures later { faults self.old ≤ faults self.new }
         ensures failed { OnErr result (Rises (faults self.old) (faults self.new)) };
 
-    /// The least cache file after this one, or the least of all.
+    /// The first cache file after this one in the order of files, or the first of all.
     fn list(&mut self, after: Option<FileId>) -> Result<Option<FileId>, Failed>
         ensures after { IfOk result (λ next. ForSome next (λ file. IsAfter (option_map file_of after) (file_of file))) }
         ensures next { IfOk result (λ next. ForSome (told self.old).files (λ image. IsNextFile image (option_map file_of after) (option_map file_of next))) }
@@ -157,7 +157,7 @@ pub trait Folder {
         ensures later { faults self.old ≤ faults self.new }
         ensures failed { OnErr result (Rises (faults self.old) (faults self.new)) };
 
-    /// Notes among the steps that so many commands are done.
+    /// Adds a completion marker to the write trace: so many commands are done.
     fn note(&mut self, answered: u64) -> Result<(), Failed>
         ensures done { OnOk result (Applies (told self.old) (told self.new) (Note answered ∷ [])) }
         ensures undone { OnErr result (Stays (told self.old) (told self.new)) }
@@ -172,9 +172,9 @@ pub trait Folder {
         false
     }
 
-    /// The files are the start files after the steps.
+    /// The files now are those at the start after the steps, where both are observable.
     ghost agrees: { (folder : Self) → AgreesWithTrail (told folder) };
 
-    /// The files hold bytes.
+    /// All files consist of bytes.
     ghost are_bytes: { (folder : Self) → TellsBytes (told folder) };
 }

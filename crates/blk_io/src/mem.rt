@@ -192,7 +192,7 @@ impl MemFolder {
         Ok(())
     }
 
-    // Writes over bytes of a file, of whose words at most so many may last, and says how many are left then.
+    // Writes over bytes of a file, of which at most so many words may be written before the call fails, and says how many may still be after it.
     pub(crate) fn write_within(
         &mut self,
         left: &mut u64,

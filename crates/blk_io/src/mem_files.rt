@@ -159,7 +159,7 @@ pub(crate) fn remove(files: &mut Vec<MemFile>, file: FileId)
     );
 }
 
-// The same files once more.
+// A copy of the files.
 pub(crate) fn copy_files(alloc: Global, files: &[MemFile]) -> Result<Vec<MemFile>, AllocError>
     ensures { IfOk result (λ copies. image_of copies.items ≡ image_of files.now) }
 {

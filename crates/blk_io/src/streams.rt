@@ -10,10 +10,10 @@ use crate::Failed;
 ///
 /// A call that answers `Failed` took nothing, and is counted in `faults`.
 pub trait Source {
-    /// The bytes that are left, where they are told.
+    /// The bytes that are still to be read, where they are observable.
     ghost left: { Self → Option (List ℕ) };
 
-    /// How often the source has failed.
+    /// The error counter of the source.
     ghost faults: { Self → ℕ };
 
     /// Moves bytes of what is left into the front of `out`. None into a buffer that isn't empty is the end.
@@ -31,16 +31,16 @@ pub trait Source {
 /// A sink may gather bytes, as long as it isn't flushed; those that it holds count as written. A call that answers
 /// `Failed` may have written a prefix of its bytes, and is counted in `faults`.
 pub trait Sink {
-    /// What it is, which no call changes: so one that was lent to a call is known for the same behind it.
+    /// The identity of the sink, which no call changes: so a sink that was lent to a call is known to be the same after it.
     ghost is: { Self → List ℕ };
 
-    /// The bytes that were written, where they are told.
+    /// The bytes that were written, where they are observable.
     ghost written: { Self → Option (List ℕ) };
 
     /// Whether bytes wait to be handed on.
     ghost waiting: { Self → Bool };
 
-    /// How often the sink has failed.
+    /// The error counter of the sink.
     ghost faults: { Self → ℕ };
 
     /// Writes all the bytes, or a prefix of them where it fails.
@@ -60,7 +60,7 @@ pub trait Sink {
 
 /// A clock, which is read in microseconds since 1970.
 pub trait Clock {
-    /// The readings to come, where they are told.
+    /// The readings to come, where they are observable.
     ghost readings: { Self → Option Readings };
 
     /// The next reading, in microseconds since 1970. It may be less than the one before.

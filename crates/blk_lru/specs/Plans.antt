@@ -1,4 +1,4 @@
--- What an operation on the LRU list writes, by the nodes that it goes by.
+-- The writes of an operation on the LRU list, by the nodes that it uses.
 use Rattle.blk_disk.specs.Tables.{is_node_among}
 use Rattle.std.specs.Prelude.{ℕ, ◌≡◌, ◌≢◌, ◌==◌, if◌then◌else◌, Option, None, Some, List, [], ◌∷◌, ◌++◌, IfSome, true}
 use Rattle.spec_folder.specs.ListView.{ListView, ListWrite, Next, Operation, Transaction}
@@ -8,58 +8,58 @@ use Rattle.blk_lru.specs.declared.plans.Neighbours.{Neighbours}
 use Rattle.blk_lru.specs.declared.plans.Operation as code
 use Rattle.blk_lru.specs.declared.plans.Operation.TheVariants as operations
 
--- a word, or 0 for none
+-- the word, or 0 for None
 abbrev pub word_or_zero : Option ℕ → ℕ
 word_or_zero None = 0
 word_or_zero (Some word) = word
 
--- taking a node out, by the nodes beside it: nothing where there are none; else those change, and at last its next becomes 0
+-- the writes that take a node out of the list, by its neighbours: those get new links, and at last its own next becomes 0; none where it is in no list
 abbrev pub leaving : (node : ℕ) → Option Neighbours → List ListWrite
 leaving node None = []
 leaving node (Some neighbours) = unlinking node neighbours.next neighbours.prev ++ Next node 0 ∷ []
 
--- the first node once a node is out: where it was the first, the next one if there is one
+-- the head of the list once the node is out: its next if it was the head, None if it was alone
 abbrev pub head_without : (node : ℕ) → Option Neighbours → (head : Option ℕ) → Option ℕ
 head_without node None head = head
 head_without node (Some neighbours) head =
     if neighbours.prev == node then (if neighbours.next == node then None else Some neighbours.next) else head
 
--- what an operation in flight writes; a move turns into an insert once its node is out
+-- the writes of an operation after it is named in the index; a move is named an insert once its node is out
 abbrev pub planned : (node : ℕ) → code.Operation → List ListWrite
 planned node (operations.Insert head) = putting_in_front node (word_or_zero head)
 planned node (operations.Remove neighbours) = leaving node neighbours
 planned node (operations.Move neighbours head) = leaving node neighbours ++ Operation insert ∷ putting_in_front node (word_or_zero (head_without node neighbours head))
 
--- and then the transaction ends
+-- the writes of an operation after it is named in the index, and the end of the operation
 abbrev pub pending : (node : ℕ) → code.Operation → List ListWrite
 pending node operation = planned node operation ++ Transaction 0 ∷ []
 
--- the code of an operation
+-- the code of an operation in the index
 abbrev pub operation_code : code.Operation → ℕ
 operation_code (operations.Insert head) = insert
 operation_code (operations.Remove neighbours) = remove
 operation_code (operations.Move neighbours head) = move
 
--- all of an operation
+-- all writes of an operation: its code, its node, what it changes, and its end
 abbrev pub whole_plan : (node : ℕ) → code.Operation → List ListWrite
 whole_plan node operation = Operation (operation_code operation) ∷ Transaction node ∷ pending node operation
 
--- the nodes beside one that has these links: none where its next is 0
+-- the neighbours of a node with these links, or None where its next is 0 (it is in no list)
 abbrev pub AreBeside : (next prev : ℕ) → Option Neighbours → Type 0
 AreBeside next prev None = next ≡ 0
 AreBeside next prev (Some neighbours) = (next ≢ 0) × ((neighbours.next ≡ next) × (neighbours.prev ≡ prev))
 
--- an operation on a node goes by the nodes of the list
+-- the nodes that an operation on this node uses are those that the list has: its head, or the node's neighbours, or both
 abbrev pub GoesBy : ListView → (node : ℕ) → code.Operation → Type 0
 GoesBy list node (operations.Insert head) = word_or_zero head ≡ list.head
 GoesBy list node (operations.Remove neighbours) = AreBeside (list.next node) (list.prev node) neighbours
 GoesBy list node (operations.Move neighbours head) = AreBeside (list.next node) (list.prev node) neighbours × (word_or_zero head ≡ list.head)
 
--- the nodes beside one are there
+-- the neighbours are valid nodes, by the table
 abbrev pub StandBeside : BlockFiles → Neighbours → Type 0
 StandBeside files neighbours = (is_node_among files neighbours.next ≡ true) × (is_node_among files neighbours.prev ≡ true)
 
--- the nodes that an operation goes by are there
+-- the nodes that an operation uses are valid, by the table
 abbrev pub StandsBy : BlockFiles → code.Operation → Type 0
 StandsBy files (operations.Insert head) = IfSome head (λ n. is_node_among files n ≡ true)
 StandsBy files (operations.Remove neighbours) = IfSome neighbours (StandBeside files)

@@ -1,4 +1,4 @@
-// The operation in flight, completed.
+// The redo of the operation in flight.
 ghost use Rattle.std.specs.Prelude.{◌≡◌, ◌≤◌, None, IfOk, IfSome, OnOk, map, true};
 ghost use Rattle.std.specs.Option.{ForSome};
 ghost use Rattle.spec_image.specs.Told.{Applies, MakesPartOf, Passes, Rises, ReadsOnly};
@@ -26,14 +26,14 @@ use blk_disk::BlockFiles;
 use blk_index::word;
 use blk_io::{Fault, Folder};
 
-// An operation in flight that counts, and its node.
+// An operation in flight that may be redone, and its node.
 #[derive(Clone, Copy)]
 pub(crate) struct InFlight {
     node: Addr,
     operation: Operation,
 }
 
-// What an operation in flight goes by, where it can be used: it counts, or it names a word that is no node or one that doesn't check.
+// What an operation in flight uses: it may be used, or a word of it names no node or one that doesn't pass its check.
 #[derive(Clone, Copy)]
 pub(crate) enum Usable<T> {
     Counts(T),
@@ -93,7 +93,7 @@ pub fn pending<F: Folder>(folder: &mut F, files: &BlockFiles) -> Result<Plan, Fa
     Ok(pending_of(found.node, &found.operation))
 }
 
-// The operation in flight, where this is the transaction word and it counts.
+// The operation in flight, where this is the transaction word and the operation may be redone.
 fn in_flight<F: Folder>(
     folder: &mut F,
     files: &BlockFiles,
@@ -114,7 +114,7 @@ fn in_flight<F: Folder>(
     counting(folder, files, code, &links)
 }
 
-// The operation in flight of a node with these links, where this is the operation word and it counts.
+// The operation in flight of a node with these links, where this is the operation word and the operation may be redone.
 fn counting<F: Folder>(
     folder: &mut F,
     files: &BlockFiles,
@@ -161,7 +161,7 @@ fn counting<F: Folder>(
     }
 }
 
-// The first node or none, where the head is 0 or names a node that checks.
+// The head of the list or none, where its word is 0 or names a node that passes its check.
 fn usable_head<F: Folder>(folder: &mut F, files: &BlockFiles) -> Result<Usable<Option<Addr>>, Fault>
     ensures found { IfOk result (λ found. ForSome (F.told folder.old).files (λ image. FindsHead (list_among files.now image) found)) }
     ensures stand { IfOk result (FoundHeadStands files.now) }
@@ -180,7 +180,7 @@ fn usable_head<F: Folder>(folder: &mut F, files: &BlockFiles) -> Result<Usable<O
     Ok(Usable::Counts(Some(links.node)))
 }
 
-// The nodes beside one that has these links or none, where its next is 0 or both links name nodes that check.
+// The neighbours of a node with these links or none, where its next is 0 or both links name nodes that pass their check.
 fn usable_links<F: Folder>(
     folder: &mut F,
     files: &BlockFiles,

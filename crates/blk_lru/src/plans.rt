@@ -32,8 +32,8 @@ pub(crate) struct Neighbours {
     pub(crate) prev: Addr,
 }
 
-// An operation on a node, and the nodes that it goes by: the first node, and those beside the node,
-// where there are any. The node is put in front, taken out, or taken out and then put in front.
+// An operation on a node, with the nodes that it uses: the head, and the node's neighbours, where there are any. The node is put in front, taken out, or taken
+// out and then put in front.
 #[derive(Clone, Copy)]
 pub(crate) enum Operation {
     Insert {
@@ -49,7 +49,7 @@ pub(crate) enum Operation {
 }
 
 impl Operation {
-    // The word of the index that stands for the operation.
+    // The code of the operation in the index.
     fn code(&self) -> u32
         ensures { result ≡ operation_code self.now }
     {
@@ -196,7 +196,7 @@ fn take_out(plan: &mut Plan, node: Addr, neighbours: &Option<Neighbours>)
     }
 }
 
-// The first node once a node is out, where this one was the first.
+// The head of the list once the node is out, where `head` was the head.
 fn head_without(node: Addr, neighbours: &Option<Neighbours>, head: Option<Addr>) -> Option<Addr>
     ensures { result ≡ plans.head_without node neighbours.now head }
 {

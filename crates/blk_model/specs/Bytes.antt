@@ -5,7 +5,7 @@ use Rattle.std.specs.Prelude.{ℕ, zero, suc, ◌+◌, ◌-◌, List, [], ◌∷
 abbrev pub overwritten : List ℕ → ℕ → List ℕ → List ℕ
 overwritten old place new = take place old ++ replicate (place - length old) 0 ++ new ++ drop (place + length new) old
 
--- the same, where the list ends with new
+-- the list old with new written over it from a place on, and cut after new; a gap before the place is filled with zeros
 abbrev pub overwritten_and_cut : List ℕ → ℕ → List ℕ → List ℕ
 overwritten_and_cut old place new = take place old ++ replicate (place - length old) 0 ++ new
 

@@ -58,11 +58,11 @@ with_slot number slot state = record state { objects = slice_set state.objects n
 abbrev pub with_name : ℕ → Option ℕ → State → State
 with_name name number state = record state { names = slice_set state.names name number }
 
--- the state after a use of the main item of an object, which has no item where it is doomed
+-- the state after an access of the main item of an object, which comes to the front; a doomed object has none
 abbrev pub used_main : Object → State → State
 used_main object state = record state { uses = if object.live then used (main object.key) state.uses else state.uses }
 
--- the parts of an object that a range covers and that it has
+-- those of some part numbers of which the object has a part
 abbrev pub existing_parts : Object → List ℕ → List ℕ
 existing_parts object ns = filter (λ n. is_some (part_at object n)) ns
 
@@ -89,7 +89,7 @@ written handle stream offset cut bytes state =
     let written_to = with_stream object stream (stream_after cut (stream_of object stream) offset bytes) in
     used_main object (with_slot (number_of state handle) (Some (record written_to { settled = false })) state)
 
--- a plain object becomes sparse, with the moment as its signature
+-- the shape of an object after a sparse write: a plain one becomes sparse, with the moment as its signature
 abbrev pub made_sparse : ℕ → Shape → Shape
 made_sparse moment plain = sparse (moment % signatures)
 made_sparse moment (sparse signature) = sparse signature
@@ -103,23 +103,23 @@ sparse_after moment object offset (byte ∷ bytes) = record object {
   settled = false;
 }
 
--- the state after a use of the main item of an object, and then of parts of it
+-- the state after an access of the main item of an object, and then of parts of it: each comes to the front
 abbrev pub used_sparse : Object → List ℕ → State → State
 used_sparse object ns state = record state { uses = used_all (main object.key ∷ map (part object.key) ns) state.uses }
 
--- after SparseWrite: the bytes are written, and the main item and the covered parts are used
+-- after SparseWrite: the bytes are written, and the main item and the covered parts come to the front
 unfoldable pub sparse_written : ℕ → ℕ → ℕ → List ℕ → State → State
 sparse_written moment handle offset bytes state =
     let object = object_of state handle in
     used_sparse object (covered_parts offset (length bytes)) (with_slot (number_of state handle) (Some (sparse_after moment object offset bytes)) state)
 
--- after SparseRead and SparseRange: the main item is used, and the covered parts that there are
+-- after SparseRead and SparseRange: the main item and the covered parts that there are come to the front
 unfoldable pub sparse_used : ℕ → ℕ → ℕ → State → State
 sparse_used handle offset count state =
     let object = object_of state handle in
     used_sparse object (existing_parts object (covered_parts offset count)) state
 
--- a doomed object has no item; without a handle it is gone at once
+-- what becomes of a live object that is doomed: without a handle it is gone at once, and with one it has no parts
 abbrev pub doomed_slot : Bool → Object → Option Object
 doomed_slot is_held object = if is_held then Some (record object { live = false; parts = [] }) else None
 
@@ -131,12 +131,12 @@ doomed number state (Some object) = record state {
   uses = filter (λ item. not (bytes_eq object.key (key_of item))) state.uses;
 }
 
--- after DoomKey, whose key has the object with this number
+-- after DoomKey, given the number of the live object with its key, if there is one
 abbrev pub doomed_key : State → Option ℕ → State
 doomed_key state None = state
 doomed_key state (Some number) = doomed number state (object_at state number)
 
--- an object that has lost a handle: with none left a live one is clean, and a doomed one is gone
+-- what becomes of an object that has lost a handle: with none left a live one is clean, and a doomed one is gone
 abbrev pub released_slot : Bool → Object → Option Object
 released_slot is_held object = if is_held then Some object else if object.live then Some (record object { settled = true }) else None
 
@@ -158,7 +158,7 @@ settled_at number state (Some object) = with_slot number (Some (record object { 
 unfoldable pub flushed : ℕ → State → State
 flushed handle state = settled_at (number_of state handle) state (object_at state (number_of state handle))
 
--- the state after a command that was not refused, what it evicts left aside
+-- the state after a command that was not refused, apart from its evictions
 unfoldable pub effect : ℕ → Request → State → State
 effect moment (to_create handle key) state = created handle key state
 effect moment (to_open handle key) state = opened handle key state

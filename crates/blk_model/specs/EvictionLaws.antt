@@ -10,7 +10,7 @@ use Rattle.blk_model.specs.Step.{step}
 use Rattle.blk_model.specs.ListSteps.{ListStep, out, front, after_steps, list_steps, dooms, uses_of}
 use Rattle.blk_model.specs.Stops.{pick, StopOutcome}
 
--- the list steps of a command on a state, once all groups but these are out
+-- the list steps of a command on a state, once all groups but these are evicted
 abbrev pub later_steps : State → Request → List Group → List ListStep
 later_steps state request groups = map out groups ++ dooms request state ++ map front (uses_of request state)
 
@@ -19,25 +19,27 @@ pub record EvictsFirst (state : State) (moment : ℕ) (request : Request) (first
   pub passes : refused moment request state ≡ None
   pub groups : evicted moment request state ≡ first ++ others
 
--- what a folder may hold after a crash in a command once the first groups are out: what stays of the state without them, in the order after some of the later steps
+-- what may be recovered after a crash in a command once its first groups are evicted: what survives of the state without them, in the order after some of the
+-- later steps
 pub record LaterOutcome (state : State) (moment : ℕ) (request : Request) (first others : List Group) (held : List Row) : Type 0 where
   pub step_count : ℕ
   pub within : step_count ≤ length (later_steps state request others)
   pub with_turned : Bool
   pub picked_rows : held ≡ pick (without first state) (step state moment request).state with_turned (after_steps (take step_count (later_steps state request others)) (without first state).uses)
 
--- once the first groups are out, the durable contents without them may be left by a crash in the command
+-- once the first groups are evicted, the durable contents without them are a crash outcome of the command
 abbrev pub EvictionsMayStop : Type 0
 EvictionsMayStop =
     (state : State) (moment : ℕ) (request : Request) (first others : List Group) → IsValidState state → EvictsFirst state moment request first others
     → StopOutcome state moment request (step state moment request).state (rest (without first state))
 
--- and so may what a crash in the rest of it leaves of the state without them
+-- what a crash in the rest of a command leaves, once its first groups are evicted, is a crash outcome of the whole command
 abbrev pub EvictionsComeFirst : Type 0
 EvictionsComeFirst = (state : State) (moment : ℕ) (request : Request) (first others : List Group) (held : List Row) → IsValidState state → EvictsFirst state moment request first others → LaterOutcome state moment request first others held
     → StopOutcome state moment request (step state moment request).state held
 
--- so a crash in the same command on the state without them, where its steps are the later ones and it ends alike, is one in the whole command
+-- a crash outcome of a command on the state without the first groups is one of the command on the whole state, if its list steps are the later ones and it ends
+-- in the same state
 abbrev pub RestsOfCommandsAreOfThem : Type 0
 RestsOfCommandsAreOfThem = (state : State) (moment : ℕ) (request : Request) (first others : List Group) (held : List Row) → IsValidState state → EvictsFirst state moment request first others
     → list_steps (without first state) moment request ≡ later_steps state request others → (step (without first state) moment request).state ≡ (step state moment request).state

@@ -22,7 +22,7 @@ pub record Presence : Type 0 where
   pub blocks : List Bool
   pub partial : Option (ℕ × ℕ)
 
--- what a part has
+-- the value of a part: its bytes, and which of them are present
 pub record PartValue : Type 0 where
   pub bytes : List ℕ
   pub presence : Presence
@@ -32,7 +32,7 @@ pub data Row : Type 0 where
   main_row : List ℕ → Shape → Streams → Row
   part_row : List ℕ → ℕ → PartValue → Row
 
--- whether two items are one
+-- whether two items are the same
 abbrev pub same_item : Item → Item → Bool
 same_item (main a) (main b) = bytes_eq a b
 same_item (main a) (part b n) = false
@@ -79,7 +79,7 @@ pub record LiesInside (presence : Presence) (size : ℕ) : Type 0 where
   pub whole : (block : ℕ) → IsTrue (is_block_present presence block) → (block + 1) * part_block_size ≤ size
   pub piece : IfSome presence.partial (λ p. p.0 * part_block_size + p.1 ≤ size)
 
--- bytes, and not other numbers
+-- each number of a list is a byte
 abbrev pub IsBytes : List ℕ → Type 0
 IsBytes numbers = All (λ number. number < byte_values) numbers
 
@@ -117,7 +117,7 @@ abbrev pub is_sparse_main : List ℕ → Row → Bool
 is_sparse_main key (main_row other shape streams) = bytes_eq key other && is_sparse shape
 is_sparse_main key (part_row other n value) = false
 
--- each part has a sparse main row of its key
+-- a part's row has exactly one sparse main row of its key among some rows; of a main row nothing is asked
 abbrev pub HasParent : List Row → Row → Type 0
 HasParent rows (main_row key shape streams) = Unit {0}
 HasParent rows (part_row key n value) = count_by (is_sparse_main key) rows ≡ 1

@@ -26,7 +26,7 @@ ListStepsLeadToTheLruList = (state : State) (moment : ℕ) (request : Request) �
 abbrev pub OpenedStatesAreValid : Type 0
 OpenedStatesAreValid = (rows : List Row) (limits : Bounds) → IsValidHolding rows → IsValidState (open_state rows limits)
 
--- a valid snapshot that is recovered is the durable contents, as long as nothing is done
+-- a cache that is opened on a valid snapshot has it as its durable contents
 abbrev pub WhatIsFoundIsAtRest : Type 0
 WhatIsFoundIsAtRest = (rows : List Row) (limits : Bounds) → IsValidHolding rows → rest (open_state rows limits) ≡ rows
 
@@ -34,19 +34,19 @@ WhatIsFoundIsAtRest = (rows : List Row) (limits : Bounds) → IsValidHolding row
 abbrev pub RestsAreHoldings : Type 0
 RestsAreHoldings = (state : State) → IsValidState state → IsValidHolding (rest state)
 
--- what a crash leaves is a valid snapshot
+-- each crash outcome of a command on a valid state is a valid snapshot
 abbrev pub StopsLeaveHoldings : Type 0
 StopsLeaveHoldings = (before : State) (moment : ℕ) (request : Request) (after : State) (held : List Row) → IsValidState before → StopOutcome before moment request after held → IsValidHolding held
 
--- the durable contents before a command may be left by a crash in it
+-- the durable contents before a command are a crash outcome of it
 abbrev pub StopsMayLeaveWhatWas : Type 0
 StopsMayLeaveWhatWas = (state : State) (moment : ℕ) (request : Request) → IsValidState state → StopOutcome state moment request (step state moment request).state (rest state)
 
--- the durable contents after a command may be left by a crash in it
+-- the durable contents after a command are a crash outcome of it
 abbrev pub StopsMayLeaveWhatIs : Type 0
 StopsMayLeaveWhatIs = (state : State) (moment : ℕ) (request : Request) → IsValidState state → IsRequest request → StopOutcome state moment request (step state moment request).state (rest (step state moment request).state)
 
--- nothing has changed, no group was evicted and no step was made on the LRU list
+-- a command changes nothing: the state stays, no group is evicted and no step is made on the LRU list
 pub record ChangesNothing (state : State) (moment : ℕ) (request : Request) : Type 0 where
   pub state_stays : (step state moment request).state ≡ state
   pub none_evicted : (step state moment request).groups ≡ []
@@ -56,7 +56,7 @@ pub record ChangesNothing (state : State) (moment : ℕ) (request : Request) : T
 abbrev pub RefusalsChangeNothing : Type 0
 RefusalsChangeNothing = (state : State) (moment : ℕ) (request : Request) (why : Refusal) → (step state moment request).reply ≡ answered (answer.Refused why) → ChangesNothing state moment request
 
--- the reply is a refusal exactly where it is the first of the command's row that holds
+-- the reply is a refusal exactly where that is the first of the command's refusals whose test passes
 abbrev pub RefusalsAreTheFirst : Type 0
 RefusalsAreTheFirst = (state : State) (moment : ℕ) (request : Request) (why : Refusal) → ((step state moment request).reply ≡ answered (answer.Refused why)) ↔ (refused moment request state ≡ Some why)
 

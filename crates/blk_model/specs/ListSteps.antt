@@ -9,22 +9,22 @@ use Rattle.blk_model.specs.Sparse.{covered_parts}
 use Rattle.blk_model.specs.Effects.{object_of, number_of, existing_parts, used}
 use Rattle.blk_model.specs.Refusals.{refused, evicted}
 
--- a group goes out of the list, or an item comes to the front
+-- a step on the LRU list: a group goes out, or an item comes to the front
 pub data ListStep : Type 0 where
   out : Group → ListStep
   front : Item → ListStep
 
--- the list after a step
+-- the LRU list after a step on it
 abbrev pub after_step : List Item → ListStep → List Item
 after_step items (out group) = filter (λ item. not (takes item group)) items
 after_step items (front item) = used item items
 
--- the list after several steps
+-- the LRU list after several steps on it, the first of them first
 abbrev pub after_steps : List ListStep → List Item → List Item
 after_steps [] items = items
 after_steps (step ∷ steps) items = after_steps steps (after_step items step)
 
--- a live object that is doomed goes with its parts
+-- the list steps of a doom: a live object goes out with its parts
 unfoldable pub doom_steps : State → Option Object → List ListStep
 doom_steps state None = []
 doom_steps state (Some object) = if object.live then out (whole object.key (parts_among object.key state.uses)) ∷ [] else []
@@ -34,7 +34,7 @@ abbrev pub object_for : State → Option ℕ → Option Object
 object_for state None = None
 object_for state (Some number) = object_at state number
 
--- the items that a command uses, in order
+-- the items that a command accesses, in order
 unfoldable pub uses_of : Request → State → List Item
 uses_of (to_create handle key) state = main key ∷ []
 uses_of (to_open handle key) state = main key ∷ []
@@ -45,13 +45,13 @@ uses_of (to_sparse_read handle offset count) state = let object = object_of stat
 uses_of (to_sparse_range handle offset count) state = let object = object_of state handle in main object.key ∷ map (part object.key) (existing_parts object (covered_parts offset count))
 uses_of _ state = []
 
--- what a command dooms goes out
+-- the list steps of what a command dooms
 unfoldable pub dooms : Request → State → List ListStep
 dooms (to_doom handle) state = doom_steps state (object_at state (number_of state handle))
 dooms (to_doom_key key) state = doom_steps state (object_for state (live_with state key))
 dooms _ state = []
 
--- the steps of a command that was not refused: what is evicted, what is doomed, and what is used
+-- the list steps of a command that was not refused: what is evicted and what is doomed goes out, and what is accessed comes to the front
 unfoldable pub steps_unless : ℕ → Request → State → Option Refusal → List ListStep
 steps_unless moment request state (Some why) = []
 steps_unless moment request state None = map out (evicted moment request state) ++ dooms request state ++ map front (uses_of request state)
@@ -60,6 +60,6 @@ steps_unless moment request state None = map out (evicted moment request state) 
 unfoldable pub list_steps : State → ℕ → Request → List ListStep
 list_steps state moment request = steps_unless moment request state (refused moment request state)
 
--- the LRU list after the first j of the steps
+-- the LRU list after the first j list steps of a command
 unfoldable pub list_after : State → ℕ → Request → ℕ → List Item
 list_after state moment request j = after_steps (take j (list_steps state moment request)) state.uses

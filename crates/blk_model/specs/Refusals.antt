@@ -10,11 +10,11 @@ use Rattle.blk_model.specs.Request.{Request, to_create, to_open, to_read, to_wri
 use Rattle.blk_model.specs.Room.{Group, total, items, evicted_until, Room, full, after, room}
 use Rattle.blk_model.specs.Effects.{object_of, effect}
 
--- a stream has at most this many bytes
+-- the most bytes of a stream in a cache with the state's limits
 abbrev pub stream_limit : State → ℕ
 stream_limit state = longest_stream state.limits.max_bytes
 
--- the first refusal of a row whose test passes
+-- the first refusal in a list whose test passes
 abbrev pub first_refusal : List (Bool × Refusal) → Option Refusal
 first_refusal [] = None
 first_refusal (case ∷ cases) = if case.0 then Some case.1 else first_refusal cases
@@ -23,7 +23,7 @@ first_refusal (case ∷ cases) = if case.0 then Some case.1 else first_refusal c
 abbrev pub no_key : List ℕ → Bool
 no_key key = length key == 0 || nat_lt longest_key (length key)
 
--- whether a handle is no name: names are below a bound
+-- whether a number is too large for a handle name
 abbrev pub no_name : ℕ → Bool
 no_name handle = nat_le handle_names handle
 
@@ -59,28 +59,28 @@ is_plain state handle = not (is_sparse (object_of state handle).shape)
 abbrev pub has_one_stream : Object → Bool
 has_one_stream object = length object.streams.1 == 0 && length object.streams.2 == 0
 
--- the parts that a command covers, as items, which are pinned while it runs
+-- the parts in the range of a SparseWrite, as items, which are pinned while it runs; none for another command
 abbrev pub covered : Request → State → List Item
 covered (to_sparse_write handle offset bytes) state = map (part (object_of state handle).key) (covered_parts offset (length bytes))
 covered _ state = []
 
--- space for what a command adds to the total and to the number of items; a fall counts as nothing
+-- the capacity for what a command adds to the total and to the number of items: none, or what is evicted for it; a fall counts as nothing
 unfoldable pub room_for : ℕ → Request → State → Room
 room_for moment request state =
     let grown = effect moment request state in
     room state (covered request state) (total grown - total state) (items grown - items state)
 
--- whether there is no space
+-- whether there is no capacity
 abbrev pub is_full : Room → Bool
 is_full full = true
 is_full (after groups) = false
 
--- the groups that are evicted to make space
+-- the groups that are evicted for capacity, none where there is no capacity
 abbrev pub evicted_for : Room → List Group
 evicted_for full = []
 evicted_for (after groups) = groups
 
--- whether there is no space for what a command adds
+-- whether there is no capacity for what a command adds
 abbrev pub no_room : ℕ → Request → State → Bool
 no_room moment request state = is_full (room_for moment request state)
 
@@ -92,7 +92,7 @@ evicted moment (to_sparse_write handle offset bytes) state = evicted_for (room_f
 evicted moment (to_trim bytes) state = evicted_until (λ left. nat_le (total left) bytes) state []
 evicted moment _ state = []
 
--- the refusals of a command, from the left
+-- the refusals of a command with their tests, in the order in which they are tried
 unfoldable pub refusals : ℕ → Request → State → List (Bool × Refusal)
 refusals moment (to_create handle key) state =
     (no_key key, refusal.BadKey) ∷ (no_name handle, refusal.BadHandle) ∷ (names_one state handle, refusal.HandleBusy)

@@ -8,7 +8,7 @@ use Rattle.blk_model.specs.Items.{Item, main, part, same_item, key_of, signature
 use Rattle.blk_model.specs.Charge.{main_charge, part_charge}
 use Rattle.blk_model.specs.State.{Object, State, is_named, live_with}
 
--- a group is evicted at once: a main item with its parts in list order, or one part
+-- an eviction unit: a main item with its parts in list order, or one part
 pub data Group : Type 0 where
   whole : List ℕ → List ℕ → Group
   single : List ℕ → ℕ → Group
@@ -39,7 +39,7 @@ charge object = own_charge object + sum_by (λ p. part_charge object.key (signat
 abbrev pub item_count : Object → ℕ
 item_count object = 1 + length object.parts
 
--- a number that objects have, of a slot: 0 where there is no object
+-- a number that an object has, of the object in a slot: 0 where there is none
 abbrev pub of_slot : (Object → ℕ) → Option Object → ℕ
 of_slot number None = 0
 of_slot number (Some object) = number object
@@ -60,7 +60,7 @@ total state = total_of state.objects
 abbrev pub items : State → ℕ
 items state = count_of state.objects
 
--- the low-water mark: once items are evicted, as many are evicted as leave no more bytes
+-- the low watermark: once items are evicted, as many are evicted as leave no more bytes
 abbrev pub low : State → ℕ
 low state = state.limits.max_bytes - state.limits.max_bytes / free_share
 
@@ -85,7 +85,7 @@ pinned_from state covered number (slot ∷ slots) = option_and_then (pinned_of s
 abbrev pub pinned : State → List Item → List (Option Object)
 pinned state covered = pinned_from state covered 0 state.objects
 
--- the number of a part of the key
+-- the number of an item that is a part of this key, None for another item
 abbrev pub part_number : List ℕ → Item → Option ℕ
 part_number key (main other) = None
 part_number key (part other n) = if bytes_eq key other then Some n else None
@@ -94,7 +94,8 @@ part_number key (part other n) = if bytes_eq key other then Some n else None
 abbrev pub parts_among : List ℕ → List Item → List ℕ
 parts_among key items = filter_map (part_number key) items
 
--- the groups that could be evicted, the items given from the back of the LRU list: each that need not stay, a main item with its parts in front of it (those after it went alone before)
+-- the groups that could be evicted, the items given from the back of the LRU list: each that need not stay, a main item with its parts in front of it (those
+-- after it went alone before)
 unfoldable pub groups_from_back : (Item → Bool) → List Item → List Group
 groups_from_back stays [] = []
 groups_from_back stays (main key ∷ before) =
@@ -104,7 +105,7 @@ groups_from_back stays (part key n ∷ before) =
     if stays (part key n) then groups_from_back stays before
     else single key n ∷ groups_from_back stays before
 
--- what the groups leave of an object
+-- what is left of an object once some groups are evicted, None where its main item is
 unfoldable pub left_of : List Group → Object → Option Object
 left_of groups object =
     if object.live && is_out groups (main object.key) then None
@@ -114,30 +115,31 @@ left_of groups object =
 abbrev pub not_out : List Group → List Item → List Item
 not_out groups items = filter (λ item. not (is_out groups item)) items
 
--- the state without the groups; without none it stays
+-- the state once some groups are evicted
 unfoldable pub without : List Group → State → State
 without [] state = state
 without (group ∷ groups) state = record state { objects = map (option_and_then (left_of (group ∷ groups))) state.objects; uses = not_out (group ∷ groups) state.uses }
 
--- the shortest prefix of the groups after which there is enough, or all of them; done are those that go in any case
+-- those done and the shortest prefix of the groups after which there is enough, or all groups where there never is
 abbrev pub shortest : (List Group → Bool) → List Group → List Group → List Group
 shortest enough done [] = done
 shortest enough done (group ∷ groups) = if enough done then done else shortest enough (done ++ group ∷ []) groups
 
--- what is evicted from the back until there is enough
+-- the groups that are evicted from the back of the LRU list until there is enough
 unfoldable pub evicted_until : (State → Bool) → State → List Item → List Group
 evicted_until enough state covered = shortest (λ groups. enough (without groups state)) [] (groups_from_back (is_pinned state covered) (reverse state.uses))
 
--- whether so many more bytes and items fit
+-- whether so many more bytes and items fit below this many bytes and the limit of items
 abbrev pub fits : ℕ → ℕ → ℕ → State → Bool
 fits most bytes more state = nat_le (total state + bytes) most && nat_le (items state + more) state.limits.max_items
 
--- space for so many bytes and items: none, or what is evicted for it
+-- the capacity for so many bytes and items: none, or what is evicted for it
 pub data Room : Type 0 where
   full : Room
   after : List Group → Room
 
--- nothing is evicted where nothing is added or all fits; there is no space where what is pinned and what is added exceed a limit; else items are evicted down to the low-water mark
+-- the capacity for more bytes and items: nothing is evicted where nothing is added or all fits; there is none where what is pinned and what is added exceed a
+-- limit; else items are evicted down to the low watermark
 unfoldable pub room : State → List Item → ℕ → ℕ → Room
 room state covered bytes more =
     if bytes == 0 && more == 0 then after []

@@ -21,11 +21,11 @@ stream_count = 3
 abbrev pub stream_share : ℕ
 stream_share = 8
 
--- and no stream has more than this many, whatever a cache keeps
+-- a stream has at most this many bytes, whatever a cache keeps
 abbrev pub most_stream : ℕ
 most_stream = 2147483647
 
--- so a stream of a cache that keeps so many bytes has at most this many
+-- the most bytes of a stream in a cache that keeps so many bytes
 abbrev pub longest_stream : ℕ → ℕ
 longest_stream most = min (most / stream_share) most_stream
 
@@ -49,7 +49,7 @@ part_blocks = 1024
 abbrev pub part_count : ℕ
 part_count = 65536
 
--- sparse data ends here
+-- the offset at which sparse data ends
 abbrev pub largest_offset : ℕ
 largest_offset = 68719476736
 

@@ -12,7 +12,8 @@ abbrev pub piece_in : Option (ℕ × ℕ) → ℕ → ℕ
 piece_in None block = 0
 piece_in (Some partial) block = if partial.0 == block then partial.1 else 0
 
--- whether a write from a place on makes the place's own block whole up to where it goes: it begins there, or what lies before the place is present
+-- whether a write from a place on makes present what it covers of the place's own block: it begins with the block, or the bytes of the block before the place
+-- are present
 unfoldable pub counts_from : Presence → ℕ → Bool
 counts_from presence place = place % part_block_size == 0 || is_block_present presence (place / part_block_size) || nat_le (place % part_block_size) (piece_in presence.partial (place / part_block_size))
 
@@ -25,7 +26,8 @@ abbrev pub with_blocks : ℕ → ℕ → ℕ → List Bool → List Bool
 with_blocks first last number [] = []
 with_blocks first last number (was ∷ blocks) = (was || (nat_le first number && nat_lt number last)) ∷ with_blocks first last (number + 1) blocks
 
--- the partial block after the blocks have become present: the last block that the write reached, if it is not whole; else the old one, unless it has become present
+-- the partial block after the blocks have become present: the last block that the write reached, if it is not whole; else the old one, unless it has become
+-- present
 unfoldable pub partial_after : Presence → List Bool → ℕ → ℕ → Option (ℕ × ℕ)
 partial_after presence blocks first end =
     if nat_lt 0 (end % part_block_size) && nat_le first (end / part_block_size) && not (is_block_present (record { blocks = blocks; partial = None }) (end / part_block_size))
@@ -47,7 +49,7 @@ empty_part = record { bytes = []; presence = record { blocks = replicate part_bl
 unfoldable pub part_after : PartValue → ℕ → List ℕ → PartValue
 part_after value place bytes = record { bytes = overwritten value.bytes place bytes; presence = presence_after value.presence place (place + length bytes) }
 
--- the numbers of the parts that a range covers, rising
+-- the numbers of the parts in a range, rising; none where it is empty
 unfoldable pub covered_parts : ℕ → ℕ → List ℕ
 covered_parts offset zero = []
 covered_parts offset (suc count) = numbers_from (offset / part_size) ((offset + count) / part_size + 1 - offset / part_size)
@@ -56,7 +58,7 @@ covered_parts offset (suc count) = numbers_from (offset / part_size) ((offset + 
 abbrev pub piece_for : ℕ → ℕ → List ℕ → List ℕ
 piece_for n offset bytes = take (part_size - (offset - n * part_size)) (drop (n * part_size - offset) bytes)
 
--- the parts after bytes were written at an offset, for these numbers
+-- the parts of an object after bytes were written at an offset, where these are the numbers of the parts in range
 unfoldable pub parts_after : List ℕ → ℕ → List ℕ → List (ℕ × PartValue) → List (ℕ × PartValue)
 parts_after [] offset bytes parts = parts
 parts_after (n ∷ ns) offset bytes parts =
@@ -66,15 +68,15 @@ parts_after (n ∷ ns) offset bytes parts =
 abbrev pub is_present_in : Presence → ℕ → Bool
 is_present_in presence place = is_block_present presence (place / part_block_size) || nat_lt (place % part_block_size) (piece_in presence.partial (place / part_block_size))
 
--- the byte at a place inside a part, if it is present
+-- the byte at a place inside a part, None where it isn't present
 abbrev pub byte_in : ℕ → PartValue → Option ℕ
 byte_in place value = if is_present_in value.presence place then Some (slice_index value.bytes place) else None
 
--- the byte at an offset of an object, if it is present
+-- the byte at an offset of an object's sparse data, None where it isn't present
 abbrev pub byte_at : Object → ℕ → Option ℕ
 byte_at object offset = option_and_then (byte_in (offset % part_size)) (part_at object (offset / part_size))
 
--- what comes before the first that is missing
+-- the bytes before the first that is missing
 abbrev pub up_to_missing : List (Option ℕ) → List ℕ
 up_to_missing [] = []
 up_to_missing (None ∷ rest) = []
@@ -84,7 +86,7 @@ up_to_missing (Some byte ∷ rest) = byte ∷ up_to_missing rest
 unfoldable pub sparse_bytes : Object → ℕ → ℕ → List ℕ
 sparse_bytes object offset count = up_to_missing (map (byte_at object) (numbers_from offset count))
 
--- the first run among tests that begin at a place, as its start and length; asked is where there is none
+-- the first run of tests that pass, where the first test is of a place: its start and length, or the place asked and 0 where none passes
 abbrev pub first_run : ℕ → ℕ → List Bool → ℕ × ℕ
 first_run asked place [] = (asked, 0)
 first_run asked place (false ∷ tests) = first_run asked (place + 1) tests

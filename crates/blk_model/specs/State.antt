@@ -42,7 +42,7 @@ named_by state name = slice_index_or state.names name None
 abbrev pub part_at : Object → ℕ → Option PartValue
 part_at object n = find nat_cmp n object.parts
 
--- whether a slot has this number in it
+-- whether a handle name is bound to this number
 abbrev pub is_number : ℕ → Option ℕ → Bool
 is_number number None = false
 is_number number (Some other) = number == other

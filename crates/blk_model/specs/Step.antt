@@ -36,13 +36,13 @@ pub record Outcome : Type 0 where
   pub reply : Reply
   pub state : State
 
--- a refusal changes nothing; else the groups are evicted, and then the command has its effect
+-- the outcome of a command that was refused for this reason or not: a refusal changes nothing; else the groups are evicted, and then the command has its effect
 unfoldable pub outcome : ℕ → Request → State → Option Refusal → Outcome
 outcome moment request state (Some why) = record { groups = []; reply = answered (answer.Refused why); state = state }
 outcome moment request state None =
     let groups = evicted moment request state in
     record { groups = groups; reply = reply request groups state; state = effect moment request (without groups state) }
 
--- one command at a moment
+-- the outcome of one command on a state at a moment
 unfoldable pub step : State → ℕ → Request → Outcome
 step state moment request = outcome moment request state (refused moment request state)

@@ -29,19 +29,20 @@ unfoldable pub is_turned : State → State → ℕ → Bool
 is_turned before after number =
     is_live (object_at before number) && is_live (object_at after number) && differ (is_live_and_settled (object_at before number)) (is_live_and_settled (object_at after number))
 
--- an item of a state with its value, if it stays through a crash; with says whether objects in transition do
+-- the row of an item of the object with a number, where it survives a crash: the object is safe, or it is in transition and `with` says that such objects
+-- survive; else None
 unfoldable pub picked_by : State → State → Bool → Item → ℕ → Option Row
 picked_by before after with item number = cond (is_safe before after number || (with && is_turned before after number)) (row_of before item) None
 
--- the same for the item with whoever has it
+-- the row of an item where it survives a crash in the object that owns it; else None
 unfoldable pub picked : State → State → Bool → Item → Option Row
 picked before after with item = option_and_then (picked_by before after with item) (owner before item)
 
--- what stays, in the order of a list
+-- the rows of the items that survive a crash, in the order of a list
 unfoldable pub pick : State → State → Bool → List Item → List Row
 pick before after with items = filter_map (picked before after with) items
 
--- what a folder may hold where a command crashed between two states: what stays, in the order after some of the list steps
+-- a crash outcome of a command between two states: the rows that survive, in the order of the LRU list after some of its list steps
 pub record StopOutcome (before : State) (moment : ℕ) (request : Request) (after : State) (held : List Row) : Type 0 where
   pub step_count : ℕ
   pub within : step_count ≤ length (list_steps before moment request)

@@ -1,4 +1,4 @@
--- An object that a handle names is doomed: its items are out, its record gets the state of a doomed one, and its places stay its.
+-- An object is doomed while a handle names it: its items leave list and chains, its record gets the doomed state, and its blocks and files stay.
 use Rattle.std.specs.Prelude.{◌≡◌, ℕ, List, [], ◌∷◌, ◌++◌, Ok, Option, Some, true}
 use Rattle.spec_image.specs.Image.{Image}
 use Rattle.blk_model.specs.Effects.{doomed}
@@ -18,17 +18,18 @@ use Rattle.law_state.specs.Keeping.{KeepsUncounted}
 use Rattle.law_state.specs.PartlyOut.{KeepsPartlyOut}
 use Rattle.blk_object.specs.RemovingFound.{LiesAsFound}
 
--- the place of the state in a record
+-- the offset of the state word in a record
 abbrev pub state_place : ℕ
 state_place = 20
 
--- the one change of a record: its state becomes that of a doomed object
+-- the only change of the record of an object that is doomed: its state word becomes that of a doomed entry
 abbrev pub doomed_change : List (ℕ × ℕ)
 doomed_change = (state_place, entry_doomed) ∷ []
 
--- Its record.
+-- The record.
 
--- a handle names an object, all of whose items are out; the words of its main item, with this record, are unlinked, and it loads yet, by itself, and is sealed
+-- all items of an object that a handle names are out of list and chains; its main item, with the record at address `entry`, still loads by itself as a live
+-- entry whose checksums match, and its addresses are unlinked
 pub record IsOutWhole (state : State) (layout : Layout) (number : ℕ) (object : Object) (loaded : Loaded) (chains : ℕ → List ℕ) (unlinked : List ℕ) (entry : ℕ) (image : Image) : Type 0 where
   pub placed : IsPlacedAsLive state layout number object loaded
   pub named : is_named state number ≡ true
@@ -37,13 +38,13 @@ pub record IsOutWhole (state : State) (layout : Layout) (number : ℕ) (object :
   pub sealed : AreSealed image loaded
   pub entry_is : loaded.contents ≡ entry
 
--- what holds of each such object
+-- P holds of each object that a handle names whose items are out of list and chains and whose record is at address `entry`
 abbrev pub ForEachOut : (entry : ℕ) → Image → (State → Layout → ℕ → Object → Loaded → (chains : ℕ → List ℕ) → List ℕ → Type 0) → Type 0
 ForEachOut entry from P =
     (state : State) (layout : Layout) (number : ℕ) (object : Object) (loaded : Loaded) (chains : ℕ → List ℕ) (unlinked : List ℕ) → IsOutWhole state layout number object loaded chains unlinked entry from
     → P state layout number object loaded chains unlinked
 
--- it loads as a doomed object then, and the counters of the index and the session are as they were
+-- the object loads as a doomed one, and neither the counters of the index nor its session have changed
 pub record IsDoomedOut (state : State) (layout : Layout) (number : ℕ) (object : Object) (loaded : Loaded) (chains : ℕ → List ℕ) (unlinked : List ℕ) (from image : Image) : Type 0 where
   pub held : IsHeldOut state layout number object loaded chains unlinked image
   pub counters : SameCounters from image
@@ -51,18 +52,19 @@ pub record IsDoomedOut (state : State) (layout : Layout) (number : ℕ) (object 
 
 -- An object without parts.
 
--- what holds wherever a state is kept, of each object that can be doomed whose main item lies there
+-- P holds of each object without parts that can be doomed and whose main item has this node and this record, wherever a folder keeps a state (but for the
+-- counters)
 abbrev pub ForEachHeld : (node entry : ℕ) (before : Option ℕ) → Image → (State → Layout → List ℕ → ℕ → Object → Loaded → Type 0) → Type 0
 ForEachHeld node entry before from P =
     (state : State) (layout : Layout) (unlinked : List ℕ) (number : ℕ) (object : Object) (loaded : Loaded)
     → KeepsUncounted state layout unlinked from → CanBeDoomed state layout number object loaded → LiesAsFound state layout object.key node entry before
     → P state layout unlinked number object loaded
 
--- the layout in which such an object is doomed
+-- the layout in which the object without parts is doomed: its node is that of a doomed object
 abbrev pub layout_held : Layout → ℕ → Object → Loaded → Layout
 layout_held layout number object loaded = layout_doomed layout number (layout.place (main object.key)) loaded
 
--- the state in which it is doomed is kept but for the counters, which are as they were, and so is the session
+-- the folder keeps the state in which the object is doomed, but for the counters, and neither these nor the session have changed
 pub record IsDoomedUncounted (state : State) (layout : Layout) (unlinked : List ℕ) (number : ℕ) (object : Object) (loaded : Loaded) (from image : Image) : Type 0 where
   pub kept : KeepsUncounted (doomed number state (Some object)) (layout_held layout number object loaded) unlinked image
   pub counters : SameCounters from image

@@ -1,4 +1,4 @@
--- Why a call answers that a folder is corrupt: a check that fails, on what is read in the call.
+-- The checks whose failure a call answers with Damaged, each on bytes that the call read.
 use Rattle.std.specs.Prelude.{◌≡◌, ◌≢◌, ◌⊎◌, ◌+◌, ◌-◌, ◌%◌, ◌^◌, ◌<◌, ℕ, List, Bool, Option, None, Some, false, min, true}
 use Rattle.std.specs.Option.{ForSome}
 use Rattle.spec_image.specs.Image.{Block, Index, length_of, word}
@@ -33,7 +33,7 @@ use Rattle.blk_stream.specs.Streams.{IsMisplacedStream, size_place, size_word, s
 use Rattle.blk_object.specs.ListWalks.{IsListTooLong}
 use Rattle.blk_object.specs.Owning.{is_there}
 
--- Too few bytes.
+-- Reads that gave too few bytes.
 
 -- a read of a file gave fewer bytes than were asked
 pub record ReadsTooFew (told : Told) (damage : Damage) : Type 0 where
@@ -42,7 +42,7 @@ pub record ReadsTooFew (told : Told) (damage : Damage) : Type 0 where
   pub count : ℕ
   pub short : IsShort told file start count damage
 
--- a read of a stream of a record gave fewer bytes than were asked: the error has the place of its size, and finds how many there were
+-- a read of a stream gave fewer bytes than were asked: the error has the offset of the stream's size in the record, and as its word how many bytes there were
 pub record EndsTooSoon (told : Told) (entry : ℕ) (damage : Damage) : Type 0 where
   pub stream : ℕ
   pub offset : ℕ
@@ -51,66 +51,67 @@ pub record EndsTooSoon (told : Told) (entry : ℕ) (damage : Damage) : Type 0 wh
   pub few : damage.found < count
   pub many : ForSome told.files (λ image. damage.found ≡ min count (size_word image entry stream - offset))
 
--- the index has another length: the error has the place of its end, and finds the length as a word
+-- the index hasn't its length: the error has the offset where it should end, and as its word its length modulo 2 ^ 32
 pub record HasOtherLength (told : Told) (damage : Damage) : Type 0 where
   pub of_file : damage.file ≡ names.Index
   pub at_end : damage.at ≡ index_length
   pub unlike : ForSome told.files (λ image. length_of image Index ≢ index_length)
   pub found : ForSome told.files (λ image. damage.found ≡ length_of image Index % 2 ^ 32)
 
--- Words that aren't what they have to be.
+-- Words that don't fit.
 
--- the word at a place of a file was to name a record, and names none that is there: the error has the place, and finds the word
+-- the word at an offset of a file should be the address of a record, and isn't: the error has file and offset, and the word found there
 pub record NamesNoRecord (files : BlockFiles) (told : Told) (file : FileId) (at : ℕ) (damage : Damage) : Type 0 where
   pub of_file : damage.file ≡ file
   pub at_place : damage.at ≡ at
   pub unlike : is_record_among files damage.found ≡ false
   pub there : ForSome told.files (λ image. damage.found ≡ word image (file_of file) at)
 
--- a word of a record isn't 0, and no address of an external file, or of blocks that are there: the error has its place, and finds it
+-- word `at` of a record is neither 0 nor the address of an external file or of valid blocks: the error has this word
 pub record IsLostWord (files : BlockFiles) (entry at found : ℕ) (damage : Damage) : Type 0 where
   pub of_word : IsWordOf entry at found damage
   pub some : found ≢ 0
   pub lost : is_there files found ≡ false
 
--- the same of the word that the record has
+-- word `at` of a record, as the folder has it, is neither 0 nor the address of an external file or of valid blocks: the error has this word
 pub record NamesNoPlace (files : BlockFiles) (told : Told) (entry at : ℕ) (damage : Damage) : Type 0 where
   pub lost : IsLostWord files entry at damage.found damage
   pub there : ForSome told.files (λ image. damage.found ≡ word image (Block (file_selector entry)) (place entry + at))
 
--- the place of the flags in a record
+-- the offset of the flags in a record
 abbrev pub flags_place : ℕ
 flags_place = 72
 
--- a record is read as one with an index, which its flags say, and its third stream is none
+-- by its flags a record is that of a sparse entry, and its third stream is no index of one: the error has the flags
 pub record HasNoIndex (told : Told) (entry : ℕ) (damage : Damage) : Type 0 where
   pub of_word : IsWordOf entry flags_place parent damage
   pub unlike : ForSome told.files (λ image. read_parent_index (stream_bytes image entry 2) ≡ None)
 
--- a record is read as that of a part, which its flags say, and its key is no name of one
+-- by its flags a record is that of a part, and its key is no name of a part: the error has the flags
 pub record HasNoName (told : Told) (entry : ℕ) (damage : Damage) : Type 0 where
   pub of_word : IsWordOf entry flags_place child damage
   pub unlike : ForSome told.files (λ image. read_name (key_bytes image entry) ≡ None)
 
--- a record is read as that of a part, which its flags say, and its third stream is no index of one
+-- by its flags a record is that of a part, and its third stream is no index of a part: the error has the flags
 pub record HasNoMap (told : Told) (entry : ℕ) (damage : Damage) : Type 0 where
   pub of_word : IsWordOf entry flags_place child damage
   pub unlike : ForSome told.files (λ image. read_part_index (stream_bytes image entry 2) ≡ None)
 
--- the key of an object's record has a length that no object's has: the error finds this length
+-- the key of a record is empty or longer than keys may be: the error has the offset of the key's length, and this length
 pub record HasWrongLength (told : Told) (entry : ℕ) (damage : Damage) : Type 0 where
   pub of_word : IsWordOf entry key_len_place damage.found damage
   pub unlike : (damage.found ≡ 0) ⊎ (longest_key < damage.found)
   pub there : ForSome told.files (λ image. damage.found ≡ (entry_at image entry).key_len)
 
--- bytes are the name of a part, and this is its name with some signature
+-- `bytes` are the name of a part, and `name` is that of the same part, perhaps of another generation
 pub record IsOfSamePart (bytes name : List ℕ) : Type 0 where
   pub read : Name
   pub is : read_name bytes ≡ Some read
   pub signature : ℕ
   pub printed : name ≡ child_name read.key signature read.part
 
--- a record isn't found by its key, or by the name of the part that it is: the error has the place of its hash, and finds the word 0, at which the chain ends
+-- a search for the record's own key, or for its name as a part, ends without finding it: the error has the offset of its hash, and the word 0 that ends the
+-- chain
 pub record IsInNoChain (files : BlockFiles) (told : Told) (entry : ℕ) (damage : Damage) : Type 0 where
   pub key : List ℕ
   pub is_child : Bool
@@ -118,7 +119,8 @@ pub record IsInNoChain (files : BlockFiles) (told : Told) (entry : ℕ) (damage 
   pub own : ForSome told.files (λ image. (key_bytes image entry ≡ key) ⊎ IsOfSamePart (key_bytes image entry) key)
   pub ends : ForSome told.files (EndsUnfound files key is_child)
 
--- a word of a record is wrong: of its key, of a stream, of any of its places, or one that says what it is
+-- a word in the record at address `entry` is wrong: of its key, of a stream, of any other address, of its flags or its key's length, or it is missing in its
+-- chain
 pub data IsWrongWithin (files : BlockFiles) (told : Told) (entry : ℕ) (damage : Damage) : Type 0 where
   WrongKey : (key_len long_key : ℕ) → IsMisplacedKey files entry key_len long_key damage → IsWrongWithin files told entry damage
   WrongStream : (stream : ℕ) → IsMisplacedStream files entry stream damage → IsWrongWithin files told entry damage
@@ -130,21 +132,21 @@ pub data IsWrongWithin (files : BlockFiles) (told : Told) (entry : ℕ) (damage 
   WrongChain : IsInNoChain files told entry damage → IsWrongWithin files told entry damage
   WrongSize : EndsTooSoon told entry damage → IsWrongWithin files told entry damage
 
--- a word of a record that is there is wrong
+-- a word in some valid record is wrong
 pub record IsWrongInRecord (files : BlockFiles) (told : Told) (damage : Damage) : Type 0 where
   pub entry : ℕ
   pub kind : kind_of entry ≡ blocks_256
   pub stands : stands_among files entry ≡ true
   pub wrong : IsWrongWithin files told entry damage
 
--- the place of a long key shares a block with its record: the error has the place of its word, and finds it
+-- the blocks of a long key overlap those of their record: the error has the record's word for the long key
 pub record IsSharedKey (entry : ℕ) (long_key : Option ℕ) (damage : Damage) : Type 0 where
   pub word : ℕ
   pub is : long_key ≡ Some word
   pub of_word : IsWordOf entry long_key_place word damage
   pub shared : LiesApart entry long_key → ⊥
 
--- blocks were given twice, to a record that is there and to its long key
+-- the same blocks were allocated to a valid record and to its long key
 pub record IsGivenTwice (files : BlockFiles) (damage : Damage) : Type 0 where
   pub entry : ℕ
   pub long_key : Option ℕ
@@ -152,7 +154,7 @@ pub record IsGivenTwice (files : BlockFiles) (damage : Damage) : Type 0 where
   pub stands : stands_among files entry ≡ true
   pub key : IsSharedKey entry long_key damage
 
--- a word that is followed as an address, or that says what lies there, isn't what it has to be
+-- a word that is followed as an address, or that says what lies at an address, is wrong
 pub data IsWrongWord (files : BlockFiles) (told : Told) (damage : Damage) : Type 0 where
   OfNode : (file : FileId) (at : ℕ) → NamesNoNode files told file at damage → IsWrongWord files told damage
   OfRecord : (file : FileId) (at : ℕ) → NamesNoRecord files told file at damage → IsWrongWord files told damage
@@ -160,29 +162,29 @@ pub data IsWrongWord (files : BlockFiles) (told : Told) (damage : Damage) : Type
   WithinRecord : IsWrongInRecord files told damage → IsWrongWord files told damage
   OfSharedBlocks : IsGivenTwice files damage → IsWrongWord files told damage
 
--- Records, walks, and files.
+-- Checksums, walks, counters and capacities.
 
--- a node or a record that is there was read whole, and doesn't check
+-- a valid node or record was read in full, and its checksum doesn't match
 pub record IsReadUnsealed (files : BlockFiles) (told : Told) (damage : Damage) : Type 0 where
   pub address : ℕ
   pub begins : BeginsWithRecord address
   pub stands : stands_among files address ≡ true
   pub unsealed : IsUnsealed told address damage
 
--- a chain would be followed after as many records as are searched
+-- the search of a chain has followed as many records as a search may, and the chain goes on
 pub record IsWalkTooLong (files : BlockFiles) (told : Told) (damage : Damage) : Type 0 where
   pub key : List ℕ
   pub is_child : Bool
   pub long : IsTooLong files told key is_child damage
 
--- all files of a kind refused, and there were the most: what was valid among them still is
+-- a kind has as many files as it may, each with as many blocks, so that none can be allocated; the addresses valid then are still valid
 pub record IsSomeKindFull (files : BlockFiles) (told : Told) (damage : Damage) : Type 0 where
   pub kind : ℕ
   pub before : BlockFiles
   pub keeps : KeepsStanding before files
   pub full : IsKindFull before kind told damage
 
--- a counter of a block file would leave its range
+-- a counter of a linked block file would leave its range
 pub record IsSomeCounterDamage (files : BlockFiles) (told : Told) (damage : Damage) : Type 0 where
   pub file : ℕ
   pub start : ℕ
@@ -191,7 +193,7 @@ pub record IsSomeCounterDamage (files : BlockFiles) (told : Told) (damage : Dama
   pub among : is_among (all_files files) file ≡ true
   pub counter : IsCounterDamage told file start count used damage
 
--- a counter of a block file counts a group that one round of its map didn't have: what was valid among the files then is valid
+-- a counter of a block file counts a group that its map doesn't have, as the search for free blocks found; the addresses valid then are still valid
 pub record IsSomeMiscount (files : BlockFiles) (told : Told) (damage : Damage) : Type 0 where
   pub file : ℕ
   pub before : BlockFiles
@@ -199,7 +201,7 @@ pub record IsSomeMiscount (files : BlockFiles) (told : Told) (damage : Damage) :
   pub among : is_among (all_files before) file ≡ true
   pub miscount : IsMiscount before file told damage
 
--- why a call answers Damaged: a check that fails
+-- a check fails for which a call answers Damaged, with file, offset and word in `damage`
 pub data IsFailedCheck (files : BlockFiles) (told : Told) (damage : Damage) : Type 0 where
   FailsShort : ReadsTooFew told damage → IsFailedCheck files told damage
   FailsLength : HasOtherLength told damage → IsFailedCheck files told damage

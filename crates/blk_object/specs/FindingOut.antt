@@ -1,4 +1,4 @@
--- What a search finds while some items of a state are out, or none, as a removal asks for it.
+-- What a search for a key finds, in a kept state and while some of its items are out of list and chains.
 use Rattle.std.specs.Prelude.{◌≡◌, ℕ, List, Bool, Option, Some, false, true}
 use Rattle.spec_image.specs.Image.{Image}
 use Rattle.blk_model.specs.Items.{Item, main, part}
@@ -12,37 +12,37 @@ use Rattle.law_state.specs.PartlyOut.{KeepsPartlyOut}
 use Rattle.blk_object.specs.Removing.{LiesBehind}
 use Rattle.blk_object.specs.RemovingParts.{LiesLeft}
 
--- where some items of a state are out the chain of each key can be searched, as `find` asks
+-- precondition of `find`: while some items of a state are out, the chain of each key can be searched
 abbrev pub PartlyOutCanBeSearched : Type 0
 PartlyOutCanBeSearched = (state : State) (layout : Layout) (keep : Item → Bool) (chains : ℕ → List ℕ) (unlinked : List ℕ) (image : Image) (key : List ℕ) → KeepsPartlyOut state layout keep chains unlinked image → CanBeSearched key image
 
--- whether an item has a record with the child flag: a part has
+-- an item has a record with the child flag: a part does, a main item doesn't
 abbrev pub is_child_item : Item → Bool
 is_child_item (main key) = false
 is_child_item (part key n) = true
 
--- a search finds the record of an item that isn't out, after this one in its chain, of the chains as they are, or as the first
+-- the search found the record of an item that isn't out; the answer names the record before it in its chain, or none if it is the first
 pub record IsFoundLeft (state : State) (layout : Layout) (keep : Item → Bool) (chains : ℕ → List ℕ) (item : Item) (was : Loaded) (answer : Option Found) : Type 0 where
   pub found : Found
   pub is : answer ≡ Some found
   pub entry_is : was.contents ≡ found.entry
   pub lies : LiesLeft state layout keep chains item was found.before
 
--- so does one for what its record has as its key, the key of a main item or the name of a part, with its child flag
+-- while some items of a state are out, a search for the key of another item's record (with its child flag) finds that record
 abbrev pub LeftItemsAreFound : Type 0
 LeftItemsAreFound =
     (state : State) (layout : Layout) (keep : Item → Bool) (chains : ℕ → List ℕ) (unlinked : List ℕ) (item : Item) (was : Loaded) (answer : Option Found) (image : Image)
     → KeepsPartlyOut state layout keep chains unlinked image → is_listed state item ≡ true → keep item ≡ true → layout.at (layout.place item) ≡ Some was
     → IsAnswer was.key (is_child_item item) answer image → IsFoundLeft state layout keep chains item was answer
 
--- a search finds the record of a listed item of a kept state, after this one in its chain, or as the first
+-- the search found the record of a listed item of a state; the answer names the record before it in its chain, or none if it is the first
 pub record IsFoundListed (state : State) (layout : Layout) (item : Item) (was : Loaded) (answer : Option Found) : Type 0 where
   pub found : Found
   pub is : answer ≡ Some found
   pub entry_is : was.contents ≡ found.entry
   pub lies : LiesBehind state layout item was found.before
 
--- so it is where no item is out
+-- where a folder keeps a state, a search for the key of a listed item's record (with its child flag) finds that record
 abbrev pub ListedItemsAreFound : Type 0
 ListedItemsAreFound =
     (state : State) (layout : Layout) (unlinked : List ℕ) (item : Item) (was : Loaded) (answer : Option Found) (image : Image)

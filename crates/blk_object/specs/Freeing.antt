@@ -1,4 +1,4 @@
--- The places of an object that is gone are freed, one after another.
+-- The blocks and files of an object that was removed are freed, one after another.
 use Rattle.std.specs.Prelude.{◌≡◌, ◌≢◌, ◌⊎◌, ℕ, List, [], ◌∷◌, ◌++◌, Bool, IfSome, Option, Some, true}
 use Rattle.std.specs.List.{filter_map}
 use Rattle.spec_image.specs.Footprint.{SameOutside, whole}
@@ -19,15 +19,15 @@ use Rattle.law_state.specs.PartlyOutStops.{LeavesOtherKeys}
 
 -- What may be freed.
 
--- a place is none, or an external file, or of blocks that are there
+-- Preconditions.
 abbrev pub IsPlaceAmong : BlockFiles → Option ℕ → Type 0
 IsPlaceAmong files place = IfSome place (λ w. kind_of w ≢ external → stands_among files w ≡ true)
 
--- the words of places, of which some may be none
+-- the addresses among these places, without those that are None
 abbrev pub words_at : List (Option ℕ) → List ℕ
 words_at places = filter_map (λ place. place) places
 
--- words are unlinked where a state is kept but for some of its items, or for none
+-- the addresses `words` are unlinked in a folder that keeps some state, perhaps with some of its items out of list and chains
 pub record AreFreeable (words : List ℕ) (from : Image) : Type 0 where
   pub state : State
   pub layout : Layout
@@ -36,30 +36,30 @@ pub record AreFreeable (words : List ℕ) (from : Image) : Type 0 where
   pub others : List ℕ
   pub kept : KeepsPartlyOut state layout keep chains (words ++ others) from
 
--- What is done.
+-- The outcome.
 
--- the place of a word is freed: the allocation of its blocks is removed, or its external file is; and the index is as it was
+-- address w is freed: its blocks are an allocation no longer, or its external file is deleted; the index is unchanged
 pub record RemovesPlace (w : ℕ) (from image : Image) : Type 0 where
   pub removed : RemovesAllocation from w image ⊎ RemovesExternal from w image
   pub index : (i : ℕ) → byte image Index i ≡ byte from Index i
 
--- those of some words are freed, one after another
+-- the addresses were freed, one after another
 abbrev pub Removes : List ℕ → Image → Image → Type 0
 Removes [] from image = image ≡ from
 Removes (w ∷ words) from image = (between : Image) × (RemovesPlace w from between × Removes words between image)
 
--- At each word.
+-- What holds after each single write.
 
--- the place of an address is being freed: of blocks, the folder stays well formed meanwhile; of an external file, that file alone has changed
+-- address w is being freed: if it names blocks, these have grown at most and a well-formed folder is well formed; if an external file, nothing else has changed
 abbrev pub IsPlaceGoing : ℕ → Image → Image → Type 0
 IsPlaceGoing w from image = StaysWhole from image ⊎ ((kind_of w ≡ external) × SameOutside (whole (External (external_number w))) from image)
 
--- nothing has changed, or the place of the first of these addresses is being freed
+-- nothing has changed, or the first of the addresses is being freed
 abbrev pub IsNextGoing : List ℕ → Image → Image → Type 0
 IsNextGoing [] from image = image ≡ from
 IsNextGoing (w ∷ words) from image = (image ≡ from) ⊎ IsPlaceGoing w from image
 
--- the places of a prefix of some words are freed, and the next one is on its way
+-- a prefix of the addresses is freed, and the next one perhaps partly
 pub record AreGoing (words : List ℕ) (from image : Image) : Type 0 where
   pub front : List ℕ
   pub left : List ℕ
@@ -68,34 +68,34 @@ pub record AreGoing (words : List ℕ) (from image : Image) : Type 0 where
   pub removed : Removes front from between
   pub next : IsNextGoing left between image
 
--- What it is to the state that was kept.
+-- The effect on a state that is kept.
 
--- unlinked words of a kept state may be freed
+-- unlinked addresses of a state that is kept may be freed
 abbrev pub UnlinkedWordsAreFreeable : Type 0
 UnlinkedWordsAreFreeable = (state : State) (layout : Layout) (words unlinked : List ℕ) (from : Image) → KeepsUncounted state layout (words ++ unlinked) from → AreFreeable words from
 
--- once they are freed they are in use no longer
+-- addresses that were freed are unlinked no longer: a state kept with them unlinked is kept without them
 abbrev pub FreedWordsAreGone : Type 0
 FreedWordsAreGone = (words : List ℕ) (from image : Image) → Removes words from image → KeepsWith words [] from image
 
--- also where some items are out
+-- freed addresses are unlinked no longer, as FreedWordsAreGone, for a state with some items out of list and chains
 abbrev pub FreedWordsAreGonePartlyOut : Type 0
 FreedWordsAreGonePartlyOut = (state : State) (layout : Layout) (keep : Item → Bool) (chains : ℕ → List ℕ) (words unlinked : List ℕ) (from image : Image) → Removes words from image
     → KeepsPartlyOut state layout keep chains (words ++ unlinked) from → KeepsPartlyOut state layout keep chains unlinked image
 
--- and the counters of the index are as they were
+-- freeing addresses leaves the counters of the index unchanged
 abbrev pub FreedWordsLeaveCounters : Type 0
 FreedWordsLeaveCounters = (words : List ℕ) (from image : Image) → Removes words from image → SameCounters from image
 
--- and the session is the same
+-- freeing addresses leaves the session of the index unchanged
 abbrev pub FreedWordsLeaveSession : Type 0
 FreedWordsLeaveSession = (words : List ℕ) (from image : Image) → Removes words from image → SameSession from image
 
--- at each word the old durable contents are recovered
+-- while unlinked addresses are being freed, recovery gives the durable contents of the state that was kept
 abbrev pub GoingWordsFindTheSame : Type 0
 GoingWordsFindTheSame = (words : List ℕ) (from image : Image) → AreGoing words from image → StillFinds words from image
 
--- and where some items of an object are out, the durable contents with it doomed
+-- while addresses are freed after the main item of an object left list and chain, recovery gives the durable contents of the state with this object doomed
 abbrev pub GoingWordsFindDoomed : Type 0
 GoingWordsFindDoomed = (state : State) (layout : Layout) (number : ℕ) (object : Object) (keep : Item → Bool) (chains : ℕ → List ℕ) (words unlinked : List ℕ) (from image : Image) → object_at state number ≡ Some object → LeavesOtherKeys object.key keep
     → KeepsPartlyOut state layout keep chains (words ++ unlinked) from → AreGoing words from image → Finds (rest (doomed number state (Some object))) image

@@ -1,4 +1,4 @@
--- Blocks that are allocated and freed, as `allocate` and `free` promise it, and what the laws on a kept state ask of that.
+-- Lemmas from the contracts of `allocate` and `free` to those of states that are kept.
 use Rattle.std.specs.Prelude.{◌≡◌, ℕ, List, true}
 use Rattle.std.specs.Option.{ForSome}
 use Rattle.spec_image.specs.Image.{Image}
@@ -14,19 +14,20 @@ use Rattle.blk_alloc.specs.Owning.{FreesInProgress, FreesOrStops, IsFreed}
 use Rattle.law_state.specs.BoundLaws.{HaveFewAllocations}
 use Rattle.law_state.specs.Changes.{AddsAllocation, RemovesAllocation, StillFinds}
 
--- Any call.
+-- Any change of block files.
 
--- where the folder stays whole at each word, the old durable contents are recovered at each, with whatever words unlinked
+-- while block files grow at most and a well-formed folder is well formed, recovery gives the durable contents of the state that was kept, whatever addresses
+-- are unlinked
 abbrev pub WholeFoldersFindTheSame : Type 0
 WholeFoldersFindTheSame = (words : List ℕ) (old new : Told) → ForSome old.files (λ from. Passes old new (StaysWhole from)) → ForSome old.files (λ from. Passes old new (StillFinds words from))
 
 -- Free.
 
--- at each word of a free the folder stays whole
+-- while blocks are freed, block files grow at most, and a well-formed folder is well formed
 abbrev pub FreesStayWhole : Type 0
 FreesStayWhole = (w : ℕ) (old new : Told) → ForSome old.files (λ from. PassesTo old new (FreesInProgress w from) (FreesOrStops w from)) → ForSome old.files (λ from. Passes old new (StaysWhole from))
 
--- once it is done, its allocation is removed
+-- once the blocks of a valid address are freed, the address is no allocation any more, and the other files stay
 abbrev pub FreesRemove : Type 0
 FreesRemove =
     (files : BlockFiles) (w : ℕ) (old new : Told) → stands_among files w ≡ true
@@ -35,18 +36,18 @@ FreesRemove =
 
 -- Allocate.
 
--- files of a kind with as few allocations as a kept state has are counted
+-- precondition of `allocate`: the allocations of the files of a kind are counted where there are few enough
 abbrev pub KeptFilesAreCounted : Type 0
 KeptFilesAreCounted = (files : BlockFiles) (kind : ℕ) (image : Image) → Agrees files image → is_block_kind kind ≡ true → HaveFewAllocations image kind most_allocations → AreCounted files kind image
 
--- at each word of an allocation in counted files the folder stays whole
+-- while blocks are allocated, block files grow at most, and a well-formed folder is well formed
 abbrev pub AllocationsStayWhole : Type 0
 AllocationsStayWhole =
     (files : BlockFiles) (kind count : ℕ) (old new : Told) → ForSome old.files (AreCounted files kind)
     → ForSome old.files (λ from. AreCounted files kind from → PassesTo old new (AllocatesInProgress files kind count from) (AllocatesOrStops files kind count from))
     → ForSome old.files (λ from. Passes old new (StaysWhole from))
 
--- what is told of an allocation that is done
+-- what the contract of `allocate` says of address w that it gave, with the table of block files before and after
 pub record IsAllocation (old new : BlockFiles) (kind w : ℕ) (from image : Image) : Type 0 where
   pub block_kind : is_block_kind kind ≡ true
   pub of_kind : kind_of w ≡ kind
@@ -60,6 +61,6 @@ pub record IsAllocation (old new : BlockFiles) (kind w : ℕ) (from image : Imag
   pub within : AllocatesIn old kind from (file_selector w) image
   pub stays : StaysWhole from image
 
--- then it is added, where the folder was well formed
+-- once address w is allocated in a well-formed folder, it is one more allocation of its file, and the other files stay
 abbrev pub AllocationsAdd : Type 0
 AllocationsAdd = (old new : BlockFiles) (kind w : ℕ) (from image : Image) → IsWellFormed from → IsAllocation old new kind w from image → AddsAllocation from w image

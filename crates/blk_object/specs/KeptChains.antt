@@ -1,4 +1,4 @@
--- A record that goes out of its chain, as `unlink` promises it, and what the laws on a kept state ask of that.
+-- Lemmas from the contract of `unlink` to those of states that are kept.
 use Rattle.std.specs.Prelude.{◌⊎◌, ℕ, List, Option}
 use Rattle.std.specs.Option.{ForSome}
 use Rattle.spec_image.specs.Image.{AreBytes, Image}
@@ -12,7 +12,8 @@ use Rattle.law_state.specs.Arranging.{LeavesFiles}
 use Rattle.law_state.specs.Keeping.{KeepsUncounted}
 use Rattle.law_state.specs.RemovalLaws.{IsRemovalDone, IsUnlinking, chains_without}
 
--- where its node is out of the list, the record of an item of a kept state can be unlinked, and the record before it checks, as `unlink` asks
+-- precondition of `unlink`: once the node of an item is out of the LRU list, its record can be unlinked, and the checksum of the record before it matches or is
+-- absent
 abbrev pub KeptRecordsCanBeUnlinked : Type 0
 KeptRecordsCanBeUnlinked =
     (state : State) (layout : Layout) (unlinked : List ℕ) (from between : Image) (node : ℕ) (was : Loaded) (before : Option ℕ) (prefix suffix : List ℕ)
@@ -20,7 +21,7 @@ KeptRecordsCanBeUnlinked =
     → StandsBehind (layout.chains (bucket_at between was.contents)) was.contents before prefix suffix
     → CanBeUnlinked was.contents before between × BeforeChecks before between
 
--- once the record of an item whose node is out of the list is unlinked, from its place after another record or as the first one of its bucket, it is out of its chain, and all else is in its own
+-- once the record of an item is unlinked (its node having left the LRU list), its chain is the old one without it, and the other chains are unchanged
 abbrev pub UnlinkedRecordsAreOut : Type 0
 UnlinkedRecordsAreOut =
     (state : State) (layout : Layout) (unlinked : List ℕ) (from between image : Image) (node : ℕ) (was : Loaded) (before : Option ℕ) (prefix suffix : List ℕ)
@@ -29,7 +30,7 @@ UnlinkedRecordsAreOut =
     → IsUnlinked between was.contents before image
     → IsUnlinking layout (chains_without layout was.contents) between image
 
--- and the files are left as they are
+-- unlinking a record leaves external files, lengths and all else but the chain links unchanged
 abbrev pub UnlinkedRecordsLeaveFiles : Type 0
 UnlinkedRecordsLeaveFiles =
     (state : State) (layout : Layout) (unlinked : List ℕ) (from between image : Image) (node : ℕ) (was : Loaded) (before : Option ℕ) (prefix suffix : List ℕ)
@@ -38,7 +39,7 @@ UnlinkedRecordsLeaveFiles =
     → IsUnlinked between was.contents before image
     → LeavesFiles between image
 
--- at each word of it, whatever the seal of the record before is, the record is in its chain or out of it, and all else is in its own
+-- while a record is being unlinked, the chains are the old ones, or those without the record, whatever the checksum of the record before it
 abbrev pub UnlinkingsChangeLinks : Type 0
 UnlinkingsChangeLinks =
     (state : State) (layout : Layout) (unlinked : List ℕ) (from : Image) (node : ℕ) (was : Loaded) (before : Option ℕ) (prefix suffix : List ℕ) (old new : Told)

@@ -1,4 +1,4 @@
--- A new entry that is written, as `write_entry` promises it, and what the laws on a kept state ask of that.
+-- Lemmas from the contract of `write_entry` to those of states that are kept.
 use Rattle.std.specs.Prelude.{◌≡◌, ℕ, ◌<◌, List, ◌++◌, length, None, Ok}
 use Rattle.std.specs.Option.{ForSome}
 use Rattle.spec_image.specs.Image.{Image, Index, byte}
@@ -23,20 +23,21 @@ use Rattle.law_state.specs.Changes.{ChangesOnly, KeepsWith}
 use Rattle.law_state.specs.Keeping.{KeepsUncounted}
 use Rattle.law_state.specs.NewEntryLaws.{IsNewEntryOf}
 
--- at each word of it nothing but what its words name changes
+-- while a new entry is written, nothing changes but the blocks and files of its own addresses
 abbrev pub NewEntriesChangeTheirOwn : Type 0
 NewEntriesChangeTheirOwn =
     (files : BlockFiles) (new : NewEntry) (key : List ℕ) (from image : Image) → FitsKey files new key → AreWords new → Agrees files from → WritesEntryInProgress new (length key) from image
     → ChangesOnly (has_claim (all_claims (loaded_new new key))) from image
 
--- so each state that is kept with its words unlinked is kept at each word, and in the end
+-- a state that is kept with the new entry's addresses unlinked is kept so after each write of the entry
 abbrev pub WritingEntriesKeepsStates : Type 0
 WritingEntriesKeepsStates =
     (files : BlockFiles) (new : NewEntry) (key : List ℕ) (old now : Told) → FitsKey files new key → AreWords new → ForSome old.files (Agrees files)
     → ForSome old.files (λ from. Passes old now (WritesEntryInProgress new (length key) from))
     → ForSome old.files (λ from. Passes old now (KeepsWith (words_of (loaded_new new key)) (words_of (loaded_new new key)) from))
 
--- once a plain one is written, it is a new entry of each state that was kept with its words unlinked, whose list has space for it and in which no live object has its key: where its dirty word is the number of the session, and its next the word of its bucket
+-- once a plain entry is written, it is a new entry for each state that was kept with its addresses unlinked, has no live object of its key and has space in its
+-- list; its dirty flag has to be the session's number, and its next the head of its bucket
 abbrev pub WrittenEntriesAreNew : Type 0
 WrittenEntriesAreNew =
     (files : BlockFiles) (new : NewEntry) (key : List ℕ) (moment : ℕ) (state : State) (layout : Layout) (unlinked : List ℕ) (old now : Told) → FitsKey files new key → AreWords new → ForSome old.files (Agrees files)

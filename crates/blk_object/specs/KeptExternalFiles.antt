@@ -1,4 +1,4 @@
--- External files that are made and deleted, as `create` and `delete` promise it, and what the laws on a kept state ask of that.
+-- Lemmas from the contracts of `create` and `delete` to those of states that are kept.
 use Rattle.std.specs.Prelude.{◌≡◌, ℕ, ◌+◌, ◌*◌, ◌<◌, List, [], ◌∷◌, length, None, true}
 use Rattle.std.specs.Option.{ForSome}
 use Rattle.spec_image.specs.Footprint.{whole}
@@ -16,31 +16,31 @@ use Rattle.law_state.specs.BoundLaws.{most_words}
 use Rattle.law_state.specs.Changes.{AddsExternal, RemovesExternal, StillFinds}
 use Rattle.law_state.specs.Keeping.{KeepsUncounted}
 
--- Create.
+-- Creation.
 
--- where a state is kept an external number is free, as `create` asks, unless it has many more words unlinked than any command
+-- precondition of `create`: a folder that keeps a state has a free external number, unless far more addresses are unlinked than any command has
 abbrev pub KeptStatesHaveFreeNumbers : Type 0
 KeptStatesHaveFreeNumbers = (state : State) (layout : Layout) (unlinked : List ℕ) (image : Image) → KeepsUncounted state layout unlinked image → most_words * items state + length unlinked < most_number → HasFreeNumber image
 
--- at each word of it the old durable contents are recovered, whatever is unlinked
+-- while an external file is created, recovery gives the durable contents of the state that was kept
 abbrev pub CreationsFindTheSame : Type 0
 CreationsFindTheSame = (old new : Told) → ForSome old.files HasFreeNumber → ForSome old.files (λ from. HasFreeNumber from → Passes old new (CreatesInProgress from)) → ForSome old.files (λ from. Passes old new (StillFinds [] from))
 
--- once it is done, the file is made
+-- once the creation is done, the external file of address w is there, without bytes and unlinked
 abbrev pub CreationsAdd : Type 0
 CreationsAdd =
     (w : ℕ) (old new : Told) → is_address w ≡ true → kind_of w ≡ external → ForSome old.files IsWellFormed → ForSome old.files (λ image. IsFirstFree image (last_number image) (external_number w))
     → ForSome new.files (λ image. Creates image (external_number w)) → Applies old new (making (external_number w)) → ForSome old.files (λ from. ForSome new.files (AddsExternal from w))
 
--- Delete.
+-- Deletion.
 
--- at each word of the deletion of an unlinked file, and of a change of it, the old durable contents are recovered
+-- while an unlinked external file is deleted or changed, recovery gives the durable contents of the state that was kept
 abbrev pub DeletionsFindTheSame : Type 0
 DeletionsFindTheSame =
     (w : ℕ) (old new : Told) → kind_of w ≡ external → ForSome old.files (λ from. Passes old new (ChangesExternal (whole (named_file w)) (external_number w) from))
     → ForSome old.files (λ from. Passes old new (StillFinds (w ∷ []) from))
 
--- once it is deleted, it is removed
+-- once the external file of address w is deleted, it is removed from a folder that was well formed
 abbrev pub DeletionsRemove : Type 0
 DeletionsRemove =
     (w : ℕ) (old new : Told) → kind_of w ≡ external → ForSome old.files IsWellFormed → ForSome old.files (λ from. stands_in from w ≡ true)

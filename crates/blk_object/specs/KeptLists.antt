@@ -1,4 +1,4 @@
--- Nodes that come into the LRU list, go out of it and are touched, as `insert_front`, `remove` and `touch` promise it, and what the laws on a kept state ask of that.
+-- Lemmas from the contracts of `insert_front`, `remove` and `touch` to those of states that are kept.
 use Rattle.std.specs.Prelude.{◌≡◌, ℕ, List, ◌∷◌, ◌++◌, true}
 use Rattle.std.specs.Option.{ForSome}
 use Rattle.spec_image.specs.Image.{Image}
@@ -21,32 +21,32 @@ use Rattle.law_state.specs.ListLaws.{IsTouchDone}
 use Rattle.law_state.specs.NewEntryLaws.{IsInsertDone, IsNewEntryOf}
 use Rattle.law_state.specs.RemovalLaws.{IsRemovalDone}
 
--- What the calls ask of the list.
+-- Preconditions.
 
--- where a state is kept the node of a new entry can be inserted
+-- precondition of `insert_front`: where a folder keeps a state, the node of a new entry can be inserted into its LRU list
 abbrev pub NewNodesCanBeInserted : Type 0
 NewNodesCanBeInserted = (state : State) (layout : Layout) (unlinked key : List ℕ) (loaded : Loaded) (from : Image) → KeepsUncounted state layout unlinked from → IsNewEntryOf state layout key loaded from → CanBeInserted (list_of from) (walked from) loaded.node
 
--- the nodes before and after one in an idle list
+-- the node is in the LRU list, which is idle
 pub record IsAmidList (node : ℕ) (image : Image) : Type 0 where
   pub prefix : List ℕ
   pub suffix : List ℕ
   pub rest : HasListAtRest (prefix ++ node ∷ suffix) image
 
--- and the node of a listed item is in the list, which is idle
+-- precondition of `remove` and `touch`: where a folder keeps a state, the node of a listed item is in the LRU list, which is idle
 abbrev pub ListedNodesAreInTheList : Type 0
 ListedNodesAreInTheList = (state : State) (layout : Layout) (unlinked : List ℕ) (image : Image) (item : Item) → KeepsUncounted state layout unlinked image → is_listed state item ≡ true → IsAmidList (layout.place item) image
 
 -- Inserts.
 
--- at each word of an insert a prefix of its writes is made
+-- while a node is inserted, a prefix of the writes of the insert is made
 abbrev pub InsertsArePartly : Type 0
 InsertsArePartly =
     (files : BlockFiles) (node : ℕ) (old new : Told) → ForSome old.files (λ from. CanBeInserted (list_of from) (walked from) node)
     → ForSome old.files (λ from. CanBeInserted (list_of from) (walked from) node → Passes old new (IsMidOperation files (writes_of insert node (list_of from)) (walked from) (node ∷ walked from) from))
     → ForSome old.files (λ from. Passes old new (IsPartly from (writes_of insert node (list_of from))))
 
--- and in the end it is done
+-- an insert is done after all its steps
 abbrev pub InsertsAreDone : Type 0
 InsertsAreDone =
     (files : BlockFiles) (node : ℕ) (old new : Told) → TellsBytes old → ForSome old.files (IsOpen files) → ForSome old.files (λ from. CanBeInserted (list_of from) (walked from) node)
@@ -54,14 +54,14 @@ InsertsAreDone =
 
 -- Removals.
 
--- at each word of a removal of a node that is in the list a prefix of its writes is made
+-- while a node of the list is removed, a prefix of the writes of the removal is made
 abbrev pub RemovalsArePartly : Type 0
 RemovalsArePartly =
     (files : BlockFiles) (node : ℕ) (old new : Told) → ForSome old.files (IsAmidList node)
     → ForSome old.files (λ from. (prefix suffix : List ℕ) → HasListAtRest (prefix ++ node ∷ suffix) from → Passes old new (IsMidOperation files (writes_of remove node (list_of from)) (prefix ++ node ∷ suffix) (prefix ++ suffix) from))
     → ForSome old.files (λ from. Passes old new (IsPartly from (writes_of remove node (list_of from))))
 
--- and in the end it is done
+-- a removal of a node of the list is done after all its steps
 abbrev pub RemovalsAreDone : Type 0
 RemovalsAreDone =
     (files : BlockFiles) (node : ℕ) (old new : Told) → TellsBytes old → ForSome old.files (IsOpen files) → ForSome old.files (IsAmidList node)
@@ -69,14 +69,14 @@ RemovalsAreDone =
 
 -- Touches.
 
--- at each word of a touch a prefix of its writes is made, or its times
+-- while a node of the list is touched, a prefix of the writes of the touch is made, and its times perhaps set
 abbrev pub TouchesArePartly : Type 0
 TouchesArePartly =
     (files : BlockFiles) (node : ℕ) (old new : Told) → ForSome old.files (IsAmidList node)
     → ForSome old.files (λ from. (prefix suffix : List ℕ) → HasListAtRest (prefix ++ node ∷ suffix) from → Passes old new (IsMidTouch files node (touch_writes node (list_of from)) (prefix ++ node ∷ suffix) (node ∷ prefix ++ suffix) from))
     → ForSome old.files (λ from. Passes old new (IsTouched from node (touch_writes node (list_of from))))
 
--- and in the end it is done
+-- a touch of a node of the list is done after all its steps
 abbrev pub TouchesAreDone : Type 0
 TouchesAreDone =
     (files : BlockFiles) (node moment : ℕ) (old new : Told) → TellsBytes old → ForSome old.files (IsOpen files) → ForSome old.files (IsAmidList node)

@@ -14,46 +14,49 @@ use Rattle.blk_lru.specs.Nodes.{IsLinkPlace, link_at}
 use Rattle.blk_lru.specs.Plans.{word_or_zero}
 use Rattle.blk_chain.specs.Finding.{last_passed}
 
--- A walk goes along the nexts of the nodes, from the head of the list on, or along their prevs, from its tail on. The place in a node of the word by which it goes says which.
+-- A walk goes by the `next` of the nodes, from the head of the list on, or by their `prev`, from its tail on. The offset `at` of that word in a node says
+-- which.
 
--- the end of the list at which such a walk begins
+-- the end of the list at which a walk by the word at offset `at` begins
 abbrev pub end_word : (at : ℕ) → ListView → ℕ
 end_word at list = if at == NodeView.NEXT then list.head else list.tail
 
--- after a node a walk goes on at the word at this place of it, or nowhere where the node names itself; without a node it begins at the end of the list, or nowhere where this is 0
+-- from a node a walk goes to the node that its word at `at` names, or nowhere where the node names itself; a walk begins at the end of the list, or nowhere
+-- where this is 0
 abbrev pub GoesTo : (at : ℕ) → Image → (before next : Option ℕ) → Type 0
 GoesTo at image None next = word_or_zero next ≡ end_word at (list_of image)
 GoesTo at image (Some node) next = next ≡ (if link_at image node at == node then None else Some (link_at image node at))
 
--- a walk passes these nodes, one after the other, each of which is there
+-- a walk from a node, or from the end of the list, passes these nodes one after the other, each of them valid
 abbrev pub FollowsList : BlockFiles → (at : ℕ) → Image → (from : Option ℕ) → List ℕ → Type 0
 FollowsList files at image from [] = Unit {0}
 FollowsList files at image from (node ∷ nodes) = GoesTo at image from (Some node) × ((is_node_among files node ≡ true) × FollowsList files at image (Some node) nodes)
 
--- a walk that began after a node, or at the end of the list, has passed so many nodes, the last of which is `before`
+-- a walk from a node, or from the end of the list, has passed `count` nodes, the last of them `before`
 pub record HasPassedNodes (files : BlockFiles) (at : ℕ) (from before : Option ℕ) (count : ℕ) (image : Image) : Type 0 where
   pub nodes : List ℕ
   pub many : length nodes ≡ count
   pub last : last_passed from nodes ≡ before
   pub follows : FollowsList files at image from nodes
 
--- and it goes on nowhere
+-- a walk from a node, or from the end of the list, ends after some nodes
 pub record WalkEnds (files : BlockFiles) (at : ℕ) (from : Option ℕ) (image : Image) : Type 0 where
   pub before : Option ℕ
   pub count : ℕ
   pub passed : HasPassedNodes files at from before count image
   pub ends : GoesTo at image before None
 
--- Where it would go on too long.
+-- Walks that are too long.
 
--- after this node there is another one: the error has the place of the word at `at` of the node, and finds the other one
+-- the last node that was passed has a next one: the error has the offset of its word at `at`, and as its word that next node
 pub record IsWordBehind (before : Option ℕ) (at : ℕ) (next : Option ℕ) (damage : Damage) : Type 0 where
   pub last : ℕ
   pub is_last : before ≡ Some last
   pub is_next : next ≡ Some damage.found
   pub of_word : IsWordOf last at damage.found damage
 
--- a walk has passed one node more than a list has, and goes on: the error has the place of the next or the prev of the last one, and finds the node that would be followed
+-- a walk has passed one node more than a list may have, and goes on: the error has the `next` or the `prev` of the last one, and as its word the node that it
+-- names
 pub record IsListTooLong (files : BlockFiles) (told : Told) (damage : Damage) : Type 0 where
   pub at : ℕ
   pub link : IsLinkPlace at

@@ -1,4 +1,4 @@
--- What a new object leaves: its places, its entry, and the state with it.
+-- A new object: the space and the addresses for its entry, the entry, and the state with it.
 use Rattle.std.specs.Prelude.{◌≡◌, ℕ, ◌+◌, ◌<◌, ◌≤◌, List, [], ◌∷◌, ◌++◌, length, Option, None, Some, false, true}
 use Rattle.spec_image.specs.Image.{Image, Index, byte}
 use Rattle.blk_model.specs.Effects.{created}
@@ -29,7 +29,8 @@ use Rattle.blk_object.specs.declared.making_places.Places.{Places}
 
 -- Space.
 
--- a folder keeps some state that has fewer items than a cache may have, and may get so many unlinked words more
+-- the folder keeps some state (but for the counters) that has fewer items than a cache may have, and `more` further addresses may be unlinked beside its
+-- unlinked ones
 pub record LeavesRoom (more : ℕ) (image : Image) : Type 0 where
   pub state : State
   pub layout : Layout
@@ -38,32 +39,33 @@ pub record LeavesRoom (more : ℕ) (image : Image) : Type 0 where
   pub few : items state < most_items
   pub room : length unlinked + more ≤ most_words + 2
 
--- Places.
+-- Addresses.
 
--- the word of a long key, where there is one
+-- the address of a long key as a list, empty where there is none
 abbrev pub long_word : Option ℕ → List ℕ
 long_word None = []
 long_word (Some w) = w ∷ []
 
--- the address words of the places of an entry: its node, its record, and its long key
+-- the addresses of a new entry: of its node, its record, and its long key if it has one
 abbrev pub words_of_places : Places → List ℕ
 words_of_places places = places.node ∷ places.entry ∷ long_word places.long_key
 
--- the entry of a plain object at its places, with a mark and the word of the next record
+-- the entry of a plain object at these addresses, with a dirty flag and the next record of its chain
 abbrev pub new_entry : Places → ℕ → ℕ → NewEntry
 new_entry places mark next = record { entry = places.entry; node = places.node; long_key = places.long_key; child = false; dirty = mark; next = next }
 
--- what it loads
+-- what a new entry at these addresses is loaded as
 abbrev pub new_loaded : Places → ℕ → List ℕ → Loaded
 new_loaded places mark key = loaded_new (new_entry places mark 0) key
 
--- what is stored at the unlinked words of a state that was kept is stored there still
+-- what was stored at unlinked addresses of a state that was kept is stored there still
 abbrev pub KeepsStored : Image → Image → Type 0
 KeepsStored from image =
     (state : State) (layout : Layout) (unlinked : List ℕ) → KeepsUncounted state layout unlinked from
     → (size w : ℕ) (bytes : List ℕ) → is_among unlinked w ≡ true → (store_of from).stored size w ≡ Some bytes → (store_of image).stored size w ≡ Some bytes
 
--- words were taken: each state that was kept is kept with them unlinked, in the same session with the same counters, and what was stored at unlinked words is
+-- the addresses were allocated: each state that was kept is kept with them unlinked; the session, the counters and what was stored at unlinked addresses are
+-- unchanged
 pub record Takes (words : List ℕ) (from image : Image) : Type 0 where
   pub kept : KeepsWith [] words from image
   pub session : SameSession from image
@@ -72,19 +74,19 @@ pub record Takes (words : List ℕ) (from image : Image) : Type 0 where
 
 -- Entries.
 
--- a state can have one more live object, by a handle, with a key that no live object has
+-- a state may have one more live object, named by this handle, with a key that no live object has
 pub record CanHaveNew (state : State) (handle : ℕ) (key : List ℕ) : Type 0 where
   pub missing : owner state (main key) ≡ None
   pub few : items state < most_items
   pub valid : IsValidState (created handle key state)
 
--- a state is kept, with the words of an entry unlinked, which is written as that of a new object
+-- the folder keeps a state with the addresses of `loaded` unlinked, which is written as the entry of a new object that the state may have
 pub record IsToBeListed (state : State) (layout : Layout) (unlinked : List ℕ) (handle : ℕ) (key : List ℕ) (loaded : Loaded) (image : Image) : Type 0 where
   pub kept : KeepsUncounted state layout (words_of loaded ++ unlinked) image
   pub entry : IsNewEntryOf state layout key loaded image
   pub valid : IsValidState (created handle key state)
 
--- there are such, with this record and this node
+-- some state is kept for which an entry with this record and this node is written as that of a new object, and not listed yet
 pub record CanBeListed (entry node : ℕ) (image : Image) : Type 0 where
   pub state : State
   pub layout : Layout
@@ -96,19 +98,20 @@ pub record CanBeListed (entry node : ℕ) (image : Image) : Type 0 where
   pub record_is : loaded.contents ≡ entry
   pub node_is : loaded.node ≡ node
 
--- whatever state was kept with the words of the places unlinked, and can have the object, is kept so, and its entry is written
+-- each state that was kept with these addresses unlinked, in a session of this number, and that may have a new object of this key, is kept so, and the entry of
+-- the object is written
 abbrev pub IsEntryOfKept : Places → (mark : ℕ) → (key : List ℕ) → Image → Image → Type 0
 IsEntryOfKept places mark key from image =
     (state : State) (layout : Layout) (unlinked : List ℕ) (handle : ℕ) → KeepsUncounted state layout (words_of_places places ++ unlinked) from → CanHaveNew state handle key → this_id_of (byte from Index) ≡ mark
     → IsToBeListed state layout unlinked handle key (new_loaded places mark key) image
 
--- whatever was kept with an entry of this record and node to be listed, the old durable contents are recovered
+-- while the entry with this record and node is listed, recovery gives the durable contents of each state that was kept with it unlisted
 abbrev pub FindsUntilListed : (entry node : ℕ) → Image → Image → Type 0
 FindsUntilListed entry node from image =
     (state : State) (layout : Layout) (unlinked : List ℕ) (handle : ℕ) (key : List ℕ) (loaded : Loaded) → IsToBeListed state layout unlinked handle key loaded from → loaded.contents ≡ entry → loaded.node ≡ node
     → Finds (rest state) image
 
--- and in the end the state with the object is kept
+-- once the entry with this record and node is listed, the folder keeps the state with the new object, but for the counters
 abbrev pub IsEntryListed : (entry node : ℕ) → Image → Image → Type 0
 IsEntryListed entry node from image =
     (state : State) (layout : Layout) (unlinked : List ℕ) (handle : ℕ) (key : List ℕ) (loaded : Loaded) → IsToBeListed state layout unlinked handle key loaded from → loaded.contents ≡ entry → loaded.node ≡ node
@@ -116,18 +119,18 @@ IsEntryListed entry node from image =
 
 -- Times.
 
--- an entry was made at a moment, and its node was used and changed then
+-- the entry has this moment as its creation time, and its node has it as the times of its last access and its last change
 pub record HasTimes (entry node moment : ℕ) (image : Image) : Type 0 where
   pub created : (entry_at image entry).creation_time ≡ moment
   pub times : AreTimes node moment image
 
--- whatever they were, they still are
+-- if the entry had some moment as all its times, it still has
 abbrev pub KeepsTimes : (entry node : ℕ) → Image → Image → Type 0
 KeepsTimes entry node from image = (moment : ℕ) → HasTimes entry node moment from → HasTimes entry node moment image
 
 -- The new object.
 
--- the state with the new object is kept, and its entry lies at a record and a node, marked by the number that the session had
+-- the folder keeps the state with the new object, whose entry has the record and the node of `made`; its dirty flag is the number of the session
 pub record HasNewObject (state : State) (layout : Layout) (handle : ℕ) (key : List ℕ) (made : Made) (from image : Image) : Type 0 where
   pub loaded : Loaded
   pub record_is : loaded.contents ≡ made.entry
@@ -135,11 +138,11 @@ pub record HasNewObject (state : State) (layout : Layout) (handle : ℕ) (key : 
   pub mark_is : loaded.dirty ≡ this_id_of (byte from Index)
   pub kept : Keeps (created handle key state) (with_new layout key loaded) [] image
 
--- so it is with each state that was kept and can have it
+-- for each state that was kept and may have the new object, the folder keeps the state with this object
 abbrev pub HasNewObjects : (key : List ℕ) → Made → Image → Image → Type 0
 HasNewObjects key made from image = (state : State) (layout : Layout) (handle : ℕ) → Keeps state layout [] from → CanHaveNew state handle key → HasNewObject state layout handle key made from image
 
--- a folder keeps a state that can have the object, in the session of a number
+-- the folder keeps a state that may have a new object of this key, in the session of this number
 pub record HasRoomForNew (key : List ℕ) (mark : ℕ) (image : Image) : Type 0 where
   pub state : State
   pub layout : Layout
@@ -148,11 +151,11 @@ pub record HasRoomForNew (key : List ℕ) (mark : ℕ) (image : Image) : Type 0 
   pub session : this_id_of (byte image Index) ≡ mark
   pub can : CanHaveNew state handle key
 
--- of each state that was kept and can have it, the old durable contents are recovered
+-- while an object is made, recovery gives the durable contents of each state that was kept and may have it
 abbrev pub FindsWhileMade : (key : List ℕ) → Image → Image → Type 0
 FindsWhileMade key from image = (state : State) (layout : Layout) (handle : ℕ) → Keeps state layout [] from → CanHaveNew state handle key → Finds (rest state) image
 
--- once all that a Create evicts is out, the state can have its object, where it has fewer items than a cache may have
+-- after the evictions of a Create that isn't refused, the state may have its object, if it has fewer items than a cache may have
 abbrev pub CreatesCanHaveNew : Type 0
 CreatesCanHaveNew = (state : State) (moment handle : ℕ) (key : List ℕ) → IsValidState state → IsRequest (to_create handle key) → refused moment (to_create handle key) state ≡ None → items (with_room state moment (to_create handle key)) < most_items
     → CanHaveNew (with_room state moment (to_create handle key)) handle key

@@ -1,4 +1,4 @@
--- The places that an entry has: those of its node, its record, its long key and its streams.
+-- The addresses that an entry has: of its node, its record, its long key and its streams.
 use Rattle.std.specs.Prelude.{◌≡◌, ℕ, Bool, List, Ok, Some, true, ◌&&◌, ◌||◌, ◌==◌}
 use Rattle.spec_image.specs.Image.{Image}
 use Rattle.blk_model.specs.Items.{Item}
@@ -12,22 +12,22 @@ use Rattle.blk_disk.specs.Tables.{stands_among}
 use Rattle.law_state.specs.Keeping.{KeepsUncounted}
 use Rattle.law_state.specs.PartlyOut.{KeepsPartlyOut}
 
--- whether a word is an address of an external file, or of blocks that are there
+-- word w is the address of an external file, or of valid blocks
 unfoldable pub is_there : BlockFiles → ℕ → Bool
 is_there files w = is_address w && ((kind_of w == external) || stands_among files w)
 
--- this is what some node names, by some rule, and its record is this one
+-- some node loads as `loaded` by some rule of recovery, and its record is at address `entry`
 pub record LoadsWith (entry : ℕ) (loaded : Loaded) (image : Image) : Type 0 where
   pub rule : Rule
   pub node : ℕ
   pub loads : load (store_of image) rule node ≡ Ok loaded
   pub contents : loaded.contents ≡ entry
 
--- so is what lies at a node of a kept state
+-- where a folder keeps a state, what its layout has at a node is loaded there
 abbrev pub KeptNodesLoad : Type 0
 KeptNodesLoad = (state : State) (layout : Layout) (unlinked : List ℕ) (from : Image) (node : ℕ) (loaded : Loaded) → KeepsUncounted state layout unlinked from → layout.at node ≡ Some loaded → LoadsWith loaded.contents loaded from
 
--- and at that of a listed item, where it is not out
+-- while some items are out, what the layout has at the node of an item that isn't is loaded there
 abbrev pub LeftNodesLoad : Type 0
 LeftNodesLoad = (state : State) (layout : Layout) (keep : Item → Bool) (chains : ℕ → List ℕ) (unlinked : List ℕ) (from : Image) (item : Item) (loaded : Loaded) → KeepsPartlyOut state layout keep chains unlinked from → is_listed state item ≡ true → keep item ≡ true
     → layout.at (layout.place item) ≡ Some loaded → LoadsWith loaded.contents loaded from

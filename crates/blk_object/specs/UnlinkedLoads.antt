@@ -1,4 +1,4 @@
--- What lies in unlinked places, as the main item of an object whose parts go after it, loads yet by itself while others go.
+-- What lies at unlinked addresses, as the main item of an object whose parts are removed after it, still loads by itself while they are removed.
 use Rattle.std.specs.Prelude.{◌≡◌, ℕ, List, ◌++◌, Bool, Ok, Option, Some, false, true}
 use Rattle.spec_image.specs.Image.{Image}
 use Rattle.blk_model.specs.Effects.{doomed}
@@ -20,34 +20,35 @@ use Rattle.blk_object.specs.Removing.{IsTakenOut}
 use Rattle.blk_object.specs.RemovingNext.{CountsLeft}
 use Rattle.blk_object.specs.RemovingParts.{LiesLeft}
 
--- this lies in unlinked places: a node loads as it, by itself, with a record of this state, and it is sealed; it has no place twice
+-- the node loads as `loaded` by itself, with a record of this state word, and checksums match; its addresses are among the unlinked ones, and none occurs twice
 pub record LiesUnlinked (unlinked : List ℕ) (state node : ℕ) (loaded : Loaded) (image : Image) : Type 0 where
   pub loads : load (store_of image) (unchained_rule state) node ≡ Ok loaded
   pub sealed : AreSealed image loaded
   pub among : (claim : Claim) → has_claim (all_claims loaded) claim ≡ true → has_claim (claims_of_all unlinked) claim ≡ true
   pub once : repeats (all_claims loaded) ≡ false
 
--- what lay in unlinked places lies there still
+-- what loaded by itself from unlinked addresses still does
 abbrev pub KeepsUnlinked : List ℕ → Image → Image → Type 0
 KeepsUnlinked unlinked from image = (state node : ℕ) (loaded : Loaded) → LiesUnlinked unlinked state node loaded from → LiesUnlinked unlinked state node loaded image
 
--- so it does once an item is taken out
+-- taking an item out of list and chain keeps what loads from unlinked addresses
 abbrev pub TakenOutItemsKeepUnlinked : Type 0
 TakenOutItemsKeepUnlinked =
     (state : State) (layout : Layout) (keep : Item → Bool) (chains : ℕ → List ℕ) (unlinked : List ℕ) (item : Item) (was : Loaded) (before : Option ℕ) (from image : Image)
     → KeepsPartlyOut state layout keep chains unlinked from → LiesLeft state layout keep chains item was before
     → IsTakenOut (layout.place item) was.contents before from image → KeepsUnlinked unlinked from image
 
--- and once other unlinked words are freed
+-- freeing other unlinked addresses keeps what loads from the unlinked addresses that are left
 abbrev pub FreedWordsKeepUnlinked : Type 0
 FreedWordsKeepUnlinked = (state : State) (layout : Layout) (keep : Item → Bool) (chains : ℕ → List ℕ) (words unlinked : List ℕ) (from image : Image) → Removes words from image
     → KeepsPartlyOut state layout keep chains (words ++ unlinked) from → KeepsUnlinked unlinked from image
 
--- and once one item less is counted
+-- lowering the counters of the index keeps what loads from unlinked addresses
 abbrev pub CountedLessKeepsUnlinked : Type 0
 CountedLessKeepsUnlinked = (charge : ℕ) (unlinked : List ℕ) (from image : Image) → AreCountedLess charge from image → KeepsUnlinked unlinked from image
 
--- once an object that a handle names is out with its parts, and its record is that of a doomed one, the state with it doomed is kept; it is counted where the items that are left are
+-- once all items of an object that a handle names are out and its record is that of a doomed entry, the folder keeps the state in which it is doomed, if the
+-- index counts the items that are left
 abbrev pub HeldOutObjectsAreCounted : Type 0
 HeldOutObjectsAreCounted = (state : State) (layout : Layout) (number : ℕ) (object : Object) (loaded : Loaded) (chains : ℕ → List ℕ) (unlinked : List ℕ) (image : Image) → IsHeldOut state layout number object loaded chains unlinked image
     → CountsLeft state layout (is_of_another object.key) image → Keeps (doomed number state (Some object)) (layout_doomed_whole state layout number object.key chains) unlinked image

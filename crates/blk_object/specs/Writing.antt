@@ -1,4 +1,4 @@
--- A stream of an open object is written: which objects can have it, and what is kept then.
+-- A stream of an open object is written: which objects may have it, and what state is kept then.
 use Rattle.std.specs.Prelude.{◌≡◌, ℕ, ◌+◌, ◌<◌, ◌≤◌, ◌%◌, ◌^◌, List, length, Bool, true, false, Some, if◌then◌else◌}
 use Rattle.spec_image.specs.Image.{Image, Index, byte}
 use Rattle.blk_model.specs.Effects.{stream_after, stream_of, with_slot}
@@ -25,17 +25,18 @@ use Rattle.law_state.specs.ListLaws.{with_used}
 use Rattle.law_state.specs.ObjectLaws.{layout_after}
 use Rattle.law_state.specs.PartStates.{with_object, with_value}
 
--- What can be written.
+-- Preconditions.
 
--- the node of the object with a number
+-- the node of an object: that of its main item while it is live, else that of the doomed object
 abbrev pub node_of_object : Layout → ℕ → Object → ℕ
 node_of_object layout number object = if object.live then layout.place (main object.key) else layout.place_of_doomed number
 
--- the state in which a stream of the object is written
+-- the state after a write to stream `at` of an object
 abbrev pub with_written : State → ℕ → Object → (at offset : ℕ) → Bool → List ℕ → State
 with_written state number object at offset cut bytes = with_slot number (Some (after_write object at offset cut bytes)) state
 
--- a state is kept, in which a dirty object lies at its node, with this record; it may have its stream written, and there is space for one more place
+-- precondition of a write: the folder keeps a state (but for the counters) in which a dirty object has the record at address `entry` and may have its stream
+-- written, and at most two addresses are unlinked
 pub record IsToBeWritten (state : State) (layout : Layout) (unlinked : List ℕ) (number : ℕ) (object : Object) (was : Loaded) (entry at offset : ℕ) (cut : Bool) (bytes : List ℕ) (image : Image) : Type 0 where
   pub kept : KeepsUncounted state layout unlinked image
   pub here : object_at state number ≡ Some object
@@ -47,28 +48,29 @@ pub record IsToBeWritten (state : State) (layout : Layout) (unlinked : List ℕ)
   pub few : items state ≤ most_items
   pub room : length unlinked ≤ 2
 
--- what holds of each such object
+-- P holds of each dirty object that the write may be of: its record is at address `entry`, and its stream may be written
 abbrev pub ForEachUnsettled : (entry at offset : ℕ) (cut : Bool) (bytes : List ℕ) → Image → (State → Layout → List ℕ → ℕ → Object → Loaded → Type 0) → Type 0
 ForEachUnsettled entry at offset cut bytes from P =
     (state : State) (layout : Layout) (unlinked : List ℕ) (number : ℕ) (object : Object) (was : Loaded) → IsToBeWritten state layout unlinked number object was entry at offset cut bytes from
     → P state layout unlinked number object was
 
--- a record checks, and a stream of it has no bytes, or an address at which they are
+-- the record's checksum matches or is absent, and its stream `at`, unless it is empty, has an address; if that names an external file, this has all bytes of
+-- the stream
 pub record HasStreamThere (entry at : ℕ) (image : Image) : Type 0 where
   pub checks : RecordChecks entry image
   pub address : 0 < size_word image entry at → is_address (address_word image entry at) ≡ true
   pub there : IsInFile (address_word image entry at) 0 (size_word image entry at) image
 
--- What the items are charged.
+-- Costs.
 
--- a state lists as many items as another one, and for a charge of the other's it has another one
+-- state `after` lists as many items as `state`, and the sum of their costs is lower by `less` and higher by `more`
 pub record IsRisen (state after : State) (layout now : Layout) (less more : ℕ) : Type 0 where
   pub items : length after.uses ≡ length state.uses
   pub bytes : charged after now + less ≡ charged state layout + more
 
--- What is kept.
+-- The outcome.
 
--- what lies at the node afterwards: it has the same node, record, dirty word, key and role, and the streams after the write
+-- what lies at the node after a write: node, record, dirty flag, key and role are the same, and the streams are those after the write
 pub record IsLoadedAfter (was now : Loaded) (at offset : ℕ) (cut : Bool) (bytes : List ℕ) : Type 0 where
   pub node : now.node ≡ was.node
   pub contents : now.contents ≡ was.contents
@@ -77,7 +79,8 @@ pub record IsLoadedAfter (was now : Loaded) (at offset : ℕ) (cut : Bool) (byte
   pub role : now.role ≡ was.role
   pub streams : now.streams ≡ stored_streams_with at (stream_after cut (stream at was.streams) offset bytes) was.streams
 
--- the state with the stream written is kept but for the counters, which are as they were, and so is the session; a live object is charged for the length of its stream
+-- the folder keeps the state after the write, but for the counters; these and the session are unchanged, and the cost of a live object changes by the length of
+-- its stream
 pub record IsWrittenUncounted (state : State) (layout : Layout) (unlinked : List ℕ) (number : ℕ) (object : Object) (was : Loaded) (at offset : ℕ) (cut : Bool) (bytes : List ℕ) (from image : Image) : Type 0 where
   pub now : Loaded
   pub after : IsLoadedAfter was now at offset cut bytes
@@ -87,9 +90,10 @@ pub record IsWrittenUncounted (state : State) (layout : Layout) (unlinked : List
   pub counters : SameCounters from image
   pub session : SameSession from image
 
--- A part.
+-- Parts.
 
--- a state is kept, in which a dirty live object has a part, which lies at its node with this record; with a stream of it written it is that part with another value, and there is space for one more place
+-- precondition of a write to a part: the folder keeps a state (but for the counters) in which a dirty live object has part n with the record at address
+-- `entry`; with the stream written it is that part with `value`, and at most two addresses are unlinked
 pub record IsPartToBeWritten (state : State) (layout : Layout) (unlinked : List ℕ) (number : ℕ) (object : Object) (n : ℕ) (value : PartValue) (was : Loaded) (role : Role) (entry at offset : ℕ) (cut : Bool) (bytes : List ℕ) (image : Image) : Type 0 where
   pub kept : KeepsUncounted state layout unlinked image
   pub here : object_at state number ≡ Some object
@@ -105,13 +109,14 @@ pub record IsPartToBeWritten (state : State) (layout : Layout) (unlinked : List 
   pub few : items state ≤ most_items
   pub room : length unlinked ≤ 2
 
--- what holds of each such part
+-- P holds of each part of a dirty live object that the write may be of: its record is at address `entry`, and the write gives it the value
 abbrev pub ForEachPartUnsettled : (entry at offset : ℕ) (cut : Bool) (bytes : List ℕ) → Image → (State → Layout → List ℕ → ℕ → Object → (n : ℕ) → PartValue → Loaded → Role → Type 0) → Type 0
 ForEachPartUnsettled entry at offset cut bytes from P =
     (state : State) (layout : Layout) (unlinked : List ℕ) (number : ℕ) (object : Object) (n : ℕ) (value : PartValue) (was : Loaded) (role : Role)
     → IsPartToBeWritten state layout unlinked number object n value was role entry at offset cut bytes from → P state layout unlinked number object n value was role
 
--- the state with the part's value is kept but for the counters, which are as they were, and so is the session; at its node lies the same with the streams after the write
+-- the folder keeps the state in which the part has the value, but for the counters; these and the session are unchanged, and at the part's node lies the same
+-- with the streams after the write
 pub record IsPartWrittenUncounted (state : State) (layout : Layout) (unlinked : List ℕ) (number : ℕ) (object : Object) (n : ℕ) (value : PartValue) (was : Loaded) (role : Role) (at offset : ℕ) (cut : Bool) (bytes : List ℕ) (from image : Image) : Type 0 where
   pub others : List ℕ
   pub now : Loaded
@@ -120,20 +125,21 @@ pub record IsPartWrittenUncounted (state : State) (layout : Layout) (unlinked : 
   pub counters : SameCounters from image
   pub session : SameSession from image
 
--- How it is counted.
+-- Counters.
 
--- the bytes that the index counts are less by one number and more by another, as a number of eight bytes
+-- the counter of bytes in the index is lowered by `less` and raised by `more`, modulo 2 ^ 64
 pub record IsRiseCounted (less more : ℕ) (from image : Image) : Type 0 where
   pub bytes : ℕ
   pub small : bytes < 2 ^ 64
   pub rise : (bytes + less) % 2 ^ 64 ≡ (num_bytes64_of (byte from Index) + more) % 2 ^ 64
   pub written : IsIndexLong num_bytes64_place bytes from image
 
--- where the counters counted the one, and the other differs in a charge and is kept but for them, it is kept and counted once the rise is
+-- where the index counted `state`, a state with another sum of costs is counted once the counter of bytes has changed by the difference, if all else of that
+-- state is kept already
 abbrev pub RisesAreCounted : Type 0
 RisesAreCounted = (state after : State) (layout now : Layout) (unlinked : List ℕ) (less more : ℕ) (from image : Image) → CountsItems from state layout → IsRisen state after layout now less more → KeepsUncounted after now unlinked from
     → IsRiseCounted less more from image → Keeps after now unlinked image
 
--- a use of an item leaves the rise
+-- an access to an item doesn't change the sum of costs
 abbrev pub UsesLeaveTheRise : Type 0
 UsesLeaveTheRise = (state after : State) (layout now : Layout) (less more : ℕ) → (item : Item) → IsValidState after → is_listed after item ≡ true → IsRisen state after layout now less more → IsRisen state (with_used after item) layout now less more

@@ -6,42 +6,42 @@ ghost use Rattle.blk_object.specs.KeptEntries.{NewEntriesChangeTheirOwn, Writing
 ghost use Rattle.blk_object.specs.KeptChains.{KeptRecordsCanBeUnlinked, UnlinkedRecordsAreOut, UnlinkedRecordsLeaveFiles, UnlinkingsChangeLinks};
 ghost use Rattle.blk_object.specs.KeptBlocks.{AllocationsAdd, AllocationsStayWhole, FreesRemove, FreesStayWhole, KeptFilesAreCounted, WholeFoldersFindTheSame};
 
-/// A folder that stays whole at each word of a call, as in an allocation and a free, has the old durable contents recovered at each, whatever
-/// is unlinked.
+/// While block files grow at most and a well-formed folder is well formed, as in an allocation and a free, recovery gives the durable contents of the state
+/// that was kept, whatever is unlinked.
 pub fn whole_folders_find_the_same()
     ensures { WholeFoldersFindTheSame }
 {}
 
-/// At each word of a free the folder stays whole, and once it is done the allocation is removed.
+/// After each write of a free block files have grown at most and a well-formed folder is well formed; when it is done, the address is an allocation no longer.
 pub fn freed_blocks_are_gone()
     ensures whole { FreesStayWhole }
     ensures removed { FreesRemove }
 {}
 
-/// Where a state is kept the files of each kind are counted as an allocation asks. At each word of it the folder stays whole, and once it is done the allocation is added.
+/// A folder that keeps a state meets the precondition of `allocate`. After each write of an allocation block files have grown at most and a well-formed folder
+/// is well formed; when it is done, the address is one more allocation.
 pub fn allocated_blocks_are_added()
     ensures counted { KeptFilesAreCounted }
     ensures whole { AllocationsStayWhole }
     ensures added { AllocationsAdd }
 {}
 
-/// Where a state is kept an external number is free. At each word of a creation the old durable contents are recovered, and once it is done the
-/// file is made.
+/// A folder that keeps a state has a free number for an external file. While the file is created recovery gives the same durable contents; when it is done, the
+/// file exists.
 pub fn external_files_are_added()
     ensures free { KeptStatesHaveFreeNumbers }
     ensures find { CreationsFindTheSame }
     ensures added { CreationsAdd }
 {}
 
-/// At each word of a deletion of an unlinked external file the old durable contents are recovered, and once it is done the
-/// file is removed.
+/// While an unlinked external file is deleted recovery gives the same durable contents; when it is done, the file is gone.
 pub fn external_files_are_gone()
     ensures find { DeletionsFindTheSame }
     ensures removed { DeletionsRemove }
 {}
 
-/// Where a state is kept the node of a new entry can be inserted, and that of a listed item is in the list. At each word of an insert, a removal and a touch a prefix of its writes is made, and in the end it is
-/// done.
+/// A folder that keeps a state meets the preconditions of `insert_front` for a new entry's node, and of `remove` and `touch` for that of a listed item. In an
+/// insert, a removal and a touch a prefix of the writes is made, and after all steps it is done.
 pub fn nodes_are_listed()
     ensures new { NewNodesCanBeInserted }
     ensures listed { ListedNodesAreInTheList }
@@ -53,7 +53,8 @@ pub fn nodes_are_listed()
     ensures touched { TouchesAreDone }
 {}
 
-/// Where a state is kept each node of it checks, as `set_dirty` and `set_clean` ask. At each word of them the dirty word is being set, and in the end it is set.
+/// The nodes of a state that is kept meet the precondition of `set_dirty` and `set_clean`. While a dirty flag is set nothing else changes, and after all steps
+/// it is set.
 pub fn dirty_words_are_set()
     ensures kept { NodesOfStatesCheck }
     ensures checks { NodesCheckAsRecords }
@@ -61,21 +62,24 @@ pub fn dirty_words_are_set()
     ensures set { MarksAreSet }
 {}
 
-/// Once its node is in the list, the record of a new entry can be linked, as `link_front` asks. At each word of a link in front nothing has changed, or the record is linked, and in the end it is.
+/// When its node is in the list, the record of a new entry meets the precondition of `link_front`. In a link nothing has changed yet, or the record is linked;
+/// after all steps it is.
 pub fn records_are_linked()
     ensures asked { NewRecordsCanBeLinked }
     ensures each { LinksComeInFront }
     ensures linked { LinksAreInFront }
 {}
 
-/// At each word of the writing of a new entry nothing but what its words name changes, so each state that is kept with them unlinked is kept; once it is written, it is a new entry of that state.
+/// While a new entry is written nothing but the blocks and files of its addresses changes, so a state that is kept with them unlinked is kept; when it is
+/// written, it is a new entry for that state.
 pub fn new_entries_are_written()
     ensures own { NewEntriesChangeTheirOwn }
     ensures kept { WritingEntriesKeepsStates }
     ensures new { WrittenEntriesAreNew }
 {}
 
-/// The record of an item that is out of the list can be unlinked, as `unlink` asks. At each word of it the record is in its chain or out of it; once it is unlinked, it is out of its chain, all others are in theirs, and the files are left.
+/// The record of an item that is out of the list meets the precondition of `unlink`. While it is unlinked it is in its chain or out of it; when it is, its
+/// chain is the old one without it, and the other chains and the files are unchanged.
 pub fn records_are_unlinked()
     ensures asked { KeptRecordsCanBeUnlinked }
     ensures each { UnlinkingsChangeLinks }

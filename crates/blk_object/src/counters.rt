@@ -18,14 +18,14 @@ use blk_index::{long, word};
 use blk_io::{Failed, Fault, FileId, Folder, write_words};
 use blk_record::{IndexHead, WORD_VALUES};
 
-/// What the index counts.
+/// The counters of the index.
 #[derive(Clone, Copy)]
 pub(crate) struct Counters {
-    /// The entries.
+    /// The number of entries.
     pub entries: u32,
-    /// The sum of their charges.
+    /// The sum of their costs.
     pub bytes: u64,
-    /// The nodes of the LRU list.
+    /// The number of nodes of the LRU list.
     pub size: u32,
 }
 
@@ -46,7 +46,7 @@ pub(crate) fn read_counters<F: Folder>(folder: &mut F) -> Result<Counters, Fault
     })
 }
 
-/// Writes the counters for one entry more, with its charge, by three folder calls.
+/// Raises the counters of the index by one entry and its cost: three folder calls write them.
 pub(crate) fn count_entry<F: Folder>(
     folder: &mut F,
     files: &BlockFiles,
@@ -65,8 +65,7 @@ pub(crate) fn count_entry<F: Folder>(
     set_counters(folder, files, entries, bytes, size)
 }
 
-/// Counts one entry less, with a charge, in the counters of the index: three folder calls read them, and three write
-/// them.
+/// Lowers the counters of the index by one entry and its cost: three folder calls read them, and three write them.
 pub fn count_less<F: Folder>(folder: &mut F, files: &BlockFiles, charge: u64) -> Result<(), Fault>
     requires is_open { ForSome (F.told folder.old).files (IsOpen files.now) }
     ensures counted { OnOk result (ForSome (F.told folder.old).files (λ from. ForSome (F.told folder.new).files (AreCountedLess charge from))) }
@@ -85,8 +84,7 @@ pub fn count_less<F: Folder>(folder: &mut F, files: &BlockFiles, charge: u64) ->
     Ok(())
 }
 
-/// Counts so many entries more in the counters of the index, and a charge more: three folder calls read them, and three
-/// write them.
+/// Raises the counters of the index by so many entries and a cost: three folder calls read them, and three write them.
 pub fn count_more<F: Folder>(
     folder: &mut F,
     files: &BlockFiles,
@@ -110,8 +108,7 @@ pub fn count_more<F: Folder>(
     Ok(())
 }
 
-/// Counts the bytes of the items less by one number and more by another: one folder call reads their sum, and one writes
-/// it.
+/// Lowers the counter of bytes in the index by one number and raises it by another: one folder call reads it, and one writes it.
 pub fn count_rise<F: Folder>(
     folder: &mut F,
     files: &BlockFiles,

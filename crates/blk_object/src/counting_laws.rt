@@ -2,7 +2,9 @@
 ghost use Rattle.blk_object.specs.ListedParts.{FirstPartsLieNext, FoundNamesAreTheParts, FoundPartsLieNext, NoPartsLeftAreAllOut, PartsHaveTheirNames};
 ghost use Rattle.blk_object.specs.RemovingNext.{CountedLessIsStillOut, CountedLessLeavesSession, CountedOutDoomsEnd, CountedOutEndsKept, CountedOutGroupsAreGone, KeptStatesCountAll, NextItemsAreCountedLess};
 
-/// At first all items are counted; once one more is out and counted less, those that are left are, what is kept is kept still, and the session is the same; once all that go are out, the state without them is kept and counted, and so are the one after a DoomKey, and the one without the next group.
+/// The index counts all items of a state at first, and those that are left after one more is out and the counters are lowered by it; lowering them keeps the
+/// state with the items out, and the session. When all items to be removed are out, the folder keeps the state without them: that after a DoomKey, or that
+/// without the next eviction unit.
 pub fn left_items_are_counted()
     ensures all { KeptStatesCountAll }
     ensures less { NextItemsAreCountedLess }
@@ -13,7 +15,9 @@ pub fn left_items_are_counted()
     ensures group { CountedOutGroupsAreGone }
 {}
 
-/// Once no part of a key is found after its main item went, all items of the key are out, and the others are counted. A part that is found may go next, with the record before it in its chain, as a search by its name gives it, which is made of the key, the signature of its parent's index, and its number.
+/// When a search finds no part of a key after its main item was removed, all items of the key are out, and the index counts the others. A part that is found
+/// may be removed next, with the record before it that a search by its name finds; the name is made of the key, the generation in its parent's index, and its
+/// number.
 pub fn parts_go_until_none_is_left()
     ensures none { NoPartsLeftAreAllOut }
     ensures next { FirstPartsLieNext }

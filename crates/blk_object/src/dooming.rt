@@ -26,8 +26,8 @@ use blk_record::EntryView;
 // The state of the record of a doomed object.
 const DOOMED: u32 = 2;
 
-/// Gives the record of an object that a handle names, all of whose items are out, the state of a doomed one, by a
-/// sealed update: one folder call reads it, and three write.
+/// Sets the doomed state in the record of an object that a handle names, all of whose items are out of list and chains, in one update with a new checksum: one
+/// folder call reads the record, and three write.
 ///
 /// A failed check is a record that has too few bytes or doesn't check, and nothing is written then.
 pub fn doom_record<F: Folder>(folder: &mut F, files: &BlockFiles, entry: Addr) -> Result<(), Fault>

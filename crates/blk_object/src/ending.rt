@@ -1,4 +1,4 @@
-// An object is ended that no handle names any more.
+// An object is ended when no handle names it any more.
 ghost use Rattle.std.specs.Prelude.{◌≡◌, IsTrue, None, false, true};
 ghost use Rattle.std.specs.Option.{ForSome};
 ghost use Rattle.spec_image.specs.Told.{MayWrite};
@@ -44,7 +44,7 @@ pub fn end_object<F: Folder>(
     }
 }
 
-// Frees all places of what lies there with a record.
+// Frees all places of the entry with a record.
 fn free_entry<F: Folder>(folder: &mut F, files: &BlockFiles, entry: Addr) -> Result<(), Fault>
     requires names { IsTrue (is_record_among files.now entry) }
     requires is_open { ForSome (F.told folder.old).files (IsOpen files.now) }
@@ -58,7 +58,7 @@ fn free_entry<F: Folder>(folder: &mut F, files: &BlockFiles, entry: Addr) -> Res
     free_owned(folder, files, &owned)
 }
 
-// Makes the dirty word of an object 0 where it isn't so.
+// Sets the dirty flag of an object to 0 where it isn't 0.
 fn clean<F: Folder>(folder: &mut F, files: &BlockFiles, object: &OpenObject) -> Result<(), Fault>
     requires stands { IsTrue (is_node_among files.now object.now.node) }
     requires is_open { ForSome (F.told folder.old).files (IsOpen files.now) }

@@ -1,4 +1,4 @@
-// The places of an object that is gone are freed.
+// The places of an object that was removed are freed.
 ghost use Rattle.std.specs.Prelude.{◌≡◌, ◌==◌, ◌∷◌, [], All, None, OnErr, OnOk, Some, true};
 ghost use Rattle.std.specs.Option.{ForSome};
 ghost use Rattle.spec_image.specs.Told.{Passes, MayWrite};

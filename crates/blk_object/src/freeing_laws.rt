@@ -1,8 +1,8 @@
 // What places that are freed are to the state that was kept: laws, each the contract of a function with an empty body.
 ghost use Rattle.blk_object.specs.Freeing.{FreedWordsAreGone, FreedWordsAreGonePartlyOut, FreedWordsLeaveCounters, FreedWordsLeaveSession, GoingWordsFindDoomed, GoingWordsFindTheSame, UnlinkedWordsAreFreeable};
 
-/// Where a state is kept its unlinked words may be freed. Once they are freed they are in use no longer, and the counters of the index and the session are as they were; at each word the old durable contents are recovered, or where some items of an object are out, the durable
-/// contents with it doomed.
+/// Unlinked addresses of a state that is kept may be freed. Freed ones are unlinked no longer, and counters and session of the index are unchanged; while they
+/// are freed recovery gives the same durable contents, or, where the main item of an object is out, those with the object doomed.
 pub fn freed_words_are_gone()
     ensures may { UnlinkedWordsAreFreeable }
     ensures gone { FreedWordsAreGone }

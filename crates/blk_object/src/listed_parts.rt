@@ -58,7 +58,7 @@ pub fn next_part<F: Folder>(
     // On every folder its record has the name of that part.
     ensures named { IfOk result (λ found. IfSome found (λ part. ForSome (F.told folder.old).files (SaysPart part.entry key.now part.number))) }
 
-    // And its node names that record.
+    // The node of the part names that record.
     ensures contents { IfOk result (λ found. IfSome found (λ part. ForSome (F.told folder.old).files (λ image. part.entry ≡ (node_at image part.node).contents))) }
 
     ensures reads { ReadsOnly F.told F.faults folder.old folder.new (IfDevice result) }

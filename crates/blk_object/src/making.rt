@@ -25,7 +25,7 @@ use blk_io::{Fault, Folder};
 use blk_lru::insert_front;
 use blk_record::{IndexHead, super_fast_hash};
 
-/// A Create that isn't refused can have its object once all that it evicts is out, where there are fewer items than a cache may have.
+/// After the evictions of a Create that isn't refused, the state may have its object, if it has fewer items than a cache may have.
 pub fn creates_can_have_new()
     ensures { CreatesCanHaveNew }
 {}

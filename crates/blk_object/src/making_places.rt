@@ -38,7 +38,7 @@ pub struct Places {
     pub long_key: Option<Addr>,
 }
 
-/// Takes places for an entry with a key or a name of so many bytes: nobody had them, and nobody names them yet.
+/// Allocates the places of an entry with a key or a name of so many bytes: they had no owner, and nothing names them yet.
 pub fn take_places<F: Folder>(
     folder: &mut F,
     files: &mut BlockFiles,
@@ -171,7 +171,7 @@ fn take_file<F: Folder>(folder: &mut F, files: &BlockFiles, size: u32) -> Result
     Ok(addr)
 }
 
-/// Looks whether the index has its length still: where the maps aren't right, an allocation doesn't promise it.
+/// Checks that the index still has its length, which an allocation doesn't promise where maps are wrong.
 pub fn check_index<F: Folder>(folder: &mut F) -> Result<(), Fault>
     ensures whole { OnOk result (ForSome (F.told folder.old).files HasWholeIndex) }
     ensures reads { ReadsOnly F.told F.faults folder.old folder.new (IfDevice result) }

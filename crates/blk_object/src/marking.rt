@@ -1,4 +1,4 @@
-// The dirty word of a node becomes a number.
+// The dirty flag of a node is set.
 ghost use Rattle.std.specs.Prelude.{◌≤◌, IsTrue};
 ghost use Rattle.std.specs.Option.{ForSome};
 ghost use Rattle.spec_image.specs.Told.{Rises};
@@ -13,8 +13,7 @@ use blk_disk::BlockFiles;
 use blk_entry::{set_clean, set_dirty};
 use blk_io::{Fault, Folder};
 
-/// Makes the dirty word of a node this number, where 0 says that its object is clean: one folder call reads the node,
-/// and two write.
+/// Sets the dirty flag of a node to this number, where 0 means clean: one folder call reads the node, and two write.
 pub fn set_dirty_word<F: Folder>(
     folder: &mut F,
     files: &BlockFiles,

@@ -1,4 +1,4 @@
-// An object goes: an item is taken out of the LRU list and of its chain.
+// An item is removed from the LRU list and from its chain.
 ghost use Rattle.std.specs.Prelude.{◌≡◌, IfSome, IsTrue, None, OnOk};
 ghost use Rattle.std.specs.Option.{ForSome};
 ghost use Rattle.spec_image.specs.Told.{Passes, MayWrite};

@@ -5,7 +5,8 @@ ghost use Rattle.blk_object.specs.RemovingObjects.{PlainObjectsGoAlone};
 ghost use Rattle.blk_object.specs.RemovingParts.{GoingLonePartsFindEither, GoingMainsFindEither, GoingPartsFindDoomed, LeftItemsMayGoOut, TakenOutItemsAreOut, TakenOutItemsLoad, UnlinkedItemsFindDoomed};
 ghost use Rattle.blk_object.specs.Removing.{GoingOutIsRemoving, ListedItemsMayGoOut, TakenOutItemsAreRemoved, TakenOutItemsLeaveCounters, TakenOutItemsLeaveSession};
 
-/// Where a state is kept a listed item may go out. Once it is taken out it is removed, and the counters of the index and the session are as they were; at each word it is being removed.
+/// A listed item of a state that is kept meets the precondition of `take_out`. When it is taken out it is removed from the state, and counters and session of
+/// the index are unchanged; before that, after each write, the folder is in the midst of its removal.
 pub fn taken_items_are_removed()
     ensures may { ListedItemsMayGoOut }
     ensures removed { TakenOutItemsAreRemoved }
@@ -14,18 +15,19 @@ pub fn taken_items_are_removed()
     ensures each { GoingOutIsRemoving }
 {}
 
-/// Where the counters counted a state, and are counted less by the charge of an item, they count the state without it.
+/// Where the index counts a state, it counts that without an item when its counters are lowered by the item and its cost.
 pub fn less_is_counted()
     ensures { LessIsCounted }
 {}
 
-/// A live object without parts that no handle names goes alone, and what is left is the state with it doomed.
+/// A live object without parts that no handle names has only its main item to be removed, and what is left is the state in which it is doomed.
 pub fn plain_objects_go_alone()
     ensures { PlainObjectsGoAlone }
 {}
 
-/// Where some items of an object are out already, another one may go out. Once it is taken out, one item more is out, and what lay there loads yet by itself; while its record is unlinked, and at each word of a part after its main item, the durable contents with the object doomed are recovered. So are they, or the old durable contents, at each word of the main item, which goes first; and of a part that goes alone, the
-/// durable contents without it.
+/// Where some items of an object are out, another one meets the precondition of `take_out`. When it is taken out one item more is out, and what lay at its node
+/// still loads by itself. While a part is removed after the main item, recovery gives the durable contents with the object doomed; while the main item is
+/// removed first, those or the old ones; while a part is removed alone, the old ones or those without it.
 pub fn taken_parts_are_out()
     ensures may { LeftItemsMayGoOut }
     ensures out { TakenOutItemsAreOut }
@@ -36,7 +38,8 @@ pub fn taken_parts_are_out()
     ensures alone { GoingLonePartsFindEither }
 {}
 
-/// Where a state is kept each chain can be searched, as `find` asks; and a record that is found by a key, and is no child, is that of the main item of the key, and is in its chain as a removal asks.
+/// A folder that keeps a state meets the precondition of `find` for each key; a record without the child flag that is found by a key is that of the key's main
+/// item, and is in its chain as a removal needs it.
 pub fn found_entries_may_go_out()
     ensures searched { KeptStatesCanBeSearched }
     ensures lies { FoundEntriesLieBehind }

@@ -1,4 +1,4 @@
-// The main item of an object goes out before its parts.
+// The main item of an object is removed from list and chain before its parts.
 ghost use Rattle.std.specs.Prelude.{◌≡◌, IfSome, IsTrue, None, OnOk, Some};
 ghost use Rattle.std.specs.Option.{ForSome};
 ghost use Rattle.spec_image.specs.Told.{Passes, MayWrite};
@@ -21,8 +21,8 @@ use blk_chain::Found;
 use blk_disk::BlockFiles;
 use blk_io::{Fault, Folder};
 
-/// Takes the main item of an object that goes with its parts out, before them: out of the LRU list and of its chain,
-/// and the index counts one entry less, with its charge, in bytes. Nothing is freed: its places are nobody's then.
+/// Takes the main item of an object that is removed with its parts out of the LRU list and of its chain, before the parts, and lowers the counters of the index
+/// by it and its cost. Nothing is freed: its places have no owner then.
 ///
 /// Its record is in its chain after the record before, or is the first; and it names this node. This takes as many
 /// folder calls as `take_out`, and six for the counters.

@@ -1,4 +1,4 @@
-// An item that goes alone is removed.
+// A single item is removed.
 ghost use Rattle.std.specs.Prelude.{◌≡◌, ◌<◌, ◌^◌, All, IfOk, IfSome, IsTrue, None, OnOk};
 ghost use Rattle.std.specs.Option.{ForSome};
 ghost use Rattle.spec_image.specs.Told.{Passes, MayWrite};
@@ -23,9 +23,8 @@ use blk_chain::Found;
 use blk_disk::BlockFiles;
 use blk_io::{Fault, Folder};
 
-/// Removes an item that goes alone, as the object of a plain entry that no handle names, or a part: it is taken out of
-/// the LRU list and of its chain, its places are freed, and the index counts one entry less, with its charge, which is
-/// given, in bytes.
+/// Removes a single item, that of a plain object that no handle names, or a part: it is taken out of the LRU list and of its chain, its places are freed, and
+/// the counters of the index are lowered by it and its cost in bytes, which is given.
 ///
 /// Its record is in its chain after the record before, or is the first; and it names this node. This takes at most 23
 /// folder calls until it is out, seven for each of its places, and six for the counters.
@@ -68,8 +67,7 @@ pub fn remove_item<F: Folder>(
     Ok(owned.charge)
 }
 
-/// Removes an item that goes alone, as `remove_item`, where its places and its charge were read before: one folder call
-/// less.
+/// Removes a single item as `remove_item` does, where its places and its cost were read before: one folder call less.
 pub fn remove_read<F: Folder>(
     folder: &mut F,
     files: &BlockFiles,
@@ -107,7 +105,7 @@ pub fn remove_read<F: Folder>(
     count_less(folder, files, owned.charge)
 }
 
-// Takes an item out, and frees its places. Its charge is given.
+// Takes an item out of list and chain, and frees its places. Its cost is given.
 pub(crate) fn take_away<F: Folder>(
     folder: &mut F,
     files: &BlockFiles,
@@ -137,7 +135,7 @@ pub(crate) fn take_away<F: Folder>(
     Ok(read.charge)
 }
 
-// Takes an item out, and frees its places, which were read before.
+// Takes an item out of list and chain, and frees its places, which were read before.
 fn take_read<F: Folder>(
     folder: &mut F,
     files: &BlockFiles,

@@ -24,8 +24,8 @@ use blk_chain::Found;
 use blk_disk::BlockFiles;
 use blk_io::{Fault, Folder};
 
-/// Removes a part of an object that goes with its parts, after its main item: it is taken out of the LRU list and of its
-/// chain, its places are freed, and the index counts one entry less, with its charge, which is given, in bytes.
+/// Removes a part of an object that is removed with all its parts, after the main item: it is taken out of the LRU list and of its chain, its places are freed,
+/// and the counters of the index are lowered by it and its cost in bytes, which is given.
 ///
 /// Its record is in its chain after the record before, or is the first; and it names this node. This takes as many
 /// folder calls as `remove_item`.

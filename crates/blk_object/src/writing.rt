@@ -79,7 +79,7 @@ pub fn write_object<F: Folder>(
     check_index(folder)
 }
 
-// Looks whether the bytes of a stream are in their file, where they lie in an external one.
+// Checks that the file of a stream has its bytes, where they lie in an external one.
 fn check_stream<F: Folder>(
     folder: &mut F,
     files: &BlockFiles,
@@ -106,8 +106,7 @@ fn check_stream<F: Folder>(
     check_length(folder, addr, size)
 }
 
-// The failed check of a stream with bytes and without an address: it has the place of its size, where no stream is so long, and else that of its
-// word.
+// The failed check of a stream with bytes and without an address: of its size, where that is too large for a stream, and else of its address word.
 fn unplaced(entry: Addr, stream: u8, size: u32, word: u32) -> Fault
     requires stream { stream < 3 }
     requires kind { kind_of entry ≡ blocks_256 }
@@ -119,7 +118,7 @@ fn unplaced(entry: Addr, stream: u8, size: u32, word: u32) -> Fault
     record_damage(entry, EntryView::DATA_ADDR + 4 * u32::from(stream), word)
 }
 
-// Looks whether so many bytes are in an external file; of blocks nothing is asked.
+// Checks that an external file has so many bytes; of blocks nothing is checked.
 fn check_length<F: Folder>(folder: &mut F, addr: Addr, size: u32) -> Result<(), Fault>
     ensures there { OnOk result (ForSome (F.told folder.old).files (IsInFile addr 0 size)) }
     ensures reads { ReadsOnly F.told F.faults folder.old folder.new (IfDevice result) }

@@ -2,13 +2,14 @@
 ghost use Rattle.blk_object.specs.Counters.{MoreIsCounted};
 ghost use Rattle.blk_object.specs.Writing.{RisesAreCounted, UsesLeaveTheRise};
 
-/// Once the bytes that the index counts have risen as the charges have, the state with these is counted; a use of an item leaves the rise.
+/// Where the index counts a state, it counts one with another sum of costs when its counter of bytes has changed by the difference; an access to an item
+/// doesn't change the sum.
 pub fn rises_are_counted()
     ensures counted { RisesAreCounted }
     ensures uses { UsesLeaveTheRise }
 {}
 
-/// Where the counters counted a state, and are counted more by the items that another one has more, and by their charge, they count the other.
+/// Where the index counts a state, it counts one with more items when its counters are raised by these and their cost.
 pub fn more_is_counted()
     ensures { MoreIsCounted }
 {}

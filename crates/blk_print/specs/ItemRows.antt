@@ -18,18 +18,18 @@ use Rattle.law_state.specs.Keeping.{Keeps}
 use Rattle.blk_script.specs.Reply.{row_line}
 use Rattle.blk_evict.specs.EvictingGroups.{kind_of_role, kind_said}
 
--- the lines of the rows of some items of a state
+-- the printed lines of these items of a state
 abbrev pub lines_of : State → List Item → List ℕ
 lines_of state items = flat_map row_line (filter_map (row_of state) items)
 
--- an image has a state by a layout with no word unlinked, and may be read by these block files
+-- the folder keeps some state, and the table of block files agrees with it
 pub record HasKeptState (files : BlockFiles) (image : Image) : Type 0 where
   pub state : State
   pub layout : Layout
   pub kept : Keeps state layout [] image
   pub is_open : IsOpen files image
 
--- the words of a record and its key or name tell what lies there: its kind, its key, the lengths of its streams, and of a part its name
+-- the words of a record and its key tell what is loaded with it: its kind, its key, the lengths of its streams, and of a part its name
 pub record IsItemToldBy (loaded : Loaded) (name : List ℕ) (head : Head) : Type 0 where
   pub kind : kind_said head.flags ≡ kind_of_role loaded.role
   pub key : name ≡ loaded.key

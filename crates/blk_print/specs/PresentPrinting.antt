@@ -1,4 +1,4 @@
--- Bytes of an object with parts that are printed.
+-- The printing of bytes of a sparse object.
 use Rattle.std.specs.Prelude.{◌≡◌, ℕ, List, length}
 use Rattle.spec_image.specs.Image.{Image}
 use Rattle.blk_model.specs.Sparse.{sparse_bytes}
@@ -7,7 +7,7 @@ use Rattle.spec_folder.specs.Layout.{Layout}
 use Rattle.blk_sparse.specs.SparseObjects.{KeepsParent}
 use Rattle.blk_print.specs.declared.present_printing.PresentRange.{PresentRange}
 
--- a state is kept, in which a live object lies as a parent at a node with a record, and so many bytes of it from an offset on are all present
+-- the folder keeps some state in which a live sparse object has the range's node and record, and all bytes of the range are valid
 pub record HasPresent (range : PresentRange) (image : Image) : Type 0 where
   pub state : State
   pub layout : Layout

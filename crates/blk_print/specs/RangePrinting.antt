@@ -1,4 +1,4 @@
--- Bytes of a stream that are printed.
+-- The printing of bytes of a stream.
 use Rattle.std.specs.Prelude.{◌≡◌, ℕ, List, length}
 use Rattle.std.specs.declared.option.Option.TheVariants.{Some}
 use Rattle.spec_image.specs.Image.{Image}
@@ -8,7 +8,7 @@ use Rattle.blk_disk.specs.declared.tables.BlockFiles.{BlockFiles}
 use Rattle.blk_stream.specs.Streams.{StreamsCanBeRead, streams_at}
 use Rattle.blk_print.specs.declared.range_printing.StreamRange.{StreamRange}
 
--- a record has a stream that can be read, with so many bytes from an offset on
+-- the record has a stream that can be read and has all bytes of the range
 pub record HasBytes (files : BlockFiles) (range : StreamRange) (image : Image) : Type 0 where
   pub readable : StreamsCanBeRead files range.entry image
   pub streams : List (List ℕ)

@@ -1,4 +1,4 @@
--- What the views of records show.
+-- The views of records and nodes: typed access to the bytes of a window.
 use Rattle.std.specs.Prelude.{ℕ, ◌≤◌, List}
 use Rattle.std.specs.Borrow.{GName}
 use Rattle.std.proofs.Common.{subst, sym}
@@ -10,7 +10,7 @@ use Rattle.blk_record.specs.declared.entry.EntryMut.{EntryMut}
 use Rattle.blk_record.specs.declared.node.NodeView.{NodeView}
 use Rattle.blk_record.specs.declared.node.NodeMut.{NodeMut}
 
--- the bytes of the window that a view is over
+-- the bytes under each kind of view: of a record or a node, read only or writable
 abbrev pub entry_window : EntryView → List ℕ
 entry_window view = view.window.now
 
@@ -23,14 +23,14 @@ node_window view = view.window.now
 abbrev pub node_mut_window : NodeMut → List ℕ
 node_mut_window view = view.window.now
 
--- the reference by which a view writes
+-- the reference through which a writable view writes, of a record and of a node
 abbrev pub entry_mut_reference : EntryMut → GName
 entry_mut_reference view = view.window.ghost_name
 
 abbrev pub node_mut_reference : NodeMut → GName
 node_mut_reference view = view.window.ghost_name
 
--- a view with these bytes over those of its window from a place on, by the same reference
+-- a writable view with these bytes written into its window from `place` on, of a record and of a node
 abbrev pub entry_mut_with : EntryMut → ℕ → List ℕ → EntryMut
 entry_mut_with view place bytes = record view {
   window = record view.window { now = spliced place bytes view.window.now };

@@ -1,4 +1,4 @@
--- The files that are deleted: the block files that aren't linked, and the external files that nothing uses.
+-- Recovery deletes the block files that aren't linked, and the external files that nothing uses.
 use Rattle.std.specs.Prelude.{ℕ, ◌≡◌, ◌^◌, Bool, true, false, not, ◌&&◌, nat_lt, if◌then◌else◌, List, [], ◌∷◌}
 use Rattle.std.specs.List.{filter}
 use Rattle.std.specs.Option.{ForSome}
@@ -21,51 +21,51 @@ use Rattle.law_recovery.specs.RecordSeals.{StaysSealed}
 use Rattle.blk_repair.specs.Parts.{InTurn}
 use Rattle.blk_repair.specs.Seals.{HasMendedLinksOf}
 
--- the last of the first four block files, which are always linked
+-- the last of the four block files with which the kinds begin, and which are always linked
 abbrev pub last_first_file : File
 last_first_file = Block 3
 
--- the last file that a block file may be; after it there are external files alone
+-- the last possible block file in the order of files; only external files follow
 abbrev pub last_block_file : File
 last_block_file = Block 255
 
--- a file is a block file that no list of linked files has
+-- the file is a block file that isn't linked by the table
 abbrev pub is_unlinked : BlockFiles → File → Bool
 is_unlinked files Index = false
 is_unlinked files (Block n) = not (is_among (all_files files) n)
 is_unlinked files (External number) = false
 
--- an external number is used: it is one that addresses have, and used
+-- the number is one that an external file may have, and it is among the used ones
 abbrev pub is_number_claimed : Claims → ℕ → Bool
 is_number_claimed claims number = nat_lt 0 number && (nat_lt number (2 ^ 28) && contains_claim claims (ExternalOf number))
 
--- a file is an external file whose number isn't used
+-- the file is an external file whose number isn't used
 abbrev pub is_unclaimed : Claims → File → Bool
 is_unclaimed claims Index = false
 is_unclaimed claims (Block n) = false
 is_unclaimed claims (External number) = not (is_number_claimed claims number)
 
--- a file is deleted where it is one of those that go
+-- the deletion of the file, if `goes` selects it
 abbrev pub deletion_of : (File → Bool) → File → List TrailStep
 deletion_of goes file = if goes file then Delete file ∷ [] else []
 
--- of the files after one up to another, as the folder lists them, those were deleted that go, in their order
+-- of the files behind `first` up to `last`, exactly those that `goes` selects were deleted, in their order
 pub record DeletesUpTo (goes : File → Bool) (first last : File) (old new : Told) : Type 0 where
   pub files : List File
   pub listed : ForSome old.files (λ from. Lists from first files last)
   pub applies : Applies old new (deletions (filter goes files))
 
--- up to some file
+-- of the files behind `first` up to some file, exactly those that `goes` selects were deleted
 abbrev pub DeletesSome : (File → Bool) → File → Told → Told → Type 0
 DeletesSome goes first old new = (last : File) × DeletesUpTo goes first last old new
 
--- all of them that go: no file after the last one does
+-- all files behind `first` that `goes` selects were deleted
 pub record DeletesAll (goes : File → Bool) (first : File) (old new : Told) : Type 0 where
   pub last : File
   pub up_to : DeletesUpTo goes first last old new
   pub rest : ForSome old.files (λ from. (file : File) → IsBefore last file → has_file from file ≡ true → goes file ≡ false)
 
--- on an image exactly those files after one are deleted that go, in the order in which the folder lists them
+-- the steps delete all files of the image behind `first` that `goes` selects, in the order of files
 pub record Deletes (goes : File → Bool) (first : File) (image : Image) (steps : List TrailStep) : Type 0 where
   pub files : List File
   pub last : File
@@ -73,11 +73,12 @@ pub record Deletes (goes : File → Bool) (first : File) (image : Image) (steps 
   pub rest : (file : File) → IsBefore last file → has_file image file ≡ true → goes file ≡ false
   pub are : steps ≡ deletions (filter goes files)
 
--- the block files go that aren't linked, and then the external files that aren't used
+-- the steps delete all block files that aren't linked, and then all external files that aren't used
 abbrev pub DeletesOthers : BlockFiles → Claims → Image → List TrailStep → Type 0
 DeletesOthers files claims = InTurn (Deletes (is_unlinked files) last_first_file) (Deletes (is_unclaimed claims) last_block_file)
 
--- the links are repaired; and what was repaired of the files is so still, what was sealed, and where only linked block files or only used external files were there
+-- in the midst of the deletions: the links stay recovered, and so do the files, what had its checksum, and that only linked block files or only used external
+-- files exist, where these held
 pub record IsMidDeletion (entry from image : Image) : Type 0 where
   pub holds : HasMendedLinksOf entry image
   pub files : HasMendedFiles from → HasMendedFiles image

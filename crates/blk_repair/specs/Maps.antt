@@ -1,4 +1,4 @@
--- The block files that are repaired after the links.
+-- Recovery of the block files, after that of the links.
 use Rattle.std.specs.Prelude.{List}
 use Rattle.std.specs.List.{flat_map}
 use Rattle.spec_image.specs.Image.{Image}
@@ -16,18 +16,18 @@ use Rattle.law_recovery.specs.Mended.{HasMendedFiles}
 use Rattle.law_recovery.specs.RecordSeals.{StaysSealed}
 use Rattle.blk_repair.specs.Seals.{HasMendedLinksOf}
 
--- the links are repaired, and the used blocks are those of the address words of what is kept
+-- the links are recovered, and `claims` are the blocks and files that the kept entries use
 pub record IsNextRebuilt (entry : Image) (claims : Claims) (image : Image) : Type 0 where
   pub holds : HasMendedLinksOf entry image
   pub claimed : IsClaimsOf claims (flat_map words_of (kept entry))
 
--- the lengths, the maps and the counters are repaired, and what was sealed is so still
+-- the links and the block files (lengths, maps, counters) are recovered, and what had its checksum has it
 pub record AreFilesMended (entry from image : Image) : Type 0 where
   pub holds : HasMendedLinksOf entry image
   pub files : HasMendedFiles image
   pub seals : StaysSealed from image
 
--- lengths, maps, counters and updating of the linked files are under way to those of the used blocks at each word, and nothing else differs; each step is needed, so a word is written only where it differs
+-- the steps rebuild the linked block files from the used blocks; a word is written only where it differs
 pub record Rebuilds (files : BlockFiles) (claims : Claims) (image : Image) (steps : List TrailStep) : Type 0 where
   pub quiet : IsQuiet steps
   pub along : Along (IsRebuilding claims (all_files files) image) image steps

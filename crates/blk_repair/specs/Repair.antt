@@ -1,4 +1,4 @@
--- The whole repair of a folder, by what its audit told.
+-- The whole recovery of a folder, by what the scan told.
 use Rattle.std.specs.Prelude.{ℕ, ◌≡◌, ◌⊎◌, ◌+◌, ◌%◌, ◌^◌, ◌==◌, if◌then◌else◌, List, [], length}
 use Rattle.std.specs.List.{sum_by}
 use Rattle.std.specs.declared.option.Option.{Option}
@@ -32,16 +32,17 @@ use Rattle.blk_repair.specs.Maps.{Rebuilds}
 use Rattle.blk_repair.specs.Parts.{Exactly, InTurn}
 use Rattle.blk_repair.specs.Seals.{HasMendedLinksOf, IsWrongSealed, seals_steps}
 
--- an image is well formed, and this is what was told of it
+-- the image is well formed, and `scan` is a scan of it
 pub record IsRepairable (scan : Scan) (image : Image) : Type 0 where
   pub well_formed : IsWellFormed image
   pub scanned : IsScanOf image scan
 
--- the number of the session that comes after one: a number more modulo 2^32, but never 0
+-- the session's number after this one: one more modulo 2 ^ 32, but never 0
 abbrev pub next_id : ℕ → ℕ
 next_id id = if (id + 1) % 2 ^ 32 == 0 then 1 else (id + 1) % 2 ^ 32
 
--- nothing is left to repair, with the same kept and found as at the entry, and a session with this number is open; so the image stands for what is held
+-- recovery is done: nothing is left to repair, kept entries and recovered contents are those of `entry`, and the session with this number is open; so the image
+-- represents the recovered contents, opened
 pub record IsRepairedFor (id : ℕ) (entry image : Image) : Type 0 where
   pub mended : IsMended image
   pub kept_same : kept image ≡ kept entry
@@ -50,88 +51,88 @@ pub record IsRepairedFor (id : ℕ) (entry image : Image) : Type 0 where
   pub id_is : this_id_of (byte image Index) ≡ id
   pub stands_for : (limits : Bounds) → StandsFor image (open_state (found entry) limits)
 
--- the session is the one after that of the entry
+-- recovery of `entry` is done, with the session's number after that of `entry`
 abbrev pub IsRepaired : Image → Image → Type 0
 IsRepaired entry image = IsRepairedFor (next_id (this_id_of (byte entry Index))) entry image
 
--- nothing is to be repaired but words of the index, and no seal was told to be
+-- links and files need no recovery, and no checksum was told to be absent; only words of the index are left
 pub record NeedsOnlyWords (scan : Scan) (image : Image) : Type 0 where
   pub links : HasMendedLinks image
   pub files : HasMendedFiles image
   pub only : HasOnlyKeptFiles image
   pub bare : scan.bare.items ≡ []
 
--- the words of the index are repaired for what is kept at the entry, and for a session with this number
+-- the steps that set the words of the index for what is kept of `entry`, and for the session with this number
 abbrev pub counting_steps : Image → ℕ → Image → List TrailStep
 counting_steps entry id image = index_steps (length (kept entry)) (sum_by charge_of (kept entry)) id image
 
--- The steps, part after part: each part's are made on what the parts before it leave.
+-- The steps of a recovery, part after part, each on the image that the parts before it leave.
 
--- the LRU list is repaired, and then the chains
+-- the recovery of the links: of the LRU list, and then of the chains
 abbrev pub MendsLinks : Image → List TrailStep → Type 0
 MendsLinks = InTurn (Exactly list_repair_steps) (Exactly chain_repair_steps)
 
--- the block files become those of what is used, and then the files go that nothing names
+-- the recovery of the files: the block files are rebuilt from what is used, and then the files that nothing names are deleted
 abbrev pub MendsFiles : BlockFiles → Claims → Image → List TrailStep → Type 0
 MendsFiles files claims = InTurn (Rebuilds files claims) (DeletesOthers files claims)
 
--- the seals that are 0 are made whole, and then the words of the index right, for what is kept at the entry
+-- the rest of the recovery: absent checksums are written, and then the words of the index
 abbrev pub MendsRest : Scan → Image → ℕ → Image → List TrailStep → Type 0
 MendsRest scan entry id = InTurn (Exactly (seals_steps scan.bare.items)) (Exactly (counting_steps entry id))
 
--- a folder is repaired: its links, then its files, and then the rest
+-- the whole recovery of a folder: its links, its files, and the rest
 abbrev pub RepairsInOrder : BlockFiles → Scan → Image → ℕ → Image → List TrailStep → Type 0
 RepairsInOrder files scan entry id = InTurn MendsLinks (InTurn (MendsFiles files scan.claims) (MendsRest scan entry id))
 
 -- Between the parts.
 
--- the list was repaired, and this was told of the chains
+-- the LRU list is recovered, and `chains` is what the scan told of the chains
 pub record AreBucketsScanned (chains : Option KeptChains) (image : Image) : Type 0 where
   pub well_formed : IsWellFormed image
   pub writable : IsWritable image
   pub keeps_all : KeepsAllWalked image
   pub told : AreChainsTold image chains
 
--- the links are repaired of the folder of which this was told, and what is kept is sealed but for what was told to be bare
+-- the links are recovered of the folder that was scanned, and of what is kept only the told ones lack their checksum
 pub record AreLinksMended (scan : Scan) (entry image : Image) : Type 0 where
   pub scanned : IsScanOf entry scan
   pub holds : HasMendedLinksOf entry image
   pub others : AreOthersSealed entry scan.bare.items image
 
--- the files are repaired and only those of what is kept are left; what is kept is sealed still, but for some
+-- the links and the files are recovered, and no other files than those of what is kept exist; the missing checksums are those that were missing
 pub record AreOnlyKeptLeft (entry from image : Image) : Type 0 where
   pub holds : HasMendedLinksOf entry image
   pub files : HasMendedFiles image
   pub only : HasOnlyKeptFiles image
   pub others : (words : List ℕ) → AreOthersSealed entry words from → AreOthersSealed entry words image
 
--- the files that nothing names are gone, and files that were repaired are so still
+-- the files that nothing names are deleted; the recovery of links and files and the missing checksums are unchanged
 pub record AreOthersDeleted (entry from image : Image) : Type 0 where
   pub holds : HasMendedLinksOf entry image
   pub files : HasMendedFiles from → HasMendedFiles image
   pub only : HasOnlyKeptFiles image
   pub others : (words : List ℕ) → AreOthersSealed entry words from → AreOthersSealed entry words image
 
--- the links and the files are repaired, so seals and words of the index are left
+-- links and files are recovered; checksums and words of the index are left
 pub record IsNextFinished (scan : Scan) (entry image : Image) : Type 0 where
   pub links : AreLinksMended scan entry image
   pub files : HasMendedFiles image
   pub only : HasOnlyKeptFiles image
 
--- What is told of a failed check.
+-- Failed checks.
 
--- the links were repaired: a failed check in the list, or in the chains
+-- why the links can't be recovered: a failed check of the LRU list, or of the chains
 abbrev pub IsLinksRepairDamage : BlockFiles → Told → Damage → Type 0
 IsLinksRepairDamage files told damage = IsListRepairDamage files told damage ⊎ IsChainsRepairDamage files told damage
 
--- what is kept was sealed, or the header of the index read
+-- a failed check in the rest of the recovery: of a record or node that gets its checksum, or of the index header
 abbrev pub IsRestRepairDamage : BlockFiles → Told → Damage → Type 0
 IsRestRepairDamage files told damage = IsWrongSealed files told damage ⊎ IsShortHeader told damage
 
--- after the links: a read of a header of a block file was too short, or it was one of the rest
+-- a failed check in the recovery after the links: too few bytes of a block file's header, or one in the rest
 abbrev pub IsBehindRepairDamage : BlockFiles → Told → Damage → Type 0
 IsBehindRepairDamage files told damage = IsShortReadOf told (all_files files) damage ⊎ IsRestRepairDamage files told damage
 
--- a folder was repaired: a failed check in its links, or after them
+-- a failed check in a recovery: of the links, or after them
 abbrev pub IsRepairDamage : BlockFiles → Told → Damage → Type 0
 IsRepairDamage files told damage = IsLinksRepairDamage files told damage ⊎ IsBehindRepairDamage files told damage

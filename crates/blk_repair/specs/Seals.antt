@@ -1,4 +1,4 @@
--- Nodes and records that are sealed, while the links stay repaired.
+-- Recovery of checksums: nodes and records whose checksum is absent get it.
 use Rattle.std.specs.Prelude.{ℕ, List, [], ◌∷◌, ◌++◌, All}
 use Rattle.spec_image.specs.Image.{Image}
 use Rattle.spec_image.specs.Steps.{TrailStep, after}
@@ -14,22 +14,22 @@ use Rattle.law_recovery.specs.Mended.{AreKeptSealed, HasMendedFiles, HasOnlyKept
 use Rattle.law_recovery.specs.MendedChanges.{KeepsMendedLinks}
 use Rattle.law_recovery.specs.RecordSeals.{IsSealedAt, KeepsRecordsSealed}
 
--- the folder can be written and its links are repaired, with the same kept and found as at the entry
+-- the links are recovered, kept entries and recovered contents are those of `entry`, and the folder can be written
 pub record HasMendedLinksOf (entry image : Image) : Type 0 where
   pub writable : IsWritable image
   pub keeps : KeepsMendedLinks entry image
 
--- the records of some addresses are sealed, one after the other
+-- the steps that write the checksums of these nodes and records, one after the other
 abbrev pub seals_steps : List ℕ → Image → List TrailStep
 seals_steps [] image = []
 seals_steps (w ∷ words) image = seal_steps image w ++ seals_steps words (after (seal_steps image w) image)
 
--- the links are repaired, and nodes and records of what is kept are sealed next
+-- the links are recovered, and the nodes and records `words` of kept entries get their checksum next
 pub record IsNextSealed (entry : Image) (words : List ℕ) (image : Image) : Type 0 where
   pub holds : HasMendedLinksOf entry image
   pub are_kept : All (IsOfKept entry) words
 
--- some nodes and records are sealed, so all are where the others were; what was sealed is so still, and files that were repaired are repaired still
+-- the nodes and records `words` have their checksum, so all have it if only these lacked it; other checksums and the recovery of links and files are unchanged
 pub record AreSealedNow (entry from : Image) (words : List ℕ) (image : Image) : Type 0 where
   pub holds : HasMendedLinksOf entry image
   pub sealed : All (IsSealedAt image) words
@@ -38,7 +38,7 @@ pub record AreSealedNow (entry from : Image) (words : List ℕ) (image : Image) 
   pub only : HasOnlyKeptFiles from → HasOnlyKeptFiles image
   pub all : AreOthersSealed entry words from → AreKeptSealed image
 
--- a node or a record that is there was read whole: its bytes are too few, or it doesn't check
+-- a valid node or record could not be read in full, or its checksum doesn't match
 pub record IsWrongSealed (files : BlockFiles) (told : Told) (damage : Damage) : Type 0 where
   pub address : ℕ
   pub can : CanBeSealed files address

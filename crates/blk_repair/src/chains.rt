@@ -1,4 +1,4 @@
-// Buckets that are made the chains of their kept records.
+// The hash chains get exactly their kept records.
 ghost use Rattle.std.specs.Prelude.{◌≡◌, ◌≤◌, None, OnOk, All, true};
 ghost use Rattle.std.specs.Option.{ForSome};
 ghost use Rattle.spec_image.specs.Told.{Applies, AppliesPrefix, MakesPartOf, Rises, MayWrite};
@@ -42,7 +42,7 @@ pub(crate) fn mend_chain<F: Folder>(
     link(folder, files, records)
 }
 
-// Each of some records gets the one after it as its next, and the last gets 0.
+// Links some records into a chain: each gets the one after it as its next, and the last gets 0.
 fn link<F: Folder>(folder: &mut F, files: &BlockFiles, records: &[Addr]) -> Result<(), Fault>
     requires stand { All (λ w. is_record_among files.now w ≡ true) records.now }
     requires is_open { ForSome (F.told folder.old).files (IsOpen files.now) }

@@ -1,4 +1,4 @@
-// The words of the index's header that repair makes right: the counters, the version, the number of the session, and the crash word.
+// The words of the index header that recovery sets: the counters, the version, the session's number, and the crash word.
 ghost use Rattle.std.specs.Prelude.{◌≡◌, ◌+◌, ◌%◌, ◌^◌, ◌<◌, ◌≤◌, ℕ, All, None, OnErr, OnOk, length};
 ghost use Rattle.std.specs.Option.{ForSome};
 ghost use Rattle.spec_image.specs.Bytes.{content, range_at, word_at};
@@ -15,9 +15,8 @@ use blk_io::{Failed, Fault, FileId, Folder, read_exact};
 use blk_record::{IndexHead, WORD_VALUES};
 use byteorder::{ByteOrder, LittleEndian};
 
-/// Makes the counters of the index and the number of the session these, and then the crash word 1: the number of the
-/// items, twice, the sum of their charges in its two words, and the number. The version becomes the one that is made
-/// now, and the word in which the first one has the sum becomes 0.
+/// Sets the counters of the index (the number of the items in two words, and the sum of their costs in two words) and the session's number, and then the crash
+/// word to 1. The version becomes the one that is made now, and the word in which the first version has the sum becomes 0.
 ///
 /// The header is read by one call, and each word written where it differs. The crash word alone is written in any case,
 /// and last, so that the end of an opening is known by it. This takes at most nine folder calls. Too few bytes are
@@ -66,7 +65,7 @@ pub fn mend_index<F: Folder>(
     Ok(())
 }
 
-// Words of the index's header, of which these bytes were read, become these, each unless it is. No two have one place.
+// Writes words of the index header, of which these bytes were read, each where it differs. No two have the same offset.
 fn set_words<F: Folder>(folder: &mut F, head: &[u8], words: &[(u64, u32)]) -> Result<(), Failed>
     requires size { length head.now ≡ header_length }
     requires read { ForSome (F.told folder.old).files (λ image. head.now ≡ range_at (byte image index) 0 header_length) }
@@ -95,7 +94,7 @@ fn word_in(bytes: &[u8], at: u64) -> u32
     LittleEndian::read_u32(&bytes[at as usize..])
 }
 
-// A word of the index's header that was found becomes this one, unless it is.
+// Writes a word of the index header where it differs from the one that was found.
 fn set_where_other<F: Folder>(folder: &mut F, at: u64, found: u32, value: u32) -> Result<(), Failed>
     requires aligned { at % 4 ≡ 0 }
     requires inside { at < header_length }

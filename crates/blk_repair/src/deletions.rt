@@ -1,4 +1,4 @@
-// The files that nothing names go: block files that aren't linked, and external files that aren't used.
+// The files that nothing names are deleted: block files that aren't linked, and external files that aren't used.
 ghost use Rattle.std.specs.Prelude.{◌≡◌, ◌<◌, ◌≤◌, ℕ, None, Some, Ok, OnOk, OnErr, IfOk, false};
 ghost use Rattle.std.specs.Option.{ForSome};
 ghost use Rattle.spec_image.specs.Image.{Image, has_file, Block as block, External as external};
@@ -22,7 +22,7 @@ use blk_io::{Failed, FileId, Folder};
 // The last of the first four block files, which are always linked.
 const LAST_FIRST_FILE: u8 = 3;
 
-/// Deletes each block file that is there and isn't linked.
+/// Deletes each block file that exists and isn't linked.
 ///
 /// This takes one `list` call, and one more for each block file from `data_4` on; each file that goes takes a `delete`
 /// call. `Failed` comes only where the folder failed in this call; a prefix of the deletions has then lasted.
@@ -52,7 +52,7 @@ pub fn delete_unlinked<F: Folder>(folder: &mut F, files: &BlockFiles) -> Result<
     Ok(())
 }
 
-/// Deletes each external file that is there and whose number isn't used.
+/// Deletes each external file that exists and whose number isn't used.
 ///
 /// A number that no address has isn't used. This takes one `list` call, and one more for each external file; each file
 /// that goes takes a `delete` call. `Failed` comes only where the folder failed in this call; a prefix of the deletions
@@ -83,7 +83,7 @@ pub fn delete_unclaimed<F: Folder>(folder: &mut F, claims: &Claims) -> Result<()
     Ok(())
 }
 
-// The least block file that is there after one.
+// The first existing block file after one.
 fn next_block<F: Folder>(folder: &mut F, last: u8) -> Result<Option<u8>, Failed>
     ensures after { IfOk result (λ next. ForSome next (λ n. last < n)) }
     ensures next { IfOk result (λ next. ForSome next (λ n. ForSome (F.told folder.old).files (λ image. IsNextFile image (Some (block last)) (Some (block n))))) }
@@ -109,7 +109,7 @@ fn delete_block<F: Folder>(folder: &mut F, files: &BlockFiles, n: u8) -> Result<
     folder.delete(FileId::Block(n))
 }
 
-// The least external file that is there after a file, after which no block file is.
+// The first existing external file after a file, behind which no block file comes.
 fn next_external<F: Folder>(folder: &mut F, last: FileId) -> Result<Option<u32>, Failed>
     requires past { IsBefore (file_of last) last_block_file → ⊥ }
     ensures after { IfOk result (λ next. ForSome next (λ number. IsBefore (file_of last) (external number))) }

@@ -1,4 +1,4 @@
-// The words by which chains are linked: those of the table, and the nexts of records. One is written only where it differs.
+// The words by which chains are linked: those of the table, and the nexts of records. Each is written only where it differs.
 ghost use Rattle.std.specs.Prelude.{◌≡◌, ◌≤◌, ◌⊎◌, None, OnErr, OnOk, true};
 ghost use Rattle.std.specs.Option.{ForSome};
 ghost use Rattle.spec_image.specs.Image.{Index as index};
@@ -32,7 +32,7 @@ pub(crate) fn first_word(records: &[Addr]) -> u32
     }
 }
 
-// The word of a bucket, as it was read, becomes this one, unless it is.
+// Writes the word of a bucket, where it differs from the one that was read.
 pub(crate) fn set_front<F: Folder>(
     folder: &mut F,
     number: u16,
@@ -55,7 +55,7 @@ pub(crate) fn set_front<F: Folder>(
     set_bucket(folder, number, word)
 }
 
-// The next of a record becomes this word by a sealed update, unless it is.
+// Writes the next of a record in an update with a new checksum, where it differs.
 pub(crate) fn set_next<F: Folder>(
     folder: &mut F,
     files: &BlockFiles,

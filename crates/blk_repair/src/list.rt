@@ -1,4 +1,4 @@
-// The LRU list is repaired.
+// The LRU list is recovered.
 ghost use Rattle.std.specs.Prelude.{◌≡◌, ◌≤◌, None, OnOk, All, true};
 ghost use Rattle.std.specs.Option.{ForSome};
 ghost use Rattle.spec_image.specs.Told.{Applies, MakesPartOf, Passes, Rises};
@@ -16,8 +16,8 @@ use blk_disk::BlockFiles;
 use blk_io::{Fault, Folder};
 use blk_lru::{complete, end_at};
 
-/// Repairs the LRU list: the operation in flight is completed, the last of the walked nodes becomes the end of the
-/// list, and each walked node that is not kept goes out, in the order of the list.
+/// Recovers the LRU list: the operation in flight is redone, the last of the walked nodes becomes the end of the list, and each walked node that isn't kept is
+/// removed, in the order of the list.
 ///
 /// `walked` are the nodes that completing leaves, and `kept` those of them that are kept, in the same order. A list that is
 /// whole and idle with the kept nodes takes 3 folder calls. A failed check is one of the calls on the list.

@@ -1,4 +1,4 @@
-// The lengths, the maps and the counters of the block files that are made those of what is kept.
+// The lengths, maps and counters of the block files are rebuilt from what is kept.
 ghost use Rattle.std.specs.Prelude.{◌≡◌, ℕ, None, OnOk};
 ghost use Rattle.std.specs.Option.{ForSome};
 ghost use Rattle.spec_image.specs.Image.{Image};
@@ -17,8 +17,7 @@ use blk_alloc::rebuild;
 use blk_disk::BlockFiles;
 use blk_io::{Fault, Folder};
 
-/// Makes the lengths, the maps and the counters of the linked block files those of what is kept, whose addresses were
-/// added to the used blocks.
+/// Rebuilds the linked block files: their lengths, maps and counters become those of what is kept, whose addresses `claims` has.
 ///
 /// A word is written only where it differs, and a length only where the file is too short. A failed check is a read of
 /// a header that gave too few bytes, which needs an opaque folder.

@@ -1,4 +1,4 @@
-// The nodes that are not kept go out of the LRU list.
+// The nodes that aren't kept are removed from the LRU list.
 ghost use Rattle.std.specs.Prelude.{◌≡◌, ◌≤◌, None, OnOk, All, drop, true};
 ghost use Rattle.std.specs.Option.{ForSome};
 ghost use Rattle.spec_image.specs.Image.{Image};
@@ -15,8 +15,7 @@ use blk_disk::BlockFiles;
 use blk_io::{Fault, Folder};
 use blk_lru::remove;
 
-/// Takes the walked nodes that are not kept out of the LRU list, in its order. Those that are kept are some of the
-/// walked ones, in the same order.
+/// Removes the walked nodes that aren't kept from the LRU list, in its order. Those that are kept are some of the walked ones, in the same order.
 ///
 /// A node goes out by an operation of its own, so by at most 17 folder calls; a list in which all nodes are kept takes
 /// none. A failed check is one of `remove`.

@@ -1,4 +1,4 @@
-// The whole repair of a folder.
+// The whole recovery of a folder.
 ghost use Rattle.std.specs.Prelude.{◌≡◌, ◌%◌, ◌^◌, ℕ, None, OnOk, OnErr, All};
 ghost use Rattle.std.specs.Option.{ForSome};
 ghost use Rattle.spec_image.specs.Image.{Image, Index as index, byte};
@@ -36,8 +36,8 @@ use blk_io::{Failed, Fault, Folder};
 use blk_record::{IndexHead, WORD_VALUES};
 use blk_scan::Scan;
 
-/// Repairs a folder by what its audit told: the LRU list, the chains, the block files, the files that nothing names,
-/// the seals, and the words of the index. The last step makes the crash word 1, in a session with the next number.
+/// Recovers a folder by what its scan told: the LRU list, the chains, the block files, the files that nothing names, the checksums, and the words of the index.
+/// The last step sets the crash word to 1, in a session with the next number.
 ///
 /// It takes no memory and walks nothing. At each word the same is kept and found, so it may crash anywhere and be begun
 /// again. A failed check is one of a part. An observable folder gives none where the scan is its own.
@@ -79,7 +79,7 @@ pub fn repair<F: Folder>(f: &mut F, files: &mut BlockFiles, scan: &Scan) -> Resu
     mend_all(f, files, scan, next_id(this_id))
 }
 
-// The number of the session after one: never 0.
+// The session's number after this one: never 0.
 fn next_id(this_id: u32) -> u32
     ensures { result ≡ id_after this_id }
 {
@@ -89,7 +89,7 @@ fn next_id(this_id: u32) -> u32
     }
 }
 
-// Repairs the links, and then what is after them, for a session with this number.
+// Recovers the links, and then all the rest, for a session with this number.
 fn mend_all<F: Folder>(
     folder: &mut F,
     files: &mut BlockFiles,
@@ -115,7 +115,7 @@ fn mend_all<F: Folder>(
     mend_behind(folder, files, scan, this_id)
 }
 
-// Repairs what is after the links: the files, and then the rest.
+// Recovers what comes after the links: the files, and then the rest.
 fn mend_behind<F: Folder>(
     folder: &mut F,
     files: &mut BlockFiles,
@@ -141,7 +141,7 @@ fn mend_behind<F: Folder>(
     mend_rest(folder, files, scan, this_id)
 }
 
-// Repairs the block files for what is used, and then deletes the files that nothing names.
+// Rebuilds the block files from what is used, and then deletes the files that nothing names.
 fn mend_store<F: Folder>(
     folder: &mut F,
     files: &mut BlockFiles,
@@ -183,7 +183,7 @@ fn delete_others<F: Folder>(
     delete_unclaimed(folder, claims)
 }
 
-// Repairs the LRU list, and then the chains.
+// Recovers the LRU list, and then the chains.
 fn mend_links<F: Folder>(folder: &mut F, files: &BlockFiles, scan: &Scan) -> Result<(), Fault>
     requires stand { StandAmong files.now scan.now }
     requires is_open { ForSome (F.told folder.old).files (IsOpen files.now) }
@@ -200,7 +200,7 @@ fn mend_links<F: Folder>(folder: &mut F, files: &BlockFiles, scan: &Scan) -> Res
     mend_buckets(folder, files, scan)
 }
 
-// Makes each bucket the chain of its kept records, where the scan tells of one that isn't.
+// Gives each bucket exactly the chain of its kept records, where the scan tells of one that hasn't.
 fn mend_buckets<F: Folder>(folder: &mut F, files: &BlockFiles, scan: &Scan) -> Result<(), Fault>
     requires stand { ChainsStandIf files.now scan.now.chains }
     requires is_open { ForSome (F.told folder.old).files (IsOpen files.now) }
@@ -225,7 +225,7 @@ fn mend_buckets<F: Folder>(folder: &mut F, files: &BlockFiles, scan: &Scan) -> R
     }
 }
 
-// Seals what is kept, and makes the words of the index right.
+// Writes the missing checksums of what is kept, and sets the words of the index.
 fn mend_rest<F: Folder>(
     folder: &mut F,
     files: &BlockFiles,

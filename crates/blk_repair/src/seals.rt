@@ -1,4 +1,4 @@
-// Nodes and records that are sealed.
+// Nodes and records get their checksums.
 ghost use Rattle.std.specs.Prelude.{◌≡◌, ◌≤◌, None, OnOk, All};
 ghost use Rattle.std.specs.Option.{ForSome};
 ghost use Rattle.spec_image.specs.Image.{Image};
@@ -12,7 +12,7 @@ use blk_addr::Addr;
 use blk_disk::BlockFiles;
 use blk_io::{Fault, Folder};
 
-/// Seals some nodes and records: where the seal of one isn't the hash of the bytes before it, it becomes that hash.
+/// Writes the checksums of some nodes and records: where one isn't the hash of the bytes before it, it becomes that hash.
 ///
 /// A seal that is the hash already isn't written. One that is neither 0 nor the hash is corruption, and so are too few
 /// bytes. This takes at most two folder calls for each of them.

@@ -1,4 +1,4 @@
-// All buckets are made the chains of their kept records.
+// All buckets get exactly the chains of their kept records.
 ghost use Rattle.std.specs.Prelude.{◌≡◌, ◌<◌, None, IfOk, OnOk, All, true, false, length};
 ghost use Rattle.std.specs.Option.{ForSome};
 ghost use Rattle.spec_image.specs.Image.{Image};
@@ -21,7 +21,7 @@ use blk_disk::BlockFiles;
 use blk_index::{BUCKETS_OF_PIECE, buckets};
 use blk_io::{Fault, Folder};
 
-/// Makes each bucket the chain of its kept records, in rising order of the buckets.
+/// Recovers the hash chains: that of each bucket gets exactly its kept records, in rising order of the buckets.
 ///
 /// `records` are the kept records of all buckets, bucket after bucket and each chain in its order. `ends` tells for each of
 /// the 65536 buckets where its records end among them, so they begin where those of the bucket before end. A bucket for
@@ -96,7 +96,7 @@ fn read_piece<F: Folder>(
     Ok(u32::from(first) + BUCKETS_OF_PIECE as u32)
 }
 
-// Makes a bucket the chain of its kept records, unless it is told whole.
+// Gives a bucket exactly the chain of its kept records, unless it is told whole.
 fn mend_bucket<F: Folder>(
     folder: &mut F,
     files: &BlockFiles,

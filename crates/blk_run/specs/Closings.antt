@@ -1,4 +1,4 @@
--- The bound names are closed.
+-- The closing of all handles in use at the end of a run.
 use Rattle.std.specs.Prelude.{ℕ, ◌≡◌, List, ◌++◌, length, Result, Ok, Err}
 use Rattle.std.specs.Option.{option_map, ForSome}
 use Rattle.std.specs.declared.option.Option.{Option}
@@ -12,18 +12,19 @@ use Rattle.spec_run.specs.Run.{Stamped, bound_names, clock_after, closings}
 use Rattle.spec_run.specs.Progress.{Stops}
 use Rattle.blk_run.specs.Playing.{SoFar, StandsAt, state_now, with_more}
 
--- commands were done after those of a run, each at the next reading
+-- the commands were done after those of the run, each at the next reading of the clock
 pub record AreClosed (commands : List Stamped) (far : SoFar) (keeps : State → Image → Type 0) (notes left : ℕ) (now : Told) (clock_old clock_new : Option Readings) : Type 0 where
   pub stands : StandsAt (with_more far commands) keeps notes left now
   pub read : clock_new ≡ option_map (λ r. clock_after r (length commands)) clock_old
 
--- as an answer tells: where the folder failed in one of them, a crash leaves what it may; an observable folder reports no corruption
+-- the outcome of closing: the commands were done; at an I/O error the folder is as a crash during them may leave it; an observable folder reports no failed
+-- check
 abbrev pub Closes : Result (Unit {0}) Fault → List Stamped → SoFar → (State → Image → Type 0) → (notes left : ℕ) → Told → (clock_old clock_new : Option Readings) → Type 0
 Closes (Ok done) commands far keeps notes left now clock_old clock_new = AreClosed commands far keeps notes left now clock_old clock_new
 Closes (Err fault.Device) commands far keeps notes left now clock_old clock_new = Stops far.from far.opened (far.done ++ commands) far.start now
 Closes (Err (fault.Damaged damage)) commands far keeps notes left now clock_old clock_new = ⊥
 
--- each bound name was closed, the least first
+-- a Close of each handle in use, the least first, and its outcome
 pub record ClosesAll (result : Result (Unit {0}) Fault) (far : SoFar) (keeps : State → Image → Type 0) (notes left : ℕ) (now : Told) (clock_old clock_new : Option Readings) : Type 0 where
   pub commands : List Stamped
   pub are : ForSome clock_old (λ r. commands ≡ closings (bound_names (state_now far)) r)

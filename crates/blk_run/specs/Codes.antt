@@ -1,9 +1,9 @@
--- The numbers of the statuses, as the process ends with them, and what is shown of them.
+-- The exit statuses of the program: their numbers and their texts.
 use Rattle.std.specs.Prelude.{ℕ, List, codes}
 use Rattle.blk_run.specs.declared.ending.Status.{Status}
 use Rattle.blk_run.specs.declared.ending.Status.TheVariants as status
 
--- the number of a status
+-- the exit status as a number
 abbrev pub code_of : Status → ℕ
 code_of status.Ok = 0
 code_of status.Refused = 1
@@ -15,7 +15,7 @@ code_of status.Memory = 6
 code_of status.Damaged = 7
 code_of status.TooLong = 8
 
--- what is shown of a status
+-- the text that is shown for a status
 abbrev pub status_text : Status → List ℕ
 status_text status.Ok = codes "done"
 status_text status.Refused = codes "something was refused"

@@ -1,4 +1,4 @@
--- The subcommand `count`, whole.
+-- The contract of the subcommand `count`.
 use Rattle.std.specs.Prelude.{◌≡◌, ◌≢◌, ◌⊎◌, ℕ, None}
 use Rattle.std.specs.Option.{ForSome, option_map}
 use Rattle.spec_image.specs.Told.{Passes, Stays}
@@ -12,24 +12,24 @@ use Rattle.blk_run.specs.Count.{CountAnswersFor, EndsSame, IsMadeAtNext, ShowsTo
 use Rattle.blk_run.specs.Failing.{IsFailedInOpening}
 use Rattle.blk_run.specs.Session.{Outside}
 
--- it was done, or the sink failed
+-- the subcommand was done, or only the output failed
 abbrev pub IsDoneOrSink : Status → Type 0
 IsDoneOrSink result = (result ≡ status.Ok) ⊎ (result ≡ status.Sink)
 
--- `count` by its status; before and now are the sink's counts of faults
+-- the contract of `count` by its status; `before` and `now` are the error counter of the output
 pub record Counts (result : Status) (limits : Bounds) (before now : ℕ) (old new : Outside) : Type 0 where
-  -- the folder decides the status, but for failures and out of memory
+  -- the status is one that the folder allows, but for I/O errors and out of memory
   pub answer : ForSome old.folder.files (CountAnswersFor result)
-  -- what is printed of what the folder holds, and of a failed check
+  -- what is printed: the totals of the folder, or a failed check
   pub printed : ShowsTotals result limits old.folder.files old.written new.written
   pub damage : result ≡ status.Damaged → IsFailedInOpening old.folder new.folder old.written new.written before now
-  -- in the end the same is found, and the folder is sound
+  -- in the end recovery gives the same, and the folder is consistent
   pub ended : IsDoneOrSink result → ForSome old.folder.files (λ start. ForSome new.folder.files (EndsSame start))
-  -- an unfinished folder is made at the next reading of the clock, and keeps that moment
+  -- an uninitialized folder is made at the next reading of the clock, and keeps that moment
   pub made : IsDoneOrSink result → ForSome old.folder.files (λ start. IsUnfinished start → ForSome new.folder.files (IsMadeAtNext old.clock))
-  -- at each word the same is found, and the folder is unfinished or well formed where it was
+  -- after each single write recovery gives the same, and the folder is usable where it was
   pub stops : ForSome old.folder.files (λ start. Passes old.folder new.folder (HoldsStill start))
-  -- no step is made when out of memory, and where an observable folder is corrupt
+  -- nothing is written where memory ran out, or where a check of an observable folder failed
   pub stays : result ≡ status.Memory → Stays old.folder new.folder
   pub unwritten : result ≡ status.Damaged → ForSome old.folder.files (λ _. Stays old.folder new.folder)
   pub silent : old.folder.files ≡ None → new.folder.files ≡ None

@@ -1,4 +1,4 @@
--- The lines of an input are played, up to a budget of bytes.
+-- The lines of an input are played, up to a limit of bytes (the budget).
 use Rattle.std.specs.Prelude.{ℕ, ◌≡◌, ◌≤◌, List, [], ◌∷◌, ◌++◌, length, Result, Ok, Err}
 use Rattle.std.specs.Option.{ForSome}
 use Rattle.std.specs.declared.option.Option.{Option}
@@ -13,19 +13,19 @@ use Rattle.blk_run.specs.declared.input.InputEnd.{InputEnd}
 use Rattle.blk_run.specs.declared.input.InputEnd.TheVariants as end
 use Rattle.blk_run.specs.Playing.{Around, PlaysPart, SoFar}
 
--- the input was read to its end, and is within the budget
+-- the input was read to its end, and isn't longer than the budget
 pub record IsReadWhole (budget : ℕ) (input : List ℕ) (left : Option (List ℕ)) : Type 0 where
   pub within : length input ≤ budget
   pub none_left : left ≡ Some []
 
--- these bytes were taken, which are within the budget
+-- `bytes` were read of the input, no more than the budget
 pub record IsTaken (budget : ℕ) (input bytes : List ℕ) (left : Option (List ℕ)) : Type 0 where
   pub behind : List ℕ
   pub split : input ≡ bytes ++ behind
   pub left_is : left ≡ Some behind
   pub within : length bytes ≤ budget
 
--- these bytes are the budget, and the byte after them was taken
+-- `bytes`, as many as the budget, were read of the input, and one byte more
 pub record IsPastBudget (budget : ℕ) (input bytes : List ℕ) (left : Option (List ℕ)) : Type 0 where
   pub byte_more : ℕ
   pub behind : List ℕ
@@ -33,36 +33,36 @@ pub record IsPastBudget (budget : ℕ) (input bytes : List ℕ) (left : Option (
   pub whole : length bytes ≡ budget
   pub left_is : left ≡ Some behind
 
--- no more than so many bytes were taken
+-- no more than so many bytes of the input were read
 abbrev pub IsTakenUpTo : ℕ → (left : Option (List ℕ)) → (input : List ℕ) → Type 0
 IsTakenUpTo most left input = (bytes : List ℕ) × IsTaken most input bytes left
 
--- so many bytes were taken, and one more
+-- so many bytes of the input were read, and one more
 abbrev pub IsTakenPast : ℕ → (left : Option (List ℕ)) → (input : List ℕ) → Type 0
 IsTakenPast most left input = (bytes : List ℕ) × IsPastBudget most input bytes left
 
--- where the answer is that the input failed, this holds
+-- where the answer is that the input failed, P holds; any other answer is fine
 abbrev pub IfFailed : {E : Type 0} → Result InputEnd E → Type 0 → Type 0
 IfFailed (Ok end.Failed) P = P
 IfFailed (Ok end.Whole) P = Unit {0}
 IfFailed (Ok end.TooLong) P = Unit {0}
 IfFailed (Err why) P = Unit {0}
 
--- where it is that more bytes follow than the budget
+-- where the answer is that the input is longer than the budget, P holds; any other answer is fine
 abbrev pub IfTooLong : {E : Type 0} → Result InputEnd E → Type 0 → Type 0
 IfTooLong (Ok end.TooLong) P = P
 IfTooLong (Ok end.Whole) P = Unit {0}
 IfTooLong (Ok end.Failed) P = Unit {0}
 IfTooLong (Err why) P = Unit {0}
 
--- which lines of an input were played: all of it; the whole ones among the bytes that were taken; or, at a fault, some from the first on
+-- which lines were played: all of the input; the complete ones among the bytes that were read; or, at an error, the first so many
 abbrev pub ArePlayedOf : Result InputEnd StepFault → (budget : ℕ) → (input taken : List ℕ) → (left : Option (List ℕ)) → (texts : List (List ℕ)) → Type 0
 ArePlayedOf (Ok end.Whole) budget input taken left texts = IsReadWhole budget input left × (texts ≡ lines input)
 ArePlayedOf (Ok end.Failed) budget input taken left texts = IsTaken budget input taken left × (texts ≡ whole_lines taken)
 ArePlayedOf (Ok end.TooLong) budget input taken left texts = IsPastBudget budget input taken left × (texts ≡ whole_lines taken)
 ArePlayedOf (Err why) budget input taken left texts = (more : List (List ℕ)) × (lines input ≡ texts ++ more)
 
--- the lines of an input were played
+-- the lines of an input were played, as many as the answer says
 pub record PlaysInput (result : Result InputEnd StepFault) (budget : ℕ) (input left : Option (List ℕ)) (far : SoFar) (keeps : State → Image → Type 0) (notes spare : ℕ) (old new : Around) : Type 0 where
   pub taken : List ℕ
   pub texts : List (List ℕ)

@@ -1,4 +1,4 @@
--- A run of a script as far as it has come, and the iterations that a player makes of it.
+-- A run of a script as far as it has come, and the iterations that were made of it.
 use Rattle.std.specs.Prelude.{ℕ, ◌≡◌, ◌+◌, ◌*◌, ◌<◌, ◌^◌, ◌||◌, Bool, true, false, List, [], ◌∷◌, ◌++◌, length, take, Result, Ok, Err, IfOk}
 use Rattle.std.specs.Option.{option_map, ForSome}
 use Rattle.std.specs.declared.option.Option.{Option}
@@ -17,22 +17,23 @@ use Rattle.spec_run.specs.Progress.{Progress, Stops}
 use Rattle.blk_cache.specs.declared.fault.StepFault.{StepFault}
 use Rattle.blk_cache.specs.declared.fault.StepFault.TheVariants as fault
 
--- a call that began with an image opened a state, and these commands are done since
+-- how far a run has come: the image with which the call began, the state that was opened, and the commands that are done
 pub record SoFar : Type 0 where
   pub start : Told
   pub from : Image
   pub opened : State
   pub done : List Stamped
 
--- the state after them
+-- the state after the commands that are done
 abbrev pub state_now : SoFar → State
 state_now far = state_after far.opened far.done
 
--- the same with more commands done
+-- the run with more commands done
 abbrev pub with_more : SoFar → List Stamped → SoFar
 with_more far more = record { start = far.start; from = far.from; opened = far.opened; done = far.done ++ more }
 
--- a run holds so far, in an observable folder: its commands are done, the state after them is kept, each has its note, and they are few where so many bytes are to come; at each crash it would have left what it may
+-- invariant of a run in an observable folder: the state after its commands is kept, each command has its completion marker, after each prefix of the writes the
+-- folder is as a crash may leave it, and the commands are few enough for the `left` bytes to come
 pub record StandsAt (far : SoFar) (keeps : State → Image → Type 0) (notes left : ℕ) (now : Told) : Type 0 where
   pub began : far.start.files ≡ Some far.from
   pub image : Image
@@ -42,23 +43,23 @@ pub record StandsAt (far : SoFar) (keeps : State → Image → Type 0) (notes le
   pub few : 2 * length far.done + left < 2 ^ 65
   pub progress : Progress far.from far.opened far.done far.start now
 
--- what is told around a player, and whether something was refused
+-- what is observable around a player: folder, output and clock; and whether something was refused
 pub record Around : Type 0 where
   pub folder : Told
   pub written : Option (List ℕ)
   pub clock : Option Readings
   pub refused : Bool
 
--- Iterations that were made.
+-- Outcomes of iterations.
 
--- all of them: their commands are done at the next readings, and their texts are printed
+-- all iterations were made: their commands are done, each at the next reading of the clock, and their texts are printed
 pub record AreMade (made : List Turn) (far : SoFar) (keeps : State → Image → Type 0) (notes left : ℕ) (old new : Around) : Type 0 where
   pub stands : StandsAt (with_more far (commands_of made)) keeps notes left new.folder
   pub printed : new.written ≡ option_map (λ (w : List ℕ). w ++ text_of made) old.written
   pub read : new.clock ≡ option_map (λ r. clock_after r (readings_of made)) old.clock
   pub refused : new.refused ≡ (old.refused || refuse made)
 
--- up to one whose text was printed in part: its command is done too
+-- iterations were made up to one whose text was printed only in part (its command is done too)
 pub record AreMadeTo (made : List Turn) (far : SoFar) (keeps : State → Image → Type 0) (notes left : ℕ) (old new : Around) : Type 0 where
   pub count : ℕ
   pub within : count < length made
@@ -69,43 +70,43 @@ pub record AreMadeTo (made : List Turn) (far : SoFar) (keeps : State → Image �
   pub printed : new.written ≡ option_map (λ (w : List ℕ). w ++ (text_of (take count made) ++ front)) old.written
   pub read : new.clock ≡ option_map (λ r. clock_after r (readings_of (take (count + 1) made))) old.clock
 
--- up to one in which the folder failed: whatever commands follow them, a crash leaves what it may
+-- iterations were made up to one in which the folder failed: whatever commands follow, the folder is as a crash during them may leave it
 pub record AreStopped (made : List Turn) (far : SoFar) (old new : Around) : Type 0 where
   pub stops : (more : List Stamped) → Stops far.from far.opened (far.done ++ (commands_of made ++ more)) far.start new.folder
   pub printed : Appends old.written new.written (text_of made)
 
--- iterations were made, as an answer tells; an observable folder reports no corruption
+-- the outcome of iterations by the answer: all, up to a text that wasn't printed, or up to an I/O error; an observable folder reports no failed check
 abbrev pub Plays : {A : Type 0} → Result A StepFault → List Turn → SoFar → (State → Image → Type 0) → (notes left : ℕ) → (old new : Around) → Type 0
 Plays (Ok a) made far keeps notes left old new = AreMade made far keeps notes left old new
 Plays (Err fault.Sink) made far keeps notes left old new = AreMadeTo made far keeps notes left old new
 Plays (Err fault.Device) made far keeps notes left old new = AreStopped made far old new
 Plays (Err (fault.Damaged damage)) made far keeps notes left old new = ⊥
 
--- whether an answer is a refusal
+-- the answer is a refusal
 abbrev pub refuses : Answer → Bool
 refuses answer = is_refusal (refusal_of answer)
 
--- whether there is an answer that is a refusal
+-- there is an answer, and it is a refusal
 abbrev pub has_refused : {E : Type 0} → Result Answer E → Bool
 has_refused (Ok answer) = refuses answer
 has_refused (Err why) = false
 
--- a command, asked at a moment and with its reply shown, as one iteration
+-- the iteration of a command at a moment, with its reply shown
 abbrev pub asked_turn : SoFar → Stamped → Turn
 asked_turn far command = command_turn command (shown_where true (outcome_in (state_now far) command))
 
--- a command was asked at the next reading of the clock: it is an iteration, and its answer is the map's
+-- a command was made at the next reading of the clock: its iteration was played, and its answer is the model's
 pub record Asks (result : Result Answer StepFault) (request : Request) (far : SoFar) (keeps : State → Image → Type 0) (notes left : ℕ) (old new : Around) : Type 0 where
   pub moment : ℕ
   pub read : ForSome old.clock (λ r. moment ≡ reading_of r)
   pub answered : IfOk result (λ answer. answer ≡ answer_of (outcome_in (state_now far) (record { moment = moment; request = request })).reply)
   pub plays : Plays result (asked_turn far (record { moment = moment; request = request }) ∷ []) far keeps notes left old new
 
--- what is cut after bytes that have no end yet
+-- bytes after the incomplete line `before`, cut into complete lines and a rest
 abbrev pub cut_behind : List ℕ → List ℕ → Cut
 cut_behind before bytes = with_bytes (record { whole = []; rest = before }) bytes
 
--- a part of a script was played: its iterations are those from the state so far at the next readings
+-- the iterations of a part of a script, from the state and the clock so far, were played, as many as the answer says
 pub record PlaysPart {A : Type 0} (result : Result A StepFault) (part : State → Readings → List Turn) (far : SoFar) (keeps : State → Image → Type 0) (notes left : ℕ) (old new : Around) : Type 0 where
   pub made : List Turn
   pub are : ForSome old.clock (λ r. made ≡ part (state_now far) r)

@@ -10,26 +10,26 @@ use Rattle.blk_run.specs.declared.ending.Status.TheVariants as status
 use Rattle.blk_run.specs.declared.scripts.Fixed.{Fixed}
 use Rattle.blk_run.specs.declared.scripts.Fixed.TheVariants as fixed
 
--- the script
+-- the script of a fixed task: commands up to the first refusal, a put, or the generator
 abbrev pub script_of : Fixed → Script
 script_of (fixed.Commands commands) = until_refused (map request_of commands.now)
 script_of (fixed.Put put) = put_script put.key.now put.stream put.bytes.now
 script_of (fixed.Generated seed turns) = gen_script seed turns
 
--- how many commands it has at most
+-- how many commands a fixed script has at most
 abbrev pub commands_in : Fixed → ℕ
 commands_in (fixed.Commands commands) = length commands.now
 commands_in (fixed.Put put) = 4
 commands_in (fixed.Generated seed turns) = 5 * turns
 
--- the status where a script came to an end so, and something was refused or not; the folder may fail in what is closed then
+-- the status after a fixed script with this answer, where something was refused or not; the closing that follows may still change it to an I/O error
 abbrev pub script_status : Result (Unit {0}) StepFault → (refused : Bool) → Status
 script_status (Ok done) refused = if refused then status.Refused else status.Ok
 script_status (Err fault.Sink) refused = status.Sink
 script_status (Err fault.Device) refused = status.Device
 script_status (Err (fault.Damaged damage)) refused = status.Damaged
 
--- whether what is open is closed then
+-- after this answer the handles and the folder are closed: unless the folder failed
 abbrev pub closes_script : Result (Unit {0}) StepFault → Bool
 closes_script (Ok done) = true
 closes_script (Err fault.Sink) = true

@@ -1,4 +1,4 @@
--- The status of a session, and its cause.
+-- The status of a session, and the cause of each status.
 use Rattle.std.specs.Prelude.{Bool, true, false, if◌then◌else◌, Result, Ok, Err}
 use Rattle.blk_cache.specs.declared.fault.StepFault.{StepFault}
 use Rattle.blk_cache.specs.declared.fault.StepFault.TheVariants as fault
@@ -7,7 +7,7 @@ use Rattle.blk_run.specs.declared.ending.Status.TheVariants as status
 use Rattle.blk_run.specs.declared.input.InputEnd.{InputEnd}
 use Rattle.blk_run.specs.declared.input.InputEnd.TheVariants as end
 
--- the status where an input came to an end so, and something was refused or not; the folder may fail in what is closed then
+-- the status after an input with this end, where something was refused or not; the closing that follows may still change it to an I/O error
 abbrev pub status_after : Result InputEnd StepFault → (refused : Bool) → Status
 status_after (Ok end.Whole) refused = if refused then status.Refused else status.Ok
 status_after (Ok end.Failed) refused = status.Source
@@ -16,14 +16,14 @@ status_after (Err fault.Sink) refused = status.Sink
 status_after (Err fault.Device) refused = status.Device
 status_after (Err (fault.Damaged damage)) refused = status.Damaged
 
--- whether what is open is closed then
+-- after this end of an input the handles and the folder are closed: unless the folder failed
 abbrev pub may_close : Result InputEnd StepFault → Bool
 may_close (Ok ended) = true
 may_close (Err fault.Sink) = true
 may_close (Err fault.Device) = false
 may_close (Err (fault.Damaged damage)) = false
 
--- the cause of each status: a check fails; the count of the folder, of the source or of the sink rose; more bytes follow than the budget. No cause is said of out of memory
+-- the cause of each status: a failed check; a raised error counter of folder, input or output; an input longer than the budget. Out of memory has none
 abbrev pub CauseOf : Status → (damaged device source sink long : Type 0) → Type 0
 CauseOf status.Ok damaged device source sink long = Unit {0}
 CauseOf status.Refused damaged device source sink long = Unit {0}

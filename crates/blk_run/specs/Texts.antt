@@ -14,7 +14,7 @@ usage_text = codes "usage\n"
 abbrev pub damage_line : Damage → List ℕ
 damage_line damage = damage_text damage ++ codes "\n"
 
--- a text was printed, and a prefix of it where the sink failed
+-- a text was printed, all of it unless the output failed, and then a prefix; `before` and `now` are the error counter of the output
 pub record Prints (old new : Option (List ℕ)) (before now : ℕ) (text : List ℕ) : Type 0 where
   pub front : Appends old new text
   pub whole : (Rises before now → ⊥) → new ≡ option_map (λ (w : List ℕ). w ++ text) old

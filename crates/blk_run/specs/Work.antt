@@ -1,4 +1,4 @@
--- What the program does for its arguments, by its status.
+-- The contract of what the program does for its arguments, by its status.
 use Rattle.std.specs.Prelude.{ℕ, ◌≡◌, ◌+◌, ◌<◌, ◌≤◌, ◌^◌, List, false, length}
 use Rattle.std.specs.Option.{ForSome}
 use Rattle.std.specs.declared.option.Option.{Option}
@@ -24,18 +24,19 @@ use Rattle.blk_run.specs.Shown.{IsCompleteText, ShowsText}
 use Rattle.blk_run.specs.Statuses.{CauseOf}
 use Rattle.blk_run.specs.WholeInputs.{longest_input}
 
--- a session of the program uses so many bytes of its input
+-- the input limit: how many bytes of its input a session reads at most
 abbrev pub budget : ℕ
 budget = 2 ^ 40
 
--- what is done for a task: what the input asks is played, by its protocol; a script of the whole input, which is read before the opening; or a script that leaves the input unread; or a text of what the folder holds is shown
+-- the kinds of work: to play what the input asks, by a protocol; to play a script that is made of the whole input; to play a script that leaves the input
+-- unread; to show a text of the folder
 pub data Work : Type 0 where
   input_by : Protocol → Work
   whole_input : (List ℕ → Script) → Work
   no_input : Script → Work
   folder_text : (Image → List ℕ) → Work
 
--- what is done for each task
+-- the work of each subcommand
 abbrev pub work_of : Task → Work
 work_of do_session = input_by by_lines
 work_of do_count = no_input count_script
@@ -48,62 +49,63 @@ work_of (do_inspect part) = folder_text (inspect_text part)
 work_of do_verify = folder_text verify_text
 work_of (do_generate seed turns) = no_input (gen_script seed turns)
 
--- the work by its status, where it began with an image that is unfinished or well formed
+-- the contract of the work by its status, for an image that is uninitialized or well formed
 abbrev pub DoesWork : Work → Status → Bounds → Image → Readings → (source sink : Type 0) → Outside → Outside → Type 0
 DoesWork (input_by protocol) result limits from readings source sink old new = ForSome old.left (λ input. Session protocol result limits budget from readings input source sink old new)
 DoesWork (whole_input script) result limits from readings source sink old new = ForSome old.left (λ input. Put result script limits from readings input sink old new)
 DoesWork (no_input script) result limits from readings source sink old new = FixedScript result script limits from readings sink old new
 DoesWork (folder_text text) result limits from readings source sink old new = ShowsText result (text from) old new
 
--- where nothing failed and the input is as long as it may be, and doesn't break off: the whole output was printed, or it was out of memory
+-- where nothing failed, and the input isn't too long and doesn't break off, the whole output was printed, or memory ran out
 abbrev pub CompletesWork : Work → Status → Bounds → Image → Readings → Outside → Outside → Type 0
 CompletesWork (input_by protocol) result limits from readings old new = ForSome old.left (λ input. length input ≤ budget → protocol.breaks_off input ≡ false → IsComplete protocol result limits from readings input old new)
 CompletesWork (whole_input script) result limits from readings old new = ForSome old.left (λ input. length input ≤ longest_input → IsCompleteScript result (script input) limits from readings (record old { left = new.left }) new)
 CompletesWork (no_input script) result limits from readings old new = IsCompleteScript result script limits from readings old new
 CompletesWork (folder_text text) result limits from readings old new = IsCompleteText result (text from) old new
 
--- a script of the whole input on a folder of which a check fails: the input wasn't read whole, or it was out of memory, and no more was done; or it was
+-- the contract of a script of the whole input, on a folder of which this check fails: the input wasn't read in full, or memory ran out, and nothing else was
+-- done; or it was read, and the check is printed
 abbrev pub ReadsOnDamage : Status → Damage → (before now : ℕ) → Outside → Outside → Type 0
 ReadsOnDamage status.Source damage before now old new = ForSome old.left (λ input. TakesUnput status.Source input old.left new.left) × LeavesUnput old new
 ReadsOnDamage status.TooLong damage before now old new = ForSome old.left (λ input. TakesUnput status.TooLong input old.left new.left) × LeavesUnput old new
 ReadsOnDamage status.Memory damage before now old new = ForSome old.left (λ input. TakesUnput status.Memory input old.left new.left) × LeavesUnput old new
 ReadsOnDamage result damage before now old new = ForSome old.left (λ input. IsReadWhole longest_input input new.left) × OnDamage result damage before now (record old { left = new.left }) new
 
--- the work on a folder of which a check fails
+-- the contract of the work by its status, on a folder of which this check fails
 abbrev pub MeetsDamage : Work → Status → Damage → (before now : ℕ) → Outside → Outside → Type 0
 MeetsDamage (input_by protocol) result damage before now old new = OnDamage result damage before now old new
 MeetsDamage (whole_input script) result damage before now old new = ReadsOnDamage result damage before now old new
 MeetsDamage (no_input script) result damage before now old new = OnDamage result damage before now old new
 MeetsDamage (folder_text text) result damage before now old new = OnDamage result damage before now old new
 
--- the input is longer than it may be
+-- the input is longer than the work allows
 abbrev pub IsInputTooLong : Work → Option (List ℕ) → Type 0
 IsInputTooLong (input_by protocol) left = ForSome left (λ input. budget < length input)
 IsInputTooLong (whole_input script) left = ForSome left (λ input. longest_input < length input)
 IsInputTooLong (no_input script) left = ⊥
 IsInputTooLong (folder_text text) left = ⊥
 
--- how much of the input is taken: no more than it may have and one byte
+-- how much of the input the work reads: at most one byte more than it allows; nothing for work without input
 abbrev pub TakesInput : Work → (old new : Option (List ℕ)) → Type 0
 TakesInput (input_by protocol) old new = ForSome old (IsTakenUpTo (budget + 1) new)
 TakesInput (whole_input script) old new = ForSome old (IsTakenUpTo (longest_input + 1) new)
 TakesInput (no_input script) old new = new ≡ old
 TakesInput (folder_text text) old new = new ≡ old
 
--- a check of the work fails: of a run, or of what is read for a text
+-- a check of the work failed: of a run, or of what is read for a text
 abbrev pub IsDamagedWork : Work → (before now : ℕ) → Outside → Outside → Type 0
 IsDamagedWork (input_by protocol) before now old new = IsDamagedRun old.folder new.folder old.written new.written before now
 IsDamagedWork (whole_input script) before now old new = IsDamagedRun old.folder new.folder old.written new.written before now
 IsDamagedWork (no_input script) before now old new = IsDamagedRun old.folder new.folder old.written new.written before now
 IsDamagedWork (folder_text text) before now old new = IsFailedInReading old.folder old.written new.written before now
 
--- the work was done; device and source say that the count of each rose, before and now are the sink's counts of faults
+-- the contract of the work; `device` and `source` say that the error counter of folder or input rose, `before` and `now` are the error counter of the output
 pub record Performs (work : Work) (result : Status) (limits : Bounds) (device source : Type 0) (before now : ℕ) (old new : Outside) : Type 0 where
-  -- on a folder that is unfinished or well formed it is the run on the map model
+  -- on a folder that is uninitialized or well formed the work is the run in the model
   pub plays : ForSome old.folder.files (λ from. IsUsable from → ForSome old.clock (λ readings. DoesWork work result limits from readings source (Rises before now) old new))
-  -- where nothing fails the whole output is printed, unless it is out of memory
+  -- where nothing fails the whole output is printed, unless memory ran out
   pub complete : ForSome old.folder.files (λ from. IsUsable from → ForSome old.clock (λ readings. (device → ⊥) → (source → ⊥) → (Rises before now → ⊥) → CompletesWork work result limits from readings old new))
-  -- on a finished folder of which a check fails that is printed, and no more is done
+  -- on an initialized folder of which a check fails this check is printed, and no more is done
   pub damage : ForSome old.folder.files (λ from. (damage : Damage) → IsDamagedBy damage from → MeetsDamage work result damage before now old new)
   -- the cause of each status, on every folder
   pub cause : CauseOf result (IsDamagedWork work before now old new) device source (Rises before now) (IsInputTooLong work old.left)
@@ -116,12 +118,12 @@ IsUnread (whole_input script) = ⊥
 IsUnread (no_input script) = Unit {0}
 IsUnread (folder_text text) = Unit {0}
 
--- what the arguments ask for does, if they ask for something
+-- what the arguments ask for, if they ask for something, leaves the input unread
 abbrev pub LeavesInput : Option Invocation → Type 0
 LeavesInput None = Unit {0}
 LeavesInput (Some asked) = IsUnread (work_of asked.task)
 
--- the work leaves the folder as it is
+-- the work only reads the folder
 abbrev pub IsUnwritten : Work → Type 0
 IsUnwritten (folder_text text) = Unit {0}
 IsUnwritten _ = ⊥

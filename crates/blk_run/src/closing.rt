@@ -1,4 +1,4 @@
-// What is open is closed.
+// All handles in use are closed.
 ghost use Rattle.std.specs.Prelude.{◌≡◌, ◌≤◌, ◌+◌, ◌*◌, ℕ, OnOk, None, is_some, position};
 ghost use Rattle.std.specs.Option.{ForSome};
 ghost use Rattle.spec_image.specs.Told.{Rises};
@@ -13,7 +13,7 @@ ghost use Rattle.blk_cache.specs.CacheKeeping.{KeepsState};
 use blk_cache::Cache;
 use blk_io::{Clock, Fault, Folder};
 
-// Closes each bound handle name, the least first. The clock is read once for each.
+// Closes each handle in use, the least first. The clock is read once for each.
 pub(crate) fn close_all<F: Folder, C: Clock>(
     cache: &mut Cache,
     folder: &mut F,

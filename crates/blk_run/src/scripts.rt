@@ -72,7 +72,7 @@ fn play_turns<F: Folder, K: Sink, C: Clock>(
     }
 }
 
-// The status where a script came to an end so.
+// The status after a fixed script with this answer.
 fn script_status(played: &Result<(), StepFault>, refused: bool) -> Status
     ensures { result ≡ script_status played.now refused }
 {
@@ -84,7 +84,7 @@ fn script_status(played: &Result<(), StepFault>, refused: bool) -> Status
     }
 }
 
-// Whether what is open is closed then: not where the folder failed.
+// Whether the handles and the folder are closed after a script with this answer: not where the folder failed.
 fn closes_script(played: &Result<(), StepFault>) -> bool
     ensures { result ≡ closes_script played.now }
 {
@@ -96,7 +96,7 @@ fn closes_script(played: &Result<(), StepFault>) -> bool
     }
 }
 
-// Plays a script on an open cache, closes what is open, and then the folder.
+// Plays a script on an open cache, and then closes all handles and the folder.
 pub(crate) fn play_script<F: Folder, K: Sink, C: Clock>(
     mut cache: Cache,
     fixed: Fixed,
@@ -123,7 +123,7 @@ pub(crate) fn play_script<F: Folder, K: Sink, C: Clock>(
     }
 }
 
-// Opens the folder, plays a script on it, closes what is open, and answers how it ended.
+// Opens the folder, plays a script on it, closes all handles and the folder, and answers how it ended.
 pub(crate) fn run_script<F: Folder, K: Sink, C: Clock>(
     alloc: Global,
     limits: Limits,

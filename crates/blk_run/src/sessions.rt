@@ -99,7 +99,7 @@ fn take_line_buffer(alloc: Global) -> Result<Vec<u8>, NoMemory>
     Ok(vec![in alloc; 0; LONGEST_LINE]?)
 }
 
-// Plays the lines of an input on an open cache, closes what is open, and then the folder.
+// Plays the lines of an input on an open cache, and then closes all handles and the folder.
 fn play<F: Folder, S: Source, K: Sink, C: Clock>(
     mut cache: Cache,
     line: &mut Line,
@@ -146,7 +146,7 @@ fn play<F: Folder, S: Source, K: Sink, C: Clock>(
     }
 }
 
-// The status where an input came to an end so.
+// The status after an input with this end.
 fn status_of(ended: &Result<InputEnd, StepFault>, refused: bool) -> Status
     ensures { result ≡ status_after ended.now refused }
 {
@@ -160,7 +160,7 @@ fn status_of(ended: &Result<InputEnd, StepFault>, refused: bool) -> Status
     }
 }
 
-// Whether what is open is closed then: not where the folder failed.
+// Whether the handles and the folder are closed after an input with this end: not where the folder failed.
 fn closes_after(ended: &Result<InputEnd, StepFault>) -> bool
     ensures { result ≡ may_close ended.now }
 {
@@ -172,7 +172,7 @@ fn closes_after(ended: &Result<InputEnd, StepFault>) -> bool
     }
 }
 
-// Closes what is open, and then the folder.
+// Closes all handles, and then the folder.
 pub(crate) fn end<F: Folder, C: Clock>(
     mut cache: Cache,
     folder: &mut F,

@@ -1,4 +1,4 @@
--- What is told of a failed check that a scan meets.
+-- The failed checks of a scan.
 use Rattle.std.specs.Prelude.{◌⊎◌}
 use Rattle.std.specs.Option.{ForSome}
 use Rattle.spec_image.specs.Told.{Told}
@@ -10,20 +10,20 @@ use Rattle.blk_disk.specs.Tables.{Agrees}
 use Rattle.blk_audit.specs.Faults.{IsListsDamage}
 use Rattle.blk_verdict.specs.Reads.{IsCutRead}
 
--- the lists were corrupt, or the data of a record that a walked node names
+-- why a scan fails: the LRU list or the chains can't be read, or the data of an entry can't
 abbrev pub IsScanDamage : BlockFiles → Told → Damage → Type 0
 IsScanDamage files told damage = IsListsDamage files told damage ⊎ IsCutRead files told damage
 
--- so it is for the block files of a folder, where that tells its files
+-- why a scan by the block files that were loaded fails; for an observable folder their table agrees with it
 pub record IsLoadedDamage (told : Told) (damage : Damage) : Type 0 where
   pub files : BlockFiles
   pub agrees : ForSome told.files (Agrees files)
   pub cause : IsScanDamage files told damage
 
--- the block files couldn't be loaded, or a scan by them found corruption
+-- why a folder can't be scanned after its index was checked: its block files can't be loaded, or the scan fails
 abbrev pub IsBlocksDamage : Told → Damage → Type 0
 IsBlocksDamage told damage = IsLoadDamage told damage ⊎ IsLoadedDamage told damage
 
--- a check of the index failed, or it was so with the block files
+-- why a folder can't be scanned: a check of the index, of the block files, or of the scan
 abbrev pub IsFolderDamage : Told → Damage → Type 0
 IsFolderDamage told damage = IsLookDamage told damage ⊎ IsBlocksDamage told damage

@@ -1,4 +1,4 @@
--- What came of the walked nodes, in the order of the walk.
+-- The verdicts on the walked nodes, back in the order of the walk.
 use Rattle.std.specs.Prelude.{ℕ, ◌≡◌, List, map}
 use Rattle.spec_image.specs.Image.{Image}
 use Rattle.blk_addr.specs.Claims.{IsClaimsOf}
@@ -17,17 +17,17 @@ use Rattle.blk_verdict.specs.declared.passes.Judged.{Judged}
 use Rattle.blk_scan.specs.Scans.{dropped_by_told}
 use Rattle.blk_scan.specs.declared.ordering.Ordered.{Ordered}
 
--- the walked nodes of an image were judged
+-- `judged` has the verdicts on the walked nodes of the image, in the order in which they were tried
 abbrev pub AreJudged : Image → Judged → Type 0
 AreJudged image judged = AreTried image (completed_walk image) (tried (store_of image) (completed_walk image)) (records_kept judged.kept) judged.tried.items
 
--- these are the walked nodes of an image, the kept and the dropped ones
+-- `ordered` has the walked nodes of an image, the kept entries and the dropped nodes, each in the order of the walk
 pub record IsOrderOf (image : Image) (ordered : Ordered) : Type 0 where
   pub walked : ordered.walked.items ≡ completed_walk image
   pub records : AreShown image (kept image) ordered.records.items
   pub dropped : map dropped_by_told ordered.dropped.items ≡ dropped_among (store_of image) held_rule (completed_walk image)
 
--- these are the lists of an image, what came of its walked nodes in both orders, the used blocks of those that are kept, and the unlisted records
+-- the parts from which a scan is made are those of the image: its lists, the verdicts in both orders, the claims of the kept entries, and the unlisted records
 pub record IsToldBy (image : Image) (lists : Lists) (judged : Judged) (ordered : Ordered) (unlisted : List ℕ) : Type 0 where
   pub lists_are : AreListsOf image lists
   pub judged_are : AreJudged image judged

@@ -1,4 +1,4 @@
--- What came of the walked nodes, put back into the order of the walk.
+-- The outcomes of the walked nodes, put back into the order of the walk.
 use Rattle.std.specs.Prelude.{ℕ, ◌≡◌, ◌+◌, List, [], ◌∷◌, set, slice_get}
 use Rattle.std.specs.List.{cons_option}
 use Rattle.std.specs.declared.option.Option.{Option}
@@ -18,63 +18,63 @@ use Rattle.blk_scan.specs.declared.outcomes.Outcome.TheVariants as outcome
 use Rattle.blk_scan.specs.declared.scan.Dropped.{Dropped}
 use Rattle.blk_scan.specs.declared.scan.Kept.{Kept}
 
--- How outcomes are put to their places.
+-- How outcomes get to their places.
 
--- the outcome of a node that was tried, where so many were kept before it
+-- the outcome of a node with this verdict, where `kept` nodes were kept before it
 abbrev pub outcome_after : ℕ → Option Reason → Outcome
 outcome_after kept None = outcome.Kept kept
 outcome_after kept (Some reason) = outcome.Dropped reason
 
--- so many are kept with it
+-- how many nodes are kept after one with this verdict
 abbrev pub count_after : ℕ → Option Reason → ℕ
 count_after kept None = kept + 1
 count_after kept (Some reason) = kept
 
--- the outcomes with those of nodes that were tried, each at its place, where so many were kept before them
+-- the outcomes with those of the tried nodes put at their places, where `kept` nodes were kept before these
 abbrev pub with_tried : List (Option Outcome) → ℕ → List Tried → List (Option Outcome)
 with_tried outcomes kept [] = outcomes
 with_tried outcomes kept (one ∷ tried) = with_tried (set outcomes one.place (Some (outcome_after kept one.reason))) (count_after kept one.reason) tried
 
--- What they say.
+-- What outcomes say.
 
--- one of the kept records in memory is what a node of an image loads
+-- kept entry i in memory is what a node of the image loads
 pub record IsKeptAt (image : Image) (kept : List Loaded) (loaded : shown.Loaded) (i : ℕ) : Type 0 where
   pub said : Loaded
   pub at : slice_get kept i ≡ Some said
   pub is : IsLoadedFrom image loaded said
 
--- the outcome is a verdict: the kept record, or the reason
+-- the outcome agrees with the verdict of the model: the kept entry, or the same reason to drop
 abbrev pub IsOutcomeOf : Image → List Loaded → Result shown.Loaded reasons.Reason → Outcome → Type 0
 IsOutcomeOf image kept (Ok loaded) (outcome.Kept i) = IsKeptAt image kept loaded i
 IsOutcomeOf image kept (Ok loaded) (outcome.Dropped reason) = ⊥
 IsOutcomeOf image kept (Err reason) (outcome.Kept i) = ⊥
 IsOutcomeOf image kept (Err reason) (outcome.Dropped given) = reason_of given ≡ reason
 
--- both are there, and it is so
+-- the node has a verdict and an outcome, and these agree
 abbrev pub IsOutcomeIf : Image → List Loaded → Option (Result shown.Loaded reasons.Reason) → Option Outcome → Type 0
 IsOutcomeIf image kept None given = ⊥
 IsOutcomeIf image kept (Some verdict) None = ⊥
 IsOutcomeIf image kept (Some verdict) (Some given) = IsOutcomeOf image kept verdict given
 
--- What is told by them.
+-- What is told from outcomes.
 
--- the kept record of an outcome
+-- the kept entry of an outcome, if it is one
 abbrev pub record_of_outcome : List Loaded → Option Outcome → Option Loaded
 record_of_outcome kept None = None
 record_of_outcome kept (Some (outcome.Kept i)) = slice_get kept i
 record_of_outcome kept (Some (outcome.Dropped reason)) = None
 
--- what is told of a kept record
+-- what a scan tells of a kept entry
 abbrev pub kept_by_record : Loaded → Kept
 kept_by_record said = record { node = said.node; entry = said.entry; child = is_part_said said.role }
 
--- what is told of a node by its outcome, if it is dropped
+-- what a scan tells of a node that is dropped, or None for one that isn't
 abbrev pub dropped_at : ℕ → Option Outcome → Option Dropped
 dropped_at node None = None
 dropped_at node (Some (outcome.Kept i)) = None
 dropped_at node (Some (outcome.Dropped reason)) = Some (record { place = node; reason = reason })
 
--- the dropped ones of some nodes, by the outcome of each
+-- what a scan tells of those nodes that are dropped, by the outcome of each
 abbrev pub dropped_in : List ℕ → List (Option Outcome) → List Dropped
 dropped_in [] outcomes = []
 dropped_in (node ∷ nodes) [] = []

@@ -1,10 +1,11 @@
--- The kept records of the buckets, packed one after another.
+-- The kept records of the buckets, packed into one list.
 use Rattle.std.specs.Prelude.{ℕ, ◌≡◌, ◌<◌, ◌≤◌, Bool, true, false, List, length, take, slice_index, slice_index_or}
 use Rattle.std.specs.List.{filter}
 use Rattle.blk_audit.specs.BucketEnds.{begin_of, records_of}
 use Rattle.blk_scan.specs.declared.chains.KeptChains.{KeptChains}
 
--- of the first n buckets the records that are to be kept are packed one after another; a bucket is told whole exactly where it was closed and all its records are kept
+-- the records of the first n buckets that `keep` selects are packed into one list, with the end of each bucket; a bucket is told whole exactly where its chain
+-- was closed and all its records are kept
 pub record ArePacked (keep : ℕ → Bool) (records ends : List ℕ) (closed : List Bool) (n : ℕ) (chains : KeptChains) : Type 0 where
   pub many : length chains.ends.items ≡ n
   pub told : length chains.whole.items ≡ n

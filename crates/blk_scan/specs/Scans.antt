@@ -1,4 +1,4 @@
--- What the audit of a folder tells.
+-- What the scan of a folder tells.
 use Rattle.std.specs.Prelude.{ℕ, ◌≡◌, ◌<◌, Bool, true, false, List, [], length, map, All, slice_index_or}
 use Rattle.std.specs.List.{flat_map, sum_by}
 use Rattle.std.specs.declared.option.Option.{Option}
@@ -28,42 +28,42 @@ use Rattle.blk_scan.specs.declared.scan.Dropped.{Dropped}
 use Rattle.blk_scan.specs.declared.scan.Kept.{Kept}
 use Rattle.blk_scan.specs.declared.scan.Scan.{Scan}
 
--- What is told of an image.
+-- What it tells of an image.
 
--- what is told of a kept node: itself, its record, and whether that is a part
+-- what a scan tells of a kept node: its address, its record, and whether it is a part's
 abbrev pub kept_as_told : shown.Loaded → Kept
 kept_as_told loaded = record { node = loaded.node; entry = loaded.contents; child = is_part loaded }
 
--- the place and the reason that are told of a dropped node or record
+-- what a scan tells of a dropped node or record, as the specs have it: its address and the reason
 abbrev pub dropped_by_told : Dropped → ℕ × reasons.Reason
 dropped_by_told told = (told.place, reason_of told.reason)
 
--- what is told of an unlisted record
+-- what a scan tells of a record that is in a chain but not listed
 abbrev pub unlisted_as_told : ℕ → Dropped
 unlisted_as_told record_word = record { place = record_word; reason = Unlisted }
 
--- these are the kept records of all buckets, and each bucket that is told whole is the chain of its own
+-- `records` has the kept records of all buckets, and the chain of a bucket that is told whole has exactly its kept records
 pub record AreKeptChains (image : Image) (records ends : List ℕ) (whole : List Bool) : Type 0 where
   pub are_ends : AreEnds records ends
   pub told : length whole ≡ table_length
   pub are_kept : (bucket : ℕ) → bucket < table_length → records_of records ends bucket ≡ kept_records image bucket
   pub are_whole : (bucket : ℕ) → bucket < table_length → slice_index_or whole bucket false ≡ true → IsChain (store_of image) bucket (records_of records ends bucket)
 
--- each bucket is the chain of its kept records
+-- the chain of each bucket has exactly its kept records
 abbrev pub AreChainsWhole : Image → Type 0
 AreChainsWhole image = (bucket : ℕ) → bucket < table_length → IsChain (store_of image) bucket (kept_records image bucket)
 
--- so it is where no chains are told, and otherwise they are the kept ones
+-- what a scan tells of the chains: None where each has exactly its kept records; else the kept records, and which buckets are whole
 abbrev pub AreChainsTold : Image → Option KeptChains → Type 0
 AreChainsTold image None = AreChainsWhole image
 AreChainsTold image (Some chains) = AreKeptChains image chains.records.items chains.ends.items chains.whole.items
 
--- these are nodes and records of what is kept, and all others of it are sealed
+-- the words are nodes and records of kept entries, and the checksums of all others of these match
 pub record AreBare (image : Image) (words : List ℕ) : Type 0 where
   pub are_kept : All (IsOfKept image) words
   pub others : AreOthersSealed image words image
 
--- a scan tells what an image holds
+-- the scan tells what an image holds: the walk, what is kept and dropped, the claims and the cost of what is kept, the chains, and the absent checksums
 pub record IsScanOf (image : Image) (scan : Scan) : Type 0 where
   pub walked : scan.walked.items ≡ completed_walk image
   pub kept_told : scan.kept.items ≡ map kept_as_told (kept image)
@@ -74,43 +74,43 @@ pub record IsScanOf (image : Image) (scan : Scan) : Type 0 where
   pub chains : AreChainsTold image scan.chains
   pub bare : AreBare image scan.bare.items
 
--- What is told to be repaired is all that is to be, and no more.
+-- A scan tells no more to be repaired than has to be.
 
--- a chain is to be repaired: that of a bucket isn't the chain of its kept records
+-- the chain of a bucket has to be repaired, since it hasn't exactly its kept records
 pub record IsChainToMend (image : Image) (bucket : ℕ) : Type 0 where
   pub below : bucket < table_length
   pub isnt : IsChain (store_of image) bucket (kept_records image bucket) → ⊥
 
--- some chain is to be repaired, and each bucket that is the chain of its kept records is told whole
+-- some chain has to be repaired, and each bucket that needn't be is told whole
 pub record AreChainsToMend (image : Image) (whole : List Bool) : Type 0 where
   pub one : ℕ
   pub is_one : IsChainToMend image one
   pub are_whole : (bucket : ℕ) → bucket < table_length → IsChain (store_of image) bucket (kept_records image bucket) → slice_index_or whole bucket false ≡ true
 
--- no chains are told exactly where each bucket is the chain of its kept records
+-- a scan tells no chains exactly where none has to be repaired
 abbrev pub AreChainsExact : Image → Option KeptChains → Type 0
 AreChainsExact image None = AreChainsWhole image
 AreChainsExact image (Some chains) = AreChainsToMend image chains.whole.items
 
--- a scan tells whole each bucket that is, and bare exactly the nodes and the records of what is kept whose seal is 0
+-- the scan tells as whole each bucket that needn't be repaired, and as bare exactly the nodes and records of kept entries whose checksum is absent
 pub record IsExactScan (image : Image) (scan : Scan) : Type 0 where
   pub chains : AreChainsExact image scan.chains
   pub bare : scan.bare.items ≡ bare_of_kept image
 
--- What is told of any folder.
+-- What a scan tells of any folder.
 
--- the records of the chains are valid among the block files, and those of each bucket end among them
+-- by the table the told records of the chains are valid, and they are cut into all buckets
 pub record ChainsStandAmong (files : BlockFiles) (chains : KeptChains) : Type 0 where
   pub records : All (λ w. is_record_among files w ≡ true) chains.records.items
   pub ends : AreEnds chains.records.items chains.ends.items
   pub told : length chains.whole.items ≡ table_length
 
--- so it is where there are some
+-- by the table the told chains, if there are some, are of valid records
 abbrev pub ChainsStandIf : BlockFiles → Option KeptChains → Type 0
 ChainsStandIf files None = Unit {0}
 ChainsStandIf files (Some chains) = ChainsStandAmong files chains
 
--- the nodes and the records of a scan are valid among the block files
+-- by the table the nodes and records that the scan tells are valid
 pub record StandAmong (files : BlockFiles) (scan : Scan) : Type 0 where
   pub walked : All (λ w. is_node_among files w ≡ true) scan.walked.items
   pub chains : ChainsStandIf files scan.chains
@@ -118,7 +118,7 @@ pub record StandAmong (files : BlockFiles) (scan : Scan) : Type 0 where
 
 -- A folder that was just made.
 
--- nothing is told
+-- the scan tells nothing
 pub record IsEmptyScan (scan : Scan) : Type 0 where
   pub walked : scan.walked.items ≡ []
   pub kept_told : scan.kept.items ≡ []

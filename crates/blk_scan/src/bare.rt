@@ -1,4 +1,4 @@
-// The nodes and the records of what is kept that have 0 as their seal.
+// The nodes and the records of what is kept whose checksum is absent.
 ghost use Rattle.std.specs.Prelude.{◌≡◌, ◌++◌, ℕ, [], ◌∷◌, All, IfOk, None, OnOk, Some, slice_get, true};
 ghost use Rattle.std.specs.BTreeSet.{contains};
 ghost use Rattle.std.specs.List.{filter};
@@ -53,7 +53,7 @@ pub(crate) fn bare_of<F: Folder>(
     Ok(bare)
 }
 
-// Those of the walked nodes that are kept and have 0 as their seal.
+// Those of the walked nodes that are kept and whose checksum is absent.
 fn bare_nodes(alloc: Global, lists: &Lists, kept: &BTreeSet<u32>) -> Result<Vec<Addr>, NoMemory>
     ensures bare { IfOk result (λ bare. (image : Image) → AreListsOf image lists.now → bare.items ≡ filter (is_kept_bare_node (contains nat_cmp kept.now) image) (nodes_walked lists.now.walked)) }
     ensures stand { IfOk result (λ bare. (files : Files) → NodesStand files (nodes_walked lists.now.walked) → All (CanBeSealed files) bare.items) }
@@ -65,7 +65,7 @@ fn bare_nodes(alloc: Global, lists: &Lists, kept: &BTreeSet<u32>) -> Result<Vec<
     Ok(bare)
 }
 
-// Adds one of the walked nodes, if it is kept and has 0 as its seal.
+// Adds one of the walked nodes, if it is kept and its checksum is absent.
 fn add_node(
     lists: &Lists,
     kept: &BTreeSet<u32>,
@@ -87,7 +87,7 @@ fn add_node(
     Ok(())
 }
 
-// Adds those of some records that have 0 as their seal.
+// Adds those of some records whose checksum is absent.
 fn add_records<F: Folder>(
     folder: &mut F,
     files: &BlockFiles,
@@ -107,7 +107,7 @@ fn add_records<F: Folder>(
     Ok(())
 }
 
-// Adds a record, if it is there and has 0 as its seal.
+// Adds a record, if it is valid and its checksum is absent.
 fn add_record<F: Folder>(
     folder: &mut F,
     files: &BlockFiles,

@@ -1,4 +1,4 @@
-// What came of the walked nodes, in the order of the walk.
+// The outcomes of the walked nodes, in the order of the walk.
 ghost use Rattle.std.specs.Prelude.{◌≡◌, ◌≤◌, IfOk, length, take};
 ghost use Rattle.spec_image.specs.Image.{Image};
 ghost use Rattle.spec_folder.specs.ListView.{most_nodes};
@@ -15,7 +15,7 @@ use blk_audit::Lists;
 use blk_verdict::{Judged, Loaded};
 use std::alloc::Global;
 
-// The walked nodes with what came of them, all in the order of the walk.
+// The walked nodes with their outcomes, all in the order of the walk.
 #[derive(Drop)]
 pub(crate) struct Ordered {
     pub(crate) walked: Vec<Addr>,
@@ -25,7 +25,7 @@ pub(crate) struct Ordered {
     pub(crate) dropped: Vec<Dropped>,
 }
 
-// Puts what came of the walked nodes into the order of the walk.
+// Puts the outcomes of the walked nodes into the order of the walk.
 pub(crate) fn order(alloc: Global, lists: &Lists, judged: &Judged) -> Result<Ordered, NoMemory>
     ensures ordered { IfOk result (λ ordered. (image : Image) → AreListsOf image lists.now → AreJudged image judged.now → IsOrderOf image ordered) }
     ensures walked { IfOk result (λ ordered. ordered.walked.items ≡ take most_nodes (nodes_walked lists.now.walked)) }

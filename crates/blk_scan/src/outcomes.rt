@@ -1,4 +1,4 @@
-// What came of the walked nodes, put back into the order of the walk.
+// The outcomes of the walked nodes, put back into the order of the walk.
 ghost use Rattle.std.specs.Prelude.{◌≡◌, ◌≤◌, ◌<◌, ◌+◌, ◌^◌, ◌++◌, [], IfOk, None, OnOk, Some, length, replicate, set};
 ghost use Rattle.std.specs.List.{cons_option, filter_map};
 ghost use Rattle.blk_scan.specs.Outcomes as shown;
@@ -8,7 +8,7 @@ use blk_addr::NoMemory;
 use blk_verdict::{Loaded, Reason, Tried};
 use std::alloc::Global;
 
-// What came of a walked node.
+// The outcome of a walked node: kept or dropped.
 #[derive(Clone, Copy)]
 pub(crate) enum Outcome {
     // It is kept: this one of the kept records, counted from 0 in the order in which they were tried.
@@ -17,8 +17,7 @@ pub(crate) enum Outcome {
     Dropped(Reason),
 }
 
-// What came of each of so many walked nodes, in the order of the walk, by what came of them in the order in which they
-// were tried.
+// The outcome of each walked node, in the order of the walk, from the outcomes in the order in which the nodes were tried.
 pub(crate) fn by_place(
     alloc: Global,
     count: usize,
@@ -37,7 +36,7 @@ pub(crate) fn by_place(
     Ok(outcomes)
 }
 
-// The outcome of a node that was tried, where so many were kept before it.
+// The outcome of a node that was tried, where `kept` nodes were kept before it.
 fn outcome_of(kept: usize, reason: Option<Reason>) -> Outcome
     ensures { result ≡ outcome_after kept reason }
 {
@@ -47,7 +46,7 @@ fn outcome_of(kept: usize, reason: Option<Reason>) -> Outcome
     }
 }
 
-// So many are kept with a node that was tried, where so many were kept before it.
+// How many nodes are kept after one that was tried, where `kept` were kept before it.
 fn count_with(kept: usize, reason: Option<Reason>) -> usize
     requires few { kept + 1 < 2 ^ 64 }
     ensures { result ≡ count_after kept reason }

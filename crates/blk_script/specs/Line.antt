@@ -1,4 +1,4 @@
--- What a script line says.
+-- How a script line is parsed to a request.
 use Rattle.std.specs.Prelude.{ℕ, true, false, ◌==◌, nat_lt, if◌then◌else◌, List, [], ◌∷◌, length, codes, Result, Ok, Err}
 use Rattle.std.specs.Str.{bytes_eq}
 use Rattle.blk_model.specs.Request.{Request, to_create, to_open, to_read, to_write, to_size, to_sparse_write, to_sparse_read, to_sparse_range, to_doom, to_doom_key, to_close, to_flush, to_list, to_trim, to_total}
@@ -8,76 +8,76 @@ use Rattle.blk_script.specs.declared.words.Word.{Word}
 use Rattle.blk_script.specs.declared.words.Word.TheVariants as word
 use Rattle.blk_script.specs.Fields.{◌>>=◌, line_fields, number_field, data_field, key_field}
 
--- the number of a handle
+-- a field with the number of a handle (at most 65535 here; which ones name something is checked later)
 abbrev pub handle_field : List ℕ → Result ℕ LineFault
 handle_field = number_field 65535
 
--- the number of a stream
+-- a field with the number of a stream (at most 255 here; which ones exist is checked later)
 abbrev pub stream_field : List ℕ → Result ℕ LineFault
 stream_field = number_field 255
 
--- a number of 64 bits
+-- a field with a 64-bit number
 abbrev pub count_field : List ℕ → Result ℕ LineFault
 count_field = number_field 18446744073709551615
 
--- no field comes after the word
+-- the request, if no field comes after the command's word
 abbrev pub no_fields : Request → List (List ℕ) → Result Request LineFault
 no_fields request [] = Ok request
 no_fields request (field ∷ fields) = Err fault.FieldCount
 
--- one field comes after the word
+-- the request that one field gives, or FieldCount if there isn't exactly one
 abbrev pub one_field : (List ℕ → Result Request LineFault) → List (List ℕ) → Result Request LineFault
 one_field read (a ∷ []) = read a
 one_field read _ = Err fault.FieldCount
 
--- two fields come after the word
+-- the request that two fields give, or FieldCount if there aren't exactly two
 abbrev pub two_fields : (List ℕ → List ℕ → Result Request LineFault) → List (List ℕ) → Result Request LineFault
 two_fields read (a ∷ b ∷ []) = read a b
 two_fields read _ = Err fault.FieldCount
 
--- three fields come after the word
+-- the request that three fields give, or FieldCount if there aren't exactly three
 abbrev pub three_fields : (List ℕ → List ℕ → List ℕ → Result Request LineFault) → List (List ℕ) → Result Request LineFault
 three_fields read (a ∷ b ∷ c ∷ []) = read a b c
 three_fields read _ = Err fault.FieldCount
 
--- four fields come after the word
+-- the request that four fields give, or FieldCount if there aren't exactly four
 abbrev pub four_fields : (List ℕ → List ℕ → List ℕ → List ℕ → Result Request LineFault) → List (List ℕ) → Result Request LineFault
 four_fields read (a ∷ b ∷ c ∷ d ∷ []) = read a b c d
 four_fields read _ = Err fault.FieldCount
 
--- fields are read from the left, and the first that fails decides: a handle and a key
+-- a request with a handle and a key. Fields are parsed from the left, and the first that fails gives the error
 abbrev pub handle_and_key : (ℕ → List ℕ → Request) → List ℕ → List ℕ → Result Request LineFault
 handle_and_key make h k = do
   handle ← handle_field h
   key ← key_field k
   Ok (make handle key)
 
--- a handle alone
+-- a request with a handle alone
 abbrev pub handle_alone : (ℕ → Request) → List ℕ → Result Request LineFault
 handle_alone make h = do
   handle ← handle_field h
   Ok (make handle)
 
--- a key alone
+-- a request with a key alone
 abbrev pub key_alone : (List ℕ → Request) → List ℕ → Result Request LineFault
 key_alone make k = do
   key ← key_field k
   Ok (make key)
 
--- a number alone
+-- a request with a number alone
 abbrev pub number_alone : (ℕ → Request) → List ℕ → Result Request LineFault
 number_alone make n = do
   number ← count_field n
   Ok (make number)
 
--- a handle and a stream
+-- a request with a handle and a stream
 abbrev pub handle_and_stream : (ℕ → ℕ → Request) → List ℕ → List ℕ → Result Request LineFault
 handle_and_stream make h s = do
   handle ← handle_field h
   stream ← stream_field s
   Ok (make handle stream)
 
--- a handle, an offset and a count
+-- a request with a handle, an offset and a count
 abbrev pub handle_and_range : (ℕ → ℕ → ℕ → Request) → List ℕ → List ℕ → List ℕ → Result Request LineFault
 handle_and_range make h o c = do
   handle ← handle_field h
@@ -85,7 +85,7 @@ handle_and_range make h o c = do
   count ← count_field c
   Ok (make handle offset count)
 
--- a handle, an offset and data
+-- a request with a handle, an offset and data
 abbrev pub handle_and_data : (ℕ → ℕ → List ℕ → Request) → List ℕ → List ℕ → List ℕ → Result Request LineFault
 handle_and_data make h o d = do
   handle ← handle_field h
@@ -93,7 +93,7 @@ handle_and_data make h o d = do
   bytes ← data_field d
   Ok (make handle offset bytes)
 
--- a handle, a stream, an offset and a count
+-- a request with a handle, a stream, an offset and a count
 abbrev pub stream_and_range : (ℕ → ℕ → ℕ → ℕ → Request) → List ℕ → List ℕ → List ℕ → List ℕ → Result Request LineFault
 stream_and_range make h s o c = do
   handle ← handle_field h
@@ -102,7 +102,7 @@ stream_and_range make h s o c = do
   count ← count_field c
   Ok (make handle stream offset count)
 
--- a handle, a stream, an offset and data
+-- a request with a handle, a stream, an offset and data
 abbrev pub stream_and_data : (ℕ → ℕ → ℕ → List ℕ → Request) → List ℕ → List ℕ → List ℕ → List ℕ → Result Request LineFault
 stream_and_data make h s o d = do
   handle ← handle_field h
@@ -111,7 +111,7 @@ stream_and_data make h s o d = do
   bytes ← data_field d
   Ok (make handle stream offset bytes)
 
--- what the fields after a word say
+-- how the fields after a command's word are parsed
 unfoldable pub reading : Word → List (List ℕ) → Result Request LineFault
 reading word.Create = two_fields (handle_and_key to_create)
 reading word.Open = two_fields (handle_and_key to_open)
@@ -130,7 +130,7 @@ reading word.Trim = one_field (number_alone to_trim)
 reading word.List = no_fields to_list
 reading word.Total = no_fields to_total
 
--- the words as they are written, each with what the fields after it say
+-- the words of the language as they are written, each with how the fields after it are parsed
 unfoldable pub command_words : List (List ℕ × (List (List ℕ) → Result Request LineFault))
 command_words =
     (codes "create", reading word.Create)
@@ -151,21 +151,21 @@ command_words =
     ∷ (codes "total", reading word.Total)
     ∷ []
 
--- what the fields after a word say, by the first line of a table with that word
+-- the request that a word and its fields give, by the first entry of the table with that word
 abbrev pub by_word : List ℕ → List (List ℕ) → List (List ℕ × (List (List ℕ) → Result Request LineFault)) → Result Request LineFault
 by_word word fields [] = Err fault.UnknownWord
 by_word word fields (line ∷ table) = if bytes_eq word line.0 then line.1 fields else by_word word fields table
 
--- what the fields of a line say
+-- the request that the fields of a line give
 abbrev pub by_fields : List (List ℕ) → Result Request LineFault
 by_fields [] = Err fault.UnknownWord
 by_fields (word ∷ fields) = by_word word fields command_words
 
--- no line is longer, its end left aside
+-- the most bytes of a line, without its end
 abbrev pub longest_line : ℕ
 longest_line = 2200000
 
--- the command that a line says, or its first fault
+-- the request that a line gives, or its parse error
 unfoldable pub read_text : List ℕ → Result Request LineFault
 read_text line =
     if nat_lt longest_line (length line) then Err fault.TooLong

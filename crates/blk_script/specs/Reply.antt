@@ -11,7 +11,7 @@ use Rattle.blk_script.specs.declared.fault.LineFault.{LineFault}
 use Rattle.blk_script.specs.Faults.{fault_number, fault_name}
 use Rattle.blk_script.specs.Spelling.{number_text, key_text, data_text, line}
 
--- the line of a fault, its line counted from 1
+-- the line of a parse error, with the number of the script line, counted from 1
 abbrev pub line_fault_text : ℕ → LineFault → List ℕ
 line_fault_text number why = line (codes "fault" ∷ number_text number ∷ number_text (fault_number why) ∷ fault_name why ∷ [])
 
@@ -26,7 +26,7 @@ row_line (main_row key plain streams) = line (codes "main" ∷ key_text key ∷ 
 row_line (main_row key (sparse signature) streams) = line (codes "sparse" ∷ key_text key ∷ number_text (length streams.0) ∷ [])
 row_line (part_row key n value) = line (codes "part" ∷ key_text key ∷ number_text n ∷ number_text (length value.bytes) ∷ [])
 
--- the line of an answer; of one with bytes or rows, which have lines of their own, what comes at the end
+-- the line of an answer; for bytes and for listed rows, which are printed before, the line with their number
 abbrev pub answer_line : Answer → List ℕ
 answer_line answer.Done = line (codes "ok" ∷ [])
 answer_line (answer.Bytes n) = line (codes "data" ∷ number_text n ∷ [])
@@ -44,6 +44,6 @@ reply_text (answered a) = answer_line a
 reply_text (gave bytes) = line (codes "data" ∷ number_text (length bytes) ∷ data_text bytes ∷ [])
 reply_text (showed rows) = flat_map row_line rows ++ answer_line (answer.Listed (length rows))
 
--- the text of evicted groups, a line for each item
+-- the text of evicted items, a line for each
 abbrev pub evicted_text : List Group → List ℕ
 evicted_text groups = flat_map evicted_line (flat_map items_of_group groups)

@@ -8,7 +8,7 @@ use hex::decode_to_slice;
 /// No data of a line has more digits.
 const LONGEST_DATA: usize = 2097152;
 
-/// The bytes that a field says, at the start of the buffer.
+/// The bytes that a field of data gives, at the start of the buffer.
 pub fn decode_data<'a>(field: &[u8], buffer: &'a mut [u8]) -> Result<&'a [u8], LineFault>
     requires { length field.now ≤ length buffer.old }
     ensures { given (λ bytes. bytes.now) result ≡ data_field field.now }

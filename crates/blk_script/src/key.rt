@@ -8,7 +8,7 @@ ghost use Rattle.blk_script.specs.Fields.{is_key_byte, begins_with_hex, are_esca
 use crate::LineFault;
 use percent_encoding::percent_decode;
 
-/// The key that a field says, at the start of the buffer. A field is a word of a script line.
+/// The key that a field gives, at the start of the buffer. A field is one of a script line.
 #[tactic(auto, unfolding(crate::specs::Fields::key_field))]
 pub fn decode_key<'a>(field: &[u8], buffer: &'a mut [u8]) -> Result<&'a [u8], LineFault>
     requires { length field.now ≤ length buffer.old }
@@ -21,7 +21,7 @@ pub fn decode_key<'a>(field: &[u8], buffer: &'a mut [u8]) -> Result<&'a [u8], Li
     Ok(&buffer[..length])
 }
 
-/// Whether a field says a key.
+/// Whether a field is one of a key.
 #[tactic(auto, unfolding(crate::specs::Fields::key_field))]
 pub fn is_key(field: &[u8]) -> bool
     ensures { result ≡ is_key_text field.now }

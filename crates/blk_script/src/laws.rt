@@ -6,12 +6,12 @@ ghost use Rattle.blk_script.specs.Line.{longest_line, read_text};
 ghost use Rattle.blk_script.specs.Spelling.{line_of, data_text, data_in};
 ghost use Rattle.blk_model.specs.Items.{IsBytes};
 
-/// A command is read as it is printed, where its line and its data are not too long.
+/// A command that is printed is read back as the same, where its line and its data are not too long.
 pub fn commands_are_read_as_printed()
     ensures { (request : Request) → IsRequest request → length (line_of request) ≤ longest_line → length (data_text (data_in request)) ≤ longest_data → read_text (line_of request) ≡ Ok request }
 {}
 
-/// What a line of bytes says is a command in the ranges of the types.
+/// The command that a line of bytes gives has numbers in the ranges of their types.
 pub fn commands_are_in_range()
     ensures { (line : List ℕ) → IsBytes line → IfOk (read_text line) IsRequest }
 {}

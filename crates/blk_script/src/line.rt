@@ -12,8 +12,8 @@ use blk_model::Command;
 /// No line has more bytes, its end left aside.
 pub const LONGEST_LINE: usize = 2200000;
 
-/// The command that a line says, or its first fault. The line comes without its end. The key or the data of the command
-/// is decoded into the start of the buffer.
+/// The command that a line gives, or its first parse error. The line comes without its end. The key or the data of the command is decoded into the start of the
+/// buffer.
 pub fn read_line<'a>(line: &[u8], buffer: &'a mut [u8]) -> Result<Command<'a>, LineFault>
     requires { length line.now ≤ length buffer.old }
     ensures { given request_of result ≡ read_text line.now }

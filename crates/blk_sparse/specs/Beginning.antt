@@ -1,4 +1,4 @@
--- A plain object becomes the parent of an index: its third stream gets the index, and then its record the flags of a parent.
+-- A plain object becomes a sparse entry: its third stream gets an index, and then its record gets the flags of a parent.
 use Rattle.std.specs.Prelude.{◌≡◌, ◌≤◌, ◌<◌, ℕ, List, [], ◌∷◌, length, false, true}
 use Rattle.std.specs.declared.option.Option.TheVariants.{Some}
 use Rattle.spec_image.specs.Image.{Image}
@@ -17,15 +17,16 @@ use Rattle.law_state.specs.ObjectLaws.{layout_after}
 use Rattle.law_state.specs.PartStates.{with_object}
 use Rattle.blk_sparse.specs.SparseObjects.{CanBecomeSparse}
 
--- the flags of a parent, as a change of its record
+-- the change of a record that sets the flags of a parent
 abbrev pub parent_change : List (ℕ × ℕ)
 parent_change = (72, 1) ∷ []
 
--- the object as a sparse one without the bytes of an index
+-- the object as a sparse one of this generation, without the index in its third stream
 abbrev pub as_sparse : Object → ℕ → Object
 as_sparse object signature = record object { shape = sparse signature; streams = (object.streams.0, [], []) }
 
--- a state is kept, in which a live object is dirty and is plain; at its node lies what has the index of a parent in its third stream, and nothing in its second
+-- precondition: the folder keeps a state (but for the counters) in which a dirty live object is plain, though its third stream is already the index of a
+-- parent, and its second is empty; its record is at address `entry`
 pub record CanGetIndex (state : State) (layout : Layout) (unlinked : List ℕ) (number : ℕ) (object : Object) (was : Loaded) (index : ParentIndex) (entry : ℕ) (image : Image) : Type 0 where
   pub kept : KeepsUncounted state layout unlinked image
   pub here : object_at state number ≡ Some object
@@ -39,32 +40,33 @@ pub record CanGetIndex (state : State) (layout : Layout) (unlinked : List ℕ) (
   pub key_len : index.key_len ≡ length was.key
   pub valid : IsValidState (with_object state number (as_sparse object index.signature))
 
--- what holds of each such object
+-- P holds of each plain object whose third stream is the index of a parent and whose record is at address `entry`, wherever a folder keeps a state
 abbrev pub ForEachWithIndex : (entry : ℕ) → Image → (State → Layout → List ℕ → ℕ → Object → Loaded → ParentIndex → Type 0) → Type 0
 ForEachWithIndex entry from P =
     (state : State) (layout : Layout) (unlinked : List ℕ) (number : ℕ) (object : Object) (was : Loaded) (index : ParentIndex)
     → CanGetIndex state layout unlinked number object was index entry from → P state layout unlinked number object was index
 
--- the state with the object sparse is kept but for the counters, which are as they were, and so is the session; at its node lies the same as a parent
+-- the folder keeps the state in which the object is sparse, but for the counters; these and the session are unchanged, and at its node lies the same as before,
+-- as a parent
 pub record IsParentMarked (state : State) (layout : Layout) (unlinked : List ℕ) (number : ℕ) (object : Object) (was : Loaded) (index : ParentIndex) (from image : Image) : Type 0 where
   pub kept : KeepsUncounted (with_object state number (as_sparse object index.signature)) (layout_after layout (layout.place (main object.key)) (record was { role = IsParent index })) unlinked image
   pub counters : SameCounters from image
   pub session : SameSession from image
 
--- some bytes are the index of a parent, with this signature and the length of its key
+-- the bytes are the index of a parent of this generation, for a key of this length
 pub record HasIndex (signature key_len : ℕ) (bytes : List ℕ) : Type 0 where
   pub index : ParentIndex
   pub is : read_parent_index bytes ≡ Some index
   pub signature_is : index.signature ≡ signature
   pub key_len_is : index.key_len ≡ key_len
 
--- a record checks, and its key has a length that an object's may have
+-- the record's checksum matches or is absent, and the length of its key is one that an object's may have
 pub record HasParentLength (entry : ℕ) (image : Image) : Type 0 where
   pub checks : RecordChecks entry image
   pub some : 1 ≤ (entry_at image entry).key_len
   pub short : (entry_at image entry).key_len ≤ longest_key
 
--- what holds of each plain object that may become sparse, where some bytes are an index of it with a signature
+-- P holds of each plain object that may become sparse and has this record, and of each generation with which these bytes are an index of it
 abbrev pub ForEachPlainWith : (bytes : List ℕ) (entry : ℕ) → Image → (State → Layout → List ℕ → ℕ → Object → (node signature : ℕ) → Type 0) → Type 0
 ForEachPlainWith bytes entry from P =
     (state : State) (layout : Layout) (unlinked : List ℕ) (number : ℕ) (object : Object) (node signature : ℕ)

@@ -1,4 +1,4 @@
--- A part that there is gets a piece: its data, and then its map.
+-- A piece is written to a part that exists: its data, and then its validity bitmap.
 use Rattle.std.specs.Prelude.{◌≡◌, ℕ, ◌+◌, List, [], length}
 use Rattle.std.specs.declared.option.Option.TheVariants.{Some}
 use Rattle.spec_image.specs.Image.{Image}
@@ -20,7 +20,7 @@ use Rattle.blk_object.specs.Owning.{LoadsWith}
 use Rattle.blk_ranges.specs.PartMaps.{presence_in}
 use Rattle.blk_sparse.specs.SparseObjects.{CanGetParts, HasPartAt, KeepsParent, OthersLieAsBefore, with_piece}
 
--- some bytes are an index of a part, in which, after an old one, what is written between two places is present
+-- the bytes are an index of a part, with the bitmap of an old index and the bytes from `from` to `to` marked as valid in it
 pub record NotesWrite (old : PartIndex) (from to : ℕ) (bytes : List ℕ) : Type 0 where
   pub index : PartIndex
   pub is : read_part_index bytes ≡ Some index
@@ -28,7 +28,7 @@ pub record NotesWrite (old : PartIndex) (from to : ℕ) (bytes : List ℕ) : Typ
   pub key_len : index.key_len ≡ old.key_len
   pub presence : presence_in index ≡ presence_after (presence_in old) from to
 
--- what a node names by some rule, with this record, is a part with this index
+-- what is loaded with the record at address `entry` is a part with this index
 pub record LoadsAsPart (entry : ℕ) (image : Image) : Type 0 where
   pub loaded : Loaded
   pub loads : LoadsWith entry loaded image
@@ -36,7 +36,7 @@ pub record LoadsAsPart (entry : ℕ) (image : Image) : Type 0 where
   pub index : PartIndex
   pub role : loaded.role ≡ IsPart name index
 
--- a part of a dirty object lies at its node with this record, and these bytes are its index after a piece
+-- precondition: part n of a dirty sparse object has the record at address `of_part`, and `bytes` are its index after a piece is written at `place`
 pub record IsToBeChanged (state : State) (layout : Layout) (unlinked : List ℕ) (number : ℕ) (object : Object) (node entry signature n of_part place : ℕ) (piece bytes : List ℕ) (image : Image) : Type 0 where
   pub grows : CanGetParts [] state layout unlinked number object node entry signature image
   pub at : HasPartAt layout object n of_part
@@ -45,13 +45,14 @@ pub record IsToBeChanged (state : State) (layout : Layout) (unlinked : List ℕ)
   pub role : at.was.role ≡ IsPart name index
   pub noted : NotesWrite index place (place + length piece) bytes
 
--- what holds of each such part
+-- P holds of each part with this record to which the piece may be written, and of which `bytes` are the index afterwards
 abbrev pub ForEachToBeChanged : (of_part place : ℕ) (piece bytes : List ℕ) → Image → (State → Layout → List ℕ → ℕ → Object → (node entry signature n : ℕ) → Type 0) → Type 0
 ForEachToBeChanged of_part place piece bytes from P =
     (state : State) (layout : Layout) (unlinked : List ℕ) (number : ℕ) (object : Object) (node entry signature n : ℕ)
     → IsToBeChanged state layout unlinked number object node entry signature n of_part place piece bytes from → P state layout unlinked number object node entry signature n
 
--- the state with the piece is kept, before the part is used; it lies at its node with its record still, and each other object where it lay
+-- the folder keeps the state in which the piece is written and the part isn't accessed yet, but for the counters; these, the session, the part's record and the
+-- place of each other object are unchanged
 pub record IsChangedUnused (state : State) (old : Layout) (unlinked : List ℕ) (number : ℕ) (object : Object) (node entry signature n of_part place : ℕ) (piece : List ℕ) (from image : Image) : Type 0 where
   pub now : Layout
   pub parent : KeepsParent (with_object state number (with_piece object n place piece)) now unlinked number (with_piece object n place piece) node entry signature image
@@ -60,9 +61,10 @@ pub record IsChangedUnused (state : State) (old : Layout) (unlinked : List ℕ) 
   pub counters : SameCounters from image
   pub session : SameSession from image
 
--- Its order.
+-- The order of its writes.
 
--- at some moment between the part has the bytes of the piece, and its map is the one that it had: that state is kept there; the old durable contents are recovered before and after
+-- the data of the piece is written before the bitmap: at some moment between, the folder keeps the state in which the part has the new bytes and its old
+-- bitmap; before and after that, recovery gives the old durable contents
 pub record IsDataBeforeMap (state : State) (unlinked : List ℕ) (number : ℕ) (object : Object) (n place : ℕ) (piece : List ℕ) (old new : Told) : Type 0 where
   pub between : Told
   pub image : Image

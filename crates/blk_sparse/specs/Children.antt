@@ -1,4 +1,4 @@
--- The parts of a parent go, by the key that its record gives.
+-- The parts of a sparse object are removed, by the key in its record.
 use Rattle.std.specs.Prelude.{◌≡◌, ◌≤◌, ℕ, List, Bool, length, true}
 use Rattle.spec_image.specs.Image.{Image}
 use Rattle.blk_model.specs.Items.{Item, main}
@@ -9,7 +9,8 @@ use Rattle.spec_folder.specs.Loads.{Loaded}
 use Rattle.blk_object.specs.Owning.{LoadsWith}
 use Rattle.blk_sparse.specs.Dropping.{AreLeft, HasSignature}
 
--- the listed main item of an object, which lay at this node, is out, and perhaps parts of it, and what is left is counted; it has a parent's index with this signature, and its record, this one, loads yet
+-- the main item of a sparse object is out of list and chain, and perhaps some of its parts; its record (at address `entry`, of this generation) still loads,
+-- and the index counts the items that are left
 pub record IsParentOut (state : State) (layout : Layout) (keep : Item → Bool) (chains : ℕ → List ℕ) (unlinked : List ℕ) (number : ℕ) (object : Object) (node entry signature : ℕ) (image : Image) : Type 0 where
   pub left : AreLeft state layout keep chains unlinked object.key number object image
   pub listed : is_listed state (main object.key) ≡ true
@@ -17,13 +18,13 @@ pub record IsParentOut (state : State) (layout : Layout) (keep : Item → Bool) 
   pub parent : HasSignature layout object.key signature
   pub loads : LoadsWith entry parent.was image
 
--- what holds wherever a parent is out so
+-- P holds of each sparse object with this node, this record and this generation whose main item is out, and perhaps some of its parts
 abbrev pub ForEachParentOut : (node entry signature : ℕ) → Image → (State → Layout → (keep : Item → Bool) → List ℕ → ℕ → Object → Type 0) → Type 0
 ForEachParentOut node entry signature from P =
     (state : State) (layout : Layout) (keep : Item → Bool) (chains : ℕ → List ℕ) (unlinked : List ℕ) (number : ℕ) (object : Object)
     → IsParentOut state layout keep chains unlinked number object node entry signature from → P state layout keep unlinked number object
 
--- what a node names by some rule, with this record, has this key, which a parent may have
+-- what is loaded with the record at address `entry` has this key, whose length is one that an object's may have
 pub record HasParentKey (entry : ℕ) (key : List ℕ) (image : Image) : Type 0 where
   pub loaded : Loaded
   pub loads : LoadsWith entry loaded image

@@ -1,4 +1,4 @@
--- The parts of an object go after its main item, one after another, in the order of the LRU list.
+-- The parts of an object are removed after its main item, one after another, in the order of the LRU list.
 use Rattle.std.specs.Prelude.{◌≡◌, ℕ, List, ◌∷◌, ◌++◌, Bool, Option, None, Some, false, filter, length, true}
 use Rattle.std.specs.Int.{cast_unsigned, w64}
 use Rattle.std.specs.List.{FoldsTo}
@@ -21,9 +21,9 @@ use Rattle.blk_sparse.specs.declared.dropping.Dropped.{Dropped}
 use Rattle.blk_sparse.specs.declared.dropping.Gone.{Gone}
 use Rattle.blk_sparse.specs.declared.dropping.IndexedParts.{IndexedParts}
 
--- Where parts go.
+-- What is known of the parts.
 
--- the main item of a key, out or not, has a parent's index with this signature
+-- the main item of a key, whether listed or not, is a parent of this generation
 pub record HasSignature (layout : Layout) (key : List ℕ) (signature : ℕ) : Type 0 where
   pub was : Loaded
   pub here : layout.at (layout.place (main key)) ≡ Some was
@@ -31,16 +31,17 @@ pub record HasSignature (layout : Layout) (key : List ℕ) (signature : ℕ) : T
   pub role : was.role ≡ IsParent index
   pub same : index.signature ≡ signature
 
--- no bit of an index is set
+-- by its bits the index has no part
 abbrev pub HasNoBit : ParentIndex → Type 0
 HasNoBit index = (n : ℕ) → index.has_part n ≡ false
 
--- the main item of a key, out or not, has a parent's index that says so of its parts: this signature, and no bit where none is said
+-- the main item of a key, whether listed or not, is a parent of which the index has this generation, and no part's bit where `indexed` says that there is none
 pub record HasIndexedParts (layout : Layout) (key : List ℕ) (indexed : IndexedParts) : Type 0 where
   pub parent : HasSignature layout key (cast_unsigned w64 indexed.signature)
   pub none : indexed.any ≡ false → HasNoBit parent.index
 
--- the main item of an object with a key is out, and perhaps parts of it, no item of another key is, and what is left is counted
+-- the main item of an object with this key is out of list and chain, and perhaps some of its parts; no item of another key is, and the index counts the items
+-- that are left
 pub record AreLeft (state : State) (layout : Layout) (keep : Item → Bool) (chains : ℕ → List ℕ) (unlinked : List ℕ) (key : List ℕ) (number : ℕ) (object : Object) (image : Image) : Type 0 where
   pub kept : KeepsPartlyOut state layout keep chains unlinked image
   pub counted : CountsLeft state layout keep image
@@ -48,37 +49,37 @@ pub record AreLeft (state : State) (layout : Layout) (keep : Item → Bool) (cha
   pub of_key : object.key ≡ key
   pub others : LeavesOtherKeys key keep
 
--- what holds wherever that is so, with a signature by which the parts are named
+-- P holds of each object with this key and this generation whose main item is out, and perhaps some of its parts
 abbrev pub ForEachLeft : (key : List ℕ) (signature : ℕ) → Image → (State → Layout → (keep : Item → Bool) → List ℕ → ℕ → Object → Type 0) → Type 0
 ForEachLeft key signature from P =
     (state : State) (layout : Layout) (keep : Item → Bool) (chains : ℕ → List ℕ) (unlinked : List ℕ) (number : ℕ) (object : Object)
     → AreLeft state layout keep chains unlinked key number object from → HasSignature layout key signature
     → P state layout keep unlinked number object
 
--- the same, with what the index says of the parts
+-- P holds of each object with this key and an index as `indexed` says whose main item is out, and perhaps some of its parts
 abbrev pub ForEachIndexed : (key : List ℕ) (indexed : IndexedParts) → Image → (State → Layout → (keep : Item → Bool) → List ℕ → ℕ → Object → Type 0) → Type 0
 ForEachIndexed key indexed from P =
     (state : State) (layout : Layout) (keep : Item → Bool) (chains : ℕ → List ℕ) (unlinked : List ℕ) (number : ℕ) (object : Object)
     → AreLeft state layout keep chains unlinked key number object from → HasIndexedParts layout key indexed
     → P state layout keep unlinked number object
 
--- What is told of them.
+-- What a call answers.
 
--- these items went, with their charges
+-- the answer of a removal: how many items were removed, and the sum of their costs
 pub record AreGone (layout : Layout) (items : List Item) (gone : Gone) : Type 0 where
   pub many : gone.items ≡ length items
   pub charged : gone.bytes ≡ charges_at layout (nodes_of layout items)
 
--- a closure was called with a prefix of some numbers, one after another
+-- `call` was made for a prefix of the numbers, one after another
 pub record IsCalledOverPrefix (E : Type 0) (call : E → ℕ → E → Type 0) (numbers : List ℕ) (old new : E) : Type 0 where
   pub front : List ℕ
   pub others : List ℕ
   pub split : numbers ≡ front ++ others
   pub called : FoldsTo call old front new
 
--- In the end.
+-- The outcome.
 
--- all items of a key are out, and what is left is counted
+-- all items of a key are out, and the index counts those that are left
 pub record IsWholeDropped (state : State) (layout : Layout) (unlinked key : List ℕ) (image : Image) : Type 0 where
   pub chains : ℕ → List ℕ
   pub kept : KeepsPartlyOut state layout (is_of_another key) chains unlinked image
@@ -86,7 +87,7 @@ pub record IsWholeDropped (state : State) (layout : Layout) (unlinked key : List
 
 -- One part after another.
 
--- none of the items of a list up to this node, the first of them or further ones, is a part of a key; these are after it
+-- a walk of the list has come to `node` (None at its begin) and met no part of the key; `items` are those behind it
 pub record IsBehind (layout : Layout) (key : List ℕ) (all : List Item) (node : Option ℕ) : Type 0 where
   pub front : List Item
   pub items : List Item
@@ -94,14 +95,14 @@ pub record IsBehind (layout : Layout) (key : List ℕ) (all : List Item) (node :
   pub none : HaveNoPart key front
   pub last : node ≡ last_node_of (nodes_of layout front)
 
--- what holds wherever parts are left, and those that are left are after a node, or none is given and they are anywhere
+-- P holds wherever parts of the key may be left, all of them behind `node` in the list, or anywhere where that is None
 abbrev pub ForEachBehind : (key : List ℕ) (signature : ℕ) (node : Option ℕ) → Image → ((state : State) (layout : Layout) (keep : Item → Bool) → List ℕ → ℕ → Object → IsBehind layout key (filter keep state.uses) node → Type 0) → Type 0
 ForEachBehind key signature node from P =
     (state : State) (layout : Layout) (keep : Item → Bool) (chains : ℕ → List ℕ) (unlinked : List ℕ) (number : ℕ) (object : Object)
     → AreLeft state layout keep chains unlinked key number object from → HasSignature layout key signature → (is : IsBehind layout key (filter keep state.uses) node)
     → P state layout keep unlinked number object is
 
--- the first of the parts after a node is out too: this number, with its charge, after this node
+-- the first part of the key behind the node is out too: its number, its cost, and the node before it in the list are told
 pub record IsNextOut (state : State) (layout : Layout) (keep : Item → Bool) (unlinked key : List ℕ) (number : ℕ) (object : Object) (front items : List Item) (dropped : Dropped) (image : Image) : Type 0 where
   pub passed : List Item
   pub behind : List Item
@@ -114,12 +115,12 @@ pub record IsNextOut (state : State) (layout : Layout) (keep : Item → Bool) (u
   pub chains : ℕ → List ℕ
   pub left : AreLeft state layout (keeps_but keep (part key dropped.number)) chains unlinked key number object image
 
--- or none of the items after the node is a part of the key, and all is as before
+-- a removal of the next part: the first behind the node is out, or None where no item behind it is a part of the key, and nothing has changed
 abbrev pub IsDropOfNext : (state : State) (layout : Layout) (keep : Item → Bool) (unlinked key : List ℕ) (number : ℕ) (object : Object) (front items : List Item) (next : Option Dropped) (from image : Image) → Type 0
 IsDropOfNext state layout keep unlinked key number object front items None from image = HaveNoPart key items × (image ≡ from)
 IsDropOfNext state layout keep unlinked key number object front items (Some dropped) from image = IsNextOut state layout keep unlinked key number object front items dropped image
 
--- a part that isn't out lies at a node
+-- part n of a key is listed and not out, and lies at this node
 pub record IsPartLeft (state : State) (layout : Layout) (keep : Item → Bool) (key : List ℕ) (n node : ℕ) : Type 0 where
   pub listed : is_listed state (part key n) ≡ true
   pub stays : keep (part key n) ≡ true
@@ -127,14 +128,14 @@ pub record IsPartLeft (state : State) (layout : Layout) (keep : Item → Bool) (
   pub here : layout.at (layout.place (part key n)) ≡ Some was
   pub node_is : layout.place (part key n) ≡ node
 
--- what holds wherever parts are left, of one of them that lies at a node
+-- P holds, with what is loaded at the node, wherever part n of the key is left at this node
 abbrev pub ForEachPartLeft : (key : List ℕ) (signature n node : ℕ) → Image → ((state : State) (layout : Layout) (keep : Item → Bool) → List ℕ → ℕ → Object → Loaded → Type 0) → Type 0
 ForEachPartLeft key signature n node from P =
     (state : State) (layout : Layout) (keep : Item → Bool) (chains : ℕ → List ℕ) (unlinked : List ℕ) (number : ℕ) (object : Object)
     → AreLeft state layout keep chains unlinked key number object from → HasSignature layout key signature → (p : IsPartLeft state layout keep key n node)
     → P state layout keep unlinked number object p.was
 
--- it is out too, in chains that are some
+-- part n of the key is out too, whatever the chains are now
 pub record IsPartDropped (state : State) (layout : Layout) (keep : Item → Bool) (unlinked key : List ℕ) (number : ℕ) (object : Object) (n : ℕ) (image : Image) : Type 0 where
   pub chains : ℕ → List ℕ
   pub left : AreLeft state layout (keeps_but keep (part key n)) chains unlinked key number object image

@@ -1,4 +1,4 @@
--- A new part of a sparse object: its places, its record with its two streams, and what is kept while it is made.
+-- A new part of a sparse object: its addresses, its record with two streams, and the state that is kept while it is made.
 use Rattle.std.specs.Prelude.{◌≡◌, ◌⊎◌, ℕ, ◌+◌, ◌/◌, ◌<◌, ◌≤◌, List, [], ◌∷◌, ◌++◌, length, map, false, is_some, slice_index, true, if◌then◌else◌}
 use Rattle.std.specs.Int.{cast_unsigned, w64}
 use Rattle.std.specs.declared.option.Option.{Option}
@@ -49,44 +49,44 @@ use Rattle.blk_object.specs.Making.{Takes, words_of_places}
 use Rattle.blk_sparse.specs.declared.new_part.PartPlaces.{PartPlaces}
 use Rattle.blk_sparse.specs.SparseObjects.{CanGetParts}
 
--- Its streams.
+-- The streams.
 
--- bytes are stored at a word, and no others
+-- exactly these bytes are stored at the address word w
 abbrev pub AreStoredAt : ℕ → List ℕ → Image → Type 0
 AreStoredAt w bytes image = (store_of image).stored (length bytes) w ≡ Some bytes
 
--- Its places.
+-- The addresses.
 
--- the address words of the places of a new part: its node, its record, its name where that doesn't lie in the record, and its two streams
+-- the addresses of a new part: of its node, its record, its name if that is a long key, and its two streams
 abbrev pub words_of_part : PartPlaces → List ℕ
 words_of_part places = words_of_places places.places ++ (places.stored ∷ places.index ∷ [])
 
--- they were taken, and the bytes of its data and of its index are stored there
+-- the addresses of a new part were allocated, and the bytes of its data and of its index are stored there
 pub record TakesPart (places : PartPlaces) (bytes index : List ℕ) (from image : Image) : Type 0 where
   pub taken : Takes (words_of_part places) from image
   pub stored : AreStoredAt places.stored bytes image
   pub index_stored : AreStoredAt places.index index image
 
--- Its record.
+-- The record.
 
--- the entry of a part at its places, with the word of the next record; a part isn't marked
+-- the entry of a new part at these addresses, with the next record of its chain; the dirty flag of a part is 0
 abbrev pub child_entry : Places → ℕ → NewEntry
 child_entry places next = record { entry = places.entry; node = places.node; long_key = places.long_key; child = true; dirty = 0; next = next }
 
--- the two streams of a part at their places
+-- the two streams of a new part, with their addresses
 abbrev pub streams_of_part : PartPlaces → List ℕ → List ℕ → PartStreams
 streams_of_part places bytes index = record { stored = bytes; index = index; stored_addr = places.stored; index_addr = places.index }
 
--- what it loads
+-- what a new part is loaded as
 abbrev pub new_part : PartPlaces → List ℕ → List ℕ → List ℕ → Role → Loaded
 new_part places name bytes index role = loaded_part (child_entry places.places 0) name (streams_of_part places bytes index) role
 
--- a node lies nowhere in a layout, and no chain of it has this record
+-- the layout has nothing at this node, and none of its chains has a record in these blocks
 pub record IsNobodys (node entry : ℕ) (layout : Layout) : Type 0 where
   pub nobody : layout.at node ≡ None
   pub fresh : (bucket : ℕ) → bucket < table_length → is_among (map file_and_block (layout.chains bucket)) (file_and_block entry) ≡ false
 
--- its record and its node are written, without streams yet, and its next is the word of its bucket; nothing else has changed
+-- record and node of a new part are written, without streams yet; the record's next is the head of its bucket, and nothing else has changed
 pub record IsChildWritten (places : Places) (name : List ℕ) (moment : ℕ) (from image : Image) : Type 0 where
   pub next : ℕ
   pub follows : next ≡ (store_of from).table (bucket_of_key name)
@@ -97,19 +97,19 @@ pub record IsChildWritten (places : Places) (name : List ℕ) (moment : ℕ) (fr
   pub counters : SameCounters from image
   pub apart : (state : State) (layout : Layout) (unlinked : List ℕ) → KeepsUncounted state layout (words_of_places places ++ unlinked) from → IsNobodys places.node places.entry layout
 
--- a record was given the sizes and the words of its second and third stream, by one sealed update
+-- sizes and addresses of the second and third stream were set in the record, in one update with a new checksum, and nothing outside the record has changed
 pub record HasStreamsNow (entry : ℕ) (streams : PartStreams) (from image : Image) : Type 0 where
   pub updated : IsUpdated from entry (stream_changes streams) image
   pub outside : SameOutside (record_range entry) from image
 
--- a part is there: it loads by itself, its record's next is the word of its bucket, its node checks, and both are sealed
+-- the part is written: it loads by itself, its record's next is the head of its bucket, and the checksums of node and record match
 pub record IsPartLoaded (loaded : Loaded) (image : Image) : Type 0 where
   pub loads : load (store_of image) (unchained_rule entry_normal) loaded.node ≡ Ok loaded
   pub follows : (store_of image).chain_next loaded.contents ≡ (store_of image).table (bucket_of_hash (hash loaded.key))
   pub good : (list_of image).checks loaded.node ≡ true
   pub sealed : AreSealed image loaded
 
--- these are the bytes of the two streams of a part with a name, which are stored at its places, and what it is by them
+-- `bytes` and `index` are stored at the part's addresses, have lengths that a part's may have, and give it this role
 pub record ArePartStreams (places : PartPlaces) (name bytes index : List ℕ) (role : Role) (image : Image) : Type 0 where
   pub stored : AreStoredAt places.stored bytes image
   pub index_stored : AreStoredAt places.index index image
@@ -117,35 +117,35 @@ pub record ArePartStreams (places : PartPlaces) (name bytes index : List ℕ) (r
   pub long : length index ≡ part_index_length
   pub role_is : part_role name ([] ∷ bytes ∷ index ∷ []) ≡ Some role
 
--- a state is kept with the words of a part unlinked, which is there, and was nobody's
+-- the folder keeps a state with the addresses of a new part unlinked; the part is written, and the layout has nothing at its addresses
 pub record KeepsPart (state : State) (layout : Layout) (unlinked : List ℕ) (places : PartPlaces) (loaded : Loaded) (image : Image) : Type 0 where
   pub kept : KeepsUncounted state layout (words_of_part places ++ unlinked) image
   pub there : IsPartLoaded loaded image
   pub nobodys : IsNobodys places.places.node places.places.entry layout
 
--- each state that was kept with the words of a part unlinked is kept so, by the same counters and in the same session, and the part is there
+-- each state that was kept with the addresses of the part unlinked is kept so, the part is written, and counters and session are unchanged
 pub record WritesPart (places : PartPlaces) (name bytes index : List ℕ) (role : Role) (from image : Image) : Type 0 where
   pub there : (state : State) (layout : Layout) (unlinked : List ℕ) → KeepsUncounted state layout (words_of_part places ++ unlinked) from → KeepsPart state layout unlinked places (new_part places name bytes index role) image
   pub words_are : words_of (new_part places name bytes index role) ≡ words_of_part places
   pub counters : SameCounters from image
   pub session : SameSession from image
 
--- Its place in the list and in its chain.
+-- Its place in the LRU list and in its chain.
 
--- a state is kept, with the words of a part unlinked, which is written; its object is dirty, so the durable contents are the same with it
+-- the folder keeps a state with the addresses of a part unlinked, which is written; since its object is dirty, the durable contents are the same with the part
 pub record IsPartToBeListed (state : State) (objects : List (Option Object)) (layout : Layout) (unlinked key : List ℕ) (n : ℕ) (was seen loaded : Loaded) (image : Image) : Type 0 where
   pub kept : KeepsUncounted state layout (words_of loaded ++ unlinked) image
   pub written : IsPartWritten (view_of image) state objects layout key n was seen loaded
   pub sealed : AreSealed image loaded
   pub same_rest : rest (with_first state objects (part key n)) ≡ rest state
 
--- what holds of each such part with this record and this node
+-- P holds of each written part with this record and this node that isn't listed yet, wherever a folder keeps a state
 abbrev pub ForEachPartToBeListed : (entry node : ℕ) → Image → (State → List (Option Object) → Layout → List ℕ → List ℕ → ℕ → Loaded → Loaded → Loaded → Type 0) → Type 0
 ForEachPartToBeListed entry node from P =
     (state : State) (objects : List (Option Object)) (layout : Layout) (unlinked key : List ℕ) (n : ℕ) (was seen loaded : Loaded) → IsPartToBeListed state objects layout unlinked key n was seen loaded from → loaded.contents ≡ entry → loaded.node ≡ node
     → P state objects layout unlinked key n was seen loaded
 
--- its node is in front of the list and its record in front of its chain, its parent is as it was, and nothing else has changed
+-- the part's node is the first of the list and its record the first of its chain, its parent is unchanged, and nothing else has changed
 pub record IsPartListed (state : State) (layout : Layout) (key : List ℕ) (n : ℕ) (was seen loaded : Loaded) (from image : Image) : Type 0 where
   pub making : IsMakingPart state layout key loaded (with_new_part layout key n seen loaded).chains image
   pub parent : load (store_of image) (rule_of layout (layout.place (main key))) (layout.place (main key)) ≡ Ok was
@@ -154,46 +154,46 @@ pub record IsPartListed (state : State) (layout : Layout) (key : List ℕ) (n : 
   pub part_sealed : AreSealed image loaded
   pub sealed : (node : ℕ) (other : Loaded) → layout.at node ≡ Some other → AreSealed image other
 
--- Its parent's bit.
+-- Its bit in the parent.
 
--- the place of the bit of a part, in its parent's index
+-- the offset in a parent's index of the byte that has the bit of part n
 abbrev pub place_of_bit : ℕ → ℕ
 place_of_bit n = 64 + n / 8
 
--- a record checks, and its third stream lies where a parent's index does
+-- the record's checksum matches or is absent, and the address of its third stream is storage for a parent's index
 pub record HasIndexPlace (files : BlockFiles) (entry : ℕ) (image : Image) : Type 0 where
   pub checks : RecordChecks entry image
   pub place : stores files parent_index_length (address_word image entry 2) ≡ true
 
--- nothing has changed, or nothing but the byte with the bit of a part, in the third stream of its parent, which lies where an index does
+-- nothing has changed, or only the byte with the bit of part n in the parent's third stream, whose address is storage for an index
 abbrev pub IsBeingNoted : BlockFiles → (entry n : ℕ) → Image → Image → Type 0
 IsBeingNoted files entry n from image = (image ≡ from) ⊎ ((stores files parent_index_length (address_word from entry 2) ≡ true) × SameOutside (data_range (address_word from entry 2) (place_of_bit n) 1) from image)
 
--- the byte is written
+-- the byte was written: it lacked the bit of part n, has it now, and nothing else has changed
 pub record HasBitNow (w n was : ℕ) (from image : Image) : Type 0 where
   pub lacked : has_part_bit was n ≡ false
   pub same : SameOutside (data_range w (place_of_bit n) 1) from image
   pub byte_is : data_at image w (place_of_bit n) 1 ≡ with_part_bit was n ∷ []
 
--- the byte has the bit, and nothing has changed; or it is written with it
+-- the byte with the bit of part n: it had the bit, and nothing has changed, or it was written with it
 pub record IsBitNoted (entry n : ℕ) (from image : Image) : Type 0 where
   pub was : ℕ
   pub before : data_at from (address_word from entry 2) (place_of_bit n) 1 ≡ was ∷ []
   pub done : ((has_part_bit was n ≡ true) × (image ≡ from)) ⊎ HasBitNow (address_word from entry 2) n was from image
 
--- the index of a parent with the bit
+-- the bytes of a parent's index with the bit of part n set
 abbrev pub index_with_bit : List ℕ → ℕ → List ℕ
 index_with_bit bytes n =
     if has_part_bit (slice_index bytes (place_of_bit n)) n then bytes
     else overwritten bytes (place_of_bit n) (with_part_bit (slice_index bytes (place_of_bit n)) n ∷ [])
 
--- what the parent loads then
+-- what the parent is loaded as after the bit of part n is set
 abbrev pub with_noted : Loaded → ParentIndex → ℕ → Loaded
 with_noted was index n = with_bit_of was index n (stored_streams_with 2 (index_with_bit (stream 2 was.streams) n) was.streams)
 
--- What can be made.
+-- Preconditions.
 
--- the bytes are the index of a part after a first piece of so many bytes from a place on, of an object whose key has this length and whose index has this signature
+-- the bytes are the index of a part after its first piece, of `count` bytes at `place`, for an object with a key of this length and this generation
 pub record IsFirstIndex (signature key_len place count : ℕ) (bytes : List ℕ) : Type 0 where
   pub index : PartIndex
   pub is : read_part_index bytes ≡ Some index
@@ -201,22 +201,23 @@ pub record IsFirstIndex (signature key_len place count : ℕ) (bytes : List ℕ)
   pub key_len_is : index.key_len ≡ key_len
   pub present : presence_in index ≡ presence_after empty_part.presence place (place + count)
 
--- the parent of a dirty object, with space for a part more, which it lacks; this is its name
+-- precondition: a dirty sparse object lacks the part and may get it, and the part's name is this one
 pub record CanHavePart (state : State) (layout : Layout) (unlinked : List ℕ) (number : ℕ) (object : Object) (node entry : ℕ) (child : ChildName) (name : List ℕ) (image : Image) : Type 0 where
   pub grows : CanGetParts (child.part ∷ []) state layout unlinked number object node entry (cast_unsigned w64 child.signature) image
   pub missing : is_some (part_at object child.part) ≡ false
   pub key_len : child.key_len ≡ length object.key
   pub named : name ≡ child_name object.key (cast_unsigned w64 child.signature) child.part
 
--- what holds of each such object
+-- P holds of each object with the record at address `entry` that lacks the part and may get it
 abbrev pub ForEachLacking : (entry : ℕ) (child : ChildName) (name : List ℕ) → Image → (State → Layout → List ℕ → ℕ → Object → (node : ℕ) → Type 0) → Type 0
 ForEachLacking entry child name from P =
     (state : State) (layout : Layout) (unlinked : List ℕ) (number : ℕ) (object : Object) (node : ℕ) → CanHavePart state layout unlinked number object node entry child name from
     → P state layout unlinked number object node
 
--- Its order.
+-- The order of its writes.
 
--- at some moment between the part of this name is whole, in the list and in its chain, and its parent is as it was at first; after it nothing but the byte with its bit is written
+-- a new part is written and linked before its bit is set: at some moment between, the part is in the list and in its chain, and its parent is unchanged; after
+-- it nothing but the byte with the bit is written
 pub record IsWholeBeforeItsBit (files : BlockFiles) (state : State) (layout : Layout) (key name : List ℕ) (n parent : ℕ) (old new : Told) : Type 0 where
   pub between : Told
   pub image : Image

@@ -1,4 +1,4 @@
--- An object with an index goes with its parts; where a handle names it, its parts alone are freed.
+-- A sparse object is removed with its parts; where a handle names it, only its parts are freed.
 use Rattle.std.specs.Prelude.{◌≡◌, ℕ, ◌+◌, List, ◌++◌, Bool, Option, Some, false, length, map, true}
 use Rattle.spec_image.specs.Image.{Image}
 use Rattle.blk_model.specs.Effects.{doomed}
@@ -21,7 +21,7 @@ use Rattle.blk_sparse.specs.Dropping.{AreGone, AreLeft, HasIndexedParts}
 use Rattle.blk_sparse.specs.declared.dropping.Gone.{Gone}
 use Rattle.blk_sparse.specs.declared.dropping.IndexedParts.{IndexedParts}
 
--- a live object with a key and an index, which a handle names or none does, lies as its main item at this node with this record, after this one in its chain
+-- a live sparse object with this key, which a handle names (`held`) or none does, has this node, this record, and this record before it in its chain
 pub record LiesAsParent (held : Bool) (state : State) (layout : Layout) (unlinked : List ℕ) (number : ℕ) (object : Object) (key : List ℕ) (node entry : ℕ) (before : Option ℕ) (image : Image) : Type 0 where
   pub kept : Keeps state layout unlinked image
   pub here : object_at state number ≡ Some object
@@ -32,57 +32,58 @@ pub record LiesAsParent (held : Bool) (state : State) (layout : Layout) (unlinke
   pub index : ParentIndex
   pub role : lies.was.role ≡ IsParent index
 
--- it is one that no handle names
+-- a live sparse object with this key that no handle names, and so may be removed with its parts
 abbrev pub MayGoWhole : (state : State) (layout : Layout) (unlinked : List ℕ) (number : ℕ) (object : Object) (key : List ℕ) (node entry : ℕ) (before : Option ℕ) (image : Image) → Type 0
 MayGoWhole state layout unlinked number object key node entry before image = LiesAsParent false state layout unlinked number object key node entry before image
 
--- what holds wherever there is such an object
+-- P holds of each live sparse object with this key, this node and this record that no handle names, wherever a folder keeps a state
 abbrev pub ForEachParent : (key : List ℕ) (node entry : ℕ) (before : Option ℕ) → Image → (State → Layout → List ℕ → ℕ → Object → Type 0) → Type 0
 ForEachParent key node entry before from P =
     (state : State) (layout : Layout) (unlinked : List ℕ) (number : ℕ) (object : Object)
     → MayGoWhole state layout unlinked number object key node entry before from → P state layout unlinked number object
 
--- what holds wherever there is one that a handle names, and what it is charged
+-- P holds of each live sparse object with this key, this node and this record that a handle names, where `charge` is the cost of its main item
 abbrev pub ForEachHeldParent : (key : List ℕ) (node entry : ℕ) (before : Option ℕ) (charge : ℕ) → Image → (State → Layout → List ℕ → ℕ → Object → Type 0) → Type 0
 ForEachHeldParent key node entry before charge from P =
     (state : State) (layout : Layout) (unlinked : List ℕ) (number : ℕ) (object : Object)
     → (m : LiesAsParent true state layout unlinked number object key node entry before from) → charge ≡ charge_of m.lies.was → P state layout unlinked number object
 
--- what a node names by some rule, with this record, is a parent's
+-- what is loaded with the record at address `entry` is a parent
 pub record LoadsAsParent (entry : ℕ) (image : Image) : Type 0 where
   pub loaded : Loaded
   pub loads : LoadsWith entry loaded image
   pub index : ParentIndex
   pub role : loaded.role ≡ IsParent index
 
--- what holds wherever the main item of an object is out, and perhaps parts of it, and these words are unlinked, of the words that are unlinked beside them
+-- P holds, with the other unlinked addresses, of each object with this key whose main item is out, perhaps some parts too, and whose addresses `words` are
+-- unlinked
 abbrev pub ForEachRest : (words key : List ℕ) (indexed : IndexedParts) → Image → (State → Layout → (keep : Item → Bool) → List ℕ → ℕ → Object → Type 0) → Type 0
 ForEachRest words key indexed from P =
     (state : State) (layout : Layout) (keep : Item → Bool) (chains : ℕ → List ℕ) (unlinked : List ℕ) (number : ℕ) (object : Object)
     → AreLeft state layout keep chains (words ++ unlinked) key number object from → HasIndexedParts layout key indexed
     → P state layout keep unlinked number object
 
--- one item more than these went, which was charged so
+-- the answer of a removal: these items and one more, whose cost is `charge`, and the sum of all their costs
 pub record AreGoneBeside (layout : Layout) (items : List Item) (charge : ℕ) (gone : Gone) : Type 0 where
   pub many : gone.items ≡ length items + 1
   pub charged : gone.bytes ≡ charges_at layout (nodes_of layout items) + charge
 
--- its items are told, with their charges
+-- the answer of a removal of an object with all its parts: how many items these are, and the sum of their costs
 abbrev pub IsGroupTold : State → Layout → (key : List ℕ) → Gone → Type 0
 IsGroupTold state layout key gone = AreGone layout (items_of_group (whole key (parts_among key state.uses))) gone
 
--- the state with the object doomed is kept, by the layout without its items
+-- the folder keeps the state in which the object is doomed, by the layout without its items
 pub record IsGoneWhole (state : State) (layout : Layout) (unlinked : List ℕ) (number : ℕ) (object : Object) (image : Image) : Type 0 where
   pub chains : ℕ → List ℕ
   pub kept : Keeps (doomed number state (Some object)) (layout_less layout (gone_nodes state layout (is_of_another object.key)) chains) unlinked image
 
--- Of an object that a handle names.
+-- Objects that a handle names.
 
--- its parts are told, with their charges
+-- the answer of a removal of all parts of a key: how many there were, and the sum of their costs
 abbrev pub ArePartsTold : State → Layout → (key : List ℕ) → Gone → Type 0
 ArePartsTold state layout key gone = AreGone layout (map (part key) (parts_among key state.uses)) gone
 
--- the state with the object doomed is kept, by the layout without its parts
+-- the folder keeps the state in which the object is doomed, by the layout that has its node as a doomed object's and none of its parts
 pub record IsHeldWhole (state : State) (layout : Layout) (unlinked : List ℕ) (number : ℕ) (object : Object) (image : Image) : Type 0 where
   pub chains : ℕ → List ℕ
   pub kept : Keeps (doomed number state (Some object)) (layout_doomed_whole state layout number object.key chains) unlinked image

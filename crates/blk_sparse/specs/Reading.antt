@@ -1,4 +1,4 @@
--- The bytes of one part that are present, as a read and a range find them, and how those of two parts are joined.
+-- The valid bytes of a part, as a read and a search for a range find them, and how those of two parts are joined.
 use Rattle.std.specs.Prelude.{◌≡◌, ℕ, ◌+◌, ◌==◌, List, map, is_some, if◌then◌else◌}
 use Rattle.std.specs.Option.{option_and_then}
 use Rattle.std.specs.declared.option.Option.{Option}
@@ -15,25 +15,26 @@ use Rattle.spec_folder.specs.Loads.{Loaded}
 use Rattle.blk_object.specs.Owning.{LoadsWith}
 use Rattle.blk_ranges.specs.PartMaps.{presence_in}
 
--- the byte at a place of a part of an object, if it is present
+-- the byte at a position of part n, or None where it isn't valid or the object doesn't have the part
 abbrev pub byte_of_part : Object → (n place : ℕ) → Option ℕ
 byte_of_part object n place = option_and_then (byte_in place) (part_at object n)
 
--- the bytes of a part from a place on up to the first that is not present, at most count
+-- the bytes of part n from `place` on, up to the first that isn't valid, at most `count`
 abbrev pub part_bytes : Object → (n place count : ℕ) → List ℕ
 part_bytes object n place count = up_to_missing (map (byte_of_part object n) (numbers_from place count))
 
--- the first run of present bytes of a part among count bytes from a place on, as its place and length; the place and 0 where there is none
+-- the first run of valid bytes among `count` bytes of part n from `place` on, as its position and length; `place` and 0 where there is none
 abbrev pub part_run : Object → (n place count : ℕ) → ℕ × ℕ
 part_run object n place count = first_run place place (map (λ p. is_some (byte_of_part object n p)) (numbers_from place count))
 
--- the first run in two ranges, one after the other: that of the first, which goes on in the second where it ends at their border; or that of the second
+-- the first run of valid bytes in two adjoining ranges: that of the first, joined with that of the second where both meet at the border; or that of the second;
+-- `asked` and 0 where there is none
 abbrev pub joined_runs : (asked border : ℕ) → ℕ × ℕ → ℕ × ℕ → ℕ × ℕ
 joined_runs asked border one two =
     if one.1 == 0 then (if two.1 == 0 then (asked, 0) else two) else
     if one.0 + one.1 == border then (if two.0 == border then (one.0, one.1 + two.1) else one) else one
 
--- a record is that of a part of an object with a value: what a node names with it, by some rule, has the data and the map
+-- the record at address `entry` is that of part n of an object: what is loaded with it has the part's data and its validity bitmap
 pub record IsPartRead (object : Object) (n entry : ℕ) (image : Image) : Type 0 where
   pub value : PartValue
   pub has : part_at object n ≡ Some value
@@ -46,6 +47,6 @@ pub record IsPartRead (object : Object) (n entry : ℕ) (image : Image) : Type 0
   pub bytes : stream 1 loaded.streams ≡ value.bytes
   pub presence : presence_in index ≡ value.presence
 
--- what holds of each such part
+-- P holds of each object and part that the record at address `entry` is of
 abbrev pub ForEachPartRead : (entry : ℕ) → Image → (Object → (n : ℕ) → Type 0) → Type 0
 ForEachPartRead entry from P = (object : Object) (n : ℕ) → IsPartRead object n entry from → P object n

@@ -1,4 +1,4 @@
-// A part that there is gets a piece.
+// A part that exists gets a piece.
 ghost use Rattle.std.specs.Prelude.{◌≡◌, ◌≤◌, ◌<◌, ◌+◌, IfOk, IsTrue, None, OnOk, length};
 ghost use Rattle.std.specs.Option.{ForSome};
 ghost use Rattle.spec_image.specs.Told.{Passes, MayWrite, ReadsOnly};
@@ -30,7 +30,7 @@ use blk_ranges::{DATA, INDEX, PartMap};
 use blk_record::{CHILD, EntryView};
 use blk_stream::read;
 
-// Writes a piece to a part that there is, from a place in it on: first its data, then its map; and then the part is used.
+// Writes a piece to a part that exists, from a position in it on: first its data, then its validity bitmap; and then the part is accessed.
 pub(crate) fn change_part<F: Folder>(
     folder: &mut F,
     files: &mut BlockFiles,
@@ -95,7 +95,7 @@ pub(crate) fn read_map<F: Folder>(
     }
 }
 
-// Prints a map in which so many bytes from a place on were written.
+// Prints a bitmap in which so many bytes from a position on are marked as valid.
 fn print_noted(map: PartMap, place: u32, len: u32, out: &mut [u8; 192])
     requires valid { IsPartMap map }
     requires some { 1 ≤ len }

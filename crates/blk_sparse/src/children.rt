@@ -1,4 +1,4 @@
-// The parts of a parent go, by the key that its record gives.
+// The parts of a parent are removed, by the key in its record.
 ghost use Rattle.std.specs.Prelude.{◌≡◌, ◌+◌, ◌≤◌, ◌<◌, ℕ, IfOk, IsTrue, List, None, OnOk, Some, false, filter, length, take};
 ghost use Rattle.std.specs.Int.{cast_unsigned, w64};
 ghost use Rattle.std.specs.List.{FoldsTo};
@@ -42,7 +42,7 @@ pub struct Parent {
     pub signature: i64,
 }
 
-/// Drops the parts of a parent, as `drop_children_with` does, and calls nothing.
+/// Removes the parts of a parent, as `drop_children_with` does, without a call for each.
 pub fn drop_children<F: Folder>(
     f: &mut F,
     files: &BlockFiles,
@@ -82,9 +82,9 @@ pub fn drop_children<F: Folder>(
     drop_children_with(f, files, parent, name, &mut |_| ())
 }
 
-/// Drops the parts of a parent, after it went: each is taken out, its places are freed, and it is counted no longer; and
-/// then `each` is called with its number. They go in the order of the LRU list, in one walk over it; where no bit of the
-/// parent's index is set, no list is walked. How many went is given.
+/// Removes the parts of a parent after its main item: each is taken out of list and chain, its places are freed, and it is counted no longer; and then `each`
+/// is called with its number. That is in the order of the LRU list, in one walk over it; where no bit of the parent's index is set, no list is walked. How many
+/// parts were removed is given.
 ///
 /// The key is read from the parent's record into the front of `name`, and the names of the parts are made after the
 /// longest key. This takes four folder calls, and those of `drop_parts_with` where a bit is set. A failed check is one of

@@ -1,4 +1,4 @@
-// The parts of a key go.
+// The parts of a key are removed.
 ghost use Rattle.std.specs.Prelude.{◌≡◌, ◌≤◌, ◌<◌, ◌^◌, ℕ, IfOk, IfSome, IsTrue, List, None, OnOk, Some, filter, length, map};
 ghost use Rattle.std.specs.Int.{cast_unsigned, w64};
 ghost use Rattle.std.specs.List.{FoldsTo};
@@ -31,21 +31,21 @@ use blk_object::{ListedPart, next_part, remove_part};
 use blk_ranges::child_name;
 use blk_record::EntryView;
 
-/// How many items went, and the bytes that they were charged.
+/// How many items were removed, and the sum of their costs.
 #[derive(Clone, Copy, Debug, PartialEq, Eq)]
 pub struct Gone {
     pub items: u64,
     pub bytes: u64,
 }
 
-// What the index of an object says of its parts: the signature by which they are named, and whether any bit is set.
+// What the index of an object says of its parts: the generation in their names, and whether any bit is set.
 #[derive(Clone, Copy)]
 pub(crate) struct IndexedParts {
     pub signature: i64,
     pub any: bool,
 }
 
-// A part that went: its number, its charge, and the node that was before its own, if there was one.
+// A part that was removed: its number, its cost, and the node that was before its own in the list, if there was one.
 #[derive(Clone, Copy)]
 struct Dropped {
     number: u32,
@@ -53,8 +53,8 @@ struct Dropped {
     behind: Option<Addr>,
 }
 
-/// Drops the parts of a key, after its main item went: each is taken out, its places are freed, and it is counted no
-/// longer; and then `each` is called with its number. They go in the order of the LRU list, in one walk over it.
+/// Removes the parts of a key after its main item: each is taken out of list and chain, its places are freed, and it is counted no longer; and then `each` is
+/// called with its number. That is in the order of the LRU list, in one walk over it.
 ///
 /// The signature is that of the index of the key's main item, and the names of the parts are made in `buffer`. This takes three
 /// folder calls for each item of the list, two more for a part of any key, and those of `find` and `remove_part` for each
@@ -122,8 +122,7 @@ pub fn drop_parts_with<F: Folder, E: FnMut(u32)>(
     Ok(gone)
 }
 
-// Drops the parts of a key, after its main item went, as `drop_parts_with` does; but where its index says that there is
-// none, no list is walked.
+// Removes the parts of a key after its main item, as `drop_parts_with` does; where its index says that there are none, no list is walked.
 pub(crate) fn drop_indexed_with<F: Folder, E: FnMut(u32)>(
     folder: &mut F,
     files: &BlockFiles,
@@ -159,7 +158,7 @@ pub(crate) fn drop_indexed_with<F: Folder, E: FnMut(u32)>(
     drop_parts_with(folder, files, key, indexed.signature, buffer, each)
 }
 
-// Drops the first part of a key after a node, or from the front of the list on, if there is one.
+// Removes the first part of a key behind a node of the list, or from the front of the list on, if there is one.
 fn drop_next<F: Folder>(
     folder: &mut F,
     files: &BlockFiles,
@@ -197,7 +196,7 @@ fn drop_next<F: Folder>(
     }))
 }
 
-// Drops a part, which its name finds in its chain. Its charge is given.
+// Removes a part, whose record is found by its name. Its cost is given.
 fn drop_part<F: Folder>(
     folder: &mut F,
     files: &BlockFiles,

@@ -1,4 +1,4 @@
-// The parts of an object that a range covers, found by their names.
+// The search for the parts of an object in a range, by their names.
 ghost use Rattle.std.specs.Prelude.{◌≡◌, ◌≤◌, ◌<◌, ◌+◌, IfOk, IfSome, IsTrue, None, length};
 ghost use Rattle.std.specs.Int.{cast_unsigned, w64};
 ghost use Rattle.std.specs.Option.{ForSome};
@@ -21,7 +21,7 @@ use blk_disk::BlockFiles;
 use blk_io::{Fault, Folder};
 use blk_ranges::{LONGEST_KEY, PART_SIZE, child_of};
 
-/// The records of the parts that a range covers, two at most: `None` for a part that there isn't.
+/// The records of the parts in a range, two at most: `None` for a part that doesn't exist.
 #[derive(Clone, Copy, Debug, PartialEq, Eq)]
 pub struct PartRecords {
     pub first: Option<Addr>,
@@ -49,7 +49,7 @@ pub fn find_parts<F: Folder>(
     requires inside { offset + count ≤ largest_offset }
     requires is_open { ForSome (F.told folder.old).files (IsOpen files.now) }
 
-    // They are those of each object that a kept state has so.
+    // These are the records of the parts of each object that a kept state has with this parent.
     ensures parts { IfOk result (λ found. ForSome (F.told folder.old).files (λ from. ForEachKeptParent parent.now.node parent.now.entry (cast_unsigned w64 parent.now.signature) from (λ state layout unlinked number object. ArePartsFound layout object offset count found))) }
 
     // On every folder they are valid.

@@ -25,26 +25,26 @@ use blk_io::{Fault, Folder};
 use blk_object::charge_of_head;
 use blk_ranges::{LONGEST_KEY, PART_SIZE, child_name, child_of};
 
-// What a part is charged for the index of its blocks.
+// What the index of a part adds to its cost.
 const BLOCKS_INDEX: u64 = 192;
 
 // The stream of a part that has its data.
 const DATA: usize = blk_ranges::DATA as usize;
 
-/// What a write adds to an object with parts, and which of the parts that it covers there are.
+/// What a write adds to a sparse object, and which of the parts in its range exist.
 #[derive(Clone, Copy, Debug)]
 pub struct Measured {
-    /// The nodes of those that there are, two at most.
+    /// The nodes of those that exist, two at most.
     pub first: Option<Addr>,
     pub second: Option<Addr>,
-    /// What these are charged.
+    /// The sum of their costs.
     pub charged: u64,
-    /// How much more the covered parts are charged then, and how many of them are made.
+    /// By how much the cost of the parts in range rises, and how many of them are made.
     pub bytes: u64,
     pub items: u64,
 }
 
-// A covered part: its node and its charge, where there is the part, and how much more it is charged after the write.
+// A part in range: its node and its cost, if it exists, and by how much its cost rises with the write.
 #[derive(Clone, Copy)]
 pub(crate) struct Piece {
     pub(crate) node: Option<Addr>,
@@ -169,7 +169,7 @@ fn measure_piece<F: Folder>(
     }
 }
 
-// Measures a part that there is, by its record.
+// Measures a part that exists, by its record.
 fn measure_there<F: Folder>(
     folder: &mut F,
     files: &BlockFiles,
@@ -217,7 +217,7 @@ fn measure_new(key: &[u8], signature: i64, number: u32, buffer: &mut [u8], end: 
     }
 }
 
-// What is measured where one part is covered.
+// The sums where one part is in range.
 fn measured_one(piece: &Piece) -> Measured
     requires light { piece.now.charged + piece.now.bytes < 2 ^ 35 }
     ensures { IsOne piece.now result }
@@ -231,7 +231,7 @@ fn measured_one(piece: &Piece) -> Measured
     }
 }
 
-// What is measured where two are.
+// The sums where two parts are in range.
 fn measured_two(front: &Piece, back: &Piece) -> Measured
     requires front { front.now.charged + front.now.bytes < 2 ^ 35 }
     requires back { back.now.charged + back.now.bytes < 2 ^ 35 }
@@ -246,7 +246,7 @@ fn measured_two(front: &Piece, back: &Piece) -> Measured
     }
 }
 
-// One where there is no node.
+// 1 where there is no node, else 0.
 fn one_if_none(node: &Option<Addr>) -> u64
     ensures { result ≡ one_if_none node.now }
 {
@@ -256,8 +256,8 @@ fn one_if_none(node: &Option<Addr>) -> u64
     }
 }
 
-/// Measures what a write of some bytes adds to a plain object that becomes sparse with a signature, but for the index of
-/// its parts: each covered part is made. Nothing is written, and two folder calls read the key into the front of `name`.
+/// Measures what a write of some bytes adds to a plain object that becomes sparse with a generation, but for the index of its parts: each part in range is
+/// made. Nothing is written, and two folder calls read the key into the front of `name`.
 pub fn measure_plain<F: Folder>(
     folder: &mut F,
     files: &BlockFiles,

@@ -1,4 +1,4 @@
-// An object with an index goes with its parts, or is doomed.
+// An object with an index is removed with its parts, or doomed.
 ghost use Rattle.std.specs.Prelude.{◌≡◌, ◌≤◌, ◌<◌, ◌==◌, ◌^◌, ℕ, All, IfOk, IfSome, IsTrue, List, None, OnOk, Some, false, filter, length, map, not};
 ghost use Rattle.std.specs.Int.{cast_unsigned, w64};
 ghost use Rattle.std.specs.List.{FoldsTo, list_any};
@@ -162,7 +162,7 @@ pub fn read_signature<F: Folder>(
     requires kind { kind_of entry ≡ blocks_256 }
     requires stands { IsTrue (stands_among files.now entry) }
 
-    // It is that of what a node names with this record, where that is a parent.
+    // This is the generation of the parent that is loaded with this record.
     ensures signature { IfOk result (λ signature. ForSome (F.told folder.old).files (λ image. (loaded : Loaded) (index : ParentIndex) → LoadsWith entry loaded image → loaded.role ≡ IsParent index → index.signature ≡ cast_unsigned w64 signature)) }
     ensures small { IfOk result (λ signature. cast_unsigned w64 signature < signatures) }
     ensures reads { ReadsOnly F.told F.faults folder.old folder.new (IfDevice result) }
@@ -208,8 +208,8 @@ fn has_bits(map: &[u8]) -> bool
     map.iter().any(|byte| *byte != 0)
 }
 
-// Drops the parts of an object whose main item is out, and then frees the main item's places. How many items went is
-// given, the main one too, and what they were charged.
+// Removes the parts of an object whose main item is out, and then frees the main item's places. How many items were removed, the main one included, and the sum
+// of their costs are given.
 fn drop_and_free<F: Folder, E: FnMut(u32)>(
     folder: &mut F,
     files: &BlockFiles,

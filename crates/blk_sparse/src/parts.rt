@@ -1,4 +1,4 @@
-// A part of an object: found by its name, and used.
+// A part of an object: the search for it by its name, and an access to it.
 ghost use Rattle.std.specs.Prelude.{◌≡◌, ◌≤◌, ◌<◌, IfOk, IfSome, IsTrue, None, OnOk, length};
 ghost use Rattle.std.specs.Int.{cast_unsigned, w64};
 ghost use Rattle.std.specs.Option.{ForSome};
@@ -20,7 +20,7 @@ use blk_io::{Fault, Folder};
 use blk_lru::touch;
 use blk_ranges::child_name;
 
-// What the name of each part of an object says of the object.
+// What the names of all parts of an object have in common: its key and its generation.
 #[derive(Clone, Copy)]
 pub(crate) struct ParentName<'a> {
     // The bytes of its key.

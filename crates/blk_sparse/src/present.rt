@@ -1,4 +1,4 @@
-// The bytes of an object up to the first that is not present, read from its parts; nothing is changed.
+// The bytes of an object up to the first that isn't valid, read from its parts; nothing is changed.
 ghost use Rattle.std.specs.Prelude.{◌≡◌, ◌≤◌, ◌<◌, ◌+◌, IfOk, IsTrue, None, length, take};
 ghost use Rattle.std.specs.Int.{cast_unsigned, w64};
 ghost use Rattle.std.specs.Option.{ForSome};
@@ -46,7 +46,7 @@ pub fn read_present<F: Folder>(
     requires inside { offset + length out.old ≤ largest_offset }
     requires is_open { ForSome (F.told folder.old).files (IsOpen files.now) }
 
-    // They are those of each object that a kept state has so.
+    // These are the bytes of each object that a kept state has with this parent.
     ensures bytes { IfOk result (λ n. ForSome (F.told folder.old).files (λ from. ForEachKeptParent parent.now.node parent.now.entry (cast_unsigned w64 parent.now.signature) from (λ state layout unlinked number object. take n out.new ≡ sparse_bytes object offset (length out.old)))) }
     ensures within { IfOk result (λ n. n ≤ length out.old) }
     ensures long { length out.new ≡ length out.old }
@@ -107,7 +107,7 @@ fn bytes_covered<F: Folder>(
     Ok(len + more)
 }
 
-// Reads the bytes of a part of an object from a place on, up to the first that is not present.
+// Reads the bytes of a part of an object from a position on, up to the first that isn't valid.
 fn bytes_of_part<F: Folder>(
     folder: &mut F,
     files: &BlockFiles,
@@ -138,7 +138,7 @@ fn bytes_of_part<F: Folder>(
     }
 }
 
-// Reads the bytes of a part that there is.
+// Reads the bytes of a part that exists.
 fn bytes_there<F: Folder>(
     folder: &mut F,
     files: &BlockFiles,

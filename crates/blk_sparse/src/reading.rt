@@ -1,4 +1,4 @@
-// Sparse data is read, and the parts that are covered are used.
+// Sparse data is read, and the parts in range are accessed.
 ghost use Rattle.std.specs.Prelude.{◌≡◌, ◌≤◌, ◌<◌, ◌+◌, [], ◌∷◌, IfOk, IsTrue, None, OnOk, length, take};
 ghost use Rattle.std.specs.Int.{cast_unsigned, w64};
 ghost use Rattle.std.specs.Option.{ForSome};
@@ -71,7 +71,7 @@ pub fn use_parts<F: Folder>(
     use_covered(folder, files, parent, buffer, offset, count, moment)
 }
 
-// Uses the parts of an object with a key that a range covers and that there are.
+// Accesses those parts in range that an object with a key has.
 fn use_covered<F: Folder>(
     folder: &mut F,
     files: &BlockFiles,
@@ -107,7 +107,7 @@ fn use_covered<F: Folder>(
     use_part(folder, files, parent, last, buffer, moment)
 }
 
-// Uses a part of an object with a key, if there is the part.
+// Accesses a part of an object with a key, if it exists.
 fn use_part<F: Folder>(
     folder: &mut F,
     files: &BlockFiles,
@@ -159,7 +159,7 @@ pub fn read<F: Folder>(
     requires inside { offset + length out.old ≤ largest_offset }
     requires is_open { ForSome (F.told f.old).files (IsOpen files.now) }
 
-    // The bytes are those of each object that a kept state has so.
+    // These are the bytes of each object that a kept state has with this parent.
     ensures bytes { IfOk result (λ n. ForSome (F.told f.old).files (λ from. ForEachKeptParent parent.now.node parent.now.entry (cast_unsigned w64 parent.now.signature) from (λ state layout unlinked number object. take n out.new ≡ sparse_bytes object offset (length out.old)))) }
     ensures within { IfOk result (λ n. n ≤ length out.old) }
     ensures long { length out.new ≡ length out.old }
@@ -207,7 +207,7 @@ pub fn range<F: Folder>(
     requires inside { offset + count ≤ largest_offset }
     requires is_open { ForSome (F.told f.old).files (IsOpen files.now) }
 
-    // It is that of each object that a kept state has so.
+    // This is the run of each object that a kept state has with this parent.
     ensures run { IfOk result (λ run. ForSome (F.told f.old).files (λ from. ForEachKeptParent parent.now.node parent.now.entry (cast_unsigned w64 parent.now.signature) from (λ state layout unlinked number object. (run.0, run.1) ≡ present_run object offset count))) }
 
     // Each state that was kept, with such an object, is kept with these parts in front in the end, by the same layout.

@@ -1,4 +1,4 @@
-// The bytes of an object that are present, read from its parts; nothing is changed.
+// The valid bytes of an object, read from its parts; nothing is changed.
 ghost use Rattle.std.specs.Prelude.{◌≡◌, ◌≤◌, ◌<◌, ◌+◌, IfOk, IsTrue, None, length};
 ghost use Rattle.std.specs.Int.{cast_unsigned, w64};
 ghost use Rattle.std.specs.Option.{ForSome};
@@ -50,7 +50,7 @@ pub fn find_run<F: Folder>(
     requires inside { offset + count ≤ largest_offset }
     requires is_open { ForSome (F.told folder.old).files (IsOpen files.now) }
 
-    // It is that of each object that a kept state has so.
+    // This is the run of each object that a kept state has with this parent.
     ensures run { IfOk result (λ run. ForSome (F.told folder.old).files (λ from. ForEachKeptParent parent.now.node parent.now.entry (cast_unsigned w64 parent.now.signature) from (λ state layout unlinked number object. (run.start, run.length) ≡ present_run object offset count))) }
 
     ensures reads { ReadsOnly F.told F.faults folder.old folder.new (IfDevice result) }

@@ -1,4 +1,4 @@
-// Sparse data are written to an open object: it is used, becomes sparse where it is plain, gets the bytes, and is counted.
+// Sparse data is written to an open object: it is accessed, becomes sparse where it is plain, gets the bytes, and is counted.
 ghost use Rattle.std.specs.Prelude.{◌≡◌, ◌≤◌, ◌<◌, ◌+◌, [], IsTrue, None, OnOk, length};
 ghost use Rattle.std.specs.Int.{cast_unsigned, w64};
 ghost use Rattle.std.specs.Option.{ForSome};
@@ -35,7 +35,7 @@ pub struct Target {
     pub plain: bool,
 }
 
-// How much more is counted in the index.
+// What a write adds to the counters of the index.
 #[derive(Clone, Copy)]
 struct Counted {
     // How many items.
@@ -44,8 +44,8 @@ struct Counted {
     charge: u64,
 }
 
-/// Writes sparse data to a dirty live object: its main item is used, it becomes sparse where it is plain, the bytes are
-/// written, and so many items more and so much more charge are counted in the index.
+/// Writes sparse data to a dirty live object: its main item is accessed, it becomes sparse where it is plain, the bytes are written, and the counters of the
+/// index are raised by so many items and so much cost.
 ///
 /// The key is read from the record into the front of `name`, and the names of the parts are made after the longest key.
 pub fn store_sparse<F: Folder>(
@@ -91,7 +91,7 @@ pub fn store_sparse<F: Folder>(
     write_and_count(folder, files, &target.parent, name, data, more, moment)
 }
 
-// Uses the main item of an object, which becomes sparse where it is plain.
+// Accesses the main item of an object, which becomes sparse where it is plain.
 fn use_and_begin<F: Folder>(
     folder: &mut F,
     files: &mut BlockFiles,
@@ -117,7 +117,7 @@ fn use_and_begin<F: Folder>(
     Ok(())
 }
 
-// Writes bytes to an object with parts, and counts so many items more, and so much more charge, in the index.
+// Writes bytes to an object with parts, and raises the counters of the index by so many items and so much cost.
 fn write_and_count<F: Folder>(
     folder: &mut F,
     files: &mut BlockFiles,
@@ -146,8 +146,7 @@ fn write_and_count<F: Folder>(
     count_items(folder, files, more.entries, more.charge)
 }
 
-// Counts so many items more in the index, and so much more charge: where no item is new, the sum of the charges alone,
-// by two folder calls, and else by six.
+// Raises the counters of the index by so many items and so much cost: where no item is new only the counter of bytes, by two folder calls, and else all by six.
 fn count_items<F: Folder>(
     folder: &mut F,
     files: &BlockFiles,

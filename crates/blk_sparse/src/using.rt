@@ -1,4 +1,4 @@
-// An object is used: its main item, and the parts that a range covers.
+// An object is accessed: its main item, and the parts in range.
 ghost use Rattle.std.specs.Prelude.{◌≡◌, ◌≤◌, ◌<◌, ◌+◌, ◌∷◌, IfOk, IsTrue, None, OnOk, length};
 ghost use Rattle.std.specs.Int.{cast_unsigned, w64};
 ghost use Rattle.std.specs.Option.{ForSome};
@@ -41,7 +41,7 @@ pub fn use_range<F: Folder>(
     requires inside { offset + count ≤ largest_offset }
     requires is_open { ForSome (F.told folder.old).files (IsOpen files.now) }
 
-    // It is that of each object that a kept state has so.
+    // This is the run of each object that a kept state has with this parent.
     ensures run { IfOk result (λ run. ForSome (F.told folder.old).files (λ from. ForEachKeptParent parent.now.node parent.now.entry (cast_unsigned w64 parent.now.signature) from (λ state layout unlinked number object. (run.0, run.1) ≡ present_run object offset count))) }
 
     // Each state that was kept, with such an object, is kept with these items in front in the end, by the same layout.

@@ -1,4 +1,4 @@
--- An entry loads with a stream that was written.
+-- A lemma: an entry loads with a stream that was written.
 use Rattle.std.specs.Prelude.{ℕ, ◌≡◌, ◌<◌, List, [], ◌∷◌, Bool, true, ◌==◌, if◌then◌else◌, Some}
 use Rattle.blk_model.specs.Effects.{stream_after}
 use Rattle.spec_image.specs.Image.{Image}
@@ -11,11 +11,12 @@ use Rattle.blk_stream.specs.Owned.{AreOthers}
 use Rattle.blk_stream.specs.Streams.{address_word, streams_at}
 use Rattle.blk_stream.specs.Written.{StreamIsWritten}
 
--- three streams with other bytes in one of them
+-- the three streams of an entry, with `bytes` as stream i
 unfoldable pub stored_streams_with : ℕ → List ℕ → List (List ℕ) → List (List ℕ)
 stored_streams_with i bytes streams = (if i == 0 then bytes else stream 0 streams) ∷ (if i == 1 then bytes else stream 1 streams) ∷ (if i == 2 then bytes else stream 2 streams) ∷ []
 
--- once a stream of an entry is written, whose record's blocks were marked and shared none with the old place, the entry loads with the same streams but for this one, which is that after the write
+-- after a write of stream i of an entry whose record's blocks are used by nothing else, the entry loads with the same streams but for stream i, which has its
+-- bytes after the write
 abbrev pub WrittenStreamsLoad : Type 0
 WrittenStreamsLoad = (files kept : BlockFiles) (from image : Image) (entry i offset : ℕ) (cut : Bool) (bytes : List ℕ) (streams : List (List ℕ)) → i < 3 → kind_of entry ≡ blocks_256 → is_address entry ≡ true
     → KeepsStanding files kept → Agrees files from → Agrees kept image → AreOthers files entry (address_word from entry i) from → streams_at from entry ≡ Some streams → StreamIsWritten files kept entry i offset cut bytes from image

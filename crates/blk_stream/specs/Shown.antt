@@ -1,4 +1,4 @@
--- What dropping the streams of a record changes of what is shown.
+-- Lemmas: what dropping the streams of a record changes of the view.
 use Rattle.std.specs.Prelude.{ℕ, ◌≡◌, Bool, true, [], ◌∷◌, Some}
 use Rattle.spec_image.specs.Image.{Image}
 use Rattle.spec_image.specs.Footprint.{SameOutside}
@@ -11,17 +11,17 @@ use Rattle.blk_disk.specs.Tables.{Agrees, stands_among}
 use Rattle.blk_stream.specs.Streams.{HasStreams, address_word, streams_at}
 use Rattle.blk_stream.specs.Dropping.{AreDropped, dropping_of}
 
--- the blocks of a record, and the blocks or the files of its streams
+-- a claim is of the blocks of the record at address `entry`, or of the blocks or files of its streams
 abbrev pub is_of_entry : Image → ℕ → Claim → Bool
 is_of_entry image entry = has_claim (claims_of_all (entry ∷ address_word image entry 0 ∷ address_word image entry 1 ∷ address_word image entry 2 ∷ []))
 
--- at each word of dropping the streams of a record that is there, and in the end, what is shown has changed only there
+-- at each write of dropping the streams of a valid record, and at the end, the view has changed only in the record and its streams
 abbrev pub DropsAreShownInside : Type 0
 DropsAreShownInside =
     (files : BlockFiles) (from image : Image) (entry : ℕ) → kind_of entry ≡ blocks_256 → is_address entry ≡ true → stands_among files entry ≡ true
     → Agrees files from → SameOutside (dropping_of 3 entry from) from image → SameBut (is_of_entry from entry) (view_of from) (view_of image)
 
--- once the streams of a record that had three are dropped, it has three empty ones
+-- when the three streams of a record are dropped, the record reads as one with three empty streams
 abbrev pub DroppedStreamsAreEmpty : Type 0
 DroppedStreamsAreEmpty =
     (files : BlockFiles) (from image : Image) (entry : ℕ) → kind_of entry ≡ blocks_256 → is_address entry ≡ true → stands_among files entry ≡ true

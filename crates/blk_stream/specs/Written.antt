@@ -1,4 +1,4 @@
--- A stream is written: what is asked, what is left, and what holds at each word.
+-- A write of a stream: its preconditions, its outcome, and what holds after each single write.
 use Rattle.std.specs.Prelude.{ℕ, ◌≡◌, ◌≢◌, ◌⊎◌, ◌<◌, ◌≤◌, List, [], ◌∷◌, length, Bool, ◌==◌, false, true, if◌then◌else◌}
 use Rattle.blk_model.specs.Effects.{stream_after}
 use Rattle.spec_image.specs.Image.{External, Image, has_file}
@@ -25,11 +25,12 @@ use Rattle.blk_stream.specs.Moving.{HasPlaceLength, data_at_place}
 use Rattle.blk_stream.specs.Placing.{CanBePlaced, IsPlaceRefusal, IsSite, Site, gained_by, placing_of}
 use Rattle.blk_stream.specs.Writing.{have_one_storage, size_after}
 
--- the record and the places of its streams
+-- the addresses of an entry: of its record, and of its three streams
 abbrev pub places_of_entry : ℕ → Image → List ℕ
 places_of_entry entry image = entry ∷ address_word image entry 0 ∷ address_word image entry 1 ∷ address_word image entry 2 ∷ []
 
--- a stream can get a size: the record checks and has three streams, no two of these share a block or an external file, those in blocks are allocations of their files, and there is space where the storage changes
+-- stream i may be written to a new size: the record's checksum matches or is absent, it has three streams, no two of these and the record share a block or an
+-- external file, those in blocks are allocations of their files, and there is space where the storage changes
 pub record CanBeWritten (files : BlockFiles) (entry i size : ℕ) (image : Image) : Type 0 where
   pub checks : RecordChecks entry image
   pub has : HasStreams entry image
@@ -37,13 +38,14 @@ pub record CanBeWritten (files : BlockFiles) (entry i size : ℕ) (image : Image
   pub owned : (w : ℕ) → is_among (places_of_entry entry image) w ≡ true → MayBeFreed w image
   pub room : have_one_storage (size_word image entry i) size ≡ false → 0 < size → CanBePlaced files size image
 
--- What is left.
+-- The outcome.
 
--- the allocations of a file that come of some, once one place was given for another; nothing changes where the two are one
+-- the allocations of file n after a stream moved from address `old` to `new`, where `words` were its allocations before; unchanged where the two are the same
 unfoldable pub moved_by : ℕ → ℕ → ℕ → List ℕ → List ℕ
 moved_by old new n words = if old == new then words else left_by old n (gained_by new n words)
 
--- of all files that were kept, exactly the blocks of the new place are marked anew and exactly those of the old one are not marked any more, the allocations are those with the new address and without the old one, and `empty` agrees where it did; in a file that was added the new address is the only allocation; and the old external file is gone
+-- a stream moved from address `old` to `new`: in the files of the table exactly the new blocks were marked and the old ones cleared, their allocations have
+-- `new` instead of `old`, and `empty` agrees where it did; in an added file `new` is the only allocation; and the old external file is gone
 pub record MovesPlace (files : BlockFiles) (old new : ℕ) (from image : Image) : Type 0 where
   pub marks : (n b : ℕ) → is_among (all_files files) n ≡ true → b < most_blocks → is_block_marked image n b ≡ (if is_block_of new n b then true else if is_block_of old n b then false else is_block_marked from n b)
   pub allocations : (n : ℕ) (words : List ℕ) → is_among (all_files files) n ≡ true → AreAllocations from n words → (is_in_file n old ≡ true → is_among words old ≡ true) → AreAllocations image n (moved_by old new n words)
@@ -51,21 +53,22 @@ pub record MovesPlace (files : BlockFiles) (old new : ℕ) (from image : Image) 
   pub empty : (n : ℕ) → is_among (all_files files) n ≡ true → max_entries_in from n ≤ most_blocks → EmptyAgrees from n → EmptyAgrees image n
   pub gone : old ≢ new → old ≢ 0 → kind_of old ≡ external → has_file image (External (external_number old)) ≡ false
 
--- what giving up a place for another touches, which is nothing where the two are one
+-- the frame of freeing `old` for `new`: nothing where the two are the same
 unfoldable pub giving_up_of : ℕ → ℕ → Footprint
 giving_up_of old new = if old == new then nothing else leaving_of old
 
--- what is touched: the words of the record, the old place, the data of the new one, and its site
+-- the frame of a write of stream i: its words and the checksum in the record, the old place, the data of the new one, and what its allocation touches
 abbrev pub writing_of : BlockFiles → ℕ → ℕ → ℕ → ℕ → ℕ → Site → Footprint
 writing_of files entry i old new size site = either (stream_words entry i) (either (giving_up_of old new) (either (data_at_place new) (placing_of files (kind_for size) site)))
 
--- a stream of a record has the words and the bytes that it had
+-- stream i has the same size, address word and bytes as before
 pub record HoldsStream (entry i : ℕ) (from image : Image) : Type 0 where
   pub words : KeepsStream entry i from image
   pub bytes : stream_bytes image entry i ≡ stream_bytes from entry i
   pub long : HasPlaceLength (address_word from entry i) (size_word from entry i) from → HasPlaceLength (address_word from entry i) (size_word from entry i) image
 
--- a stream is written: it has the bytes after the write, in the storage of their number; the other two are as before, maps and files as they have to be, the record checks, a well-formed folder is well formed, and what has an owner stays as before; a storage that stays has its place
+-- a write of stream i is done: it has its bytes after the write, in storage for its new size (the same place where the storage is the same); the other two
+-- streams, the blocks and files of other owners, and a well-formed folder are kept, and the maps agree
 pub record StreamIsWritten (files kept : BlockFiles) (entry i offset : ℕ) (cut : Bool) (bytes : List ℕ) (from image : Image) : Type 0 where
   pub site : Site
   pub right : IsSite files (kind_for (size_word image entry i)) from site
@@ -83,7 +86,9 @@ pub record StreamIsWritten (files kept : BlockFiles) (entry i offset : ℕ) (cut
 
 -- What holds at each word.
 
--- nothing but the words of the record, the old place and the new one has changed, the record checks, and a well-formed folder is well formed; where the place changes, the record has its words until the new place has the bytes after the write, and the old place is as it was until the record has its new words
+-- invariant of a write of stream i, after each single write: nothing outside its frame has changed, the record's checksum matches or is absent, and a
+-- well-formed folder is well formed; where the stream moves, the record is unchanged until the new place has all bytes, and the old place is untouched until
+-- the record names the new one
 pub record WritesStream (files : BlockFiles) (entry i size offset : ℕ) (cut : Bool) (bytes : List ℕ) (from image : Image) : Type 0 where
   pub new : ℕ
   pub site : Site
@@ -96,7 +101,8 @@ pub record WritesStream (files : BlockFiles) (entry i size offset : ℕ) (cut : 
 
 -- Why a stream is not written.
 
--- the record is corrupt or the words of the stream are wrong, and nothing was written, and the block files are those before; or there is no new place; or old bytes are not in their file; or the header of the file of the old blocks is corrupt
+-- why a write of stream i fails: the record is corrupt or its words for the stream don't fit, and nothing was written; or no new place could be allocated; or
+-- an old byte can't be read; or the header of the file of the old blocks is corrupt
 abbrev pub IsWriteDamage : BlockFiles → BlockFiles → Told → Told → ℕ → ℕ → Damage → Type 0
 IsWriteDamage files kept before after entry i damage =
     (Stays before after × ((kept ≡ files) × (IsHeadDamage before entry damage ⊎ IsMisplacedStream files entry i damage)))

@@ -1,4 +1,4 @@
--- The key of a record that is loaded.
+-- The key of an entry that is kept in memory only by its length and its place.
 use Rattle.std.specs.Prelude.{ℕ, ◌≡◌, List, true}
 use Rattle.std.specs.declared.option.Option.TheVariants.{Some}
 use Rattle.spec_image.specs.Image.{Image}
@@ -7,7 +7,7 @@ use Rattle.spec_folder.specs.View.{RecordFields, store_of}
 use Rattle.blk_verdict.specs.declared.loading.Loaded.{Loaded}
 use Rattle.blk_audit.specs.declared.record_words.RecordWords.{RecordWords}
 
--- the words of a record that say where its key lies, and what is kept of the others
+-- the words of an entry's record as far as they are kept in memory, with 0 for the others
 abbrev pub words_kept : Loaded → RecordWords
 words_kept loaded = record {
   checks = true;
@@ -23,14 +23,14 @@ words_kept loaded = record {
   flags = 0;
 }
 
--- an image has this key where a record with the same length of the key and the same word of a long key has it
+-- `key` is what the image has as the key of the entry, by its key length and long key address
 pub record IsKeyOf (image : Image) (loaded : Loaded) (key : List ℕ) : Type 0 where
   pub fields : RecordFields
   pub key_len : fields.key_len ≡ loaded.key_len
   pub long_key : fields.long_key ≡ loaded.long_key
   pub stored : stored_key (store_of image) loaded.entry fields ≡ Some key
 
--- an image has some key of it
+-- the image has some key for the entry
 pub record HasItsKey (image : Image) (loaded : Loaded) : Type 0 where
   pub key : List ℕ
   pub is : IsKeyOf image loaded key

@@ -1,4 +1,4 @@
--- The reasons for which a node is dropped by itself, in steps.
+-- The reasons for which a node is dropped by itself, one after another.
 use Rattle.std.specs.Prelude.{ℕ, List, ◌∷◌, not, nat_le, ◌==◌, if◌then◌else◌}
 use Rattle.std.specs.Option.{ok_or}
 use Rattle.std.specs.declared.option.Option.{Option}
@@ -15,7 +15,7 @@ use Rattle.spec_folder.specs.Reasons.{Reason, ◌>>=◌, demand}
 use Rattle.spec_folder.specs.Reasons as reason
 use Rattle.spec_folder.specs.View.{StoreView, RecordFields}
 
--- the first of the reasons from the seal to the length of the key, by the words of a node and of its record
+-- the first reason to drop a node by the words of its record, those from Seal to KeyLength, or None
 unfoldable pub reason_by_words : ℕ → ℕ → ℕ → RecordFields → Option Reason
 reason_by_words node contents dirty fields =
     if not fields.checks then Some reason.Seal else
@@ -26,14 +26,14 @@ reason_by_words node contents dirty fields =
     if not (is_key_length contents fields) then Some reason.KeyLength else
     None
 
--- the reasons from the streams on, or what a record with a key is
+-- the last reasons to drop a node, Streams and Sparse, or what is loaded of it
 unfoldable pub load_streams : StoreView → ℕ → ℕ → ℕ → RecordFields → List ℕ → Result Loaded Reason
 load_streams store node contents dirty fields key = do
   streams ← ok_or (stored_streams store fields) reason.Streams
   role ← ok_or (role_of fields key streams) reason.Sparse
   Ok (record { node = node; contents = contents; dirty = dirty; key = key; role = role; streams = streams; others = fields.long_key ∷ fields.data_addr })
 
--- the reasons from the place of the key on, or what the record is
+-- the reasons to drop a node from KeyPlace on, or what is loaded of it
 unfoldable pub load_data : StoreView → ℕ → ℕ → ℕ → RecordFields → Result Loaded Reason
 load_data store node contents dirty fields = do
   key ← ok_or (stored_key store contents fields) reason.KeyPlace

@@ -1,4 +1,4 @@
--- The key of a part, which is its name, as it was read with the verdict on the part.
+-- The name of a part, its key, as it was read with the verdict on the part.
 use Rattle.std.specs.Prelude.{ℕ, ◌≡◌, List, take, true}
 use Rattle.std.specs.declared.option.Option.TheVariants.{Some}
 use Rattle.spec_image.specs.Image.{Image}
@@ -12,15 +12,15 @@ use Rattle.blk_verdict.specs.declared.loading.Loaded.{Loaded}
 use Rattle.blk_verdict.specs.declared.loading.Verdict.{Verdict}
 use Rattle.blk_verdict.specs.declared.loading.Verdict.TheVariants as verdict
 
--- the first of some bytes are the key that an image has where the words of a record say
+-- the front of the bytes is the key that the image has for a record with these words, if it has one
 abbrev pub IsKeyInPrefix : Image → ℕ → RecordWords → List ℕ → Type 0
 IsKeyInPrefix image entry words bytes = (key : List ℕ) → stored_key (store_of image) entry (fields_said words) ≡ Some key → take words.key_len bytes ≡ key
 
--- where a loaded record is a part's, these bytes are the key that an image has of it
+-- if the entry is a part, the bytes are the key that the image has of it
 abbrev pub IsNameOf : Image → Loaded → List ℕ → Type 0
 IsNameOf image said bytes = is_part_said said.role ≡ true → (key : List ℕ) → IsKeyOf image said key → bytes ≡ key
 
--- where a node is loaded, the first of some bytes are so
+-- if a node was loaded as a part, the front of the bytes is the key that the image has of it
 abbrev pub IsNameInPrefix : Image → Verdict → List ℕ → Type 0
 IsNameInPrefix image (verdict.Loaded said) bytes = IsNameOf image said (take said.key_len bytes)
 IsNameInPrefix image (verdict.Dropped reason) bytes = Unit {0}

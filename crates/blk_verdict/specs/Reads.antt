@@ -5,7 +5,7 @@ use Rattle.blk_io.specs.declared.fault.Damage.{Damage}
 use Rattle.blk_disk.specs.declared.tables.BlockFiles.{BlockFiles}
 use Rattle.blk_entry.specs.Keys.{IsCut, IsInside}
 
--- bytes of the data of an address, which are there where it is one of blocks, were read, and too few were given
+-- a read of data inside the valid place of an address gave too few bytes
 pub record IsCutRead (files : BlockFiles) (told : Told) (damage : Damage) : Type 0 where
   pub word : ℕ
   pub at : ℕ

@@ -1,10 +1,10 @@
--- The reasons in memory, and their numbers.
+-- The reasons to drop a node as they are kept in memory, and their numbers.
 use Rattle.std.specs.Prelude.{ℕ}
 use Rattle.spec_folder.specs.Reasons as shown
 use Rattle.blk_verdict.specs.declared.reason.Reason.{Reason}
 use Rattle.blk_verdict.specs.declared.reason.Reason.TheVariants as reason
 
--- the reason of a folder that a reason in memory is
+-- the reason of the model that a reason in memory is
 abbrev pub reason_of : Reason → shown.Reason
 reason_of reason.Contents = shown.Contents
 reason_of reason.Seal = shown.Seal

@@ -1,4 +1,4 @@
--- What a record is, as it is kept in memory.
+-- The role of an entry, as it is kept in memory.
 use Rattle.std.specs.Prelude.{◌≡◌, ℕ, List}
 use Rattle.std.specs.declared.option.Option.{Option}
 use Rattle.std.specs.declared.option.Option.TheVariants.{None, Some}
@@ -8,7 +8,7 @@ use Rattle.blk_ranges.specs.ParentMaps.{head_fields}
 use Rattle.blk_verdict.specs.declared.roles.Role.{Role}
 use Rattle.blk_verdict.specs.declared.roles.Role.TheVariants.{Plain, Parent, Part}
 
--- a role in memory is the role of a record with a key: of an index it has the head, and of a name the key's length, the signature and the part
+-- a role in memory is that of an entry of the model with this key: of a parent it has generation and key length, of a part the name in its key
 abbrev pub IsRole : List ℕ → entries.Role → Role → Type 0
 IsRole key entries.IsPlain Plain = Unit {0}
 IsRole key entries.IsPlain (Parent head) = ⊥
@@ -20,7 +20,7 @@ IsRole key (entries.IsPart name index) Plain = ⊥
 IsRole key (entries.IsPart name index) (Parent head) = ⊥
 IsRole key (entries.IsPart name index) (Part said) = name_within key said ≡ name
 
--- so it is where there is one, and there is one in both or in neither
+-- the two roles agree as IsRole says, or neither is there
 abbrev pub IsRoleIf : List ℕ → Option entries.Role → Option Role → Type 0
 IsRoleIf key None None = Unit {0}
 IsRoleIf key None (Some said) = ⊥

@@ -14,7 +14,7 @@ use Rattle.blk_verdict.specs.declared.loading.Verdict.TheVariants as verdict
 use Rattle.blk_audit.specs.declared.record_words.RecordWords.{RecordWords}
 use Rattle.blk_verdict.specs.declared.roles.Role.{Role}
 
--- what is kept of a node with a record
+-- what is kept in memory of an entry with this node, this record and these words
 abbrev pub loaded_with : ℕ → ℕ → Role → RecordWords → Loaded
 loaded_with node entry role words = record {
   node = node;
@@ -27,7 +27,7 @@ loaded_with node entry role words = record {
   addrs = words.addrs;
 }
 
--- what is kept in memory of a node is what is known of it: the lengths of its key and streams in place of their bytes
+-- what is kept in memory of an entry agrees with what its node loads, with the lengths of key and streams in place of their bytes
 pub record IsLoaded (loaded : shown.Loaded) (said : Loaded) : Type 0 where
   pub node : said.node ≡ loaded.node
   pub entry : said.entry ≡ loaded.contents
@@ -37,7 +37,7 @@ pub record IsLoaded (loaded : shown.Loaded) (said : Loaded) : Type 0 where
   pub sizes : (i : ℕ) → i < 3 → slice_index said.sizes i ≡ length (stream i loaded.streams)
   pub others : said.long_key ∷ said.addrs ≡ loaded.others
 
--- a verdict in memory is the one on a node of a folder: the same reason, or what is known of the node
+-- a verdict in memory is that of the model on the node: the same reason to drop it, or what its node loads
 abbrev pub IsVerdict : Result shown.Loaded reasons.Reason → Verdict → Type 0
 IsVerdict (Ok loaded) (verdict.Loaded said) = IsLoaded loaded said
 IsVerdict (Ok loaded) (verdict.Dropped reason) = ⊥

@@ -1,4 +1,4 @@
-// The places in a list by hashes.
+// An index of a list by hashes.
 ghost use Rattle.std.specs.Prelude.{◌<◌, ℕ, ◌++◌, [], ◌∷◌, List, OnOk, length, slice_index};
 ghost use Rattle.blk_verdict.specs.ByHash.{IsByHash, IsLastWithHash};
 
@@ -6,7 +6,7 @@ use blk_addr::NoMemory;
 use std::alloc::Global;
 use std::collections::BTreeMap;
 
-// The places of each hash in a list, from the last one on back to the first.
+// For each hash of a list its last place, and from each place the one before with the same hash.
 #[derive(Drop)]
 pub(crate) struct ByHash {
     // the last place of each hash

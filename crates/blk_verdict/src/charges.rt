@@ -1,4 +1,4 @@
-// What loaded nodes are charged.
+// The costs of loaded entries.
 ghost use Rattle.std.specs.Prelude.{◌≡◌, ◌≤◌, ◌<◌, ◌^◌, length};
 ghost use Rattle.std.specs.List.{sum_by};
 ghost use Rattle.blk_verdict.specs.Charges.{charge_said};

@@ -1,4 +1,4 @@
-// Whether a part's map goes with its name and its data.
+// Whether the index of a part agrees with its name and its data.
 ghost use Rattle.std.specs.Prelude.{◌≡◌, ◌+◌, ◌*◌, ◌==◌, ◌&&◌, ◌||◌, nat_le, not, true};
 ghost use Rattle.std.specs.Int.{cast_unsigned, w64};
 ghost use Rattle.std.specs.List.{list_all, range_with_len};

@@ -198,7 +198,7 @@ impl KeptSoFar {
         }
     }
 
-    // The same, where the key of the record is read.
+    // Whether one of the kept records is what is sought, with the key of a record, which is read.
     fn has_stored_key<F: Folder>(
         &self,
         folder: &mut F,

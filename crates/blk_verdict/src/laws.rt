@@ -2,7 +2,7 @@
 ghost use Rattle.blk_verdict.specs.Charges.{LoadedAreCharged};
 ghost use Rattle.blk_verdict.specs.KeptKeys.{LoadedIndexesAreFound, LoadedKeysAreFound};
 
-/// What is kept in memory of a loaded node leads to the key of its record, to the index of a parent, and to what it is charged.
+/// What is kept in memory of an entry that its node loads leads to its key, to the index of a parent, and to its cost.
 pub fn loaded_keys_are_found()
     ensures keys { LoadedKeysAreFound }
     ensures indexes { LoadedIndexesAreFound }

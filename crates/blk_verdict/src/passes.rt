@@ -28,12 +28,12 @@ use blk_entry::LONGEST_NAME;
 use blk_io::Folder;
 use std::alloc::Global;
 
-/// What came of a walked node.
+/// The outcome of a walked node.
 #[derive(Clone, Copy, Debug)]
 pub struct Tried {
     /// Which of the walked nodes it is, counted from 0.
     pub place: usize,
-    /// Why it is dropped, or none where it is kept.
+    /// Why it is dropped, or `None` where it is kept.
     pub reason: Option<Reason>,
 }
 
@@ -42,7 +42,7 @@ pub struct Tried {
 pub struct Judged {
     /// The records that are kept, in that order.
     pub kept: KeptSoFar,
-    /// What came of each of the walked nodes.
+    /// The outcome of each of the walked nodes.
     pub tried: Vec<Tried>,
 }
 

@@ -1,4 +1,4 @@
--- What a store of pages holds.
+-- The slots of a page cache and the pages in them.
 use Rattle.std.specs.Prelude.{◌≡◌, ℕ, nat_eq, List, None, Some}
 use Rattle.std.specs.Option.{option_map}
 use Rattle.std.specs.Map.{lookup}
@@ -6,14 +6,14 @@ use Rattle.blk_window.specs.Held as held
 use Rattle.blk_window.specs.Slots.{seen, held_in}
 use Rattle.blk_window.specs.declared.pages.Pages.{Pages}
 
--- the pages that are held, the last used first
+-- the pages in the cache, the last used first
 abbrev pub held_of : Pages → List held.Page
 held_of pages = held_in pages.slots.entries
 
--- for how many pages there is space
+-- how many pages the cache has slots for
 abbrev pub places_of : Pages → ℕ
 places_of pages = pages.slots.cap
 
--- the slot with this number is there and holds nothing
+-- the slot with this number exists and has no page
 abbrev pub IsSlotFree : Pages → ℕ → Type 0
 IsSlotFree pages slot = option_map seen (lookup (nat_eq slot) pages.slots.entries) ≡ Some None

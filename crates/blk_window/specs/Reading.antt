@@ -3,7 +3,7 @@ use Rattle.std.specs.Prelude.{◌≡◌, ℕ, ◌-◌, ◌%◌, List, length, mi
 use Rattle.spec_image.specs.Image.{File}
 use Rattle.blk_window.specs.Held.{Page, IsPageUsed, used, page_at, page_size}
 
--- a read of at most so many bytes of one page from a place of its file on gave n, and the page was used
+-- a read of at most `most` bytes of one page, from `place` of its file on, gave n, and the page was accessed
 pub record ReadsPage (places : ℕ) (file : File) (place most n : ℕ) (old new : List Page) : Type 0 where
   pub page : Page
   pub is : IsPageUsed file (page_at place) old page

@@ -67,14 +67,14 @@ impl Page {
         copy_front(&self.bytes[..self.count], from, out)
     }
 
-    /// Holds nothing from now on.
+    /// Makes the slot free.
     pub fn clear(&mut self)
         ensures { seen self.new ≡ None }
     {
         self.is_held = false;
     }
 
-    /// Holds nothing from now on, if it holds a page of the file.
+    /// Makes the slot free, if it has a page of the file.
     pub fn forget(&mut self, file: FileId)
         ensures { seen self.new ≡ option_and_then (unless_of (file_of file)) (seen self.old) }
     {
@@ -83,7 +83,7 @@ impl Page {
         }
     }
 
-    /// Writes over the bytes of the page that it holds, if it is one of the file. Where the page ends before the new bytes do, it holds nothing from now on.
+    /// Writes over the bytes of the page in the slot, if it is one of the file. Where the page ends before the new bytes do, the slot becomes free.
     pub fn write(&mut self, file: FileId, at: u64, bytes: &[u8])
         ensures { seen self.new ≡ option_and_then (written (file_of file) at bytes.now) (seen self.old) }
     {

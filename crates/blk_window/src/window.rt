@@ -72,7 +72,7 @@ impl<F: Folder> Window<F> {
         self.pages.holds(file, page)
     }
 
-    /// Each page that is held has the bytes that its file has there, where the files are told. There are no more of them than places.
+    /// Each page in the cache has the bytes that its file has there, where the files are observable. There are no more pages than slots.
     pub fn held_pages_agree(&self)
         ensures agree { ForSome (F.told self.now.inner).files (λ image. All (HoldsFileBytes image) (held_of self.now.pages)) }
         ensures few { length (held_of self.now.pages) ≤ places_of self.now.pages }

@@ -13,11 +13,11 @@ use Rattle.spec_folder.specs.Found.{kept}
 use Rattle.spec_folder.specs.Sound.{words_of, IsSound}
 use Rattle.spec_folder.specs.StandsFor.{StandsFor}
 
--- in a sound folder the allocations of each linked file are the address words in it of what is kept
+-- in a consistent folder the allocations of each linked file are the address words in it of what is kept
 abbrev pub SoundFilesAreAllocated : Type 0
 SoundFilesAreAllocated = (image : Image) → IsSound image → (n : ℕ) → is_some (linked_as image n) ≡ true → AreAllocations image n (filter (is_in_file n) (flat_map words_of (kept image)))
 
--- where an image stands for a state, they are those of what is listed or doomed
+-- where an image represents a state, the allocations of each linked file are the address words in it of what is listed or doomed
 abbrev pub StoodForFilesAreAllocated : Type 0
 StoodForFilesAreAllocated = (image : Image) (state : State) (stands : StandsFor image state) (n : ℕ) → is_some (linked_as image n) ≡ true
     → AreAllocations image n (filter (is_in_file n) (flat_map words_of (kept_by listed_rule (view_of image) ++ map (λ doomed. doomed.1) stands.doomed)))

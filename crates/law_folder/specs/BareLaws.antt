@@ -15,7 +15,7 @@ use Rattle.spec_folder.specs.Emptiness.{no_view, no_layout}
 use Rattle.spec_folder.specs.Sound.{OnlyLinked, IsSound}
 use Rattle.spec_folder.specs.StandsFor.{StandsFor}
 
--- a folder that shows nothing represents the empty state
+-- the view of a new folder represents the empty state
 abbrev pub NothingRepresentsTheEmptyState : Type 0
 NothingRepresentsTheEmptyState = (limits : Bounds) → Represents no_view (open_state [] limits) no_layout
 
@@ -36,7 +36,7 @@ pub record IsFileWithoutBlocks (image : Image) (n : ℕ) : Type 0 where
   pub updating : updating_of (byte image (Block n)) ≡ 0
   pub map : (b : ℕ) → b < most_blocks → is_block_marked image n b ≡ false
 
--- a well-formed folder of a bare index and bare block files, with no other files
+-- an empty cache: a well-formed folder with an index without entries, block files without blocks, and no other files
 pub record HasNoEntries (image : Image) : Type 0 where
   pub well_formed : IsWellFormed image
   pub index : IsIndexWithoutEntries image
@@ -44,22 +44,22 @@ pub record HasNoEntries (image : Image) : Type 0 where
   pub only_linked : OnlyLinked image
   pub no_externals : (n : ℕ) → n < 2 ^ 32 → has_file image (External n) ≡ false
 
--- a bare folder holds nothing
+-- the recovered contents of an empty cache are empty
 abbrev pub FoldersWithoutEntriesHoldNothing : Type 0
 FoldersWithoutEntriesHoldNothing = (image : Image) → HasNoEntries image → found image ≡ []
 
--- it is sound
+-- an empty cache is consistent
 abbrev pub FoldersWithoutEntriesAreSound : Type 0
 FoldersWithoutEntriesAreSound = (image : Image) → HasNoEntries image → IsSound image
 
--- it represents the empty state
+-- the view of an empty cache has the empty state, by the layout of no objects
 abbrev pub FoldersWithoutEntriesRepresentTheEmptyState : Type 0
 FoldersWithoutEntriesRepresentTheEmptyState = (image : Image) (limits : Bounds) → HasNoEntries image → Represents (view_of image) (open_state [] limits) no_layout
 
--- it stands for the empty state
+-- an empty cache represents the empty state, with its files, maps and counters
 abbrev pub FoldersWithoutEntriesStandForTheEmptyState : Type 0
 FoldersWithoutEntriesStandForTheEmptyState = (image : Image) (limits : Bounds) → HasNoEntries image → StandsFor image (open_state [] limits)
 
--- a new folder is bare
+-- a new folder is an empty cache
 abbrev pub NewFoldersHaveNoEntries : Type 0
 NewFoldersHaveNoEntries = (moment : ℕ) (image : Image) → IsMade moment image → HasNoEntries image

@@ -12,14 +12,14 @@ use Rattle.spec_folder.specs.ShownChanges.{ChangesInside, OnlyListChanges}
 abbrev pub WritesStayInside : Type 0
 WritesStayInside = (from image : Image) (w at n : ℕ) → stands_in from w ≡ true → kind_of w ≢ external → place w ≤ at → at + n ≤ place w + byte_size w → SameOutside (range (Block (file_selector w)) at n) from image → ChangesInside w from image
 
--- and so does the update of the record at their front
+-- each moment of the update of the record at the front of a valid address's blocks changes only these blocks
 abbrev pub UpdatesStayInside : Type 0
 UpdatesStayInside = (from image : Image) (w : ℕ) (changes : List (ℕ × ℕ)) → stands_in from w ≡ true → BeginsWithRecord w → IsMidUpdate from w changes image → ChangesInside w from image
 
--- no write into the list leaves what is shown
+-- where nothing was written into the LRU list, nothing is shown to change
 abbrev pub ListChangesBegin : Type 0
 ListChangesBegin = (image : Image) → OnlyListChanges [] image image
 
--- changes of the list one after the other are one change
+-- writes into the LRU list, and later ones after them, are together one change of the list alone
 abbrev pub ListChangesAdd : Type 0
 ListChangesAdd = (writes later : List ListWrite) (from between image : Image) → OnlyListChanges writes from between → OnlyListChanges later between image → OnlyListChanges (writes ++ later) from image

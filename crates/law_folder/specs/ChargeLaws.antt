@@ -20,26 +20,28 @@ use Rattle.spec_folder.specs.Layout.{Layout, is_listed, Represents}
 abbrev pub PartNamesAreNames : Type 0
 PartNamesAreNames = (key : List ℕ) (signature n : ℕ) → part_name key signature n ≡ child_name key signature n
 
--- what lies at the node of a listed item is charged what its row is charged
+-- the charge of the record at a listed item's node is that of the item's row
 abbrev pub ItemsAreChargedAsRows : Type 0
 ItemsAreChargedAsRows = (view : View) (state : State) (layout : Layout) → Represents view state layout → (item : Item) (loaded : Loaded) → is_listed state item ≡ true → layout.at (layout.place item) ≡ Some loaded → charge_of loaded ≡ row_charge state (row_of_loaded loaded)
 
--- so the charges of what is listed are those of the rows
+-- the charges of the listed records add up to those of the state's rows
 abbrev pub ListedChargesAreTheRows : Type 0
 ListedChargesAreTheRows = (image : Image) (state : State) (layout : Layout) → Represents (view_of image) state layout → IsValidState state → sum_by charge_of (kept_by listed_rule (view_of image)) ≡ sum_by (row_charge state) (rows state)
 
--- and with the doomed objects they are the totals
+-- the totals of a state are the charges and the number of what is listed, and those of its doomed objects
 pub record AreTotals (image : Image) (state : State) : Type 0 where
   pub bytes : total state ≡ sum_by charge_of (kept_by listed_rule (view_of image)) + sum_by doomed_charge state.objects
   pub count : items state ≡ length (kept_by listed_rule (view_of image)) + count_by is_doomed_slot state.objects
 
+-- where a view represents a valid state, its totals are the charges and the number of what is listed and doomed
 abbrev pub ListedChargesAreTheTotals : Type 0
 ListedChargesAreTheTotals = (image : Image) (state : State) (layout : Layout) → Represents (view_of image) state layout → IsValidState state → AreTotals image state
 
--- a state that was just opened has no doomed objects: its totals are the charges, and the number, of what is listed
+-- the totals of a state without doomed objects are the charges and the number of what is listed
 pub record AreOpenedTotals (image : Image) (state : State) : Type 0 where
   pub bytes : total state ≡ sum_by charge_of (kept_by listed_rule (view_of image))
   pub count : items state ≡ length (kept_by listed_rule (view_of image))
 
+-- where a view represents a valid state that was just opened on what is recovered, its totals are those of what is listed
 abbrev pub OpenedChargesAreTheTotals : Type 0
 OpenedChargesAreTheTotals = (image : Image) (limits : Bounds) (layout : Layout) → Represents (view_of image) (open_state (found image) limits) layout → IsValidState (open_state (found image) limits) → AreOpenedTotals image (open_state (found image) limits)

@@ -8,38 +8,42 @@ use Rattle.spec_folder.specs.ListView.{ListWrite, Head, Tail, Transaction, Opera
 use Rattle.spec_folder.specs.View.{list_of, store_of, view_of}
 use Rattle.spec_folder.specs.ShownChanges.{OnlyListChanges}
 
--- one word of the index is this, and all else is as before
+-- a word of the index has this value, and all else is as before
 pub record IsIndexWord (at x : ℕ) (from image : Image) : Type 0 where
   pub there : word image Index at ≡ x
   pub outside : SameOutside (one_word Index at) from image
 
--- two of them side by side are a number of eight bytes, of which the low word is written first
+-- two words of the index side by side are a number of eight bytes, of which the low word is written first, and all else is as before
 pub record IsIndexLong (at x : ℕ) (from image : Image) : Type 0 where
   pub between : Image
   pub low : IsIndexWord at (x % 2 ^ 32) from between
   pub high : IsIndexWord (at + 4) (x / 2 ^ 32) between image
 
--- the head of the LRU list, the tail, the transaction and the operation are each written as one write into the list
+-- the write of the word at a place of the index is one write into the LRU list
 abbrev pub IsListWord : ℕ → (ℕ → ListWrite) → Type 0
 IsListWord at write = (from image : Image) (x : ℕ) → IsIndexWord at x from image → OnlyListChanges (write x ∷ []) from image
 
+-- the write of the head in the index is one write into the LRU list
 abbrev pub HeadsAreWritten : Type 0
 HeadsAreWritten = IsListWord heads_place Head
 
+-- the write of the tail in the index is one write into the LRU list
 abbrev pub TailsAreWritten : Type 0
 TailsAreWritten = IsListWord tails_place Tail
 
+-- the write of the transaction in the index is one write into the LRU list
 abbrev pub TransactionsAreWritten : Type 0
 TransactionsAreWritten = IsListWord transaction_place Transaction
 
+-- the write of the operation in the index is one write into the LRU list
 abbrev pub OperationsAreWritten : Type 0
 OperationsAreWritten = IsListWord operation_place Operation
 
--- of the words of the index's header these four are shown
+-- the places of the words of the index's header that are shown: the head, the tail, the transaction and the operation
 abbrev pub shown_words : List ℕ
 shown_words = heads_place ∷ tails_place ∷ transaction_place ∷ operation_place ∷ []
 
--- the others are not
+-- the write of another word of the index's header changes nothing that is shown
 abbrev pub OtherWordsAreNotShown : Type 0
 OtherWordsAreNotShown = (from image : Image) (at : ℕ) → at % 4 ≡ 0 → at < header_length → is_among shown_words at ≡ false → SameOutside (one_word Index at) from image → view_of image ≡ view_of from
 
@@ -52,22 +56,22 @@ BucketsAreWritten = (from image : Image) (bucket x : ℕ) → IsIndexWord (place
 abbrev pub checked_words : List ℕ
 checked_words = 0 ∷ 4 ∷ 24 ∷ 28 ∷ 36 ∷ zero_places
 
--- the write of another word keeps a folder well formed
+-- the write of a word of the index that no check reads keeps a folder well formed
 abbrev pub OtherWordsAreNotChecked : Type 0
 OtherWordsAreNotChecked = (from image : Image) (at : ℕ) → at % 4 ≡ 0 → is_among checked_words at ≡ false → SameOutside (one_word Index at) from image → IsWellFormed from → IsWellFormed image
 
--- and so does the write of the version that is made now, whichever of the two it was
+-- the write of the version that is made now keeps a folder well formed, whichever of the two it was
 abbrev pub VersionsMayBeRaised : Type 0
 VersionsMayBeRaised = (from image : Image) → IsIndexWord version_place index_version from image → IsWellFormed from → IsWellFormed image
 
--- a change of the index that spares the words that say what it counts leaves that
+-- a change of the index that spares the words at `counted_places` leaves what the index counts
 abbrev pub OtherBytesAreNotCounted : Type 0
 OtherBytesAreNotCounted = (from image : Image) → ((p : ℕ) → is_among counted_places p ≡ true → word image Index p ≡ word from Index p) → count_of (byte image Index) ≡ count_of (byte from Index)
 
--- and so does the write of the word of a bucket
+-- the write of the word of a bucket keeps a folder well formed
 abbrev pub BucketsAreNotChecked : Type 0
 BucketsAreNotChecked = (from image : Image) (bucket : ℕ) → SameOutside (one_word Index (place_of_bucket bucket)) from image → IsWellFormed from → IsWellFormed image
 
--- no word of the index says what is valid
+-- the write of a word of the index leaves the same addresses valid
 abbrev pub IndexWordsStandApart : Type 0
 IndexWordsStandApart = (from image : Image) (at : ℕ) → SameOutside (one_word Index at) from image → (u : ℕ) → stands_in image u ≡ stands_in from u

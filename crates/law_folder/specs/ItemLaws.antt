@@ -15,24 +15,23 @@ use Rattle.spec_folder.specs.Layout.{Layout, is_listed, IsLayoutOf, Represents, 
 use Rattle.spec_folder.specs.Creation.{with_first, with_item, IsNewItem}
 use Rattle.spec_folder.specs.ShownChanges.{ShowsTheSame}
 
--- where a store shows the same, the same is represented
+-- a view represents the same with a store that shows the same
 abbrev pub SameStoresRepresent : Type 0
 SameStoresRepresent = (view : View) (state : State) (layout : Layout) → Represents view state layout → (store : StoreView) → ShowsTheSame view.store store → Represents (record view { store = store }) state layout
 
--- any listed item is touched: what is kept is the durable contents before, and from the second write on the durable contents with the item
--- in front
+-- the access of a listed item commits at its second write: what is kept is the durable contents before, and from then on those with the item in front
 abbrev pub TouchedItemsAtEachWrite : Type 0
 TouchedItemsAtEachWrite = (view : View) (state : State) (layout : Layout) → Represents view state layout → IsValidState state → (item : Item) → is_listed state item ≡ true
     → (store : StoreView) → ShowsTheSame view.store store → (count : ℕ) → map row_of_loaded (kept_by held_rule (completed (record { list = after_writes (take count (touch_writes (layout.place item) view.list)) view.list; store = store })))
     ≡ (if nat_lt count 2 then rest state else rest (record state { uses = used item state.uses }))
 
--- and in the end the state with the item in front is represented, and valid
+-- after the access of a listed item the state with the item in front is represented, and valid
 abbrev pub TouchedItemsEnd : Type 0
 TouchedItemsEnd = (view : View) (state : State) (layout : Layout) → Represents view state layout → IsValidState state → (item : Item) → is_listed state item ≡ true
     → (store : StoreView) → ShowsTheSame view.store store
     → Represents (record { list = after_writes (touch_writes (layout.place item) view.list) view.list; store = store }) (record state { uses = used item state.uses }) layout × IsValidState (record state { uses = used item state.uses })
 
--- what joins the list in front, a main item or a part, is laid out for the state with it
+-- the layout with a new item, a main item or a part, fits the state with the item in front
 abbrev pub NewItemsArePlaced : Type 0
 NewItemsArePlaced = (state : State) (objects : List (Option Object)) (layout : Layout) (item : Item) (loaded : Loaded) → IsLayoutOf state layout → OneChanged state objects item → IsNewItem state objects layout item loaded
     → IsLayoutOf (with_first state objects item) (with_item layout item loaded)

@@ -19,23 +19,24 @@ use Rattle.spec_folder.specs.Found.{completed, found}
 use Rattle.spec_folder.specs.Shown.{IsShown}
 use Rattle.spec_folder.specs.Candidates.{candidates, SameNamed}
 
--- what is given to a walk is kept of it, in the order of the walk
+-- the records that are given to a walk, as `IsShown` has them, are those that are kept of it, in its order
 abbrev pub KeptAreTheGiven : Type 0
 KeptAreTheGiven = (store : StoreView) (rule : Rule) (nodes : List ℕ) (given : ℕ → Option Loaded) → IsShown store rule nodes given → kept_among store rule nodes ≡ filter_map given nodes
 
--- where something is given to each node, none is dropped
+-- where a record is given to each node of a walk, none is dropped
 abbrev pub NoneOfTheGivenIsDropped : Type 0
 NoneOfTheGivenIsDropped = (store : StoreView) (rule : Rule) (nodes : List ℕ) (given : ℕ → Option Loaded) → IsShown store rule nodes given → ((node : ℕ) → is_among nodes node ≡ true → given node ≢ None) → dropped_among store rule nodes ≡ []
 
--- what is kept loads, shares no block, no external number and no name, and has its parents: a walk of the kept nodes alone shows it
+-- the kept records of a walk load, share no block, no external number and no name, and have their parents: so a walk of the kept nodes alone keeps them
+-- (`IsShown`)
 abbrev pub KeptAreShown : Type 0
 KeptAreShown = (store : StoreView) (rule : Rule) (nodes : List ℕ) → Distinct nodes → IsShown store rule (kept_nodes store rule nodes) (kept_as store rule nodes)
 
--- and keeps the same
+-- a walk of the kept nodes alone keeps the same
 abbrev pub KeptAloneAreKept : Type 0
 KeptAloneAreKept = (store : StoreView) (rule : Rule) (nodes : List ℕ) → Distinct nodes → kept_among store rule (kept_nodes store rule nodes) ≡ kept_among store rule nodes
 
--- a node that is left out was dropped
+-- a node that is left out of a walk is dropped by its verdict
 abbrev pub IsDroppedIfLeftOut : (ℕ → Bool) → ℕ × Result Loaded Reason → Type 0
 IsDroppedIfLeftOut keep judgement = keep judgement.0 ≡ false → is_err judgement.1 ≡ true
 
@@ -52,7 +53,7 @@ SameKeyIsOneChain = (store : StoreView) (node other contents others dirty dirt :
 abbrev pub OnlyCandidatesAreKept : Type 0
 OnlyCandidatesAreKept = (view : View) → kept_by held_rule view ≡ kept_among view.store held_rule (candidates view)
 
--- two well-formed images with the same candidates, which agree on what these name, hold the same
+-- two well-formed images with the same candidates, which agree on what these name, have the same recovered contents
 abbrev pub SameCandidatesHoldTheSame : Type 0
 SameCandidatesHoldTheSame = (old new : Image) → IsWellFormed old → IsWellFormed new → candidates (completed (view_of old)) ≡ candidates (completed (view_of new))
     → AllByRecursion (SameNamed (completed (view_of old)).store (completed (view_of new)).store) (candidates (completed (view_of old))) → found old ≡ found new

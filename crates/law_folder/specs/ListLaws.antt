@@ -17,39 +17,39 @@ use Rattle.spec_folder.specs.Chains.{file_and_block, most_records, is_of_bucket,
 abbrev pub WalksAreTheLists : Type 0
 WalksAreTheLists = (list : ListView) (nodes : List ℕ) → IsList list nodes → walk list ≡ nodes
 
--- the nodes of a walk are different, and each is there and checks
+-- the nodes of a walk are different, and each is there with a right or absent seal
 abbrev pub WalksAreDistinct : Type 0
 WalksAreDistinct = (list : ListView) → Distinct (walk list) × ((node : ℕ) → is_among (walk list) node ≡ true → list.checks node ≡ true)
 
--- an insert, crashed after any of its writes and completed, gives the old list before the second write, and the new list from then on
+-- an insert commits at its second write: after a crash the redo gives the old nodes before it, and the new ones from then on
 abbrev pub InsertsCommitAtTwo : Type 0
 InsertsCommitAtTwo = (node : ℕ) (list : ListView) (nodes : List ℕ) → CanBeInserted list nodes node → CommitsAtTwo list (writes_of insert node list) nodes (node ∷ nodes)
 
--- and ends with the new list idle
+-- an insert ends with the LRU list idle and the node in front
 abbrev pub InsertsEnd : Type 0
 InsertsEnd = (node : ℕ) (list : ListView) (nodes : List ℕ) → CanBeInserted list nodes node → IsAtRest (after_writes (writes_of insert node list) list) (node ∷ nodes)
 
--- so does a removal
+-- a removal commits at its second write: after a crash the redo gives the old nodes before it, and those without the node from then on
 abbrev pub RemovalsCommitAtTwo : Type 0
 RemovalsCommitAtTwo = (node : ℕ) (list : ListView) (prefix suffix : List ℕ) → IsAtRest list (prefix ++ node ∷ suffix) → CommitsAtTwo list (writes_of remove node list) (prefix ++ node ∷ suffix) (prefix ++ suffix)
 
--- and ends with the new list idle
+-- a removal ends with the LRU list idle and without the node
 abbrev pub RemovalsEnd : Type 0
 RemovalsEnd = (node : ℕ) (list : ListView) (prefix suffix : List ℕ) → IsAtRest list (prefix ++ node ∷ suffix) → IsAtRest (after_writes (writes_of remove node list) list) (prefix ++ suffix)
 
--- and a touch
+-- an access commits at its second write: after a crash the redo gives the old order before it, and the node in front from then on
 abbrev pub TouchesCommitAtTwo : Type 0
 TouchesCommitAtTwo = (node : ℕ) (list : ListView) (prefix suffix : List ℕ) → IsAtRest list (prefix ++ node ∷ suffix) → CommitsAtTwo list (touch_writes node list) (prefix ++ node ∷ suffix) (node ∷ prefix ++ suffix)
 
--- and ends with the new list idle
+-- an access ends with the LRU list idle and the node in front
 abbrev pub TouchesEnd : Type 0
 TouchesEnd = (node : ℕ) (list : ListView) (prefix suffix : List ℕ) → IsAtRest list (prefix ++ node ∷ suffix) → IsAtRest (after_writes (touch_writes node list) list) (node ∷ prefix ++ suffix)
 
--- completing, crashed anywhere and begun again as often as one likes, leaves a list whose completion is the same but for the operation word, on every list
+-- redos of any LRU list that crash, as often as one likes, leave a list of which the redo gives the same but for the operation word
 abbrev pub CompletingAgainIsTheSame : Type 0
 CompletingAgainIsTheSame = (list : ListView) (counts : List ℕ) → completed_but_operation (stopped counts list) ≡ completed_but_operation list
 
--- all that completing writes gives the completed list, but for the operation word
+-- all writes of a redo leave a list without an operation in flight, of which the redo gives the same but for the operation word
 abbrev pub CompletionsEnd : Type 0
 CompletionsEnd = (list : ListView) → completed_but_operation (after_writes (completion_writes list) list) ≡ completed_but_operation list × ((after_writes (completion_writes list) list).transaction ≡ 0)
 
@@ -63,11 +63,11 @@ ChainsAreTheirRecords = (store : StoreView) (bucket : ℕ) (words : List ℕ) �
 abbrev pub WholeChainsAreShort : Type 0
 WholeChainsAreShort = (store : StoreView) (bucket : ℕ) (words : List ℕ) → IsChain store bucket words → length words ≤ most_records
 
--- of an image fewer records of different first blocks are there, since data_0 is linked as a file of nodes
+-- the records of an image at different first blocks are fewer than there are first blocks, since data_0 is linked as a file of nodes
 abbrev pub RecordsOfImagesAreFew : Type 0
 RecordsOfImagesAreFew = (image : Image) (words : List ℕ) → ((w : ℕ) → is_among words w ≡ true → stands_as image blocks_256 w ≡ true) → Distinct (map file_and_block words) → length words < most_records
 
--- so a whole chain of an image has fewer
+-- a whole chain of an image has fewer records than there are first blocks
 abbrev pub ChainsOfImagesAreShort : Type 0
 ChainsOfImagesAreShort = (image : Image) (bucket : ℕ) (words : List ℕ) → IsChain (store_of image) bucket words → length words < most_records
 
@@ -76,30 +76,30 @@ abbrev pub RecordsAreLinkedInFront : Type 0
 RecordsAreLinkedInFront = (store : StoreView) (bucket contents : ℕ) (words : List ℕ) → IsChain store bucket words → is_of_bucket store bucket contents ≡ true → store.chain_next contents ≡ store.table bucket
     → is_among (map file_and_block words) (file_and_block contents) ≡ false → IsChain (record store { table = put store.table bucket contents }) bucket (contents ∷ words)
 
--- the word of one bucket is not read for another
+-- the write of one bucket's word leaves the chains of the other buckets
 abbrev pub OtherChainsStay : Type 0
 OtherChainsStay = (store : StoreView) (bucket other word : ℕ) → (bucket == other) ≡ false → chain (record store { table = put store.table bucket word }) other ≡ chain store other
 
--- the records after the first of linked records are linked from its next on, where their own links and buckets are as before
+-- the records after the first of linked records are linked from the first one's next on, where their own links and buckets are as before
 abbrev pub FirstRecordsAreUnlinked : Type 0
 FirstRecordsAreUnlinked = (old new : StoreView) (bucket word contents : ℕ) (words : List ℕ)
     → ((w : ℕ) → is_among words w ≡ true → (is_of_bucket new bucket w ≡ is_of_bucket old bucket w) × (new.chain_next w ≡ old.chain_next w))
     → Linked old bucket word (contents ∷ words) → Linked new bucket (old.chain_next contents) words
 
--- so the first record goes out of a chain where the table word becomes its next
+-- the first record leaves a chain where the table word becomes its next
 abbrev pub FirstRecordsLeaveChains : Type 0
 FirstRecordsLeaveChains = (old new : StoreView) (bucket contents : ℕ) (words : List ℕ)
     → ((w : ℕ) → is_among words w ≡ true → (is_of_bucket new bucket w ≡ is_of_bucket old bucket w) × (new.chain_next w ≡ old.chain_next w))
     → new.table bucket ≡ old.chain_next contents → IsChain old bucket (contents ∷ words) → IsChain new bucket words
 
--- a record goes out of linked records where the one before it takes its next
+-- a later one of linked records is taken out where the record before it takes its next
 abbrev pub LaterRecordsAreUnlinked : Type 0
 LaterRecordsAreUnlinked = (old new : StoreView) (bucket word before contents : ℕ) (prefix suffix : List ℕ)
     → ((w : ℕ) → is_among (prefix ++ before ∷ suffix) w ≡ true → is_of_bucket new bucket w ≡ is_of_bucket old bucket w)
     → ((w : ℕ) → is_among prefix w ≡ true → new.chain_next w ≡ old.chain_next w) → ((w : ℕ) → is_among suffix w ≡ true → new.chain_next w ≡ old.chain_next w) → new.chain_next before ≡ old.chain_next contents
     → Linked old bucket word (prefix ++ before ∷ contents ∷ suffix) → Linked new bucket word (prefix ++ before ∷ suffix)
 
--- so it goes out of a chain where the table word is as before
+-- a later record leaves a chain where the record before it takes its next, and the table word is as before
 abbrev pub LaterRecordsLeaveChains : Type 0
 LaterRecordsLeaveChains = (old new : StoreView) (bucket before contents : ℕ) (prefix suffix : List ℕ)
     → ((w : ℕ) → is_among (prefix ++ before ∷ suffix) w ≡ true → is_of_bucket new bucket w ≡ is_of_bucket old bucket w)

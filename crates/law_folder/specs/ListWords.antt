@@ -14,108 +14,109 @@ use Rattle.spec_folder.specs.ShownChanges.{OnlyListChanges}
 
 -- Writes in turn.
 
--- at each word of such writes a prefix of them is made, and nothing else is shown to change
+-- at each word of some writes into the LRU list a prefix of the writes is made, and nothing else is shown to change
 abbrev pub WritesAreMadeInTurn : Type 0
 WritesAreMadeInTurn = (image : Image) (writes : List ListWrite) → IsWritable image → CanBeMade image writes → Along (IsPartly image writes) image (steps_of_writes writes image)
 
--- in the end all of them are made
+-- after the words of some writes into the LRU list all of the writes are made
 abbrev pub WritesAreMade : Type 0
 WritesAreMade = (image : Image) (writes : List ListWrite) → IsWritable image → CanBeMade image writes → OnlyListChanges writes image (after (steps_of_writes writes image) image)
 
--- at each word the image can be written
+-- at each word of some writes into the LRU list the image is one of bytes, whose index has its header
 abbrev pub WritesCanGoOn : Type 0
 WritesCanGoOn = (image : Image) (writes : List ListWrite) → IsWritable image → Along IsWritable image (steps_of_writes writes image)
 
--- in the end each node that is written is sealed
+-- after some writes into the LRU list each node that they write is sealed
 abbrev pub WritesSealTheirNodes : Type 0
 WritesSealTheirNodes = (image : Image) (writes : List ListWrite) → IsWritable image → CanBeMade image writes → AreNodesSealed writes (after (steps_of_writes writes image) image)
 
--- and each other node that was sealed is so still
+-- after some writes into the LRU list each node that was sealed is sealed
 abbrev pub WritesKeepSeals : Type 0
 WritesKeepSeals = (image : Image) (writes : List ListWrite) → IsWritable image → CanBeMade image writes → KeepsSealed image (after (steps_of_writes writes image) image)
 
--- the sealed update of a node seals it, and keeps the seals of the others
+-- the sealed update of a node seals it, and keeps the seals of other nodes
 abbrev pub NodeUpdatesKeepSeals : Type 0
 NodeUpdatesKeepSeals = (image : Image) (node : ℕ) (changes : List (ℕ × ℕ)) → IsWritable image → (list_of image).checks node ≡ true → AreChanges (seal_place node) changes → All (λ change. change.0 + 4 ≤ seal_place node) changes
     → IsSealed (after (sealed_steps image node changes) image) node × KeepsSealed image (after (sealed_steps image node changes) image)
 
 -- Operations.
 
--- what an insert writes can be made
+-- the writes of an insert can be made on the image
 abbrev pub InsertsCanBeMade : Type 0
 InsertsCanBeMade = (image : Image) (node : ℕ) (nodes : List ℕ) → CanBeInserted (list_of image) nodes node → CanBeMade image (writes_of insert node (list_of image))
 
--- an insert, crashed at any of its words and completed, gives the old list before the second word, and the new list from then on
+-- an insert commits at its second word: after a crash the redo gives the old nodes before it, and the new ones from then on
 abbrev pub InsertsCommitAtTheSecondWord : Type 0
 InsertsCommitAtTheSecondWord = (image : Image) (node : ℕ) (nodes : List ℕ) → IsWritable image → CanBeInserted (list_of image) nodes node
     → CommitsAt 2 (CompletesTo nodes) (CompletesTo (node ∷ nodes)) image (operation_steps insert node image)
 
--- and ends with the new list idle
+-- an insert ends with the LRU list idle and the node in front
 abbrev pub InsertsEndAtRest : Type 0
 InsertsEndAtRest = (image : Image) (node : ℕ) (nodes : List ℕ) → IsWritable image → CanBeInserted (list_of image) nodes node → HasListAtRest (node ∷ nodes) (after (operation_steps insert node image) image)
 
--- what a removal writes can be made
+-- the writes of a removal can be made on the image
 abbrev pub RemovalsCanBeMade : Type 0
 RemovalsCanBeMade = (image : Image) (node : ℕ) (prefix suffix : List ℕ) → HasListAtRest (prefix ++ node ∷ suffix) image → CanBeMade image (writes_of remove node (list_of image))
 
--- a removal, crashed at any of its words and completed, gives the old list before the second word, and the new list from then on
+-- a removal commits at its second word: after a crash the redo gives the old nodes before it, and those without the node from then on
 abbrev pub RemovalsCommitAtTheSecondWord : Type 0
 RemovalsCommitAtTheSecondWord = (image : Image) (node : ℕ) (prefix suffix : List ℕ) → IsWritable image → HasListAtRest (prefix ++ node ∷ suffix) image
     → CommitsAt 2 (CompletesTo (prefix ++ node ∷ suffix)) (CompletesTo (prefix ++ suffix)) image (operation_steps remove node image)
 
--- and ends with the new list idle
+-- a removal ends with the LRU list idle and without the node
 abbrev pub RemovalsEndAtRest : Type 0
 RemovalsEndAtRest = (image : Image) (node : ℕ) (prefix suffix : List ℕ) → IsWritable image → HasListAtRest (prefix ++ node ∷ suffix) image → HasListAtRest (prefix ++ suffix) (after (operation_steps remove node image) image)
 
--- what a touch writes can be made
+-- the writes of an access can be made on the image
 abbrev pub TouchesCanBeMade : Type 0
 TouchesCanBeMade = (image : Image) (node : ℕ) (prefix suffix : List ℕ) → HasListAtRest (prefix ++ node ∷ suffix) image → CanBeMade image (touch_writes node (list_of image))
 
--- at each word of a touch a prefix of its writes is made, and nothing else is shown to change
+-- at each word of an access a prefix of its writes into the LRU list is made, and nothing else is shown to change
 abbrev pub TouchesAreMadeInTurn : Type 0
 TouchesAreMadeInTurn = (image : Image) (node moment : ℕ) (prefix suffix : List ℕ) → IsWritable image → HasListAtRest (prefix ++ node ∷ suffix) image
     → Along (IsTouched image node (touch_writes node (list_of image))) image (steps_of_touch node moment image)
 
--- at each word of it the image can be written
+-- at each word of an access the image is one of bytes, whose index has its header
 abbrev pub TouchesCanGoOn : Type 0
 TouchesCanGoOn = (image : Image) (node moment : ℕ) → IsWritable image → Along IsWritable image (steps_of_touch node moment image)
 
--- a touch, crashed at any of its words and completed, gives the old list before the second word, and the new list from then on; where the node is the head already they are one
+-- an access commits at its second word: after a crash the redo gives the old order before it, and the node in front from then on; both are one where the node
+-- is the head already
 abbrev pub TouchesCommitAtTheSecondWord : Type 0
 TouchesCommitAtTheSecondWord = (image : Image) (node moment : ℕ) (prefix suffix : List ℕ) → IsWritable image → HasListAtRest (prefix ++ node ∷ suffix) image
     → CommitsAt 2 (CompletesTo (prefix ++ node ∷ suffix)) (CompletesTo (node ∷ prefix ++ suffix)) image (steps_of_touch node moment image)
 
--- it ends with the new list idle
+-- an access ends with the LRU list idle and the node in front
 abbrev pub TouchesEndAtRest : Type 0
 TouchesEndAtRest = (image : Image) (node moment : ℕ) (prefix suffix : List ℕ) → IsWritable image → HasListAtRest (prefix ++ node ∷ suffix) image → HasListAtRest (node ∷ prefix ++ suffix) (after (steps_of_touch node moment image) image)
 
--- and with the moment as both times of the node
+-- an access ends with the moment as both times of the node
 abbrev pub TouchesSetTheTimes : Type 0
 TouchesSetTheTimes = (image : Image) (node moment : ℕ) (prefix suffix : List ℕ) → IsWritable image → HasListAtRest (prefix ++ node ∷ suffix) image → moment < 2 ^ 64 → AreTimes node moment (after (steps_of_touch node moment image) image)
 
--- and with seals on the node and on all that its writes are of
+-- an access ends with the node sealed, and each node that its writes into the LRU list are of
 abbrev pub TouchesSealTheirNodes : Type 0
 TouchesSealTheirNodes = (image : Image) (node moment : ℕ) (prefix suffix : List ℕ) → IsWritable image → HasListAtRest (prefix ++ node ∷ suffix) image
     → AreNodesSealed (touch_writes node (list_of image)) (after (steps_of_touch node moment image) image) × IsSealed (after (steps_of_touch node moment image) image) node
 
--- where each other node that was sealed is so still
+-- after an access each node that was sealed is sealed
 abbrev pub TouchesKeepSeals : Type 0
 TouchesKeepSeals = (image : Image) (node moment : ℕ) (prefix suffix : List ℕ) → IsWritable image → HasListAtRest (prefix ++ node ∷ suffix) image → KeepsSealed image (after (steps_of_touch node moment image) image)
 
 -- Completions, on every list.
 
--- what a completion writes can be made
+-- the writes of a redo can be made on the image
 abbrev pub CompletionsCanBeMade : Type 0
 CompletionsCanBeMade = (image : Image) → CanBeMade image (completion_writes (list_of image))
 
--- at each word of a completion completing gives the same
+-- at each word of a redo a redo of what is there gives the same
 abbrev pub CompletionsKeepTheOutcome : Type 0
 CompletionsKeepTheOutcome = (image : Image) → IsWritable image → Along (CompletesAlike image) image (completion_steps image)
 
--- in the end it is done
+-- after the words of a redo its operation is done and none is in flight
 abbrev pub CompletionsAreDone : Type 0
 CompletionsAreDone = (image : Image) → IsWritable image → IsCompleted image (after (completion_steps image) image)
 
--- however often a completion crashes
+-- after redos that crash, however often, a redo gives the same
 abbrev pub CompletionsMayBeStopped : Type 0
 CompletionsMayBeStopped = (image : Image) (counts : List ℕ) → IsWritable image → StopsAlike image (stopped_folder counts image)

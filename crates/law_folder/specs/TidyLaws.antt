@@ -16,11 +16,11 @@ use Rattle.spec_folder.specs.Tidy.{HasState, IsBehindHeaders, FilesStand}
 abbrev pub FilesStandBehindHeaders : Type 0
 FilesStandBehindHeaders = (footprint : Footprint) (from image : Image) → IsBehindHeaders footprint → SameOutside footprint from image → IsWellFormed from → FilesStand from image
 
--- an image that has a state stands for it
+-- an image that has a state by a layout represents it
 abbrev pub StatesAreStoodFor : Type 0
 StatesAreStoodFor = (image : Image) (state : State) (layout : Layout) (numbers : List ℕ) → HasState state layout numbers image → StandsFor image state
 
--- a touch of any listed item leaves the state with the item in front
+-- an access of any listed item leaves the state with the item in front
 abbrev pub TouchesKeepStates : Type 0
 TouchesKeepStates = (from : Image) (state : State) (layout : Layout) (numbers : List ℕ) → HasState state layout numbers from → IsWritable from → (item : Item) (moment : ℕ) → is_listed state item ≡ true
     → HasState (record state { uses = used item state.uses }) layout numbers (after (steps_of_touch (layout.place item) moment from) from)

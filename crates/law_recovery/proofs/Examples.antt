@@ -1,4 +1,4 @@
--- Worked folders: a sound one, in which nothing is left to repair, and one of which a node is dropped.
+-- Worked folders: a consistent one, in which nothing is left to repair, and one of which a node is dropped.
 use Rattle.std.proofs.Common.{false, true, ◌++◌, ◌≡◌, ℕ, zero, suc, List, [], ◌∷◌, length, refl, sym, ap, ◌∙◌, subst, arith, lit<}
 use Rattle.std.specs.Prelude.{◌==◌, map}
 use Rattle.std.specs.List.{sum_by}
@@ -58,12 +58,12 @@ use Rattle.spec_image.specs.Image.{External}
 use Rattle.spec_format.specs.BlockFiles.{is_among}
 use Rattle.law_recovery.proofs.SoundFolders.{sound-mended, mended-none}
 
--- ---- a sound folder
+-- ---- a consistent folder
 
 whole-mended : IsMended whole_folder
 whole-mended = sound-mended whole_folder whole-is_sound (its-version (byte whole_folder Index) 1 3 whole-counts)
 
--- a folder of the first version is sound, and its version is to be raised
+-- a folder of the first version is consistent, and its version is to be raised
 first-is_not_mended : IsMended first_folder → ⊥
 first-is_not_mended mended =
     let c : true ≡ false = ap (λ (v : ℕ). v == first_version) (sym first-version ∙ its-version (byte first_folder Index) (length (kept first_folder)) (sum_by charge_of (kept first_folder)) mended.counters) in cc
@@ -83,11 +83,11 @@ whole-stands_for limits = mended-folders whole_folder limits whole-mended whole-
 whole-holds : IsValidHolding (found whole_folder)
 whole-holds = found-holding whole_folder whole-writable.bytes
 
--- its buckets are gone through from the first
+-- before the repair of its chains no bucket of the whole folder is repaired yet
 whole-begins : HasChainsUpTo whole_folder 0 whole_folder
 whole-begins = chains-begin whole_folder whole-is_well_formed whole-writable (record { idle = whole-links.rests.idle; all_kept = whole-links.all_kept })
 
--- a block file that isn't linked goes, and the crash word is written
+-- a block file that isn't linked is deleted, and the crash word is written
 whole-without_file : KeepsMendedLinks whole_folder (applied (Delete (Block 9)) whole_folder) × HasMendedFiles (applied (Delete (Block 9)) whole_folder)
 whole-without_file = let keeps = unlinked-deleted whole_folder 9 whole-links (whole-linked 9) in (keeps, unlinked-leave whole_folder 9 (whole-linked 9) keeps whole-mended.files)
 
@@ -105,7 +105,7 @@ whole-crashed = hidden-change whole_folder (applied (Word Index 32 (word_bytes 1
 whole-stands_behind : HasMendedFiles (applied (Word Index 32 (word_bytes 1)) whole_folder)
 whole-stands_behind = (files-mended (one_word Index 32) whole_folder (applied (Word Index 32 (word_bytes 1)) whole_folder) (words-behind 32) (outside_write Index 32 (word_bytes 1) whole_folder) whole-links whole-crashed).0 whole-mended.files
 
--- its first bucket is gone through, and what it keeps can be written
+-- the first bucket of the whole folder is repaired, and the node and the record that it keeps can be written
 whole-bucket : HasChainsUpTo whole_folder 1 (after (chain_steps 0 (kept_records whole_folder 0) whole_folder) whole_folder)
 whole-bucket = (buckets-mended whole_folder whole_folder 0 whole-is_well_formed (record { idle = whole-links.rests.idle; all_kept = whole-links.all_kept }) (omega arith) whole-begins).1
 
@@ -115,7 +115,7 @@ whole-node = kept-nodes-check whole_folder whole-writable one.node (ap (λ (ks :
 whole-record : IsStandingRecord blocks_256 whole_folder one.contents
 whole-record = kept-records-check whole_folder whole-writable one.contents (ap (λ (ks : List Loaded). is_kept_record ks one.contents) whole-is_kept)
 
--- its files are as rebuilding leaves them
+-- the block files of the whole folder are as a rebuild leaves them
 whole-rebuilt : HasMendedFiles whole_folder
 whole-rebuilt = rebuilt-mended whole_folder (λ n linked. let c = whole-mended.files.counted n linked in record { allocations = sound-allocated whole_folder whole-is_sound n linked; empty = c.empty; updating = c.updating }) whole-mended.files.long_enough
 
@@ -134,14 +134,14 @@ cut-small (External n) = λ i. lit< tt
 cut-writable : IsWritable (cut_to 8448)
 cut-writable = record { bytes = λ file i. cut-small file i; has_header = let long = whole_index (cut_to 8448) cut_is_well_formed in omega (arith, long) }
 
--- the same is held at each word of its repair, and in the end its links are repaired
+-- the repair of the folder's links keeps the recovered contents at each word, and in the end the links are repaired
 cut-repaired : Along (HoldsTheSame (cut_to 8448)) (cut_to 8448) (link_repair_steps (cut_to 8448)) × HasMendedLinks (after (link_repair_steps (cut_to 8448)) (cut_to 8448)) × KeepsRecordsSealed (cut_to 8448) (after (link_repair_steps (cut_to 8448)) (cut_to 8448))
 cut-repaired = links-repaired (cut_to 8448) cut_is_well_formed cut-writable
 
 cut-kept_nodes : map (λ (k : Loaded). k.node) (kept (cut_to 8448)) ≡ 0x90000000 ∷ []
 cut-kept_nodes = ap (map (λ (k : Loaded). k.node)) cut_is_kept
 
--- the second node is taken out
+-- the second node is the one that is dropped
 cut-dropped : dropped_nodes (ended_image (cut_to 8448)) ≡ 0x90000001 ∷ []
 cut-dropped = dropped-are (cut_to 8448) cut_is_well_formed cut-writable ∙ ap (λ (nodes : List ℕ). all_but nodes (map (λ (k : Loaded). k.node) (kept (cut_to 8448)))) cut_is_walked ∙ ap (all_but (0x90000000 ∷ 0x90000001 ∷ [])) cut-kept_nodes
 
@@ -150,7 +150,7 @@ cut-begins =
     subst (λ (nodes : List ℕ). HasRemoved (cut_to 8448) [] nodes (0x90000000 ∷ []) (ended_image (cut_to 8448))) cut_is_walked
     (subst (λ (others : List ℕ). HasRemoved (cut_to 8448) [] (completed_walk (cut_to 8448)) others (ended_image (cut_to 8448))) cut-kept_nodes (removals-begin (cut_to 8448) cut_is_well_formed cut-writable))
 
--- the first is passed by, the second is removed, and then the list is repaired
+-- the first node stays, the second is taken out, and then the list is repaired
 cut-passed : HasRemoved (cut_to 8448) (0x90000000 ∷ []) (0x90000001 ∷ []) [] (ended_image (cut_to 8448))
 cut-passed = kept-passed_by (cut_to 8448) (ended_image (cut_to 8448)) [] 0x90000000 (0x90000001 ∷ []) [] cut_is_well_formed cut-writable cut-begins
 

@@ -30,29 +30,29 @@ is_kept_record kept w = list_any (λ k. k.contents == w) kept
 unfoldable pub kept_records : Image → ℕ → List ℕ
 kept_records image bucket = filter (is_kept_record (kept image)) (chain (store_of image) bucket).reached
 
--- the word of a bucket becomes this one, unless it is
+-- the steps that set the word of a bucket, none where it is this word already
 abbrev pub bucket_steps : ℕ → ℕ → Image → List TrailStep
 bucket_steps bucket w image = if (store_of image).table bucket == w then [] else word_step Index (place_of_bucket bucket) w
 
--- the next of a record becomes this word by a sealed update, unless it is
+-- the steps that set the next of a record by a sealed update, none where it is this word already
 abbrev pub next_steps : ℕ → ℕ → Image → List TrailStep
 next_steps record_word w image = if (store_of image).chain_next record_word == w then [] else sealed_steps image record_word ((entry_next_place, w) ∷ [])
 
--- each of some records gets the one after it as its next, and the last gets 0
+-- the steps that give each of some records the one after it as its next, and the last one 0
 abbrev pub next_words_steps : List ℕ → Image → List TrailStep
 next_words_steps [] image = []
 next_words_steps (w ∷ words) image = next_steps w (first_or 0 words) image ++ next_words_steps words (after (next_steps w (first_or 0 words) image) image)
 
--- a bucket is made the chain of some records, from the front
+-- the steps that make a bucket the chain of some records, from the front
 abbrev pub chain_steps : ℕ → List ℕ → Image → List TrailStep
 chain_steps bucket words image = bucket_steps bucket (first_or 0 words) image ++ next_words_steps words (after (bucket_steps bucket (first_or 0 words) image) image)
 
--- and so is each of so many buckets from one on, in rising order
+-- the steps that make each of so many buckets, from one on, in rising order, the chain of its records
 abbrev pub chains_steps : (ℕ → List ℕ) → (bucket count : ℕ) → Image → List TrailStep
 chains_steps records bucket zero image = []
 chains_steps records bucket (suc count) image = chain_steps bucket (records bucket) image ++ chains_steps records (bucket + 1) count (after (chain_steps bucket (records bucket) image) image)
 
--- each bucket, in rising order, is made the chain of its kept records, in the order of the chain
+-- the steps of the repair of the chains: each bucket, in rising order, is made the chain of its kept records, in the order of the chain
 unfoldable pub chain_repair_steps : Image → List TrailStep
 chain_repair_steps image = chains_steps (kept_records image) 0 table_length image
 
@@ -61,19 +61,20 @@ pub record KeepsAllWalked (image : Image) : Type 0 where
   pub idle : (list_of image).transaction ≡ 0
   pub all_kept : kept_nodes (store_of image) held_rule (walked image) ≡ walked image
 
--- each chain is that of the kept records of its bucket, and ends at the word 0; the list is as before, and what was sealed is so still
+-- the chains are repaired: each is whole, with the kept records of its bucket; the list is as before, and each record that was sealed is sealed
 pub record AreChainsMended (from image : Image) : Type 0 where
   pub list : list_of image ≡ list_of from
   pub seals : KeepsRecordsSealed from image
   pub chains : (bucket : ℕ) → bucket < table_length → IsChain (store_of image) bucket (kept_records from bucket)
 
--- at each word of the repair of the chains the same is held; in the end they are repaired
+-- the repair of the chains keeps the recovered contents at each of its words (`HoldsTheSame`), and in the end the chains are repaired
 abbrev pub ChainsAreRepaired : Type 0
 ChainsAreRepaired = (image : Image) → IsWellFormed image → IsWritable image → KeepsAllWalked image → Along (HoldsTheSame image) image (chain_repair_steps image) × AreChainsMended image (after (chain_repair_steps image) image)
 
 -- The buckets, one after the other.
 
--- the chains of the buckets below one are those of their kept records, and the others are as they were; the list is as it was, what was sealed is so still, and each kept node loads as it did
+-- the chains of the buckets below one are those of their kept records, and the others are as they were; the list is as it was, what was sealed is sealed, and
+-- each kept node loads as it did
 pub record HasChainsUpTo (from : Image) (bucket : ℕ) (image : Image) : Type 0 where
   pub holds : HoldsTheSame from image
   pub list : list_of image ≡ list_of from
@@ -82,11 +83,11 @@ pub record HasChainsUpTo (from : Image) (bucket : ℕ) (image : Image) : Type 0 
   pub mended : (other : ℕ) → other < bucket → IsChain (store_of image) other (kept_records from other)
   pub as_before : (other : ℕ) → bucket ≤ other → chain (store_of image) other ≡ chain (store_of from) other
 
--- at first none is repaired
+-- before the repair of the chains no bucket is repaired yet
 abbrev pub ChainsBegin : Type 0
 ChainsBegin = (image : Image) → IsWellFormed image → IsWritable image → KeepsAllWalked image → HasChainsUpTo image 0 image
 
--- a bucket is made the chain of its kept records, and the same is held at each word of that
+-- the steps that make the next bucket the chain of its kept records keep the recovered contents at each of their words
 abbrev pub BucketsAreMended : Type 0
 BucketsAreMended = (from image : Image) (bucket : ℕ) → IsWellFormed from → KeepsAllWalked from → bucket < table_length → HasChainsUpTo from bucket image
     → Along (HoldsTheSame from) image (chain_steps bucket (kept_records from bucket) image) × HasChainsUpTo from (bucket + 1) (after (chain_steps bucket (kept_records from bucket) image) image)
@@ -95,32 +96,32 @@ BucketsAreMended = (from image : Image) (bucket : ℕ) → IsWellFormed from →
 abbrev pub WholeChainsNeedNoSteps : Type 0
 WholeChainsNeedNoSteps = (image : Image) (bucket : ℕ) (words : List ℕ) → IsChain (store_of image) bucket words → chain_steps bucket words image ≡ []
 
--- in the end all are repaired
+-- once all buckets are made the chains of their kept records, the chains are repaired
 abbrev pub ChainRepairsEnd : Type 0
 ChainRepairsEnd = (from image : Image) → HasChainsUpTo from table_length image → AreChainsMended from image
 
 -- What the repair of the list leaves of the chains.
 
--- where the same is kept, and nothing else is shown to change, each bucket has the same kept records
+-- each bucket has the same kept records in two images with the same kept records, which show the same but for the list
 abbrev pub KeptRecordsStay : Type 0
 KeptRecordsStay = (from image : Image) → HoldsTheSame from image → ShowsTheSame (store_of from) (store_of image) → (bucket : ℕ) → kept_records image bucket ≡ kept_records from bucket
 
--- and a whole chain stays one
+-- a whole chain is whole in each image that shows the same but for the list
 abbrev pub WholeChainsStay : Type 0
 WholeChainsStay = (from image : Image) → ShowsTheSame (store_of from) (store_of image) → (bucket : ℕ) (words : List ℕ) → IsChain (store_of from) bucket words → IsChain (store_of image) bucket words
 
 -- What is kept can be written.
 
--- a record of a kind is there and checks
+-- a record of a kind is there, and its seal is right or absent
 pub record IsStandingRecord (kind : ℕ) (image : Image) (w : ℕ) : Type 0 where
   pub stands : stands_in image w ≡ true
   pub kind_is : kind_of w ≡ kind
   pub checks : RecordChecks w image
 
--- the node of what is kept is there and checks
+-- the node of each kept record is there, and its seal is right or absent
 abbrev pub KeptNodesCheck : Type 0
 KeptNodesCheck = (image : Image) → IsWritable image → (node : ℕ) → is_among (map (λ k. k.node) (kept image)) node ≡ true → IsStandingRecord rankings image node
 
--- and so does its record
+-- the record of each kept node is there, and its seal is right or absent
 abbrev pub KeptRecordsCheck : Type 0
 KeptRecordsCheck = (image : Image) → IsWritable image → (w : ℕ) → is_kept_record (kept image) w ≡ true → IsStandingRecord blocks_256 image w

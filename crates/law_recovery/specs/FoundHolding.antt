@@ -6,10 +6,10 @@ use Rattle.spec_format.specs.Claims.{repeats}
 use Rattle.spec_folder.specs.Loads.{claims_of_loaded}
 use Rattle.spec_folder.specs.Found.{kept, found}
 
--- of every image of bytes what is found is a valid snapshot
+-- the recovered contents of every image of bytes are a valid snapshot
 abbrev pub FoundIsAHolding : Type 0
 FoundIsAHolding = (image : Image) → AreBytes image → IsValidHolding (found image)
 
--- and no block and no external number of what is kept has two owners
+-- no block and no external number is used twice by what is kept
 abbrev pub KeptClaimOnce : Type 0
 KeptClaimOnce = (image : Image) → repeats (claims_of_loaded (kept image)) ≡ false

@@ -10,6 +10,6 @@ use Rattle.law_recovery.specs.RecordSeals.{IsSealedAt}
 abbrev pub IsOfKept : Image → ℕ → Type 0
 IsOfKept entry w = (is_among (map (λ k. k.node) (kept entry)) w ≡ true) ⊎ (is_kept_record (kept entry) w ≡ true)
 
--- each node and each record of what is kept is sealed, or is one of these
+-- each node and each record of what is kept is sealed, or its address is one of these words
 abbrev pub AreOthersSealed : Image → List ℕ → Image → Type 0
 AreOthersSealed entry words image = (w : ℕ) → IsOfKept entry w → IsSealedAt image w ⊎ Contains words w

@@ -10,15 +10,16 @@ use Rattle.law_recovery.specs.ChainRepair.{chain_repair_steps, AreChainsMended}
 use Rattle.law_recovery.specs.RecordSeals.{KeepsRecordsSealed}
 use Rattle.law_recovery.specs.MendedLinks.{HasMendedLinks}
 
--- the list is repaired, and then the chains
+-- the steps of the repair of all links: of the LRU list, and then of the chains
 abbrev pub link_repair_steps : Image → List TrailStep
 link_repair_steps image = list_repair_steps image ++ chain_repair_steps (after (list_repair_steps image) image)
 
--- where both are repaired all links are
+-- all links are repaired once the list is repaired, and then the chains
 abbrev pub MendedChainsAreMendedLinks : Type 0
 MendedChainsAreMendedLinks = (image between last : Image) → HoldsTheSame image between → IsListMended image between → HoldsTheSame between last → AreChainsMended between last → HasMendedLinks last
 
--- of every well-formed image the same is held at each word of that, and in the end its links are repaired, and what was sealed is so still
+-- the repair of a well-formed folder's links keeps the recovered contents at each of its words; in the end the links are repaired, and each record that was
+-- sealed is sealed
 abbrev pub LinksAreRepaired : Type 0
 LinksAreRepaired = (image : Image) → IsWellFormed image → IsWritable image → Along (HoldsTheSame image) image (link_repair_steps image) × HasMendedLinks (after (link_repair_steps image) image) × KeepsRecordsSealed image (after (link_repair_steps image) image)
 
@@ -26,11 +27,11 @@ LinksAreRepaired = (image : Image) → IsWellFormed image → IsWritable image �
 abbrev pub MendedLinksNeedNoSteps : Type 0
 MendedLinksNeedNoSteps = (image : Image) → HasMendedLinks image → link_repair_steps image ≡ []
 
--- the repair of the links, crashed after so many words, and begun again on what is there then, as often as there are numbers
+-- an image after repairs of its links that crash: each of these numbers is how many steps a repair made before it was begun again
 abbrev pub stopped_repair : List ℕ → Image → Image
 stopped_repair [] image = image
 stopped_repair (count ∷ counts) image = stopped_repair counts (after (take count (link_repair_steps image)) image)
 
--- the same is held however often it crashes
+-- repairs of the links that crash, however often, keep the recovered contents
 abbrev pub LinkRepairsMayBeStopped : Type 0
 LinkRepairsMayBeStopped = (image : Image) (counts : List ℕ) → IsWellFormed image → IsWritable image → HoldsTheSame image (stopped_repair counts image)

@@ -25,7 +25,7 @@ pub record HasOnlyKeptFiles (image : Image) : Type 0 where
   pub only_linked : OnlyLinked image
   pub only_claimed : OnlyClaimed image (claims_of_loaded (kept image))
 
--- the nodes and the records of what is kept have their hash as their seal
+-- the nodes of what is kept and their records are sealed: the seal of each is the hash of the bytes before it
 abbrev pub AreKeptSealed : Image → Type 0
 AreKeptSealed image = AllByRecursion (AreSealed image) (kept image)
 
@@ -33,7 +33,7 @@ AreKeptSealed image = AllByRecursion (AreSealed image) (kept image)
 abbrev pub HasMendedCounters : Image → Type 0
 HasMendedCounters image = count_of (byte image Index) ≡ counting (length (kept image)) (sum_by charge_of (kept image))
 
--- all of it, and the links
+-- nothing is left to repair: links, maps, counters, files and seals are those of what is kept
 pub record IsMended (image : Image) : Type 0 where
   pub links : HasMendedLinks image
   pub files : HasMendedFiles image
@@ -41,11 +41,11 @@ pub record IsMended (image : Image) : Type 0 where
   pub sealed : AreKeptSealed image
   pub counters : HasMendedCounters image
 
--- then the folder stands for what it holds, opened
+-- a folder in which nothing is left to repair represents the state that is opened on its recovered contents
 abbrev pub MendedFoldersStandFor : Type 0
 MendedFoldersStandFor = (image : Image) (limits : Bounds) → IsMended image → AreBytes image → StandsFor image (open_state (found image) limits)
 
--- and is sound
+-- a folder in which nothing is left to repair is consistent
 abbrev pub MendedFoldersAreSound : Type 0
 MendedFoldersAreSound = (image : Image) → IsMended image → AreBytes image → IsSound image
 

@@ -21,37 +21,37 @@ use Rattle.spec_folder.specs.Footprint.{SameBut}
 use Rattle.spec_folder.specs.ListImages.{IsWritable}
 use Rattle.law_recovery.specs.MendedLinks.{HasMendedLinks}
 
--- the links are repaired, and the same is kept and found
+-- the links of a folder are repaired, and it keeps the records and the recovered contents of another image
 pub record KeepsMendedLinks (from image : Image) : Type 0 where
   pub mended : HasMendedLinks image
   pub kept_same : kept image ≡ kept from
   pub found_same : found image ≡ found from
 
--- so it is once the links are repaired
+-- where a repair that keeps the recovered contents has repaired the links, these are repaired with the same kept and recovered
 abbrev pub RepairedLinksAreKept : Type 0
 RepairedLinksAreKept = (from image : Image) → HoldsTheSame from image → HasMendedLinks image → KeepsMendedLinks from image
 
--- and after one change and another
+-- two changes one after the other that keep links repaired, with the same kept, are together such a change
 abbrev pub MendedLinksGoOn : Type 0
 MendedLinksGoOn = (from between image : Image) → KeepsMendedLinks from between → KeepsMendedLinks between image → KeepsMendedLinks from image
 
--- at each word of the repair the folder is well formed, and the same is kept and found
+-- at each word of recovery the folder is well formed, with the kept records and the recovered contents of the image that it began with
 pub record IsMidRepair (from image : Image) : Type 0 where
   pub well_formed : IsWellFormed image
   pub kept_same : kept image ≡ kept from
   pub found_same : found image ≡ found from
 
--- that is so while the links are repaired
+-- while links are repaired, the folder is well formed, with the same kept records and recovered contents
 abbrev pub LinksAreMidRepair : Type 0
 LinksAreMidRepair = (from image : Image) → HoldsTheSame from image → IsMidRepair from image
 
--- and while what is after them is repaired
+-- while maps, counters, files and seals are repaired after the links, the folder is well formed, with the same kept records and recovered contents
 abbrev pub MendedLinksAreMidRepair : Type 0
 MendedLinksAreMidRepair = (from image : Image) → KeepsMendedLinks from image → IsMidRepair from image
 
 -- Changes of what isn't kept.
 
--- nothing that is kept lies in a footprint
+-- no kept record uses anything in a footprint
 abbrev pub IsUnkept : Image → (Claim → Bool) → Type 0
 IsUnkept image touched = (claim : Claim) → has_claim (claims_of_loaded (kept image)) claim ≡ true → touched claim ≡ false
 
@@ -59,32 +59,33 @@ IsUnkept image touched = (claim : Claim) → has_claim (claims_of_loaded (kept i
 abbrev pub MendedLinksStayOutside : Type 0
 MendedLinksStayOutside = (touched : Claim → Bool) (from image : Image) → HasMendedLinks from → IsWellFormed image → SameBut touched (view_of from) (view_of image) → IsUnkept from touched → KeepsMendedLinks from image
 
--- so does a change of lengths, maps and counters by which block files grow at most, also of those that are too short for their blocks
+-- a change of lengths, maps and counters by which block files grow at most, also of those that are too short for their blocks, leaves repaired links repaired
 abbrev pub MendedLinksMayGrow : Type 0
 MendedLinksMayGrow = (from image : Image) → HasMendedLinks from → StaysWhole from image → KeepsMendedLinks from image
 
--- and the deletion of a block file that isn't linked
+-- the deletion of a block file that isn't linked leaves repaired links repaired
 abbrev pub UnlinkedFilesMayBeDeleted : Type 0
 UnlinkedFilesMayBeDeleted = (from : Image) (n : ℕ) → HasMendedLinks from → linked_as from n ≡ None → KeepsMendedLinks from (applied (Delete (Block n)) from)
 
--- and any change of an external file that nobody kept uses, such as its deletion
+-- any change of an external file that no kept record uses, such as its deletion, leaves repaired links repaired
 abbrev pub UnclaimedFilesMayChange : Type 0
 UnclaimedFilesMayChange = (from image : Image) (n : ℕ) → HasMendedLinks from → has_claim (claims_of_loaded (kept from)) (ExternalOf n) ≡ false → SameOutside (whole (External n)) from image → KeepsMendedLinks from image
 
--- and the write of a word of the index's header that is neither shown nor checked: a counter, the number of the session, the crash word
+-- the write of a word of the index's header that is neither shown nor checked (a counter, the number of the session, the crash word) leaves repaired links
+-- repaired
 abbrev pub HiddenWordsMayChange : Type 0
 HiddenWordsMayChange = (from image : Image) (at : ℕ) → HasMendedLinks from → at % 4 ≡ 0 → at < header_length → is_among shown_words at ≡ false → is_among checked_words at ≡ false → SameOutside (one_word Index at) from image → KeepsMendedLinks from image
 
--- and the write of the version that is made now
+-- the write of the version that is made now leaves repaired links repaired
 abbrev pub VersionsMayChange : Type 0
 VersionsMayChange = (from image : Image) → HasMendedLinks from → IsIndexWord version_place index_version from image → KeepsMendedLinks from image
 
 -- Seals of what is kept.
 
--- at each word at which a kept node is sealed the links stay repaired
+-- at each word at which a kept node is sealed, repaired links stay repaired
 abbrev pub KeptNodesMayBeSealed : Type 0
 KeptNodesMayBeSealed = (from image : Image) (node : ℕ) → HasMendedLinks from → IsWritable from → is_among (map (λ k. k.node) (kept from)) node ≡ true → IsMidUpdate from node [] image → KeepsMendedLinks from image
 
--- and so they do where a kept record is
+-- at each word at which a kept record is sealed, repaired links stay repaired
 abbrev pub KeptRecordsMayBeSealed : Type 0
 KeptRecordsMayBeSealed = (from image : Image) (w : ℕ) → HasMendedLinks from → IsWritable from → is_kept_record (kept from) w ≡ true → IsMidUpdate from w [] image → KeepsMendedLinks from image

@@ -26,16 +26,16 @@ pub record HasMendedLinks (image : Image) : Type 0 where
   pub all_kept : kept_nodes (store_of image) held_rule (walked image) ≡ walked image
   pub chains : (bucket : ℕ) → bucket < table_length → IsChain (store_of image) bucket (kept_records image bucket)
 
--- the first of some that passes a test
+-- the first of some records that passes a test, None where none does
 abbrev pub first_that : (Loaded → Bool) → List Loaded → Option Loaded
 first_that test [] = None
 first_that test (k ∷ ks) = if test k then Some k else first_that test ks
 
--- its node
+-- the node of the first of some records that passes a test, None where none does
 abbrev pub node_with : (Loaded → Bool) → List Loaded → Option ℕ
 node_with test ks = option_map (λ k. k.node) (first_that test ks)
 
--- where what is kept lies
+-- the layout of what a folder keeps
 unfoldable pub kept_layout : Image → Layout
 kept_layout image = record {
   place = λ item. option_map_or (λ k. k.node) (first_that (λ k. same_item item (item_of (row_of_loaded k))) (kept image)) 0;
@@ -46,6 +46,6 @@ kept_layout image = record {
   owner = λ claim. node_with (λ k. has_claim (all_claims k) claim) (kept image);
 }
 
--- a folder whose links are repaired represents what it holds, opened
+-- a folder whose links are repaired represents the state that is opened on its recovered contents, by the layout of what it keeps
 abbrev pub MendedLinksRepresent : Type 0
 MendedLinksRepresent = (image : Image) (limits : Bounds) → HasMendedLinks image → AreBytes image → Represents (view_of image) (open_state (found image) limits) (kept_layout image)

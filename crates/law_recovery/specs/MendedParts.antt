@@ -27,42 +27,42 @@ use Rattle.law_recovery.specs.Mended.{HasMendedFiles, HasOnlyKeptFiles, AreKeptS
 abbrev pub KeptWordsStand : Type 0
 KeptWordsStand = (image : Image) → AllByRecursion (λ w. stands_in image w ≡ true) (flat_map words_of (kept image))
 
--- and use what it uses
+-- the address words of what is kept name exactly the blocks and external numbers that the kept records use
 abbrev pub KeptWordsClaim : Type 0
 KeptWordsClaim = (image : Image) → claims_of_all (flat_map words_of (kept image)) ≡ claims_of_loaded (kept image)
 
--- the map and the counters of a file are those of the words of what is kept, and no change of them is under way
+-- the map and the counters of a block file are those of the words of what is kept, and no change of them is under way
 pub record IsRebuiltFor (image : Image) (n : ℕ) : Type 0 where
   pub allocations : AreAllocations image n (filter (is_in_file n) (flat_map words_of (kept image)))
   pub empty : EmptyAgrees image n
   pub updating : updating_of (byte image (Block n)) ≡ 0
 
--- where that is so of each linked file, and each has all its blocks, the files are repaired
+-- the block files are repaired where each linked one has the map and the counters of what is kept, and all its blocks
 abbrev pub RebuiltFilesAreMended : Type 0
 RebuiltFilesAreMended = (image : Image) → ((n : ℕ) → is_some (linked_as image n) ≡ true → IsRebuiltFor image n) → AreLongEnough image → HasMendedFiles image
 
 -- What leaves them repaired.
 
--- where an unlinked block file goes the linked ones stay repaired
+-- the deletion of a block file that isn't linked leaves the linked ones repaired
 abbrev pub UnlinkedFilesLeaveTheOthers : Type 0
 UnlinkedFilesLeaveTheOthers = (from : Image) (n : ℕ) → linked_as from n ≡ None → KeepsMendedLinks from (applied (Delete (Block n)) from) → HasMendedFiles from → HasMendedFiles (applied (Delete (Block n)) from)
 
--- where an external file changes the block files stay repaired, and the linked ones are still the only ones
+-- a change of an external file leaves the block files repaired, and the linked ones still the only ones
 abbrev pub ExternalFilesLeaveTheBlocks : Type 0
 ExternalFilesLeaveTheBlocks = (from image : Image) (n : ℕ) → SameOutside (whole (External n)) from image → KeepsMendedLinks from image → (HasMendedFiles from → HasMendedFiles image) × (OnlyLinked from → OnlyLinked image)
 
--- and where neither a header nor the length of a file changes, as in seals and in words of the index, all files stay repaired
+-- a change of neither a header nor the length of a file, as of seals and of words of the index, leaves all files repaired
 abbrev pub MendedFilesStand : Type 0
 MendedFilesStand = (footprint : Footprint) (from image : Image) → IsBehindHeaders footprint → SameOutside footprint from image → HasMendedLinks from → KeepsMendedLinks from image → (HasMendedFiles from → HasMendedFiles image) × (HasOnlyKeptFiles from → HasOnlyKeptFiles image)
 
--- a word of the index leaves the seals
+-- the write of a word of the index leaves what is kept sealed
 abbrev pub IndexWordsLeaveSeals : Type 0
 IndexWordsLeaveSeals = (from image : Image) (at : ℕ) → SameOutside (one_word Index at) from image → KeepsMendedLinks from image → AreKeptSealed from → AreKeptSealed image
 
--- a word of the index that says nothing of what is counted leaves that
+-- the write of a word of the index that says nothing of what is counted leaves the counters right
 abbrev pub OtherWordsLeaveCounters : Type 0
 OtherWordsLeaveCounters = (from image : Image) (at : ℕ) → at % 4 ≡ 0 → is_among counted_places at ≡ false → SameOutside (one_word Index at) from image → KeepsMendedLinks from image → HasMendedCounters from → HasMendedCounters image
 
--- once the nodes and the records of what is kept are sealed, it is
+-- the nodes of what is kept and their records are sealed where each address of them has the hash as its seal
 abbrev pub KeptAreSealed : Type 0
 KeptAreSealed = (image : Image) → IsWritable image → ((node : ℕ) → is_among (map (λ k. k.node) (kept image)) node ≡ true → IsSealedAt image node) → ((w : ℕ) → is_kept_record (kept image) w ≡ true → IsSealedAt image w) → AreKeptSealed image

@@ -8,36 +8,36 @@ use Rattle.spec_folder.specs.Tidy.{IsBehindHeaders}
 use Rattle.spec_format.specs.BlockFiles.{linked_as, stands_in}
 use Rattle.spec_format.specs.Sealed.{BeginsWithRecord, IsUpdated, is_sealed, record_at, record_range, seal_place}
 
--- a record has its hash as its seal
+-- the record at an address is sealed: its seal is the hash of the bytes before it
 abbrev pub IsSealedAt : Image → ℕ → Type 0
 IsSealedAt image w = is_sealed (seal_place w) (record_at image w) ≡ true
 
--- a record that was sealed is so
+-- a sealed update of a record without changes leaves it sealed
 abbrev pub SealsAreMade : Type 0
 SealsAreMade = (from image : Image) (w : ℕ) → IsUpdated from w [] image → IsSealedAt image w
 
--- and leaves each other record sealed that was
+-- a sealed update of a record without changes leaves each other record sealed that was
 abbrev pub SealsStand : Type 0
 SealsStand = (from image : Image) (w other : ℕ) → stands_in from w ≡ true → BeginsWithRecord w → stands_in from other ≡ true → BeginsWithRecord other → IsUpdated from w [] image → SameOutside (record_range w) from image → IsSealedAt from other → IsSealedAt image other
 
--- each record that was sealed is so still
+-- each record at a valid address that was sealed is sealed
 abbrev pub StaysSealed : Image → Image → Type 0
 StaysSealed from image = (w : ℕ) → stands_in from w ≡ true → BeginsWithRecord w → IsSealedAt from w → IsSealedAt image w
 
--- and the same addresses are valid
+-- the same addresses are valid, and each record that was sealed is sealed
 pub record KeepsRecordsSealed (from image : Image) : Type 0 where
   pub stands : (w : ℕ) → stands_in image w ≡ stands_in from w
   pub sealed : StaysSealed from image
 
--- growth leaves what was sealed
+-- growth of block files leaves each record sealed that was
 abbrev pub GrowthLeavesSeals : Type 0
 GrowthLeavesSeals = (from image : Image) → HaveGrown from image → StaysSealed from image
 
--- so does the deletion of a block file that isn't linked
+-- the deletion of a block file that isn't linked leaves each record sealed that was
 abbrev pub UnlinkedFilesLeaveSeals : Type 0
 UnlinkedFilesLeaveSeals = (from : Image) (n : ℕ) → linked_as from n ≡ None → StaysSealed from (applied (Delete (Block n)) from)
 
--- and any change of an external file
+-- a change of an external file leaves each record sealed that was
 abbrev pub ExternalFilesLeaveSeals : Type 0
 ExternalFilesLeaveSeals = (from image : Image) (n : ℕ) → SameOutside (whole (External n)) from image → StaysSealed from image
 
@@ -45,6 +45,6 @@ ExternalFilesLeaveSeals = (from image : Image) (n : ℕ) → SameOutside (whole 
 abbrev pub RecordsAreBehindHeaders : Type 0
 RecordsAreBehindHeaders = (w : ℕ) → IsBehindHeaders (record_range w)
 
--- and a word of the index is in no block file
+-- a word of the index is in no block file, so its change is one after the headers
 abbrev pub IndexWordsAreBehindHeaders : Type 0
 IndexWordsAreBehindHeaders = (at : ℕ) → IsBehindHeaders (one_word Index at)

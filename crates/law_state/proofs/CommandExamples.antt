@@ -41,11 +41,11 @@ reading_is_valid = step_valid pair 100 (to_open 5 a) pair_is_valid (omega arith,
 abbrev opened_object : Object
 opened_object = record (new_object a) { settled = true }
 
--- a crash in the Open may leave `a` in front
+-- the durable contents with `a` in front are a crash outcome of the Open
 opened_left : MayLeave pair 100 (to_open 5 a) (rest (in_order (used (main a) pair.uses) pair))
 opened_left = opens-left pair 100 5 a pair_is_valid (unfold computing in refl)
 
--- and one in a Read of it both orders
+-- both orders are crash outcomes of a Read of `a`
 read_left : MayLeave reading 100 (to_read 5 0 0 1) (rest (in_order (used (main a) reading.uses) reading))
 read_left = only-uses-left reading 100 (to_read 5 0 0 1) (main a ∷ []) [] reading_is_valid tt (unfold computing in refl) (unfold computing in refl)
 
@@ -68,7 +68,7 @@ written_unsettles = writes-unsettle reading 100 5 0 0 false c 0 opened_object wr
 sparse_written_unsettles : Unsettles reading 100 (to_sparse_write 5 0 c) 0 opened_object
 sparse_written_unsettles = sparse-writes-unsettle reading 100 5 0 99 [] 0 opened_object sparse_write_names
 
--- one of no bytes uses it
+-- a SparseWrite of no bytes accesses the main item of `a` alone
 empty_write_names : IsNamedBy reading 100 (to_sparse_write 5 0 []) 5 0 opened_object
 unfolding computing
 empty_write_names = record { affected = record { passes = refl; here = refl; live = refl }; names = refl }
@@ -76,7 +76,7 @@ empty_write_names = record { affected = record { passes = refl; here = refl; liv
 empty_write_ends : (step reading 100 (to_sparse_write 5 0 [])).state ≡ in_order (used (main a) (with_room reading 100 (to_sparse_write 5 0 [])).uses) (with_room reading 100 (to_sparse_write 5 0 []))
 empty_write_ends = empty-sparse-writes-end reading 100 5 0 0 opened_object empty_write_names
 
--- so whatever it becomes, the others may be left
+-- whatever `a` becomes once it is dirty, the durable contents of the others are a crash outcome
 abbrev changed : Object
 changed = record opened_object { streams = (c, c, c); settled = false }
 
@@ -108,7 +108,7 @@ shared_is_valid = step_valid reading 100 (to_open 6 a) reading_is_valid (omega a
 one_of_two : (step shared 100 (to_close 5)).state ≡ with_names (slice_set shared.names 5 None) shared
 one_of_two = closes-free shared 100 5 0 shared_is_valid (unfold computing in refl) (unfold computing in refl)
 
--- it is doomed, written as a doomed one, and closed
+-- `a` is doomed, written as a doomed object, and closed
 doomed_left : MayLeave reading 100 (to_doom 5) (rest (doomed 0 reading (Some opened_object)))
 doomed_left = dooms-left reading 100 (to_doom 5) 0 opened_object reading_is_valid (omega arith) (unfold computing in refl) (unfold computing in refl) (unfold computing in refl)
 
@@ -131,7 +131,7 @@ trimmed_left = trims-left pair 100 0 (whole a [] ∷ []) (whole b [] ∷ []) pai
 gone_as_doomed : without (whole a [] ∷ []) pair ≡ doomed 0 pair (Some opened_object)
 gone_as_doomed = whole-groups-go pair 0 opened_object [] pair_is_valid (unfold computing in refl) (unfold computing in refl) (unfold computing in refl)
 
--- of a sparse object one part goes alone
+-- one part of a sparse object is evicted alone
 abbrev sparsely : State
 sparsely = (step reading 100 (to_sparse_write 5 0 c)).state
 
@@ -145,11 +145,11 @@ its_part_goes : without (single a 0 ∷ []) sparsely ≡ in_order (filter (λ it
 unfolding computing
 its_part_goes = parts-go-alone sparsely 0 sparse_object 0 sparsely_is_valid refl refl
 
--- and it may have another
+-- the sparse object may have another part
 another_part : IsValidState (with_first sparsely (slice_set sparsely.objects 0 (Some (with_value sparse_object 1 empty_part))) (part a 1))
 unfolding computing
 another_part = new-parts-keep-valid sparsely sparsely_is_valid 0 sparse_object refl (record { key_is = refl; live = refl; unsettled = refl }) refl 1 empty_part (omega arith) empty_part_is refl
 
--- and so the state lacks one item
+-- without part 0 the state has that item less
 lacks_part : IsWithout sparsely (slice_set sparsely.objects 0 (Some (without_part sparse_object 0))) (λ item. not (same_item item (part a 0))) (part a 0)
 lacks_part = (part-gone-without sparsely 0 0 sparse_object sparsely_is_valid (unfold computing in refl) refl (unfold computing in refl)).0

@@ -51,7 +51,7 @@ whole-tidy = record {
   sealed = λ node l here. subst (AreSealed whole_folder) (one.at-node 0 node l here).1 whole-is_in_order.sealed.0;
 }
 
--- and so is the other
+-- the folder of the doomed object is in order by its layout
 doomed-counts : count_of (byte doomed_folder Index) ≡ counting 0 0
 unfolding count_of doomed_folder zeros with_word spliced
 doomed-counts = refl
@@ -84,12 +84,12 @@ doomed-session = record { crash = refl; id = λ e. (let z : ◌≡◌ {A = ℕ} 
   marked zero o is live unsettled = let s : (let z : Object = doomed_object true in z) ≡ o = cc in absurd (let c : false ≡ true = ap (λ (z : Object). z.live) s ∙ live in cc)
   marked (suc n) o is live unsettled = absurd (cc)
 
--- and the other that of its doomed object
+-- the folder of the doomed object keeps the object's state
 pub doomed-keeps : Keeps (doomed_state true) (doomed_layout 0) [] (opened doomed_folder 7)
 doomed-keeps = opened-kept doomed_folder (numbered doomed_folder 7) (opened doomed_folder 7) (doomed_state true) (doomed_layout 0) (0 ∷ []) (doomed-is_valid true) doomed-is_well_formed folder-is_represented folder-is_allocated doomed-tidy
     (outside_write Index 20 (word_bytes 7) doomed_folder) (outside_write Index 32 (word_bytes 1) (numbered doomed_folder 7)) doomed-session
 
--- and it is sound, as its object is durable
+-- the whole folder is consistent, as its object is live and clean
 whole-rests : AllAreAtRest (one.state true)
 whole-rests zero = refl
 whole-rests (suc n) = tt
@@ -97,7 +97,7 @@ whole-rests (suc n) = tt
 whole_is_sound : IsSound (opened whole_folder 7)
 whole_is_sound = kept-sound (one.state true) (one.layout 0) (opened whole_folder 7) whole-keeps whole-rests
 
--- a new folder in which a session is opened has no entries
+-- a new folder in which a session is opened is an empty cache
 abbrev new_opened : Image
 new_opened = opened (new_folder 50) 7
 
@@ -140,6 +140,6 @@ new-session = let long = new-long in (
   one-beside (numbered (new_folder 50) 7) 32 1 20 (inl (lit≤ tt)) ∙ word-after_same (new_folder 50) Index 20 7 (lit< tt) (omega (arith, long)),
 )
 
--- so it keeps the empty state
+-- a new folder in which a session is opened keeps the empty state
 new-keeps : Keeps (open_state [] (record { max_bytes = 100; max_items = 100 })) no_layout [] new_opened
 new-keeps = empty-kept new_opened (record { max_bytes = 100; max_items = 100 }) new_opened_is_bare new-session.0 (λ e. let z : ◌≡◌ {A = ℕ} 7 0 = sym new-session.1 ∙ e in omega (arith, z))

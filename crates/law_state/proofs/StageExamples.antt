@@ -50,7 +50,7 @@ state = one.state true
 unchanged : (footprint : Footprint) (image : Image) → SameOutside footprint image image
 unchanged footprint image = record { bytes = λ file i out. refl; lengths = λ file out. refl; files = λ file out. refl }
 
--- before the first word of a touch of its item, a Read may crash
+-- a Read may crash before the first word of the access of its item
 before_use : IsMidUse (one.layout 0) (main (codes "a")) folder folder
 before_use = record { made = 0; within = omega arith; shown = record { list = refl; store = same-shown (store_of folder) }; outside = unchanged _ folder; well_formed = λ well. well }
 
@@ -58,7 +58,7 @@ read_stops : MayStop state 100 (to_read 0 0 0 1) folder
 unfolding computing
 read_stops = uses-stop state 100 (to_read 0 0 0 1) [] [] (main (codes "a")) (one.layout 0) [] folder folder whole-keeps.entries.valid refl refl refl whole-keeps.entries refl before_use
 
--- and before the removal of its item, a Doom
+-- a Doom may crash before the removal of its item
 before_removal : IsMidRemoval (one.layout 0) (main (codes "a")) folder folder
 before_removal = record { made = 0; within = omega arith; shown = record { list = refl; store = same-shown (store_of folder) }; outside = unchanged _ folder; well_formed = λ well. well }
 
@@ -102,7 +102,7 @@ list_goes_on : MayStopBetween (λ m image. Keeps m (one.layout 0) [] image × (m
 list_goes_on = stages-stop (λ m image. Keeps m (one.layout 0) [] image × (m ≡ state)) told told told 100 to_list [] (λ image is m k. subst (λ (s : State). ForSome told.files (IsAtStage [] s 100 to_list)) (sym k.1) (only-folder (IsAtStage [] state 100 to_list) at_first))
     (passes_none (λ image. ForSome told.files (λ from. StillFinds [] from image)) refl (only-folder (λ image. ForSome told.files (λ from. StillFinds [] from image)) (only-folder (λ from. StillFinds [] from folder) still)))
 
--- it ends with the state that it began with, and is noted
+-- a List ends with the state that it began with, and is noted
 list_ends : Keeps (step state 100 to_list).state (one.layout 0) [] folder
 list_ends = ends-kept state state 100 to_list state.names (one.layout 0) [] folder whole-keeps.entries.valid tt (quiet-keep state 100 0 0).0 whole-keeps
 

@@ -28,11 +28,12 @@ pub record AreFreed (from : Image) (w : ℕ) (image : Image) : Type 0 where
   pub elsewhere : (n : ℕ) → n ≢ file_selector w → KeepsFile from image n
   pub stays : StaysWhole from image
 
--- so its allocation is removed
+-- the freeing of blocks, as `AreFreed` tells it, removes their allocation
 abbrev pub FreedBlocksAreRemoved : Type 0
 FreedBlocksAreRemoved = (from image : Image) (w : ℕ) → AreFreed from w image → RemovesAllocation from w image
 
--- the blocks of a word are allocated: they are valid; of other files at most the links have changed, and the same are linked; its file has one allocation more, or was not linked and has this alone, and has all its blocks
+-- the blocks of a word are allocated: they are valid; of other files at most the links have changed, and the same are linked; its file has one allocation more,
+-- or was not linked and has this alone, and has all its blocks
 pub record AreAllocated (from : Image) (w : ℕ) (image : Image) : Type 0 where
   pub block_kind : kind_of w ≢ external
   pub footprint : Footprint
@@ -50,6 +51,6 @@ pub record AreAllocated (from : Image) (w : ℕ) (image : Image) : Type 0 where
   pub elsewhere : (n : ℕ) → n ≢ file_selector w → is_some (linked_as from n) ≡ true → KeepsFile from image n
   pub stays : StaysWhole from image
 
--- so its allocation is added
+-- the allocation of blocks, as `AreAllocated` tells it, adds their allocation
 abbrev pub AllocatedBlocksAreAdded : Type 0
 AllocatedBlocksAreAdded = (from image : Image) (w : ℕ) → IsWellFormed from → AreAllocated from w image → AddsAllocation from w image

@@ -16,7 +16,8 @@ pub record LeavesFiles (from image : Image) : Type 0 where
   pub session : SameSession from image
   pub well_formed : IsWellFormed from → IsWellFormed image
 
--- a state lies in a folder by a layout, with these doomed objects and unlinked words: all of what is kept but the files and the words of the session
+-- a state lies in a folder by a layout, with these doomed objects and unlinked words: as in `KeepsUncounted`, but for the files and for whether a session is
+-- open
 pub record IsArranged (state : State) (layout : Layout) (numbers unlinked : List ℕ) (image : Image) : Type 0 where
   pub valid : IsValidState state
   pub represents : Represents (view_of image) state layout
@@ -25,11 +26,11 @@ pub record IsArranged (state : State) (layout : Layout) (numbers unlinked : List
   pub sealed : AllAreSealed image layout
   pub marked : AreMarkedBy (this_id_of (byte image Index)) state layout
 
--- where a state is kept, and a call leaves the files, another state that lies there with the same words in use, in whatever order, is kept
+-- where a state is kept and a call leaves the files, another state that lies there is kept, if the same words are in use, in whatever order
 abbrev pub StatesAreRearranged : Type 0
 StatesAreRearranged = (state other : State) (layout now : Layout) (unlinked left numbers : List ℕ) (from image : Image) → (k : KeepsUncounted state layout unlinked from) → LeavesFiles from image → IsArranged other now numbers left image
     → IsPermutation (words_in_use unlinked (all_loaded state layout k.numbers)) (words_in_use left (all_loaded other now numbers)) → KeepsUncounted other now left image
 
--- so it is kept in whatever order its unlinked words are
+-- a state that is kept is kept with its unlinked words in any other order
 abbrev pub KeptInAnyOrder : Type 0
 KeptInAnyOrder = (state : State) (layout : Layout) (unlinked left : List ℕ) (image : Image) → KeepsUncounted state layout unlinked image → IsPermutation unlinked left → KeepsUncounted state layout left image

@@ -12,7 +12,7 @@ use Rattle.spec_format.specs.Maps.{HasAllocations}
 use Rattle.spec_folder.specs.Layout.{Layout}
 use Rattle.law_state.specs.Keeping.{KeepsUncounted}
 
--- the most words of one kind of what lies at a node: its record or its node, its long key, and three streams
+-- the most address words of one kind of what lies at a node: its record or its node, its long key, and three streams
 abbrev pub most_words : ℕ
 most_words = 5
 
@@ -25,7 +25,8 @@ pub record HaveFewAllocations (image : Image) (kind most : ℕ) : Type 0 where
 abbrev pub KeptAllocationsAreFew : Type 0
 KeptAllocationsAreFew = (state : State) (layout : Layout) (unlinked : List ℕ) (image : Image) (kind : ℕ) → KeepsUncounted state layout unlinked image → is_block_kind kind ≡ true → HaveFewAllocations image kind (most_words * items state + length unlinked)
 
--- so while a command has so many items to add, and each of them has no more than its words unlinked, and two more words are, they are no more than the 655362 that always leave space
+-- the allocations of a kind are no more than the 655362 that always leave space, while a command has so many items to add, and no more words are unlinked than
+-- those of these items and two
 abbrev pub KeptAllocationsLeaveRoom : Type 0
 KeptAllocationsLeaveRoom =
     (state : State) (layout : Layout) (unlinked : List ℕ) (image : Image) (kind more : ℕ) → KeepsUncounted state layout unlinked image

@@ -15,11 +15,11 @@ use Rattle.law_state.specs.Changes.{AddsAllocation, AddsExternal, AreOfWords, Ch
 
 -- Any call.
 
--- where a state is kept at a moment, the durable contents in it are recovered
+-- where a call keeps each state that was kept, the durable contents of such a state are recovered after it
 abbrev pub WhatIsKeptIsFound : Type 0
 WhatIsKeptIsFound = (before after : List ℕ) (from image : Image) → KeepsWith before after from image → StillFinds before from image
 
--- where a call leaves the counters of the index, and they counted the items, they count them still
+-- where a call keeps a state but for the counters of the index, and leaves these as they were, it keeps the state with its counters
 abbrev pub SameCountersCountTheSame : Type 0
 SameCountersCountTheSame = (state : State) (layout : Layout) (before after : List ℕ) (from image : Image) → Keeps state layout before from → KeepsUncounted state layout after image → SameCounters from image → Keeps state layout after image
 
@@ -29,21 +29,21 @@ SameCountersCountTheSame = (state : State) (layout : Layout) (before after : Lis
 abbrev pub UnlinkedPlacesMayChange : Type 0
 UnlinkedPlacesMayChange = (touched : Claim → Bool) (words : List ℕ) (from image : Image) → AreOfWords touched words → ChangesOnly touched from image → KeepsWith words words from image
 
--- the bytes of the blocks of a valid address are such a change
+-- a write into the blocks of a valid address changes these blocks only
 abbrev pub BlockWritesChangeOnly : Type 0
 BlockWritesChangeOnly = (from image : Image) (w at n : ℕ) → stands_in from w ≡ true → kind_of w ≢ external → place w ≤ at → at + n ≤ place w + byte_size w → SameOutside (range (Block (file_selector w)) at n) from image → ChangesOnly (has_claim (claims_of w)) from image
 
--- and so are an external file's bytes and its length
+-- a change of an external file's bytes and length, by which it neither comes nor goes, changes this file only
 abbrev pub ExternalWritesChangeOnly : Type 0
 ExternalWritesChangeOnly = (from image : Image) (n : ℕ) → SameOutside (whole (External n)) from image → has_file image (External n) ≡ has_file from (External n) → ChangesOnly (λ claim. same_claim claim (ExternalOf n)) from image
 
 -- Words of the index.
 
--- the words of the session, and the counters
+-- the places of the index's words of the session: its number, and the crash word
 abbrev pub kept_words : List ℕ
 kept_words = 20 ∷ 32 ∷ []
 
--- a word of the index's header that is neither shown nor checked, and not of the session, changes nothing that is kept
+-- the write of a word of the index's header that is neither shown nor checked, and not of the session, changes nothing that `KeepsUncounted` asks for
 abbrev pub OtherWordsChangeOnly : Type 0
 OtherWordsChangeOnly = (from image : Image) (at : ℕ) → at % 4 ≡ 0 → at < header_length → is_among shown_words at ≡ false → is_among checked_words at ≡ false → is_among kept_words at ≡ false
     → SameOutside (one_word Index at) from image → ChangesOnly (λ claim. false) from image
@@ -57,18 +57,18 @@ GrowthFindsTheSame = (words : List ℕ) (from image : Image) → HaveGrown from 
 
 -- Allocations.
 
--- blocks that are allocated are unlinked
+-- the allocation of blocks keeps each state, with the word of the blocks unlinked
 abbrev pub AllocatedBlocksAreUnlinked : Type 0
 AllocatedBlocksAreUnlinked = (w : ℕ) (from image : Image) → AddsAllocation from w image → KeepsWith [] (w ∷ []) from image
 
--- and unlinked blocks that are freed are in use no longer
+-- the freeing of unlinked blocks keeps each state, and their word is in use no longer
 abbrev pub FreedBlocksAreGone : Type 0
 FreedBlocksAreGone = (w : ℕ) (from image : Image) → RemovesAllocation from w image → KeepsWith (w ∷ []) [] from image
 
--- an external file that is made is unlinked
+-- the making of an external file keeps each state, with the file's word unlinked
 abbrev pub MadeFilesAreUnlinked : Type 0
 MadeFilesAreUnlinked = (w : ℕ) (from image : Image) → AddsExternal from w image → KeepsWith [] (w ∷ []) from image
 
--- and an unlinked one that is deleted is in use no longer
+-- the deletion of an unlinked external file keeps each state, and its word is in use no longer
 abbrev pub DeletedFilesAreGone : Type 0
 DeletedFilesAreGone = (w : ℕ) (from image : Image) → RemovesExternal from w image → KeepsWith (w ∷ []) [] from image

@@ -10,17 +10,18 @@ use Rattle.spec_folder.specs.Removal.{is_of_another, without_items}
 use Rattle.law_state.specs.GroupLaws.{IsLess}
 use Rattle.law_state.specs.RemovalLaws.{IsWithout}
 
--- a live object that no handle names, and of which no part is listed, goes whole with its main item
+-- where a live object has no handle and no listed part, the state in which it is doomed is the one without its main item
 abbrev pub UnheldObjectsGoWhole : Type 0
 UnheldObjectsGoWhole = (state : State) (number : ℕ) (object : Object) → IsValidState state → object_at state number ≡ Some object → object.live ≡ true → is_named state number ≡ false → ((n : ℕ) → is_listed state (part object.key n) ≡ false) → IsValidState (doomed number state (Some object))
     → IsWithout state (doomed number state (Some object)).objects (is_of_another object.key) (main object.key) × (doomed number state (Some object) ≡ without_items state (doomed number state (Some object)).objects (is_of_another object.key))
 
--- another object of the same key, live and with the same parts, in the place of one, is another value of the main item alone; in a valid state that is what the main item has then
+-- where a live object is replaced by another one of the same key and parts, the state differs in the value of its main item alone; in a valid state that item
+-- has the new shape and streams
 abbrev pub ObjectsChangeTheirMainItem : Type 0
 ObjectsChangeTheirMainItem = (state : State) (number : ℕ) (object other : Object) → object_at state number ≡ Some object → object.live ≡ true → other.live ≡ true → other.key ≡ object.key → other.parts ≡ object.parts
     → OneChanged state (slice_set state.objects number (Some other)) (main object.key) × (IsValidState state → row_of (with_slot number (Some other) state) (main object.key) ≡ Some (main_row object.key other.shape other.streams))
 
--- a live object that no handle names goes with its parts
+-- where a live object has no handle, the state in which it is doomed is one without its main item and its parts
 abbrev pub UnheldObjectsGoWithTheirParts : Type 0
 UnheldObjectsGoWithTheirParts = (state : State) (number : ℕ) (object : Object) → IsValidState state → object_at state number ≡ Some object → object.live ≡ true → is_named state number ≡ false → IsValidState (doomed number state (Some object))
     → IsLess state (doomed number state (Some object)).objects (is_of_another object.key)

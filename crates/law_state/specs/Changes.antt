@@ -17,7 +17,7 @@ use Rattle.law_state.specs.Keeping.{IsMapped, KeepsUncounted}
 
 -- How calls are composed.
 
--- a well-formed folder holds these rows
+-- the folder is well formed, and these rows are its recovered contents
 abbrev pub Finds : List Row → Image → Type 0
 Finds rows image = IsWellFormed image × (found image ≡ rows)
 
@@ -46,7 +46,7 @@ pub record SameSession (from image : Image) : Type 0 where
 abbrev pub SameCounters : Image → Image → Type 0
 SameCounters from image = count_of (byte image Index) ≡ count_of (byte from Index)
 
--- nothing but some blocks and external files changes of what is shown, and nothing of headers, lengths and the session
+-- nothing that is shown changes but for some blocks and external files, and nothing of headers, lengths and the session
 pub record ChangesOnly (touched : Claim → Bool) (from image : Image) : Type 0 where
   pub agree : AgreeBut touched from image
   pub headers : SameHeaders from image
@@ -59,19 +59,20 @@ AreOfWords touched words = (claim : Claim) → touched claim ≡ true → has_cl
 
 -- Allocations.
 
--- a block file is linked as before, or isn't, and has its length and its blocks
+-- a block file is linked as before, or isn't as before, and has the same presence, length and number of blocks
 pub record SameExtent (from image : Image) (n : ℕ) : Type 0 where
   pub linked : linked_as image n ≡ linked_as from n
   pub there : has_file image (Block n) ≡ has_file from (Block n)
   pub length : length_of image (Block n) ≡ length_of from (Block n)
   pub blocks : max_entries_in image n ≡ max_entries_in from n
 
--- and it has its allocations
+-- a block file is linked as before, or isn't as before, with the same presence, length and number of blocks, and keeps its allocations
 pub record StaysLinked (from image : Image) (n : ℕ) : Type 0 where
   pub extent : SameExtent from image n
   pub mapped : (words : List ℕ) → is_some (linked_as from n) ≡ true → IsMapped from words n → IsMapped image words n
 
--- the blocks of a word are allocated: its file has one allocation more, or is a new one with this alone, and has all its blocks; block files have grown at most, and each other file stays
+-- the blocks of a word are allocated: its file has one allocation more, or is a new one with this alone, and has all its blocks; block files have grown at
+-- most, and each other file stays
 pub record AddsAllocation (from : Image) (w : ℕ) (image : Image) : Type 0 where
   pub block_kind : kind_of w ≢ external
   pub grown : HaveGrown from image
@@ -85,7 +86,8 @@ pub record AddsAllocation (from : Image) (w : ℕ) (image : Image) : Type 0 wher
   pub long_enough : block_place (kind_of w) (max_entries_in image (file_selector w)) ≤ length_of image (Block (file_selector w))
   pub elsewhere : (n : ℕ) → n ≢ file_selector w → StaysLinked from image n
 
--- the blocks of a word are freed: its file has all allocations but this one, and each other file stays; block files have grown at most, and are linked as before
+-- the blocks of a word are freed: its file has all allocations but this one, and each other file stays; block files have grown at most, and are linked as
+-- before
 pub record RemovesAllocation (from : Image) (w : ℕ) (image : Image) : Type 0 where
   pub block_kind : kind_of w ≢ external
   pub grown : HaveGrown from image

@@ -21,42 +21,42 @@ use Rattle.law_state.specs.Commands.{Does, ForKept, MayStop, MayStopAtEach}
 
 -- Crashes.
 
--- where the durable contents before a request are recovered, it may crash
+-- a request may crash where the durable contents before it are recovered
 abbrev pub RequestsMayStopBefore : Type 0
 RequestsMayStopBefore = (state : State) (moment : ℕ) (request : Request) (image : Image) → IsValidState state → Finds (rest state) image → MayStop state moment request image
 
--- and where the durable contents after it are recovered
+-- a request may crash where the durable contents after it are recovered
 abbrev pub RequestsMayStopAfter : Type 0
 RequestsMayStopAfter = (state : State) (moment : ℕ) (request : Request) (image : Image) → IsValidState state → IsRequest request → Finds (rest (step state moment request).state) image → MayStop state moment request image
 
--- and once the first groups are evicted, where the durable contents without them are recovered
+-- a request may crash once its first groups are evicted, where the durable contents without them are recovered
 abbrev pub RequestsMayStopOnceEvicted : Type 0
 RequestsMayStopOnceEvicted = (state : State) (moment : ℕ) (request : Request) (first others : List Group) (image : Image) → IsValidState state → EvictsFirst state moment request first others → Finds (rest (without first state)) image → MayStop state moment request image
 
--- so before its first word each request may crash, where its state is kept
+-- a request may crash before its first word, where its state is kept
 abbrev pub KeptStatesMayStop : Type 0
 KeptStatesMayStop = (state : State) (layout : Layout) (unlinked : List ℕ) (image : Image) → KeepsUncounted state layout unlinked image → (moment : ℕ) (request : Request) → MayStop state moment request image
 
 -- Exits.
 
--- a condition says at least that a state is kept by some layout, with some words unlinked
+-- the cache's condition says at least that a state is kept by some layout, with some words unlinked
 abbrev pub SaysKept : (State → Image → Type 0) → Type 0
 SaysKept keeps = (state : State) (image : Image) → keeps state image → (layout : Layout) × (unlinked : List ℕ) × KeepsUncounted state layout unlinked image
 
--- where nothing is done, a request may crash
+-- a request of which no step was made may crash
 abbrev pub NothingMayStop : (keeps : State → Image → Type 0) → Type 0
 NothingMayStop keeps = SaysKept keeps → (told now : Told) (moment : ℕ) (request : Request) → Stays told now → MayStopAtEach keeps told now moment request
 
--- a request that makes the state no other, and whose answer is the map's, is done by nothing
+-- a request that leaves the state as it is, and whose answer is the model's, is done without a step
 abbrev pub NothingIsDone : (keeps : State → Image → Type 0) → Type 0
 NothingIsDone keeps = (told now : Told) (moment : ℕ) (request : Request) (answer : Answer) → Stays told now
     → ForKept keeps told (λ state. ((step state moment request).state ≡ state) × (answer ≡ answer_of (step state moment request).reply)) → Does keeps keeps told now moment request answer
 
--- such as a refusal
+-- a refusal is done without a step
 abbrev pub RefusalsAreDone : (keeps : State → Image → Type 0) → Type 0
 RefusalsAreDone keeps = (told now : Told) (moment : ℕ) (request : Request) (why : Refusal) → Stays told now → ForKept keeps told (λ state. refused moment request state ≡ Some why) → Does keeps keeps told now moment request (answer.Refused why)
 
--- List, Total and Size make the state no other
+-- List, Total and Size leave the state as it is
 abbrev pub QuietRequestsKeepTheState : Type 0
 QuietRequestsKeepTheState = (state : State) (moment handle stream : ℕ) → ((step state moment to_list).state ≡ state) × (((step state moment to_total).state ≡ state) × ((step state moment (to_size handle stream)).state ≡ state))
 

@@ -10,7 +10,7 @@ use Rattle.blk_model.specs.Step.{step}
 use Rattle.blk_model.specs.Stops.{StopOutcome}
 use Rattle.spec_folder.specs.Removal.{is_of_another}
 
--- a crash in a request may leave these rows
+-- these rows are a crash outcome of a request
 abbrev pub MayLeave : State → ℕ → Request → List Row → Type 0
 MayLeave state moment request held = StopOutcome state moment request (step state moment request).state held
 
@@ -36,11 +36,11 @@ pub record IsUnsettled (object : Object) (key : List ℕ) : Type 0 where
   pub live : object.live ≡ true
   pub unsettled : object.settled ≡ false
 
--- the items of other keys are as in a state
+-- an LRU list has the items of other keys in the order in which a state has them
 abbrev pub KeepsOtherKeys : State → List ℕ → List Item → Type 0
 KeepsOtherKeys state key uses = filter (is_of_another key) uses ≡ filter (is_of_another key) state.uses
 
--- a number has this live object, once all that a request evicts is out
+-- a request isn't refused, and a number has this live object once all that the request evicts is out
 pub record IsAffected (state : State) (moment : ℕ) (request : Request) (number : ℕ) (object : Object) : Type 0 where
   pub passes : refused moment request state ≡ None
   pub here : object_at (with_room state moment request) number ≡ Some object

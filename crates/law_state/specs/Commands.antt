@@ -14,25 +14,25 @@ use Rattle.spec_format.specs.BlockFiles.{IsWellFormed}
 use Rattle.spec_folder.specs.Found.{found}
 use Rattle.spec_folder.specs.StandsFor.{StandsFor}
 
--- a request may crash here: the folder is well formed, and what is found in it may be left by a crash in the request
+-- a request may crash here: the folder is well formed, and its recovered contents are a crash outcome of the request
 pub record MayStop (state : State) (moment : ℕ) (request : Request) (image : Image) : Type 0 where
   pub well_formed : IsWellFormed image
   pub left : StopOutcome state moment request (step state moment request).state (found image)
 
--- P holds of each state that is kept, where the folder is observable
+-- P holds of each state that the cache's condition has with the image, where the folder is observable
 abbrev pub ForKept : (State → Image → Type 0) → Told → (State → Type 0) → Type 0
 ForKept keeps told P = ForSome told.files (λ image. (state : State) → keeps state image → P state)
 
--- the answer to a request is the map's, and the state after it is kept
+-- the answer to a request is the model's, and the state after it is kept
 pub record IsDone (keeps : State → Image → Type 0) (now : Told) (moment : ℕ) (request : Request) (answer : Answer) (state : State) : Type 0 where
   pub answered : answer ≡ answer_of (step state moment request).reply
   pub kept : ForSome now.files (keeps (step state moment request).state)
 
--- a request is done, whatever state was kept before
+-- a request is done, whatever state was kept before: the answer is the model's, and the state after it is kept
 abbrev pub Does : (before after : State → Image → Type 0) → (told now : Told) → ℕ → Request → Answer → Type 0
 Does before after told now moment request answer = ForKept before told (IsDone after now moment request answer)
 
--- at each word the request may crash, whatever state was kept before
+-- a request may crash at each word of the steps that are made, whatever state was kept before
 abbrev pub MayStopAtEach : (State → Image → Type 0) → (told now : Told) → ℕ → Request → Type 0
 MayStopAtEach keeps told now moment request = ForKept keeps told (λ state. Passes told now (MayStop state moment request))
 
@@ -42,7 +42,8 @@ MayStopAtEach keeps told now moment request = ForKept keeps told (λ state. Pass
 abbrev pub note_number : ℕ → ℕ
 note_number count = min count (2 ^ 64 - 1)
 
--- a request is done and noted: its steps are quiet, and may crash at each word; the note, which is last, has this number; and there the folder stands for the state after the request
+-- a request is done and noted: its steps are quiet, and it may crash at each word; the note, which is last, has this number; and there the folder represents
+-- the state after the request
 pub record IsNoted (told now : Told) (moment : ℕ) (request : Request) (number : ℕ) (state : State) : Type 0 where
   pub steps : List TrailStep
   pub quiet : IsQuiet steps

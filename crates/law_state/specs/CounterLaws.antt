@@ -12,15 +12,16 @@ use Rattle.law_folder.specs.IndexWrites.{IsIndexLong, IsIndexWord}
 use Rattle.law_state.specs.Changes.{KeepsWith}
 use Rattle.law_state.specs.Keeping.{CountsItems, Keeps, KeepsUncounted}
 
--- a counter that is written, whatever it is then, keeps each state that was kept
+-- the write of a counter of the index, whatever it becomes, keeps each state but for the counters
 abbrev pub CountersMayBeWritten : Type 0
 CountersMayBeWritten = (from image : Image) (at x : ℕ) → is_among counter_places at ≡ true → IsIndexWord at x from image → KeepsWith [] [] from image
 
--- the sum of the charges of the items
+-- the sum of the charges of a state's items
 abbrev pub charged : State → Layout → ℕ
 charged state layout = sum_by charge_of (loaded_at layout (order state layout))
 
--- it is a number of eight bytes: there are at most 131072 nodes, and what lies at each has a key and three streams that are short enough
+-- the sum of the charges of a kept state's items is a number of eight bytes: there are at most 131072 nodes, and what lies at each has a key and three streams
+-- that are short enough
 abbrev pub ChargesAreSmall : Type 0
 ChargesAreSmall = (state : State) (layout : Layout) (unlinked : List ℕ) (image : Image) → KeepsUncounted state layout unlinked image → charged state layout < 2 ^ 64
 
@@ -32,7 +33,8 @@ pub record AreCountersWritten (items sum nodes : ℕ) (from image : Image) : Typ
   pub sum_written : IsIndexLong num_bytes64_place sum first second
   pub nodes_written : IsIndexWord sizes_place nodes second image
 
--- once all four are, and are what is to be counted, the state is kept and counted, where the version was the one that is made now and the word of the first one's sum 0
+-- a state that is kept but for the counters is kept with them once all four are written as it is to be counted; before that the index counted some state, by
+-- the version that is made now
 abbrev pub WrittenCountersCount : Type 0
 WrittenCountersCount = (state before : State) (layout was : Layout) (unlinked : List ℕ) (from image : Image) → KeepsUncounted state layout unlinked from → CountsItems from before was
     → AreCountersWritten (length state.uses) (charged state layout) (length state.uses) from image → Keeps state layout unlinked image

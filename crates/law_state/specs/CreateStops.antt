@@ -19,7 +19,7 @@ use Rattle.law_state.specs.CounterLaws.{AreCountersWritten, charged}
 use Rattle.law_state.specs.Keeping.{CountsItems, Keeps, KeepsUncounted}
 use Rattle.law_state.specs.NewEntryLaws.{IsInsertDone, HasRecordInFront, IsNewEntryOf}
 
--- a Create that isn't refused, of a state that is valid, in a folder that keeps what it doesn't evict, with the words of its entry unlinked, and the entry is written
+-- a Create isn't refused, its state is valid, the folder keeps the state without what it evicts, and the new entry is written, with its words unlinked
 pub record IsCreating (state : State) (moment handle : ℕ) (key : List ℕ) (layout : Layout) (unlinked : List ℕ) (loaded : Loaded) (from : Image) : Type 0 where
   pub valid : IsValidState state
   pub can : IsRequest (to_create handle key)
@@ -27,17 +27,17 @@ pub record IsCreating (state : State) (moment handle : ℕ) (key : List ℕ) (la
   pub kept : KeepsUncounted (with_room state moment (to_create handle key)) layout (words_of loaded ++ unlinked) from
   pub entry : IsNewEntryOf (with_room state moment (to_create handle key)) layout key loaded from
 
--- at each word of the insert of its node it may crash
+-- a Create may crash at each word of the insert of its node
 abbrev pub InsertsMayStop : Type 0
 InsertsMayStop = (state : State) (moment handle : ℕ) (key : List ℕ) (layout : Layout) (unlinked : List ℕ) (loaded : Loaded) (from image : Image) → IsCreating state moment handle key layout unlinked loaded from
     → IsPartly from (writes_of insert loaded.node (list_of from)) image → MayStop state moment (to_create handle key) image
 
--- and where its record is linked after that
+-- a Create may crash where its record is linked after the insert
 abbrev pub LinksMayStop : Type 0
 LinksMayStop = (state : State) (moment handle : ℕ) (key : List ℕ) (layout : Layout) (unlinked : List ℕ) (loaded : Loaded) (from between image : Image) → IsCreating state moment handle key layout unlinked loaded from
     → IsInsertDone from loaded.node between → HasRecordInFront between loaded.contents image → MayStop state moment (to_create handle key) image
 
--- once the counters are written too, where they counted a state before, the state after it is kept
+-- the state after a Create is kept once its node is inserted, its record is linked and the counters are written, where these counted a state before
 abbrev pub CreatesEndOnceCounted : Type 0
 CreatesEndOnceCounted = (state before : State) (moment handle : ℕ) (key : List ℕ) (layout was : Layout) (unlinked : List ℕ) (loaded : Loaded) (from between linked image : Image) → IsCreating state moment handle key layout unlinked loaded from
     → CountsItems from before was → IsInsertDone from loaded.node between → HasRecordInFront between loaded.contents linked

@@ -10,14 +10,14 @@ use Rattle.law_state.specs.ListLaws.{IsTouchDone}
 use Rattle.law_state.specs.NewEntryLaws.{IsInsertDone}
 use Rattle.law_state.specs.RemovalLaws.{IsRemovalDone}
 
--- a touch
+-- the steps of an access of a node of an idle LRU list do what `IsTouchDone` says
 abbrev pub TouchStepsAreDone : Type 0
 TouchStepsAreDone = (image : Image) (node moment : ℕ) (prefix suffix : List ℕ) → IsWritable image → HasListAtRest (prefix ++ node ∷ suffix) image → IsTouchDone image node (after (steps_of_touch node moment image) image)
 
--- an insert
+-- the steps of an insert of a node into an idle LRU list do what `IsInsertDone` says
 abbrev pub InsertStepsAreDone : Type 0
 InsertStepsAreDone = (image : Image) (node : ℕ) → IsWritable image → CanBeInserted (list_of image) (walked image) node → IsInsertDone image node (after (operation_steps insert node image) image)
 
--- a removal
+-- the steps of a removal of a node of an idle LRU list do what `IsRemovalDone` says
 abbrev pub RemovalStepsAreDone : Type 0
 RemovalStepsAreDone = (image : Image) (node : ℕ) (prefix suffix : List ℕ) → IsWritable image → HasListAtRest (prefix ++ node ∷ suffix) image → IsRemovalDone image node (after (operation_steps remove node image) image)

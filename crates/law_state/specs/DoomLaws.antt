@@ -27,7 +27,7 @@ pub record CanBeDoomed (state : State) (layout : Layout) (number : ℕ) (object 
   pub alone : (n : ℕ) → is_listed state (part object.key n) ≡ false
   pub valid : IsValidState (doomed number state (Some object))
 
--- its record has gone out of its chain and has state 2, and all others are as they were
+-- the record of a node is out of its chain and has state 2, and all other records are as they were
 pub record IsUnchained (state : State) (layout : Layout) (node : ℕ) (loaded : Loaded) (from image : Image) : Type 0 where
   pub leaves : LeavesFiles from image
   pub list : list_of image ≡ list_of from
@@ -35,20 +35,21 @@ pub record IsUnchained (state : State) (layout : Layout) (node : ℕ) (loaded : 
   pub loads : load (store_of image) (unchained_rule records.entry_doomed) node ≡ Ok loaded
   pub sealed : (other : ℕ) (lies : Loaded) → layout.at other ≡ Some lies → AreSealed from lies → AreSealed image lies
 
--- the layout with its node as a doomed object's
+-- the layout in which a node is that of a doomed object of a number, its record out of its chain
 abbrev pub layout_doomed : Layout → ℕ → ℕ → Loaded → Layout
 layout_doomed layout number node loaded = placed_doomed layout number node layout.at (chains_without layout loaded.contents) layout.owner
 
--- once it is out of the list and out of its chain, the state in which it is doomed is kept, with the same words unlinked
+-- once an object that can be doomed is out of the list and of its chain, the state in which it is doomed is kept, with the same words unlinked
 abbrev pub DoomedObjectsAreKept : Type 0
 DoomedObjectsAreKept = (state : State) (layout : Layout) (unlinked : List ℕ) (number : ℕ) (object : Object) (loaded : Loaded) (from between image : Image) → KeepsUncounted state layout unlinked from → CanBeDoomed state layout number object loaded
     → IsRemovalDone from (layout.place (main object.key)) between → IsUnchained state layout (layout.place (main object.key)) loaded between image
     → KeepsUncounted (doomed number state (Some object)) (layout_doomed layout number (layout.place (main object.key)) loaded) unlinked image
 
--- one item less is to be counted then, with its charge
+-- the state in which an object is doomed has one item less, with its charge
 pub record IsDoomedLess (state : State) (layout : Layout) (number : ℕ) (object : Object) (loaded : Loaded) : Type 0 where
   pub items : length (doomed number state (Some object)).uses + 1 ≡ length state.uses
   pub bytes : sum_by charge_of (loaded_at layout (nodes_of layout (doomed number state (Some object)).uses)) + charge_of loaded ≡ sum_by charge_of (loaded_at layout (order state layout))
 
+-- where an object can be doomed, the state after that has one item less, with its charge
 abbrev pub DoomedObjectsAreOneLess : Type 0
 DoomedObjectsAreOneLess = (state : State) (layout : Layout) (unlinked : List ℕ) (number : ℕ) (object : Object) (loaded : Loaded) (from : Image) → KeepsUncounted state layout unlinked from → CanBeDoomed state layout number object loaded → IsDoomedLess state layout number object loaded

@@ -12,11 +12,11 @@ pub record IsMakingExternal (from : Image) (n : ℕ) (image : Image) : Type 0 wh
   pub absent : has_file from (External n) ≡ false
   pub same : SameOutside (either (whole (External n)) (one_word Index 16)) from image
 
--- at each word of it the old durable contents are recovered, whatever is unlinked
+-- while an external file is being made the old durable contents are recovered, whatever is unlinked
 abbrev pub MakingFilesFindsTheSame : Type 0
 MakingFilesFindsTheSame = (from image : Image) (n : ℕ) → IsMakingExternal from n image → StillFinds [] from image
 
--- once it is there, it is made
+-- an external file that was being made is made (`AddsExternal`) once it is there
 abbrev pub MadeFilesAreAdded : Type 0
 MadeFilesAreAdded = (from image : Image) (w : ℕ) → IsWellFormed from → kind_of w ≡ external → IsMakingExternal from (external_number w) image → has_file image (External (external_number w)) ≡ true → stands_in image w ≡ true → AddsExternal from w image
 
@@ -24,6 +24,6 @@ MadeFilesAreAdded = (from image : Image) (w : ℕ) → IsWellFormed from → kin
 abbrev pub DeletingFilesFindsTheSame : Type 0
 DeletingFilesFindsTheSame = (from image : Image) (w : ℕ) → kind_of w ≡ external → SameOutside (whole (External (external_number w))) from image → StillFinds (w ∷ []) from image
 
--- once it isn't there, it is deleted
+-- the external file of a word is deleted (`RemovesExternal`) once it isn't there
 abbrev pub DeletedFilesAreRemoved : Type 0
 DeletedFilesAreRemoved = (from image : Image) (w : ℕ) → IsWellFormed from → kind_of w ≡ external → stands_in from w ≡ true → SameOutside (whole (External (external_number w))) from image → has_file image (External (external_number w)) ≡ false → RemovesExternal from w image

@@ -14,11 +14,11 @@ use Rattle.law_state.specs.CommandStates.{with_names}
 use Rattle.law_state.specs.Keeping.{Keeps, KeepsUncounted}
 use Rattle.law_state.specs.ObjectLaws.{is_owned_by}
 
--- the owners with nothing at a node: what was the node's is nobody's
+-- the owners of a layout, but that what was a node's is nobody's
 abbrev pub owner_without : Layout → ℕ → Claim → Option ℕ
 owner_without layout node claim = if is_owned_by node (layout.owner claim) then None else layout.owner claim
 
--- the layout with nothing there
+-- the layout with nothing at a node, and what was the node's is nobody's
 abbrev pub layout_without : Layout → ℕ → Layout
 layout_without layout node = emptied_at layout node (owner_without layout node)
 
@@ -27,7 +27,7 @@ abbrev pub GoneObjectsAreUnlinked : Type 0
 GoneObjectsAreUnlinked = (state : State) (layout : Layout) (unlinked : List ℕ) (image : Image) (number : ℕ) (object : Object) (was : Loaded) (names : List (Option ℕ)) → KeepsUncounted state layout unlinked image → IsPlacedAsDoomed state layout number object was
     → IsValidState (with_names names (with_slot number None state)) → KeepsUncounted (with_names names (with_slot number None state)) (layout_without layout (layout.place_of_doomed number)) (words_of was ++ unlinked) image
 
--- the same where the folder was counted: a doomed object is in none of the index's counters
+-- as `GoneObjectsAreUnlinked`, in a folder that was counted: it counts right still, as a doomed object is in none of the index's counters
 abbrev pub GoneObjectsAreNotCounted : Type 0
 GoneObjectsAreNotCounted = (state : State) (layout : Layout) (unlinked : List ℕ) (image : Image) (number : ℕ) (object : Object) (was : Loaded) (names : List (Option ℕ)) → Keeps state layout unlinked image → IsPlacedAsDoomed state layout number object was
     → IsValidState (with_names names (with_slot number None state)) → Keeps (with_names names (with_slot number None state)) (layout_without layout (layout.place_of_doomed number)) (words_of was ++ unlinked) image

@@ -21,23 +21,23 @@ use Rattle.spec_folder.specs.View.{store_of}
 use Rattle.law_state.specs.Arranging.{LeavesFiles}
 use Rattle.law_state.specs.Keeping.{KeepsUncounted}
 
--- the nodes of the items that go
+-- the nodes of the listed items that aren't kept
 abbrev pub gone_nodes : State → Layout → (Item → Bool) → List ℕ
 gone_nodes state layout keep = nodes_of layout (filter (λ item. not (keep item)) state.uses)
 
--- what lies elsewhere
+-- what a layout has at its nodes, but for those that are gone
 abbrev pub at_without : Layout → List ℕ → ℕ → Option Loaded
 at_without layout gone node = if is_among gone node then None else layout.at node
 
--- and whose what is not theirs is
+-- the owners of a layout, but that what was of nodes that are gone is nobody's
 abbrev pub owners_without : Layout → List ℕ → Claim → Option ℕ
 owners_without layout gone claim = if option_map_or (is_among gone) (layout.owner claim) false then None else layout.owner claim
 
--- the layout without them, with other chains
+-- the layout without the nodes that are gone, with other chains
 abbrev pub layout_less : Layout → List ℕ → (ℕ → List ℕ) → Layout
 layout_less layout gone chains = placed_less layout (at_without layout gone) chains (owners_without layout gone)
 
--- a state without some items: the objects then, none of them doomed by it, and each dirty one was there
+-- objects for a state without some items: it is valid, none is doomed in it that wasn't, and each dirty one was dirty
 pub record IsLess (state : State) (objects : List (Option Object)) (keep : Item → Bool) : Type 0 where
   pub lists : ListsLess state objects keep
   pub valid : IsValidState (without_items state objects keep)
@@ -45,7 +45,7 @@ pub record IsLess (state : State) (objects : List (Option Object)) (keep : Item 
   pub unsettled : (number : ℕ) (object : Object) → object_at (without_items state objects keep) number ≡ Some object → object.live ≡ true → object.settled ≡ false
       → (was : Object) × (object_at state number ≡ Some was) × (was.key ≡ object.key) × (was.live ≡ true) × (was.settled ≡ false)
 
--- their nodes are out of the list and their records out of the chains, and all others are as they were
+-- the nodes of the items that aren't kept are out of the list and their records out of the chains, and all others are as they were
 pub record AreOut (state : State) (layout : Layout) (keep : Item → Bool) (chains : ℕ → List ℕ) (from image : Image) : Type 0 where
   pub leaves : LeavesFiles from image
   pub list : HasListAtRest (nodes_of layout (filter keep state.uses)) image
@@ -54,7 +54,7 @@ pub record AreOut (state : State) (layout : Layout) (keep : Item → Bool) (chai
   pub out : (bucket contents : ℕ) → bucket < table_length → is_among (chains bucket) contents ≡ true → (node : ℕ) (loaded : Loaded) → is_among (gone_nodes state layout keep) node ≡ true → layout.at node ≡ Some loaded → (contents == loaded.contents) ≡ false
   pub sealed : (node : ℕ) (loaded : Loaded) → layout.at node ≡ Some loaded → is_among (gone_nodes state layout keep) node ≡ false → AreSealed from loaded → AreSealed image loaded
 
--- then the state without them is kept, and their words are unlinked
+-- once some items are out of the list and of the chains, the state without them is kept, and their words are unlinked
 abbrev pub GoneItemsAreUnlinked : Type 0
 GoneItemsAreUnlinked = (state : State) (layout : Layout) (unlinked : List ℕ) (objects : List (Option Object)) (keep : Item → Bool) (chains : ℕ → List ℕ) (from image : Image) → KeepsUncounted state layout unlinked from → IsLess state objects keep → AreOut state layout keep chains from image
     → KeepsUncounted (without_items state objects keep) (layout_less layout (gone_nodes state layout keep) chains) (flat_map words_of (loaded_at layout (gone_nodes state layout keep)) ++ unlinked) image

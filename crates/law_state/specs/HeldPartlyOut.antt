@@ -21,7 +21,8 @@ use Rattle.law_state.specs.Keeping.{KeepsUncounted}
 use Rattle.law_state.specs.PartlyOut.{KeepsPartlyOut}
 use Rattle.law_state.specs.WholeRemovals.{layout_doomed_whole}
 
--- its items are out, the words of its main item are unlinked and are in front of the others, and its node loads as that of a doomed object and is sealed
+-- all items of an object with a handle are out; the words of its main item are the first unlinked ones, and its node loads as that of a doomed object and is
+-- sealed
 pub record IsHeldOut (state : State) (layout : Layout) (number : ℕ) (object : Object) (loaded : Loaded) (chains : ℕ → List ℕ) (unlinked : List ℕ) (image : Image) : Type 0 where
   pub placed : IsPlacedAsLive state layout number object loaded
   pub named : is_named state number ≡ true
@@ -29,12 +30,14 @@ pub record IsHeldOut (state : State) (layout : Layout) (number : ℕ) (object : 
   pub loads : load (store_of image) (unchained_rule records.entry_doomed) (layout.place (main object.key)) ≡ Ok loaded
   pub sealed : AreSealed image loaded
 
--- then the state with it doomed is kept, and its words are unlinked no longer
+-- once all items of an object with a handle are out, and its node loads as a doomed object's, the state with it doomed is kept, and its words are unlinked no
+-- longer
 abbrev pub HeldOutObjectsAreDoomed : Type 0
 HeldOutObjectsAreDoomed = (state : State) (layout : Layout) (number : ℕ) (object : Object) (loaded : Loaded) (chains : ℕ → List ℕ) (unlinked : List ℕ) (image : Image) → IsHeldOut state layout number object loaded chains unlinked image
     → KeepsUncounted (doomed number state (Some object)) (layout_doomed_whole state layout number object.key chains) unlinked image
 
--- so a Doom and a DoomKey of it end
+-- the state after a Doom or a DoomKey of an object with a handle is kept but for the counters once all its items are out, and its node loads as a doomed
+-- object's
 abbrev pub HeldOutDoomsEnd : Type 0
 HeldOutDoomsEnd = (state : State) (moment : ℕ) (request : Request) (layout : Layout) (number : ℕ) (object : Object) (loaded : Loaded) (chains : ℕ → List ℕ) (unlinked : List ℕ) (image : Image) → refused moment request state ≡ None → IsDoomOf request state number
     → IsHeldOut state layout number object loaded chains unlinked image → KeepsUncounted (step state moment request).state (layout_doomed_whole state layout number object.key chains) unlinked image

@@ -24,7 +24,7 @@ use Rattle.spec_folder.specs.Tidy.{doomed_nodes, loaded_at}
 abbrev pub all_nodes : State → Layout → List ℕ → List ℕ
 all_nodes state layout numbers = order state layout ++ doomed_nodes layout numbers
 
--- what lies at them
+-- what lies at the nodes of a state's items and doomed objects
 abbrev pub all_loaded : State → Layout → List ℕ → List Loaded
 all_loaded state layout numbers = loaded_at layout (all_nodes state layout numbers)
 
@@ -83,7 +83,8 @@ pub record IsInSession (image : Image) (state : State) (layout : Layout) : Type 
 
 -- The invariant.
 
--- all of it but the counters of the index, which a command writes after the list and the chains
+-- a folder keeps a state by a layout, with these address words not linked yet, but for the counters of the index, which a command writes after the list and the
+-- chains
 pub record KeepsUncounted (state : State) (layout : Layout) (unlinked : List ℕ) (image : Image) : Type 0 where
   -- the state is one that a cache may have
   pub valid : IsValidState state
@@ -104,7 +105,7 @@ pub record KeepsUncounted (state : State) (layout : Layout) (unlinked : List ℕ
   -- the session is open
   pub session : IsInSession image state layout
 
--- a folder keeps a state by a layout, with these address words not linked yet
+-- a folder keeps a state by a layout, with these address words not linked yet, and the index counts the state's items
 pub record Keeps (state : State) (layout : Layout) (unlinked : List ℕ) (image : Image) : Type 0 where
   pub entries : KeepsUncounted state layout unlinked image
   pub counters : CountsItems image state layout

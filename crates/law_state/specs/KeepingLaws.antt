@@ -16,11 +16,11 @@ use Rattle.spec_folder.specs.Tidy.{IsTidy}
 use Rattle.law_folder.specs.BareLaws.{HasNoEntries}
 use Rattle.law_state.specs.Keeping.{IsInSession, KeepsUncounted, Keeps}
 
--- the recovered contents are the durable ones, whatever is unlinked or uncounted
+-- the recovered contents are the durable ones of the state that a folder keeps, whatever is unlinked or uncounted
 abbrev pub KeptStatesAreFound : Type 0
 KeptStatesAreFound = (state : State) (layout : Layout) (unlinked : List ℕ) (image : Image) → KeepsUncounted state layout unlinked image → found image ≡ rest state
 
--- with nothing unlinked the image stands for the state
+-- a folder that keeps a state with nothing unlinked represents it
 abbrev pub KeptStatesAreStoodFor : Type 0
 KeptStatesAreStoodFor = (state : State) (layout : Layout) (image : Image) → Keeps state layout [] image → StandsFor image state
 
@@ -28,11 +28,11 @@ KeptStatesAreStoodFor = (state : State) (layout : Layout) (image : Image) → Ke
 abbrev pub AllAreAtRest : State → Type 0
 AllAreAtRest state = (number : ℕ) → IfSome (object_at state number) (λ object. (object.live && object.settled) ≡ true)
 
--- and it is sound, where each object is live and clean
+-- a folder that keeps a state with nothing unlinked, in which each object is live and clean, is consistent
 abbrev pub KeptStatesAreSound : Type 0
 KeptStatesAreSound = (state : State) (layout : Layout) (image : Image) → Keeps state layout [] image → AllAreAtRest state → IsSound image
 
--- a folder without entries, in which a session is open, keeps the empty state
+-- an empty cache, in which a session is open, keeps the empty state
 abbrev pub FoldersWithoutEntriesKeepTheEmptyState : Type 0
 FoldersWithoutEntriesKeepTheEmptyState = (image : Image) (limits : Bounds) → HasNoEntries image → crash_of (byte image Index) ≡ 1 → this_id_of (byte image Index) ≢ 0 → Keeps (open_state [] limits) no_layout [] image
 

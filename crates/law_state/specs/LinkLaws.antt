@@ -29,50 +29,51 @@ use Rattle.law_state.specs.RemovalLaws.{IsWithout, layout_removed}
 
 -- The table.
 
--- a word of the table that is written changes links alone
+-- the write of a word of the table changes nothing but links of chains
 abbrev pub TableWordsChangeLinks : Type 0
 TableWordsChangeLinks = (from image : Image) (bucket w word : ℕ) → store_of image ≡ record (store_of from) { table = put (store_of from).table bucket w } → OnlyLinksChange word (store_of from) (store_of image)
 
--- it leaves the files
+-- the write of a word of the table leaves headers, lengths and the session as they are
 abbrev pub TableWordsLeaveFiles : Type 0
 TableWordsLeaveFiles = (from image : Image) (bucket : ℕ) → SameOutside (one_word Index (place_of_bucket bucket)) from image → (IsWellFormed from → IsWellFormed image) → LeavesFiles from image
 
--- and all seals
+-- the write of a word of the table leaves all seals
 abbrev pub TableWordsLeaveSeals : Type 0
 TableWordsLeaveSeals = (from image : Image) (bucket : ℕ) (loaded : Loaded) → SameOutside (one_word Index (place_of_bucket bucket)) from image → AreSealed from loaded → AreSealed image loaded
 
 -- The link of a record.
 
--- a link that is written changes links alone
+-- the write of a record's chain link changes nothing but links of chains
 abbrev pub ChainNextsChangeLinks : Type 0
 ChainNextsChangeLinks = (from image : Image) (w : ℕ) → OnlyChainNextChanges w from image → OnlyLinksChange w (store_of from) (store_of image)
 
--- and all seals of a layout hold where that of its record does, also after calls that left the files
+-- the update of a record's chain link leaves all seals of a layout where the record is sealed after it, also after calls that left the files
 abbrev pub ChainNextsLeaveSeals : Type 0
 ChainNextsLeaveSeals = (state : State) (layout : Layout) (unlinked : List ℕ) (from between image : Image) (node : ℕ) (was : Loaded) → KeepsUncounted state layout unlinked from → LeavesFiles from between → layout.at node ≡ Some was → SameOutside (record_range was.contents) between image
     → entry_is_sealed (entry_at image was.contents) ≡ true → (other : ℕ) (loaded : Loaded) → layout.at other ≡ Some loaded → AreSealed between loaded → AreSealed image loaded
 
 -- Inside what is a node's.
 
--- a change that touches nobody else, and neither the node nor its record, is inside: of data
+-- a change of an item's data, which touches no other node's blocks and neither its node nor its record, is inside its node (`IsInsideNode`)
 abbrev pub DataChangesAreInside : Type 0
 DataChangesAreInside =
     (touched : Claim → Bool) (layout : Layout) (from image : Image) (node : ℕ) (loaded : Loaded) → ChangesOnly touched from image
     → IsFreeBut node touched layout → IsClear touched node → IsClear touched loaded.contents
     → IsInsideNode touched (view_of from) (view_of image) layout node loaded
 
--- and so is an update of its record that leaves its hash
+-- an update of a node's record that leaves its hash and its chain link is inside the node (`IsInsideNode`)
 abbrev pub RecordUpdatesAreInside : Type 0
 RecordUpdatesAreInside = (state : State) (layout : Layout) (unlinked : List ℕ) (from image : Image) (node : ℕ) (loaded : Loaded) (was now : RecordFields) → KeepsUncounted state layout unlinked from → layout.at node ≡ Some loaded → OnlyRecordFieldsChange loaded.contents from image
     → (store_of from).entry loaded.contents ≡ Some was → (store_of image).entry loaded.contents ≡ Some now → now.checks ≡ was.checks → now.hash ≡ was.hash → IsInsideNode (has_claim (claims_of loaded.contents)) (view_of from) (view_of image) layout node loaded
 
 -- Counting.
 
--- one item less is to be counted once it is removed, with its charge
+-- the state without an item has one item less, with its charge
 pub record IsOneLess (state : State) (layout : Layout) (objects : List (Option Object)) (keep : Item → Bool) (item : Item) (was : Loaded) : Type 0 where
   pub items : length (without_items state objects keep).uses + 1 ≡ length state.uses
   pub bytes : sum_by charge_of (loaded_at (layout_removed layout (layout.place item) was.contents) (order (without_items state objects keep) (layout_removed layout (layout.place item) was.contents))) + charge_of was ≡ sum_by charge_of (loaded_at layout (order state layout))
 
+-- the removal of an item from a kept state makes one item less, with its charge
 abbrev pub RemovedItemsAreOneLess : Type 0
 RemovedItemsAreOneLess = (state : State) (layout : Layout) (unlinked : List ℕ) (objects : List (Option Object)) (keep : Item → Bool) (item : Item) (was : Loaded) (from : Image) → KeepsUncounted state layout unlinked from → IsWithout state objects keep item → layout.at (layout.place item) ≡ Some was
     → IsOneLess state layout objects keep item was

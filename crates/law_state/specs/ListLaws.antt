@@ -11,7 +11,7 @@ use Rattle.spec_folder.specs.ListSteps.{IsTouched, KeepsSealed}
 use Rattle.spec_folder.specs.View.{list_of}
 use Rattle.law_state.specs.Keeping.{Keeps, KeepsUncounted}
 
--- a touch of a node is done: the node is in front of the list, and each seal that held still holds
+-- an access of a node is done: the node is in front of the list, and each node that was sealed is sealed
 pub record IsTouchDone (from : Image) (node : ℕ) (image : Image) : Type 0 where
   pub touched : IsTouched from node (touch_writes node (list_of from)) image
   pub moved : (prefix suffix : List ℕ) → HasListAtRest (prefix ++ node ∷ suffix) from → HasListAtRest (node ∷ prefix ++ suffix) image
@@ -21,10 +21,10 @@ pub record IsTouchDone (from : Image) (node : ℕ) (image : Image) : Type 0 wher
 abbrev pub with_used : State → Item → State
 with_used state item = record state { uses = used item state.uses }
 
--- once a listed item is touched, the state with it in front is kept, with the same words unlinked
+-- once a listed item is accessed, the state with it in front is kept but for the counters, with the same words unlinked
 abbrev pub TouchesKeepTheState : Type 0
 TouchesKeepTheState = (state : State) (layout : Layout) (unlinked : List ℕ) (from image : Image) (item : Item) → KeepsUncounted state layout unlinked from → is_listed state item ≡ true → IsTouchDone from (layout.place item) image → KeepsUncounted (with_used state item) layout unlinked image
 
--- and the counters count it
+-- once a listed item is accessed, the state with it in front is kept, and the counters count it
 abbrev pub TouchesKeepTheCounters : Type 0
 TouchesKeepTheCounters = (state : State) (layout : Layout) (unlinked : List ℕ) (from image : Image) (item : Item) → Keeps state layout unlinked from → is_listed state item ≡ true → IsTouchDone from (layout.place item) image → Keeps (with_used state item) layout unlinked image

@@ -26,7 +26,8 @@ use Rattle.spec_folder.specs.View.{list_of, store_of}
 use Rattle.law_state.specs.Changes.{Finds}
 use Rattle.law_state.specs.Keeping.{KeepsUncounted}
 
--- an entry is written: it loads as a new object of a key that no live object has, its record goes in front of its chain, it is sealed and dirty by the number of the session, and the list has space for it
+-- an entry is written: it loads as a new object of a key that no live object has, its record goes in front of its chain, it is sealed and dirty by the number
+-- of the session, and the list has space for it
 pub record IsNewEntryOf (state : State) (layout : Layout) (key : List ℕ) (loaded : Loaded) (image : Image) : Type 0 where
   pub entry : IsNewEntry (store_of image) layout key loaded
   pub prefix : IsFrontOfChain (store_of image) layout loaded
@@ -36,7 +37,7 @@ pub record IsNewEntryOf (state : State) (layout : Layout) (key : List ℕ) (load
   pub few : length (order state layout) < most_nodes
   pub missing : owner state (main key) ≡ None
 
--- a node is inserted: it is in front of the list, and each seal that held still holds
+-- an insert of a node is done: the node is in front of the list, and each node that was sealed is sealed
 pub record IsInsertDone (from : Image) (node : ℕ) (image : Image) : Type 0 where
   pub partly : IsPartly from (writes_of insert node (list_of from)) image
   pub inserted : CanBeInserted (list_of from) (walked from) node → HasListAtRest (node ∷ walked from) image
@@ -49,25 +50,26 @@ pub record HasRecordInFront (from : Image) (w : ℕ) (image : Image) : Type 0 wh
   pub well_formed : IsWellFormed from → IsWellFormed image
   pub outside : SameOutside (one_word Index (place_of_bucket (bucket_at from w))) from image
 
--- at each word of the insert the old durable contents are recovered
+-- at each word of the insert of a new entry's node the old durable contents are recovered
 abbrev pub InsertsFindTheSame : Type 0
 InsertsFindTheSame = (state : State) (layout : Layout) (unlinked key : List ℕ) (loaded : Loaded) (from image : Image) → KeepsUncounted state layout unlinked from → IsNewEntryOf state layout key loaded from
     → IsPartly from (writes_of insert loaded.node (list_of from)) image → Finds (rest state) image
 
--- and where the record is linked after it
+-- the old durable contents are recovered also where a new entry's record is linked after the insert
 abbrev pub LinksFindTheSame : Type 0
 LinksFindTheSame = (state : State) (layout : Layout) (unlinked key : List ℕ) (loaded : Loaded) (handle : ℕ) (from between image : Image) → KeepsUncounted state layout unlinked from → IsNewEntryOf state layout key loaded from
     → IsValidState (created handle key state) → IsInsertDone from loaded.node between → HasRecordInFront between loaded.contents image → Finds (rest state) image
 
--- then the state with the new object is kept, and its words are unlinked no longer
+-- once a new entry's node is inserted and its record linked, the state with the new object is kept, and its words are unlinked no longer
 abbrev pub NewEntriesAreKept : Type 0
 NewEntriesAreKept = (state : State) (layout : Layout) (unlinked key : List ℕ) (loaded : Loaded) (handle : ℕ) (from between image : Image) → KeepsUncounted state layout (words_of loaded ++ unlinked) from → IsNewEntryOf state layout key loaded from
     → IsValidState (created handle key state) → IsInsertDone from loaded.node between → HasRecordInFront between loaded.contents image → KeepsUncounted (created handle key state) (with_new layout key loaded) unlinked image
 
--- one item more is to be counted, with its charge
+-- the state with a new object has one item more, with its charge
 pub record IsOneMore (state : State) (layout : Layout) (key : List ℕ) (loaded : Loaded) (handle : ℕ) : Type 0 where
   pub items : length (created handle key state).uses ≡ length state.uses + 1
   pub bytes : sum_by charge_of (loaded_at (with_new layout key loaded) (order (created handle key state) (with_new layout key loaded))) ≡ charge_of loaded + sum_by charge_of (loaded_at layout (order state layout))
 
+-- the Create of a written entry makes one item more, with its charge
 abbrev pub NewEntriesAreOneMore : Type 0
 NewEntriesAreOneMore = (state : State) (layout : Layout) (unlinked key : List ℕ) (loaded : Loaded) (handle : ℕ) (from : Image) → KeepsUncounted state layout unlinked from → IsNewEntryOf state layout key loaded from → IsOneMore state layout key loaded handle

@@ -25,15 +25,16 @@ use Rattle.spec_folder.specs.Loads.{Loaded, all_claims, held_rule, load, unchain
 use Rattle.spec_folder.specs.ShownChanges.{ShowsTheSame}
 use Rattle.spec_folder.specs.View.{NodeFields, StoreView, View}
 
--- the layout in which the parent has the part's bit
+-- the layout in which a parent's record is seen with a part's bit
 abbrev pub with_bit : Layout → List ℕ → Loaded → Layout
 with_bit layout key seen = changed_at layout (layout.place (main key)) seen layout.owner
 
--- the layout with the part
+-- the layout with a new part, and with its bit in the parent's record
 abbrev pub with_new_part : Layout → List ℕ → ℕ → Loaded → Loaded → Layout
 with_new_part layout key n seen loaded = with_item (with_bit layout key seen) (part key n) loaded
 
--- a part is made of a dirty object, whose parent record was one thing and shall be seen with the part's bit; its own record and node are written, outside what is anybody's
+-- a part is made of a dirty object, whose parent record was one thing and shall be seen with the part's bit; its own record and node are written, outside what
+-- any node of the layout owns
 pub record IsPartWritten (view : View) (state : State) (objects : List (Option Object)) (layout : Layout) (key : List ℕ) (n : ℕ) (was seen loaded : Loaded) : Type 0 where
   pub represents : Represents view state layout
   pub valid : IsValidState state
@@ -50,11 +51,12 @@ pub record IsPartWritten (view : View) (state : State) (objects : List (Option O
   pub good : view.list.checks loaded.node ≡ true
   pub few : length (order state layout) < most_nodes
 
--- the part's node and its parent's
+-- whether a node is the new part's or its parent's
 abbrev pub is_part_or_parent : Layout → List ℕ → Loaded → ℕ → Bool
 is_part_or_parent layout key loaded node = (loaded.node == node) || (layout.place (main key) == node)
 
--- a store in which all others are as they were, and the chains are these
+-- a store in the midst of making a part: all nodes but the part's and its parent's load as before, the part's loads, the parent's is dirty, and the chains are
+-- these
 pub record IsMidPart (store : StoreView) (layout : Layout) (key : List ℕ) (loaded : Loaded) (chains : ℕ → List ℕ) : Type 0 where
   pub no_record : store.entry 0 ≡ None
   pub others : (node : ℕ) (other : Loaded) → layout.at node ≡ Some other → is_part_or_parent layout key loaded node ≡ false → load store (rule_of layout node) node ≡ Ok other
@@ -63,25 +65,26 @@ pub record IsMidPart (store : StoreView) (layout : Layout) (key : List ℕ) (loa
   pub whole : (bucket : ℕ) → bucket < table_length → IsChain store bucket (chains bucket)
   pub chained : (bucket contents : ℕ) → is_among (layout.chains bucket) contents ≡ true → is_among (chains bucket) contents ≡ true
 
--- then all but the part and its parent hold for the state with the part
+-- in the midst of making a part, the store has the state with the part but for the part's node and its parent's
 abbrev pub NewPartsHoldTheOthers : Type 0
 NewPartsHoldTheOthers = (view : View) (state : State) (objects : List (Option Object)) (layout : Layout) (key : List ℕ) (n : ℕ) (was seen loaded : Loaded) → IsPartWritten view state objects layout key n was seen loaded
     → (store : StoreView) (chains : ℕ → List ℕ) → IsMidPart store layout key loaded chains
     → HoldsExcept (is_part_or_parent layout key loaded) store (with_first state objects (part key n)) (record (with_new_part layout key n seen loaded) { chains = chains })
 
--- and what is kept is the durable contents, whatever the parent's record says in the midst
+-- in the midst of making a part that is listed, what is kept is the durable contents, whatever the parent's record says
 abbrev pub NewPartsAreAtRest : Type 0
 NewPartsAreAtRest = (view : View) (state : State) (objects : List (Option Object)) (layout : Layout) (key : List ℕ) (n : ℕ) (was seen loaded : Loaded) → IsPartWritten view state objects layout key n was seen loaded
     → (store : StoreView) (chains : ℕ → List ℕ) → IsMidPart store layout key loaded chains
     → map row_of_loaded (kept_among store held_rule (order (with_first state objects (part key n)) (with_new_part layout key n seen loaded))) ≡ rest (with_first state objects (part key n))
 
--- while its node is inserted and the same is shown beside the list, what is kept is the durable contents before, and from the second write on the durable contents after
+-- the insert of a new part's node commits at its second write: what is kept is the durable contents before, and from then on those with the part, whatever
+-- store shows the same
 abbrev pub NewPartsAtEachWrite : Type 0
 NewPartsAtEachWrite = (view : View) (state : State) (objects : List (Option Object)) (layout : Layout) (key : List ℕ) (n : ℕ) (was seen loaded : Loaded) → IsPartWritten view state objects layout key n was seen loaded
     → (store : StoreView) → ShowsTheSame view.store store → (count : ℕ) → map row_of_loaded (kept_by held_rule (completed (record { list = after_writes (take count (writes_of insert loaded.node view.list)) view.list; store = store })))
     ≡ (if nat_lt count 2 then rest state else rest (with_first state objects (part key n)))
 
--- once its record is linked and its parent is seen with the bit, the state with the part is represented
+-- once a new part's record is linked and its parent is seen with its bit, the state with the part is represented
 abbrev pub NewPartsEnd : Type 0
 NewPartsEnd = (view : View) (state : State) (objects : List (Option Object)) (layout : Layout) (key : List ℕ) (n : ℕ) (was seen loaded : Loaded) → IsPartWritten view state objects layout key n was seen loaded
     → (store : StoreView) → IsMidPart store layout key loaded (with_new_part layout key n seen loaded).chains → load store (rule_of layout (layout.place (main key))) (layout.place (main key)) ≡ Ok seen
@@ -89,19 +92,19 @@ NewPartsEnd = (view : View) (state : State) (objects : List (Option Object)) (la
 
 -- The moments between.
 
--- its record linked, all others are still as they were
+-- once a new part's record is linked, all other nodes still load as before
 abbrev pub NewPartsAreLinked : Type 0
 NewPartsAreLinked = (view : View) (state : State) (objects : List (Option Object)) (layout : Layout) (key : List ℕ) (n : ℕ) (was seen loaded : Loaded) → IsPartWritten view state objects layout key n was seen loaded
     → IsMidPart (linked_front view.store loaded) layout key loaded (with_new_part layout key n seen loaded).chains
 
--- a change that touches no node of the two, nothing of the part, no record of a chain, and nothing of any other: the parent's own data alone
+-- a change of a parent's own data alone: it touches neither the parent's node nor the part's blocks, no record of a chain, and nothing of any other node
 pub record IsOfParent (touched : Claim → Bool) (layout : Layout) (key : List ℕ) (loaded : Loaded) (chains : ℕ → List ℕ) : Type 0 where
   pub others : IsFreeBut (layout.place (main key)) touched layout
   pub part_clear : (claim : Claim) → has_claim (all_claims loaded) claim ≡ true → touched claim ≡ false
   pub node_clear : IsClear touched (layout.place (main key))
   pub chains_clear : (bucket contents : ℕ) → bucket < table_length → is_among (chains bucket) contents ≡ true → IsClear touched contents
 
--- leaves them so, at each of its moments
+-- in the midst of making a part, a change of the parent's own data alone leaves all else as it is in the midst of it
 abbrev pub ParentsDataMayChange : Type 0
 ParentsDataMayChange = (view : View) (state : State) (objects : List (Option Object)) (layout : Layout) (key : List ℕ) (n : ℕ) (was seen loaded : Loaded) → IsPartWritten view state objects layout key n was seen loaded
     → (old new : StoreView) (chains : ℕ → List ℕ) → IsMidPart old layout key loaded chains → (touched : Claim → Bool) → SameStore touched old new → ((bucket : ℕ) → old.table bucket ≡ new.table bucket)
@@ -109,11 +112,11 @@ ParentsDataMayChange = (view : View) (state : State) (objects : List (Option Obj
 
 -- A parent with one bit more.
 
--- the record with the bit of a part, and other bytes in its index
+-- a parent's record with the bit of a part, and other bytes in its index
 abbrev pub with_bit_of : Loaded → ParentIndex → ℕ → List (List ℕ) → Loaded
 with_bit_of loaded index n streams = record loaded { role = IsParent (record index { has_part = λ k. (k == n) || index.has_part k }); streams = streams }
 
--- is a change of the parent's main item, of which the state says nothing
+-- a parent's record with one bit more fits at its main item's node: the state says nothing of these bits
 abbrev pub NotedParentsAreChanges : Type 0
 NotedParentsAreChanges = (state : State) (layout : Layout) (key : List ℕ) (was : Loaded) (index : ParentIndex) (n : ℕ) (streams : List (List ℕ)) → IsLayoutOf state layout → is_listed state (main key) ≡ true → layout.at (layout.place (main key)) ≡ Some was
     → was.role ≡ IsParent index → stream 0 streams ≡ stream 0 was.streams → IsChange state state.objects layout (main key) was (with_bit_of was index n streams) layout.owner

@@ -24,35 +24,36 @@ use Rattle.law_state.specs.Keeping.{KeepsUncounted}
 use Rattle.law_state.specs.NewPartLaws.{IsMidPart, IsPartWritten, with_new_part}
 use Rattle.law_state.specs.PartStates.{with_value}
 
--- at each word of the insert of the part's node the old durable contents are recovered, and from the second write on the durable contents with the part, which are the same while its object is dirty
+-- at each word of the insert of the part's node the old durable contents are recovered, and from the second write on the durable contents with the part, which
+-- are the same while its object is dirty
 abbrev pub PartInsertsFindEither : Type 0
 PartInsertsFindEither = (state : State) (objects : List (Option Object)) (layout : Layout) (unlinked key : List ℕ) (n : ℕ) (was seen loaded : Loaded) (from image : Image) → KeepsUncounted state layout unlinked from → IsPartWritten (view_of from) state objects layout key n was seen loaded
     → (partly : IsPartly from (writes_of insert loaded.node (list_of from)) image) → Finds (if nat_lt partly.made 2 then rest state else rest (with_first state objects (part key n))) image
 
--- its node is in the list, and all but the part and its parent are as they were, with these chains
+-- a part is being made: its node is in the list, and all nodes but the part's and its parent's are as they were, with these chains
 pub record IsMakingPart (state : State) (layout : Layout) (key : List ℕ) (loaded : Loaded) (chains : ℕ → List ℕ) (image : Image) : Type 0 where
   pub well_formed : IsWellFormed image
   pub list : HasListAtRest (loaded.node ∷ order state layout) image
   pub others : IsMidPart (store_of image) layout key loaded chains
 
--- from then on the durable contents with the part are recovered, while its record is linked and its parent's bit set
+-- once a new part's node is in the list, the durable contents with the part are recovered, while its record is linked and its parent's bit set
 abbrev pub MakingPartsFindsTheNext : Type 0
 MakingPartsFindsTheNext =
     (state : State) (objects : List (Option Object)) (layout : Layout) (unlinked key : List ℕ) (n : ℕ) (was seen loaded : Loaded) (chains : ℕ → List ℕ) (from image : Image)
     → KeepsUncounted state layout unlinked from → IsPartWritten (view_of from) state objects layout key n was seen loaded
     → IsMakingPart state layout key loaded chains image → Finds (rest (with_first state objects (part key n))) image
 
--- the objects of a state are others, by which none is doomed, and each dirty one was so
+-- other objects for a state: none is doomed that wasn't, and each dirty one was dirty
 pub record KeepsUnsettled (state : State) (objects : List (Option Object)) : Type 0 where
   pub dead : (number : ℕ) → is_doomed_slot (object_at (record state { objects = objects }) number) ≡ is_doomed_slot (object_at state number)
   pub unsettled : (number : ℕ) (object : Object) → object_at (record state { objects = objects }) number ≡ Some object → object.live ≡ true → object.settled ≡ false
       → (was : Object) × (object_at state number ≡ Some was) × (was.key ≡ object.key) × (was.live ≡ true) × (was.settled ≡ false)
 
--- such as with a value for a part of one of them
+-- a value for a part of one object dooms no object and makes none dirty
 abbrev pub PartValuesKeepUnsettled : Type 0
 PartValuesKeepUnsettled = (state : State) (number : ℕ) (object : Object) (n : ℕ) (value : PartValue) → object_at state number ≡ Some object → KeepsUnsettled state (slice_set state.objects number (Some (with_value object n value)))
 
--- its record is in front of its chain, its parent has its bit and the words that it had, and both are sealed, and nothing else has changed
+-- a part is made: its record is in front of its chain, its parent has its bit and the words that it had, both are sealed, and nothing else has changed
 pub record IsPartMade (state : State) (layout : Layout) (key : List ℕ) (n : ℕ) (was seen loaded : Loaded) (from image : Image) : Type 0 where
   pub leaves : LeavesFiles from image
   pub list : HasListAtRest (loaded.node ∷ order state layout) image
@@ -63,7 +64,7 @@ pub record IsPartMade (state : State) (layout : Layout) (key : List ℕ) (n : �
   pub parent_sealed : AreSealed image seen
   pub sealed : (node : ℕ) (other : Loaded) → layout.at node ≡ Some other → AreSealed from other → AreSealed image other
 
--- then the state with the part is kept, and its words are unlinked no longer
+-- once a part is made, the state with the part is kept, and its words are unlinked no longer
 abbrev pub NewPartsAreKept : Type 0
 NewPartsAreKept =
     (state : State) (objects : List (Option Object)) (layout : Layout) (unlinked key : List ℕ) (n : ℕ) (was seen loaded : Loaded) (from image : Image)

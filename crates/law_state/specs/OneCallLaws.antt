@@ -26,40 +26,40 @@ pub record Names (state : State) (handle number : ℕ) (object : Object) : Type 
 
 -- Open: where it may crash at each word is said of touches.
 
--- once the item of its key is touched, the state after it is kept
+-- the state after an Open is kept once the item of its key is accessed
 abbrev pub OpensEndByTouch : Type 0
 OpensEndByTouch = (state : State) (layout : Layout) (unlinked : List ℕ) (from image : Image) (moment handle : ℕ) (key : List ℕ) → Keeps state layout unlinked from → IsRequest (to_open handle key) → refused moment (to_open handle key) state ≡ None → IsTouchDone from (layout.place (main key)) image
     → Keeps (step state moment (to_open handle key)).state layout unlinked image
 
 -- Read.
 
--- at each word of the touch of its object's main item it may crash
+-- a Read of a live object may crash at each word of the access of its main item
 abbrev pub ReadsMayStop : Type 0
 ReadsMayStop = (state : State) (layout : Layout) (unlinked : List ℕ) (from image : Image) (moment handle stream offset count number : ℕ) (object : Object) → KeepsUncounted state layout unlinked from → refused moment (to_read handle stream offset count) state ≡ None
     → Names state handle number object → object.live ≡ true → IsMidUse layout (main object.key) from image → MayStop state moment (to_read handle stream offset count) image
 
--- and once it is touched the state after it is kept
+-- the state after a Read of a live object is kept once its main item is accessed
 abbrev pub ReadsEndByTouch : Type 0
 ReadsEndByTouch = (state : State) (layout : Layout) (unlinked : List ℕ) (from image : Image) (moment handle stream offset count number : ℕ) (object : Object) → Keeps state layout unlinked from → refused moment (to_read handle stream offset count) state ≡ None
     → Names state handle number object → object.live ≡ true → IsTouchDone from (layout.place (main object.key)) image → Keeps (step state moment (to_read handle stream offset count)).state layout unlinked image
 
--- one of a doomed object leaves the state as it is
+-- a Read of a doomed object leaves the state as it is
 abbrev pub DoomedReadsEnd : Type 0
 DoomedReadsEnd = (state : State) (moment handle stream offset count number : ℕ) (object : Object) → refused moment (to_read handle stream offset count) state ≡ None → Names state handle number object → object.live ≡ false → (step state moment (to_read handle stream offset count)).state ≡ state
 
 -- Close.
 
--- while the dirty word of the object of its last handle becomes 0 it may crash
+-- a Close of the last handle of a live object may crash while the object's dirty word becomes 0
 abbrev pub ClosesMayStop : Type 0
 ClosesMayStop = (state : State) (layout : Layout) (unlinked : List ℕ) (from image : Image) (moment handle number : ℕ) (object : Object) (loaded : Loaded) → KeepsUncounted state layout unlinked from → IsRequest (to_close handle) → IsLastHandle state handle number object
     → layout.at (layout.place (main object.key)) ≡ Some loaded → IsMarking from (layout.place (main object.key)) 0 image → MayStop state moment (to_close handle) image
 
--- and once it is 0 the state after it is kept
+-- the state after a Close of the last handle of a live object is kept once the object's dirty word is 0
 abbrev pub ClosesEndByMark : Type 0
 ClosesEndByMark = (state : State) (layout : Layout) (unlinked : List ℕ) (from image : Image) (moment handle number : ℕ) (object : Object) (loaded : Loaded) → Keeps state layout unlinked from → IsRequest (to_close handle) → IsLastHandle state handle number object
     → layout.at (layout.place (main object.key)) ≡ Some loaded → IsMarked from (layout.place (main object.key)) 0 image → Keeps (step state moment (to_close handle)).state (dirtied layout (layout.place (main object.key)) loaded 0) unlinked image
 
--- one of the last handle of a doomed object unlinks the object's words, and nothing is written for that
+-- a Close of the last handle of a doomed object unlinks the object's words, and nothing is written for that
 abbrev pub ClosesOfDoomedUnlink : Type 0
 ClosesOfDoomedUnlink =
     (state : State) (layout : Layout) (unlinked : List ℕ) (image : Image) (moment handle number : ℕ) (object : Object) (was : Loaded)
@@ -69,12 +69,12 @@ ClosesOfDoomedUnlink =
 
 -- Flush.
 
--- while the dirty word of its object becomes 0 it may crash
+-- a Flush may crash while the dirty word of its object becomes 0
 abbrev pub FlushesMayStop : Type 0
 FlushesMayStop = (state : State) (layout : Layout) (unlinked : List ℕ) (from image : Image) (moment handle number : ℕ) (object : Object) (loaded : Loaded) → KeepsUncounted state layout unlinked from → IsRequest (to_flush handle) → IsOpened state handle number object
     → layout.at (layout.place (main object.key)) ≡ Some loaded → IsMarking from (layout.place (main object.key)) 0 image → MayStop state moment (to_flush handle) image
 
--- and once it is 0 the state after it is kept
+-- the state after a Flush is kept once the dirty word of its object is 0
 abbrev pub FlushesEndByMark : Type 0
 FlushesEndByMark = (state : State) (layout : Layout) (unlinked : List ℕ) (from image : Image) (moment handle number : ℕ) (object : Object) (loaded : Loaded) → Keeps state layout unlinked from → IsOpened state handle number object
     → layout.at (layout.place (main object.key)) ≡ Some loaded → IsMarked from (layout.place (main object.key)) 0 image → Keeps (step state moment (to_flush handle)).state (dirtied layout (layout.place (main object.key)) loaded 0) unlinked image

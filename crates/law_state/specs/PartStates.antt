@@ -12,7 +12,7 @@ use Rattle.spec_folder.specs.Removal.{ListsLess}
 use Rattle.law_state.specs.CommandStates.{IsUnsettled}
 use Rattle.law_state.specs.CommandEnds.{without_part}
 
--- the objects with another one under a number
+-- the state with another object under a number
 abbrev pub with_object : State → ℕ → Object → State
 with_object state number object = record state { objects = slice_set state.objects number (Some object) }
 
@@ -25,11 +25,11 @@ abbrev pub PartsChangeAlone : Type 0
 PartsChangeAlone = (state : State) → IsValidState state → (number : ℕ) (object : Object) → object_at state number ≡ Some object → object.live ≡ true → (n : ℕ) (value : PartValue)
     → OneChanged state (slice_set state.objects number (Some (with_value object n value))) (part object.key n) × (row_of (with_object state number (with_value object n value)) (part object.key n) ≡ Some (part_row object.key n value))
 
--- a dirty sparse object leaves the state valid with a part more, which is first
+-- a dirty sparse object with one part more, whose item is in front, leaves the state valid
 abbrev pub NewPartsKeepValid : Type 0
 NewPartsKeepValid = (state : State) → IsValidState state → (number : ℕ) (object : Object) → object_at state number ≡ Some object → IsUnsettled object object.key → is_sparse object.shape ≡ true → (n : ℕ) (value : PartValue) → n < part_count → IsPartValue value
     → is_some (part_at object n) ≡ false → IsValidState (with_first state (slice_set state.objects number (Some (with_value object n value))) (part object.key n))
 
--- a part that goes leaves all else in the list and in the objects
+-- without one part of a live object, all other items and objects of the state are as they were
 abbrev pub PartsAreLeftOut : Type 0
 PartsAreLeftOut = (state : State) → IsValidState state → (number : ℕ) (object : Object) → object_at state number ≡ Some object → object.live ≡ true → (n : ℕ) → ListsLess state (slice_set state.objects number (Some (without_part object n))) (λ item. not (same_item item (part object.key n)))

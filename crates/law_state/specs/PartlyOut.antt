@@ -32,7 +32,8 @@ use Rattle.law_state.specs.RemovalLaws.{IsRemovalDone, IsUnlinking}
 abbrev pub left_nodes : State → Layout → (Item → Bool) → List ℕ → List ℕ
 left_nodes state layout keep numbers = nodes_of layout (filter keep state.uses) ++ doomed_nodes layout numbers
 
--- of a state that was kept the items that aren't kept are out of the list and of the chains, which are these; what lies at the other nodes is there, and maps, counters and external files are those of its words and of the unlinked ones, which are nobody's or of what is out
+-- of a state that was kept the items that aren't kept are out of the list and of the chains, which are these; what lies at the other nodes is there, and maps,
+-- counters and external files are those of its words and of the unlinked ones, which are nobody's or of what is out
 pub record KeepsPartlyOut (state : State) (layout : Layout) (keep : Item → Bool) (chains : ℕ → List ℕ) (unlinked : List ℕ) (image : Image) : Type 0 where
   pub valid : IsValidState state
   pub well_formed : IsWellFormed image
@@ -50,22 +51,22 @@ pub record KeepsPartlyOut (state : State) (layout : Layout) (keep : Item → Boo
   pub sealed : (node : ℕ) (loaded : Loaded) → layout.at node ≡ Some loaded → is_among (gone_nodes state layout keep) node ≡ false → AreSealed image loaded
   pub session : IsInSession image state layout
 
--- at first all items stay
+-- a state that is kept is one of which no item is out
 abbrev pub KeptStatesArePartlyOut : Type 0
 KeptStatesArePartlyOut = (state : State) (layout : Layout) (unlinked : List ℕ) (image : Image) → KeepsUncounted state layout unlinked image → KeepsPartlyOut state layout (λ item. true) layout.chains unlinked image
 
--- and once those that are out leave a state, that is kept, with the words of theirs that aren't freed unlinked
+-- once the items that are out leave a state without them, that state is kept, with those of their words unlinked that aren't freed
 abbrev pub PartlyOutEndsKept : Type 0
 PartlyOutEndsKept = (state : State) (layout : Layout) (unlinked : List ℕ) (objects : List (Option Object)) (keep : Item → Bool) (chains : ℕ → List ℕ) (image : Image) → KeepsPartlyOut state layout keep chains unlinked image → IsLess state objects keep
     → KeepsUncounted (without_items state objects keep) (layout_less layout (gone_nodes state layout keep) chains) unlinked image
 
 -- Between.
 
--- whether an item stays while one more goes
+-- whether an item stays that stayed before, but for one
 abbrev pub keeps_but : (Item → Bool) → Item → Item → Bool
 keeps_but keep item other = keep other && not (same_item item other)
 
--- the chains without its record
+-- the chains without one record
 abbrev pub chains_but : (ℕ → List ℕ) → ℕ → ℕ → List ℕ
 chains_but chains contents bucket = filter (λ w. not (w == contents)) (chains bucket)
 
@@ -78,38 +79,38 @@ pub record IsOneMoreOut (layout : Layout) (chains : ℕ → List ℕ) (item : It
   pub leaves : LeavesFiles between image
   pub sealed : (node : ℕ) (loaded : Loaded) → layout.at node ≡ Some loaded → AreSealed between loaded → AreSealed image loaded
 
--- then one item more is out, and its words are unlinked
+-- once a listed item is removed while others are out, it is out too, and its words are unlinked
 abbrev pub OneMoreGoesOut : Type 0
 OneMoreGoesOut = (state : State) (layout : Layout) (keep : Item → Bool) (chains : ℕ → List ℕ) (unlinked : List ℕ) (item : Item) (was : Loaded) (from image : Image) → KeepsPartlyOut state layout keep chains unlinked from → is_listed state item ≡ true → keep item ≡ true
     → IsOneMoreOut layout chains item was from image → KeepsPartlyOut state layout (keeps_but keep item) (chains_but chains was.contents) (words_of was ++ unlinked) image
 
--- unlinked blocks may be freed
+-- unlinked blocks may be freed while some items are out
 abbrev pub BlocksAreFreedPartlyOut : Type 0
 BlocksAreFreedPartlyOut =
     (state : State) (layout : Layout) (keep : Item → Bool) (chains : ℕ → List ℕ) (w : ℕ) (unlinked : List ℕ) (from image : Image)
     → KeepsPartlyOut state layout keep chains (w ∷ unlinked) from → RemovesAllocation from w image
     → KeepsPartlyOut state layout keep chains unlinked image
 
--- and an unlinked external file may be deleted
+-- an unlinked external file may be deleted while some items are out
 abbrev pub FilesAreDeletedPartlyOut : Type 0
 FilesAreDeletedPartlyOut =
     (state : State) (layout : Layout) (keep : Item → Bool) (chains : ℕ → List ℕ) (w : ℕ) (unlinked : List ℕ) (from image : Image)
     → KeepsPartlyOut state layout keep chains (w ∷ unlinked) from → RemovesExternal from w image
     → KeepsPartlyOut state layout keep chains unlinked image
 
--- in whatever order the unlinked words are valid
+-- the unlinked words may be put in any order while some items are out
 abbrev pub PartlyOutInAnyOrder : Type 0
 PartlyOutInAnyOrder =
     (state : State) (layout : Layout) (keep : Item → Bool) (chains : ℕ → List ℕ) (unlinked left : List ℕ) (image : Image)
     → KeepsPartlyOut state layout keep chains unlinked image → IsPermutation unlinked left
     → KeepsPartlyOut state layout keep chains left image
 
--- and what is out may change, in its blocks and external files or in unlinked ones, as its record that has state 2 then
+-- what is out may change, in its blocks and external files or in unlinked ones, as where its record gets state 2
 abbrev pub WhatIsOutMayChange : Type 0
 WhatIsOutMayChange = (touched : Claim → Bool) (state : State) (layout : Layout) (keep : Item → Bool) (chains : ℕ → List ℕ) (unlinked : List ℕ) (from image : Image) → KeepsPartlyOut state layout keep chains unlinked from → ChangesOnly touched from image
     → ((claim : Claim) (node : ℕ) → layout.owner claim ≡ Some node → is_among (gone_nodes state layout keep) node ≡ false → touched claim ≡ false) → KeepsPartlyOut state layout keep chains unlinked image
 
--- which items that aren't listed are kept is nothing to it
+-- which items are out is said by the listed ones alone: whether another item stays doesn't matter
 abbrev pub OnlyListedAreOut : Type 0
 OnlyListedAreOut =
     (state : State) (layout : Layout) (keep other : Item → Bool) (chains : ℕ → List ℕ) (unlinked : List ℕ) (image : Image)
@@ -118,13 +119,13 @@ OnlyListedAreOut =
 
 -- Where all items of an object that no handle names are out, and freed or not.
 
--- a DoomKey of it ends
+-- the state after a DoomKey of an object without a handle is kept but for the counters once all its items are out, freed or not
 abbrev pub UnheldOutDoomsEnd : Type 0
 UnheldOutDoomsEnd = (state : State) (moment : ℕ) (request : Request) (layout : Layout) (unlinked : List ℕ) (chains : ℕ → List ℕ) (image : Image) (number : ℕ) (object : Object) → refused moment request state ≡ None → IsDoomOf request state number
     → object_at state number ≡ Some object → object.live ≡ true → is_named state number ≡ false → KeepsPartlyOut state layout (is_of_another object.key) chains unlinked image
     → KeepsUncounted (step state moment request).state (layout_less layout (gone_nodes state layout (is_of_another object.key)) chains) unlinked image
 
--- and the next group is gone
+-- the state without one group more is kept but for the counters once all items of the group's object, which has no handle, are out, freed or not
 abbrev pub OutGroupsAreGone : Type 0
 OutGroupsAreGone =
     (state : State) (first : List Group) (layout : Layout) (unlinked : List ℕ) (chains : ℕ → List ℕ) (image : Image) (number : ℕ) (object : Object) (parts : List ℕ)

@@ -29,47 +29,47 @@ pub record LeavesOtherKeys (key : List ℕ) (keep : Item → Bool) : Type 0 wher
   pub out : keep (main key) ≡ false
   pub others : (item : Item) → is_of_another key item ≡ true → keep item ≡ true
 
--- so it is once the main item is out, and once a part is too
+-- the main item of a key is out, and no item of another key, once that item is out alone, and after that once any part of the key is too
 abbrev pub ItemsOfAKeyLeaveOthers : Type 0
 ItemsOfAKeyLeaveOthers = (key : List ℕ) → LeavesOtherKeys key (keeps_but (λ item. true) (main key)) × ((keep : Item → Bool) (n : ℕ) → LeavesOtherKeys key keep → LeavesOtherKeys key (keeps_but keep (part key n)))
 
--- then what lies at the listed nodes is there, by the layout with the chains as they are
+-- once the main item of a key is out, what lies at the nodes of the items still listed is there, with the chains as they are (`IsOut`)
 abbrev pub PartlyOutIsOut : Type 0
 PartlyOutIsOut = (state : State) (layout : Layout) (key : List ℕ) (keep : Item → Bool) (chains : ℕ → List ℕ) (unlinked : List ℕ) (image : Image) → LeavesOtherKeys key keep → KeepsPartlyOut state layout keep chains unlinked image
     → IsOut state (record layout { chains = chains }) key keep image
 
--- so the durable contents with its object doomed are recovered
+-- the durable contents with an object doomed are recovered while its main item is out and its parts go out one after another
 abbrev pub PartlyOutFindsDoomed : Type 0
 PartlyOutFindsDoomed = (state : State) (layout : Layout) (number : ℕ) (object : Object) (keep : Item → Bool) (chains : ℕ → List ℕ) (unlinked : List ℕ) (image : Image) → object_at state number ≡ Some object → LeavesOtherKeys object.key keep
     → KeepsPartlyOut state layout keep chains unlinked image → Finds (rest (doomed number state (Some object))) image
 
--- and at each word of the removal of the next part
+-- the durable contents with an object doomed are recovered at each word of the removal of its next part, once its main item is out
 abbrev pub NextPartsFindDoomed : Type 0
 NextPartsFindDoomed = (state : State) (layout : Layout) (number : ℕ) (object : Object) (keep : Item → Bool) (chains : ℕ → List ℕ) (unlinked : List ℕ) (n : ℕ) (from image : Image) → object_at state number ≡ Some object → LeavesOtherKeys object.key keep
     → KeepsPartlyOut state layout keep chains unlinked from → is_listed state (part object.key n) ≡ true → keep (part object.key n) ≡ true → IsMidRemoval layout (part object.key n) from image → Finds (rest (doomed number state (Some object))) image
 
--- and while the record of an item of the key, the main one or a part, goes out of its chain then, before it has
+-- the durable contents with an object doomed are recovered while the record of its next item, the main one or a part, goes out of its chain, before it has
 abbrev pub UnlinkingItemsFindsDoomed : Type 0
 UnlinkingItemsFindsDoomed = (state : State) (layout : Layout) (number : ℕ) (object : Object) (keep : Item → Bool) (chains : ℕ → List ℕ) (unlinked : List ℕ) (item : Item) (from between image : Image) → object_at state number ≡ Some object → LeavesOtherKeys object.key (keeps_but keep item)
     → KeepsPartlyOut state layout keep chains unlinked from → is_listed state item ≡ true → keep item ≡ true → IsRemovalDone from (layout.place item) between → IsUnlinking (record layout { chains = chains }) chains between image
     → Finds (rest (doomed number state (Some object))) image
 
--- and while blocks are freed, as their maps and counters change
+-- the durable contents with an object doomed are recovered while blocks are freed, once its main item is out
 abbrev pub FreeingFindsDoomed : Type 0
 FreeingFindsDoomed = (state : State) (layout : Layout) (number : ℕ) (object : Object) (keep : Item → Bool) (chains : ℕ → List ℕ) (unlinked : List ℕ) (from image : Image) → object_at state number ≡ Some object → LeavesOtherKeys object.key keep
     → KeepsPartlyOut state layout keep chains unlinked from → HaveGrown from image → (IsWellFormed from → IsWellFormed image) → Finds (rest (doomed number state (Some object))) image
 
--- and while the external file of an unlinked word is changed or deleted
+-- the durable contents with an object doomed are recovered while the external file of an unlinked word is changed or deleted, once its main item is out
 abbrev pub DeletingFindsDoomed : Type 0
 DeletingFindsDoomed = (state : State) (layout : Layout) (number : ℕ) (object : Object) (keep : Item → Bool) (chains : ℕ → List ℕ) (w : ℕ) (unlinked : List ℕ) (from image : Image) → object_at state number ≡ Some object → LeavesOtherKeys object.key keep
     → KeepsPartlyOut state layout keep chains (w ∷ unlinked) from → kind_of w ≡ external → SameOutside (whole (External (external_number w))) from image → Finds (rest (doomed number state (Some object))) image
 
--- so a Doom and a DoomKey may crash between them
+-- a Doom or a DoomKey may crash once its object's main item is out, whichever of the parts are
 abbrev pub PartlyOutDoomsMayStop : Type 0
 PartlyOutDoomsMayStop = (state : State) (moment : ℕ) (request : Request) (layout : Layout) (number : ℕ) (object : Object) (keep : Item → Bool) (chains : ℕ → List ℕ) (unlinked : List ℕ) (image : Image) → IsRequest request → refused moment request state ≡ None → IsDoomOf request state number
     → object_at state number ≡ Some object → LeavesOtherKeys object.key keep → KeepsPartlyOut state layout keep chains unlinked image → MayStop state moment request image
 
--- and a request while its next group is evicted
+-- a request may crash while its next group, an object without a handle, is evicted, once the main item is out
 abbrev pub PartlyOutGroupsMayStop : Type 0
 PartlyOutGroupsMayStop = (state : State) (moment : ℕ) (request : Request) (first others : List Group) (layout : Layout) (number : ℕ) (object : Object) (parts : List ℕ) (keep : Item → Bool) (chains : ℕ → List ℕ) (unlinked : List ℕ) (image : Image) → IsValidState state
     → EvictsFirst state moment request first (room.whole object.key parts ∷ others) → object_at (without first state) number ≡ Some object → object.live ≡ true → is_named (without first state) number ≡ false → LeavesOtherKeys object.key keep

@@ -26,13 +26,13 @@ use Rattle.law_state.specs.Changes.{Finds}
 use Rattle.law_state.specs.GoneLaws.{owner_without}
 use Rattle.law_state.specs.Keeping.{KeepsUncounted}
 
--- a removal of a node is done: it is out of the list, and each seal that held still holds
+-- a removal of a node is done: it is out of the list, and each node that was sealed is sealed
 pub record IsRemovalDone (from : Image) (node : ℕ) (image : Image) : Type 0 where
   pub partly : IsPartly from (writes_of remove node (list_of from)) image
   pub removed : (prefix suffix : List ℕ) → HasListAtRest (prefix ++ node ∷ suffix) from → HasListAtRest (prefix ++ suffix) image
   pub sealed : KeepsSealed from image
 
--- a state without one listed item: which items stay, the objects then, none of them doomed by it, and each dirty one was there
+-- objects for a state without one listed item: all others stay, it is valid, none is doomed in it that wasn't, and each dirty one was dirty
 pub record IsWithout (state : State) (objects : List (Option Object)) (keep : Item → Bool) (item : Item) : Type 0 where
   pub listed : is_listed state item ≡ true
   pub but : (other : Item) → is_listed state other ≡ true → keep other ≡ not (same_item item other)
@@ -46,21 +46,22 @@ pub record IsWithout (state : State) (objects : List (Option Object)) (keep : It
 abbrev pub chains_without : Layout → ℕ → ℕ → List ℕ
 chains_without layout contents bucket = filter (λ w. not (w == contents)) (layout.chains bucket)
 
--- the layout without what lies at a node, in which its record is still chained, and the layout in which it isn't
+-- the layout without what lies at a node, in which its record is still chained
 abbrev pub layout_unlisted : Layout → ℕ → Layout
 layout_unlisted layout node = placed_less layout (put layout.at node None) layout.chains (owner_without layout node)
 
+-- the layout without what lies at a node, in which its record is out of its chain
 abbrev pub layout_removed : Layout → ℕ → ℕ → Layout
 layout_removed layout node contents = placed_less layout (put layout.at node None) (chains_without layout contents) (owner_without layout node)
 
--- at each word of the removal the old durable contents are recovered, and from the second write on the durable contents without the item
+-- at each word of the removal of an item's node the old durable contents are recovered, and from the second write on the durable contents without the item
 abbrev pub RemovalsFindEither : Type 0
 RemovalsFindEither =
     (state : State) (layout : Layout) (unlinked : List ℕ) (objects : List (Option Object)) (keep : Item → Bool) (item : Item) (was : Loaded) (from image : Image)
     → KeepsUncounted state layout unlinked from → IsWithout state objects keep item → layout.at (layout.place item) ≡ Some was
     → (partly : IsPartly from (writes_of remove (layout.place item) (list_of from)) image) → Finds (if nat_lt partly.made 2 then rest state else rest (without_items state objects keep)) image
 
--- links of records, or a word of the table, change; the chains are the layout's, or those without a record
+-- a chain link of a record of a bucket, or the bucket's word of the table, changes, and the chains are these then
 pub record IsUnlinking (layout : Layout) (chains : ℕ → List ℕ) (from image : Image) : Type 0 where
   pub word : ℕ
   pub bucket : ℕ
@@ -71,7 +72,7 @@ pub record IsUnlinking (layout : Layout) (chains : ℕ → List ℕ) (from image
   pub whole : (other : ℕ) → other < table_length → IsChain (store_of image) other (chains other)
   pub well_formed : IsWellFormed from → IsWellFormed image
 
--- while its record goes out of its chain then, the durable contents without the item are recovered
+-- while the record of an item that is out of the list goes out of its chain, the durable contents without the item are recovered
 abbrev pub UnlinkingFindsTheOthers : Type 0
 UnlinkingFindsTheOthers =
     (state : State) (layout : Layout) (unlinked : List ℕ) (objects : List (Option Object)) (keep : Item → Bool) (item : Item) (was : Loaded) (from between image : Image)
@@ -79,7 +80,7 @@ UnlinkingFindsTheOthers =
     → IsRemovalDone from (layout.place item) between
     → (IsUnlinking layout layout.chains between image → Finds (rest (without_items state objects keep)) image) × (IsUnlinking layout (chains_without layout was.contents) between image → Finds (rest (without_items state objects keep)) image)
 
--- in the end the state without the item is kept, and its words are unlinked
+-- once an item is out of the list and its record out of its chain, the state without it is kept but for the counters, and its words are unlinked
 abbrev pub RemovedItemsAreUnlinked : Type 0
 RemovedItemsAreUnlinked =
     (state : State) (layout : Layout) (unlinked : List ℕ) (objects : List (Option Object)) (keep : Item → Bool) (item : Item) (was : Loaded) (from between image : Image)

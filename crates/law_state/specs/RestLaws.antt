@@ -14,35 +14,35 @@ use Rattle.blk_model.specs.EvictionLaws.{EvictsFirst, later_steps}
 abbrev pub EvictsTheRest : State → ℕ → Request → List Group → List Group → Type 0
 EvictsTheRest state moment request first others = evicted moment request (without first state) ≡ [] → others ≡ []
 
--- the rest of a command that isn't refused isn't refused
+-- the rest of a command isn't refused: on the state without its first groups it passes as on the whole state
 abbrev pub RestsAreNotRefused : Type 0
 RestsAreNotRefused = (state : State) (moment : ℕ) (request : Request) (first others : List Group) → IsValidState state → EvictsFirst state moment request first others → refused moment request (without first state) ≡ None
 
--- it evicts the others, or nothing
+-- the rest of a command evicts the groups that are left, or nothing
 abbrev pub RestsEvictTheOthersOrNone : Type 0
 RestsEvictTheOthersOrNone = (state : State) (moment : ℕ) (request : Request) (first others : List Group) → IsValidState state → EvictsFirst state moment request first others
     → (evicted moment request (without first state) ≡ others) ⊎ (evicted moment request (without first state) ≡ [])
 
--- the rest of a Trim always goes on
+-- the rest of a Trim evicts something where groups are left
 abbrev pub TrimsGoOn : Type 0
 TrimsGoOn = (state : State) (moment : ℕ) (bytes : ℕ) (first others : List Group) → IsValidState state → EvictsFirst state moment (to_trim bytes) first others → EvictsTheRest state moment (to_trim bytes) first others
 
--- where it goes on, its list steps are the later ones of the whole command
+-- where the rest of a command evicts something if groups are left, its list steps are the later ones of the whole command
 abbrev pub RestsHaveTheLaterSteps : Type 0
 RestsHaveTheLaterSteps = (state : State) (moment : ℕ) (request : Request) (first others : List Group) → IsValidState state → EvictsFirst state moment request first others → EvictsTheRest state moment request first others
     → list_steps (without first state) moment request ≡ later_steps state request others
 
--- and it ends in the same state
+-- where the rest of a command evicts something if groups are left, it ends in the same state as the whole command
 abbrev pub RestsEndAlike : Type 0
 RestsEndAlike = (state : State) (moment : ℕ) (request : Request) (first others : List Group) → IsValidState state → EvictsFirst state moment request first others → EvictsTheRest state moment request first others
     → (step (without first state) moment request).state ≡ (step state moment request).state
 
--- so a crash in the rest of a command is one in the whole of it
+-- where the rest of a command evicts something if groups are left, a crash outcome of it is one of the whole command
 abbrev pub StopsInRestsAreInTheWhole : Type 0
 StopsInRestsAreInTheWhole = (state : State) (moment : ℕ) (request : Request) (first others : List Group) (held : List Row) → IsValidState state → EvictsFirst state moment request first others → EvictsTheRest state moment request first others
     → StopOutcome (without first state) moment request (step (without first state) moment request).state held → StopOutcome state moment request (step state moment request).state held
 
--- a crash in the rest of a command that is none in the whole of it
+-- an example of a crash outcome of the rest of a command that is none of the whole command
 pub record StopOnlyInTheRest : Type 0 where
   pub state : State
   pub moment : ℕ

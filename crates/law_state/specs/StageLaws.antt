@@ -22,7 +22,8 @@ use Rattle.law_state.specs.Keeping.{Keeps, KeepsUncounted}
 
 -- Stages.
 
--- between two calls of a request, with these words unlinked and maybe more: the folder keeps a state, and the durable contents in it may be left by a crash in the request
+-- between two calls of a request, with these words unlinked and maybe more: the folder keeps a state, and the durable contents in it are a crash outcome of the
+-- request
 pub record IsAtStage (words : List ℕ) (state : State) (moment : ℕ) (request : Request) (image : Image) : Type 0 where
   pub inner : State
   pub layout : Layout
@@ -30,7 +31,7 @@ pub record IsAtStage (words : List ℕ) (state : State) (moment : ℕ) (request 
   pub kept : KeepsUncounted inner layout (words ++ unlinked) image
   pub left : MayLeave state moment request (rest inner)
 
--- here what a crash in the request may leave is found
+-- the folder is well formed, and its recovered contents are a crash outcome of the request
 pub record FindsLeft (state : State) (moment : ℕ) (request : Request) (image : Image) : Type 0 where
   pub held : List Row
   pub left : MayLeave state moment request held
@@ -49,32 +50,32 @@ abbrev pub StagesMayStop : (keeps : State → Image → Type 0) → Type 0
 StagesMayStop keeps = (told now later : Told) (moment : ℕ) (request : Request) (words : List ℕ) → ForKept keeps told (λ state. ForSome now.files (IsAtStage words state moment request))
     → Passes now later (λ image. ForSome now.files (λ from. StillFinds words from image)) → MayStopBetween keeps told now later moment request
 
--- and so may one at each of whose words something that a crash may leave is found
+-- a call at each of whose words a crash outcome of the request is recovered may crash at each
 abbrev pub WhatIsFoundMayStop : (keeps : State → Image → Type 0) → Type 0
 WhatIsFoundMayStop keeps = (told now later : Told) (moment : ℕ) (request : Request) → ForKept keeps told (λ state. Passes now later (FindsLeft state moment request)) → MayStopBetween keeps told now later moment request
 
--- two calls after each other, the second of which may have failed
+-- a request may crash at each word of two calls, one after the other, if it may at each word of either; the second may have failed
 abbrev pub CallsFollow : (keeps : State → Image → Type 0) → Type 0
 CallsFollow keeps = (told now later last : Told) (moment : ℕ) (request : Request) → MayStopBetween keeps told now later moment request → MayStopBetween keeps told later last moment request → MayStopBetween keeps told now last moment request
 
 -- Ends.
 
--- where a request ends with a state but for the names, and that is kept, its end is kept
+-- the state after a request is kept where it is that of a kept state with other handle names
 abbrev pub EndsAreKept : Type 0
 EndsAreKept = (state inner : State) (moment : ℕ) (request : Request) (names : List (Option ℕ)) (layout : Layout) (unlinked : List ℕ) (image : Image) → IsValidState state → IsRequest request → (step state moment request).state ≡ with_names names inner
     → Keeps inner layout unlinked image → Keeps (step state moment request).state layout unlinked image
 
--- a request isn't refused, its answer is the map's, and its effect is kept
+-- a request isn't refused, its answer is the model's, and its effect is kept
 pub record HasEffect (keeps : State → Image → Type 0) (now : Told) (moment : ℕ) (request : Request) (answer : Answer) (state : State) : Type 0 where
   pub passes : refused moment request state ≡ None
   pub answered : answer ≡ answer_of (reply request (evicted moment request state) state)
   pub kept : ForSome now.files (keeps (effect moment request (with_room state moment request)))
 
--- then it is done
+-- a request whose answer is the model's, and whose effect is kept, is done
 abbrev pub EffectsAreDone : (keeps : State → Image → Type 0) → Type 0
 EffectsAreDone keeps = (told now : Told) (moment : ℕ) (request : Request) (answer : Answer) → ForKept keeps told (HasEffect keeps now moment request answer) → Does keeps keeps told now moment request answer
 
--- and with its note, after all else, it is stepped
+-- a request that may crash at each word, and after which the folder represents the state after it, is stepped once its note is made
 abbrev pub NotesEndSteps : Type 0
 NotesEndSteps = (told done now : Told) (moment : ℕ) (request : Request) (number : ℕ) (state : State) → Passes told done (MayStop state moment request) → ForSome done.files (λ image. StandsFor image (step state moment request).state)
     → Applies done now (Note number ∷ []) → IsStepped told now moment request number state

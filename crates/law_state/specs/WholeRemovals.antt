@@ -30,11 +30,11 @@ use Rattle.law_state.specs.Keeping.{KeepsUncounted}
 abbrev pub IsWholeOut : State → Layout → List ℕ → (ℕ → List ℕ) → Image → Image → Type 0
 IsWholeOut state layout key chains from image = AreOut state layout (is_of_another key) chains from image
 
--- the layout without them
+-- the layout without the items of a key, with other chains
 abbrev pub layout_without_key : State → Layout → List ℕ → (ℕ → List ℕ) → Layout
 layout_without_key state layout key chains = layout_less layout (gone_nodes state layout (is_of_another key)) chains
 
--- the words of what lies at their nodes
+-- the address words of what lies at the nodes of a key's items
 abbrev pub words_of_key : State → Layout → List ℕ → List ℕ
 words_of_key state layout key = flat_map words_of (loaded_at layout (gone_nodes state layout (is_of_another key)))
 
@@ -43,7 +43,7 @@ abbrev pub WholeObjectsAreRemoved : Type 0
 WholeObjectsAreRemoved = (state : State) (layout : Layout) (unlinked : List ℕ) (chains : ℕ → List ℕ) (from image : Image) (number : ℕ) (object : Object) → KeepsUncounted state layout unlinked from → object_at state number ≡ Some object → object.live ≡ true → is_named state number ≡ false
     → IsWholeOut state layout object.key chains from image → KeepsUncounted (doomed number state (Some object)) (layout_without_key state layout object.key chains) (words_of_key state layout object.key ++ unlinked) image
 
--- so a DoomKey of it ends
+-- once an object that no handle names is out with its parts, the state after a DoomKey of it is kept but for the counters, and its words are unlinked
 abbrev pub UnheldWholeDoomsEnd : Type 0
 UnheldWholeDoomsEnd = (state : State) (moment : ℕ) (request : Request) (layout : Layout) (unlinked : List ℕ) (chains : ℕ → List ℕ) (from image : Image) (number : ℕ) (object : Object) → KeepsUncounted state layout unlinked from → refused moment request state ≡ None → IsDoomOf request state number
     → object_at state number ≡ Some object → object.live ≡ true → is_named state number ≡ false → IsWholeOut state layout object.key chains from image
@@ -55,15 +55,15 @@ UnheldWholeDoomsEnd = (state : State) (moment : ℕ) (request : Request) (layout
 abbrev pub is_no_part_of : List ℕ → Item → Bool
 is_no_part_of key item = is_of_another key item || same_item (main key) item
 
--- the nodes of its parts
+-- the nodes of the parts of a key
 abbrev pub part_nodes : State → Layout → List ℕ → List ℕ
 part_nodes state layout key = gone_nodes state layout (is_no_part_of key)
 
--- the layout without them, in which the node of its main item is that of a doomed object
+-- the layout without the parts of a key, in which the node of its main item is that of a doomed object
 abbrev pub layout_doomed_whole : State → Layout → ℕ → List ℕ → (ℕ → List ℕ) → Layout
 layout_doomed_whole state layout number key chains = placed_doomed layout number (layout.place (main key)) (at_without layout (part_nodes state layout key)) chains (owners_without layout (part_nodes state layout key))
 
--- the words of its parts
+-- the address words of what lies at the nodes of a key's parts
 abbrev pub words_of_parts : State → Layout → List ℕ → List ℕ
 words_of_parts state layout key = flat_map words_of (loaded_at layout (part_nodes state layout key))
 
@@ -77,12 +77,13 @@ pub record IsWholeUnchained (state : State) (layout : Layout) (key : List ℕ) (
   pub out : (bucket contents : ℕ) → bucket < table_length → is_among (chains bucket) contents ≡ true → (node : ℕ) (other : Loaded) → is_among (gone_nodes state layout (is_of_another key)) node ≡ true → layout.at node ≡ Some other → (contents == other.contents) ≡ false
   pub sealed : (node : ℕ) (other : Loaded) → layout.at node ≡ Some other → is_among (part_nodes state layout key) node ≡ false → AreSealed from other → AreSealed image other
 
--- then the state with it doomed is kept, and the words of its parts are unlinked
+-- once an object with a handle is doomed and out with its parts, the state with it doomed is kept but for the counters, and the words of its parts are unlinked
 abbrev pub WholeObjectsAreDoomed : Type 0
 WholeObjectsAreDoomed = (state : State) (layout : Layout) (unlinked : List ℕ) (chains : ℕ → List ℕ) (from image : Image) (number : ℕ) (object : Object) (loaded : Loaded) → KeepsUncounted state layout unlinked from → IsPlacedAsLive state layout number object loaded → is_named state number ≡ true
     → IsWholeUnchained state layout object.key loaded chains from image → KeepsUncounted (doomed number state (Some object)) (layout_doomed_whole state layout number object.key chains) (words_of_parts state layout object.key ++ unlinked) image
 
--- so a Doom and a DoomKey of it end
+-- once an object with a handle is doomed and out with its parts, the state after a Doom or a DoomKey of it is kept but for the counters, and the words of its
+-- parts are unlinked
 abbrev pub HeldWholeDoomsEnd : Type 0
 HeldWholeDoomsEnd =
     (state : State) (moment : ℕ) (request : Request) (layout : Layout) (unlinked : List ℕ) (chains : ℕ → List ℕ) (from image : Image) (number : ℕ) (object : Object) (loaded : Loaded)
@@ -92,7 +93,7 @@ HeldWholeDoomsEnd =
 
 -- Groups.
 
--- and once the object of the next group is out, what is kept is the state without one group more, as in a Trim and where space is made
+-- once the object of the next group is out with its parts, the state without one group more is kept but for the counters, as in a Trim and where space is made
 abbrev pub WholeGroupsGo : Type 0
 WholeGroupsGo = (state : State) (first : List Group) (layout : Layout) (unlinked : List ℕ) (chains : ℕ → List ℕ) (from image : Image) (number : ℕ) (object : Object) (parts : List ℕ) → KeepsUncounted (without first state) layout unlinked from → object_at (without first state) number ≡ Some object
     → object.live ≡ true → is_named (without first state) number ≡ false → IsWholeOut (without first state) layout object.key chains from image

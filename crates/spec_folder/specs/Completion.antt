@@ -1,32 +1,29 @@
--- The operation in flight on the LRU list, completed.
+-- The operation in flight on the LRU list, and its redo.
 use Rattle.std.specs.Prelude.{ℕ, Bool, not, ◌&&◌, ◌||◌, ◌==◌, if◌then◌else◌, List, [], ◌∷◌, ◌++◌}
 use Rattle.spec_folder.specs.ListView.{ListView, ListWrite, Next, Prev, Head, Tail, after_writes}
 
--- a node is put in front
+-- the operation code 1: a node is put in front of the LRU list
 abbrev pub insert : ℕ
 insert = 1
 
--- it is taken out
+-- the operation code 2: a node is taken out of the LRU list
 abbrev pub remove : ℕ
 remove = 2
 
--- it is taken out and then put in front
+-- the operation code 3: a node is moved to the front of the LRU list
 abbrev pub move : ℕ
 move = 3
 
--- the head is 0 or names a node that is there and checks
+-- the head is 0 or names a node that is there and whose seal is right or absent
 abbrev pub head_counts : ListView → Bool
 head_counts list = (list.head == 0) || list.checks list.head
 
--- a node's next is 0, or its next and its prev name nodes that are there and check
+-- a node's next is 0, or its next and its prev name nodes that are there and whose seals are right or absent
 abbrev pub links_count : ListView → ℕ → Bool
 links_count list node = (list.next node == 0) || (list.checks (list.next node) && list.checks (list.prev node))
 
--- The transaction counts exactly where all of these hold:
--- its word is not 0 and names a node that is there and checks;
--- the operation is 1, 2 or 3;
--- for operations 1 and 3, the head is 0 or names a node that is there and checks;
--- for operations 2 and 3, where the node's next is not 0, its next and its prev name nodes that are there and check.
+-- the redo has something to do: the transaction names a node that is there, the operation is 1, 2 or 3, the head (for 1 and 3) is 0 or names a node that is
+-- there, and (for 2 and 3), unless the node's next is 0, its next and its prev name nodes that are there; each of these nodes has a right or absent seal
 unfoldable pub counts : ListView → Bool
 counts list =
     not (list.transaction == 0) && list.checks list.transaction
@@ -64,13 +61,13 @@ take_out node list = after_writes (taking_out node (list.next node) (list.prev n
 unfoldable pub put_front : ℕ → ListView → ListView
 put_front node list = after_writes (putting_in_front node list.head) list
 
--- the operation, done
+-- the LRU list after its operation in flight is done on the transaction's node
 unfoldable pub operated : ListView → ListView
 operated list =
     if list.operation == insert then put_front list.transaction list else
     (if list.operation == remove then take_out list.transaction list else
     put_front list.transaction (take_out list.transaction list))
 
--- the operation is done where the transaction counts, and the transaction is then 0; the operation word stays
+-- the LRU list after its redo: the operation in flight is done where it counts, and the transaction becomes 0; the operation word stays
 unfoldable pub completed_list : ListView → ListView
 completed_list list = record (if counts list then operated list else list) { transaction = 0 }

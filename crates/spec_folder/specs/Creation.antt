@@ -18,11 +18,11 @@ use Rattle.spec_folder.specs.Loads.{unchained_rule, Loaded, load, all_claims}
 use Rattle.spec_folder.specs.Found.{row_of_loaded}
 use Rattle.spec_folder.specs.Layout.{Layout, is_listed, HasDirtyMark, HasParentAt}
 
--- the state with other objects, and the item in front
+-- the state with other objects, and an item in front of its LRU list
 abbrev pub with_first : State → List (Option Object) → Item → State
 with_first state objects item = record state { objects = objects; uses = item ∷ state.uses }
 
--- the layout with the item
+-- the layout with an item at a loaded node: its record is the first of its chain, and its blocks and external numbers are the node's
 abbrev pub with_item : Layout → Item → Loaded → Layout
 with_item layout item loaded = record layout {
   place = λ other. if same_item other item then loaded.node else layout.place other;
@@ -32,7 +32,7 @@ with_item layout item loaded = record layout {
   owner = λ claim. if has_claim (all_claims loaded) claim then Some loaded.node else layout.owner claim;
 }
 
--- the item is new, and what its node names is nobody's, and has its row, its mark and its parent
+-- an item may come to a state at a loaded node: it isn't listed, the record there has its row, dirty flag and parent, and node and blocks are nobody's
 pub record IsNewItem (state : State) (objects : List (Option Object)) (layout : Layout) (item : Item) (loaded : Loaded) : Type 0 where
   pub unlisted : is_listed state item ≡ false
   pub row : model.row_of (record state { objects = objects }) item ≡ Some (row_of_loaded loaded)
@@ -44,7 +44,7 @@ pub record IsNewItem (state : State) (objects : List (Option Object)) (layout : 
 
 -- A new object.
 
--- a dirty plain record with a key and no streams, which loads by itself and is nobody's
+-- a dirty plain record with this key and empty streams is valid by itself, and its node and blocks are nobody's
 pub record IsNewEntry (store : StoreView) (layout : Layout) (key : List ℕ) (loaded : Loaded) : Type 0 where
   pub loads : load store (unchained_rule entry_normal) loaded.node ≡ Ok loaded
   pub key_is : loaded.key ≡ key
@@ -55,15 +55,15 @@ pub record IsNewEntry (store : StoreView) (layout : Layout) (key : List ℕ) (lo
   pub free : (claim : Claim) → has_claim (all_claims loaded) claim ≡ true → layout.owner claim ≡ None
   pub single : repeats (all_claims loaded) ≡ false
 
--- its record goes in front of its chain
+-- a new record may become the first of its chain: its link is the first one now, and no record of the chain has its first block
 pub record IsFrontOfChain (store : StoreView) (layout : Layout) (loaded : Loaded) : Type 0 where
   pub follows : store.chain_next loaded.contents ≡ store.table (bucket_of_hash (hash loaded.key))
   pub fresh : is_among (map file_and_block (layout.chains (bucket_of_hash (hash loaded.key)))) (file_and_block loaded.contents) ≡ false
 
--- the layout with it
+-- the layout with a new object of a key, at a loaded node
 abbrev pub with_new : Layout → List ℕ → Loaded → Layout
 with_new layout key loaded = with_item layout (main key) loaded
 
--- the store with the record in front of its chain
+-- the store view with a record in the table as the first of its chain
 abbrev pub linked_front : StoreView → Loaded → StoreView
 linked_front store loaded = record store { table = put store.table (bucket_of_hash (hash loaded.key)) loaded.contents }

@@ -31,18 +31,18 @@ unfoldable pub is_key_length : ℕ → RecordFields → Bool
 is_key_length contents fields =
     nat_le 1 fields.key_len && nat_le fields.key_len (longest_key_with fields) && (block_count contents == entry_blocks fields.key_len)
 
--- the key: in its place in the record, or stored with one zero byte after it
+-- the key of a record: in its place in the record, or stored elsewhere with one zero byte after it; None where its address is wrong for its length
 unfoldable pub stored_key : StoreView → ℕ → RecordFields → Option (List ℕ)
 stored_key store contents fields =
     if nat_le fields.key_len longest_short_key
     then (if fields.long_key == 0 then Some (store.key_place contents fields.key_len) else None)
     else option_map (take fields.key_len) (store.stored (fields.key_len + 1) fields.long_key)
 
--- the bytes of stream i
+-- the bytes of stream i of a record, None where they are too many or its address is wrong
 unfoldable pub stored_stream : StoreView → RecordFields → ℕ → Option (List ℕ)
 stored_stream store fields i = if nat_le (data_size_of fields i) most_stream_bytes then store.stored (data_size_of fields i) (address_of fields i) else None
 
--- the three streams, where stream 3 is 0
+-- the three streams of a record, None where one of them is wrong or stream 3 isn't 0
 unfoldable pub stored_streams : StoreView → RecordFields → Option (List (List ℕ))
 stored_streams store fields =
     if not ((data_size_of fields 3 == 0) && (address_of fields 3 == 0)) then None else
@@ -50,7 +50,7 @@ stored_streams store fields =
     (λ first. option_and_then (λ second. option_map (λ third. first ∷ second ∷ third ∷ []) (stored_stream store fields 2)) (stored_stream store fields 1))
     (stored_stream store fields 0)
 
--- stream i of some
+-- stream i of a list of streams, an empty one past its end
 abbrev pub stream : ℕ → List (List ℕ) → List ℕ
 stream i [] = []
 stream zero (bytes ∷ streams) = bytes
@@ -62,14 +62,14 @@ is_covered index size =
     list_all (λ b. not (index.present b) || nat_le (part_block_size * (b + 1)) size) (range_with_len 0 part_blocks)
     && option_map_or (λ p. nat_le (part_block_size * p.0 + p.1) size) index.partial true
 
--- a parent has nothing in stream 1, and in stream 2 an index with the length of its key
+-- the role of a record with a parent's flag: nothing in stream 1, and in stream 2 an index with the length of its key; None where it is otherwise
 unfoldable pub parent_role : RecordFields → List (List ℕ) → Option Role
 parent_role fields streams =
     if not (length (stream 1 streams) == 0) then None else
     option_and_then (λ index. if index.key_len == fields.key_len then Some (IsParent index) else None) (read_parent_index (stream 2 streams))
 
--- a part has a name as its key, nothing in stream 0, at most the size of a part in stream 1, and in stream 2 an index with the name's signature
--- and key length, whose present bytes lie inside the data
+-- the role of a record with a child's flag: a name as its key, nothing in stream 0, at most the size of a part in stream 1, and in stream 2 an index with the
+-- name's signature and key length, whose present bytes lie inside the data; None where it is otherwise
 unfoldable pub part_role : List ℕ → List (List ℕ) → Option Role
 part_role key streams =
     if not (length (stream 0 streams) == 0) then None else
@@ -78,7 +78,7 @@ part_role key streams =
     if (index.signature == name.signature) && (index.key_len == length name.key) && is_covered index (length (stream 1 streams)) then Some (IsPart name index) else None)
     (read_part_index (stream 2 streams))) (read_name key)
 
--- what the flags say
+-- the role that a record's flags give it, None where its key and streams don't fit
 unfoldable pub role_of : RecordFields → List ℕ → List (List ℕ) → Option Role
 role_of fields key streams =
     if fields.flags == parent then parent_role fields streams else

@@ -19,11 +19,11 @@ use Rattle.spec_folder.specs.Loads.{Loaded, load}
 use Rattle.spec_folder.specs.Layout.{Layout, rule_of}
 use Rattle.spec_format.specs.Storage.{longest_short_key}
 
--- what a word names is outside
+-- a word names no block and no external number of a footprint
 abbrev pub IsClear : (Claim → Bool) → ℕ → Type 0
 IsClear touched w = (claim : Claim) → has_claim (claims_of w) claim ≡ true → touched claim ≡ false
 
--- what words outside name is the same
+-- two store views agree on the nodes, records, links, keys and data of all words that name nothing in a footprint
 pub record SameStore (touched : Claim → Bool) (old new : StoreView) : Type 0 where
   pub node_fields : (w : ℕ) → IsClear touched w → old.node_fields w ≡ new.node_fields w
   pub entry : (w : ℕ) → IsClear touched w → old.entry w ≡ new.entry w
@@ -32,7 +32,8 @@ pub record SameStore (touched : Claim → Bool) (old new : StoreView) : Type 0 w
       → nat_le fields.key_len longest_short_key ≡ true → old.key_place w fields.key_len ≡ new.key_place w fields.key_len
   pub stored : (size w : ℕ) → IsClear touched w → old.stored size w ≡ new.stored size w
 
--- the links of nodes outside are the same, and so are the words of the index but the operation, which is not read where no transaction is in flight
+-- two views of the LRU list agree on head, tail and transaction, and on the nodes outside a footprint; the operation isn't read where no transaction is in
+-- flight
 pub record SameLinks (touched : Claim → Bool) (old new : ListView) : Type 0 where
   pub head : old.head ≡ new.head
   pub tail : old.tail ≡ new.tail
@@ -41,7 +42,7 @@ pub record SameLinks (touched : Claim → Bool) (old new : ListView) : Type 0 wh
   pub next : (w : ℕ) → IsClear touched w → old.next w ≡ new.next w
   pub prev : (w : ℕ) → IsClear touched w → old.prev w ≡ new.prev w
 
--- a change inside a footprint
+-- two views agree outside a footprint of blocks and external numbers, and on the whole table
 pub record SameBut (touched : Claim → Bool) (old new : View) : Type 0 where
   pub links : SameLinks touched old.list new.list
   pub store : SameStore touched old.store new.store
@@ -49,7 +50,7 @@ pub record SameBut (touched : Claim → Bool) (old new : View) : Type 0 where
 
 -- The records that stay when one is written.
 
--- beside the record of a word: what the nodes say, its own key, and the keys and data in other blocks than its own are the same
+-- two store views agree beside the record of a word: on all that nodes say, on its own key, and on the keys and data that lie in other blocks than its own
 pub record SameExceptAt (w : ℕ) (old new : StoreView) : Type 0 where
   pub node_fields : (u : ℕ) → old.node_fields u ≡ new.node_fields u
   pub key_place : (u : ℕ) (fields : RecordFields) → IsClear (has_claim (claims_of w)) u ⊎ (u ≡ w) → old.entry u ≡ Some fields
@@ -57,14 +58,16 @@ pub record SameExceptAt (w : ℕ) (old new : StoreView) : Type 0 where
       → old.key_place u fields.key_len ≡ new.key_place u fields.key_len
   pub stored : (size u : ℕ) → IsClear (has_claim (claims_of w)) u → old.stored size u ≡ new.stored size u
 
--- no record changes but for its link: that of the record of a word may, and the table
+-- two store views agree on the fields of all records and on what nodes say, and beside the record of a word on keys and data; links of chains and the table may
+-- differ
 pub record OnlyLinksChange (w : ℕ) (old new : StoreView) : Type 0 where
   pub beside : SameExceptAt w old new
   pub entry : (u : ℕ) → old.entry u ≡ new.entry u
 
 -- The bytes of files that a footprint of blocks covers.
 
--- a change of these bytes and files touches these blocks and external numbers alone, and no place of the index that is compared
+-- a footprint of bytes and files lies in these blocks and external numbers: it has no shown place of the index, no length, next_file or max_entries of a block
+-- file, and no other block
 pub record Covers (image : Image) (footprint : Footprint) (touched : Claim → Bool) : Type 0 where
   pub index : (i : ℕ) → is_shown_place i ≡ true → footprint.bytes Index i ≡ false
   pub extents : (n i : ℕ) → is_extent_place i ≡ true → footprint.bytes (Block n) i ≡ false
@@ -76,26 +79,27 @@ pub record Covers (image : Image) (footprint : Footprint) (touched : Claim → B
 
 -- Footprints and layouts.
 
--- a footprint that is nobody's
+-- no node of the layout owns anything in a footprint
 abbrev pub IsFree : (Claim → Bool) → Layout → Type 0
 IsFree touched layout = (claim : Claim) (node : ℕ) → layout.owner claim ≡ Some node → touched claim ≡ false
 
--- a footprint that is nobody's but one node's
+-- no node of the layout but this one owns anything in a footprint
 abbrev pub IsFreeBut : ℕ → (Claim → Bool) → Layout → Type 0
 IsFreeBut node touched layout = (claim : Claim) (other : ℕ) → layout.owner claim ≡ Some other → (node == other) ≡ false → touched claim ≡ false
 
--- whoever has a block of a word has its record there
+-- each node that owns a block of this word has its record at the word
 abbrev pub IsOnlyRecord : ℕ → Layout → Type 0
 IsOnlyRecord w layout = (claim : Claim) (node : ℕ) (loaded : Loaded) → has_claim (claims_of w) claim ≡ true → layout.owner claim ≡ Some node
     → layout.at node ≡ Some loaded → loaded.contents ≡ w
 
--- a node checks as before, with its links as before
+-- a node has the same links in both lists, and its seal is right or absent in both or in neither
 pub record SameNodeLinks (node : ℕ) (old new : ListView) : Type 0 where
   pub checks : old.checks node ≡ new.checks node
   pub next : old.next node ≡ new.next node
   pub prev : old.prev node ≡ new.prev node
 
--- a change in a footprint of one node, after which the node loads something else, with its links and its record's place in a chain as before
+-- a change inside a footprint that no other node owns: the node loads as another value after it, and has the same links; its old record has the same bucket and
+-- chain link
 pub record IsReplaced (touched : Claim → Bool) (old new : View) (layout : Layout) (node : ℕ) (was now : Loaded) : Type 0 where
   pub apart : IsFreeBut node touched layout
   pub loads : load new.store (rule_of layout node) node ≡ Ok now
@@ -103,7 +107,7 @@ pub record IsReplaced (touched : Claim → Bool) (old new : View) (layout : Layo
   pub chain_next : new.store.chain_next was.contents ≡ old.store.chain_next was.contents
   pub links : SameNodeLinks node old.list new.list
 
--- a change in a footprint of one node, which leaves the node's words and its record's place in a chain
+-- a change inside a footprint that no other node owns, which leaves the node's words and links, and the bucket and chain link of its record
 pub record IsInsideNode (touched : Claim → Bool) (old new : View) (layout : Layout) (node : ℕ) (loaded : Loaded) : Type 0 where
   pub apart : IsFreeBut node touched layout
   pub node_fields : new.store.node_fields node ≡ old.store.node_fields node
@@ -111,7 +115,7 @@ pub record IsInsideNode (touched : Claim → Bool) (old new : View) (layout : La
   pub chain_next : new.store.chain_next loaded.contents ≡ old.store.chain_next loaded.contents
   pub links : SameNodeLinks node old.list new.list
 
--- the record of a part keeps its flags and its key, wherever its streams are; of a main item's nothing is asked
+-- the record of a part keeps its flags and its key; of a main item's record nothing is asked
 abbrev pub KeepsName : StoreView → StoreView → Item → ℕ → Type 0
 KeepsName old new (main key) contents = Unit {0}
 KeepsName old new (part key n) contents = (was now : RecordFields) → old.entry contents ≡ Some was → new.entry contents ≡ Some now
@@ -122,7 +126,8 @@ unfoldable pub is_there : Image → ℕ → ℕ → ℕ → Bool
 is_there image n kind b =
     is_linked_as (linked_as image n) kind && nat_le (b + 1) (max_entries_in image n) && nat_le (block_place kind (b + 1)) (length_of image (Block n))
 
--- two images agree on the index that is shown, and on each block and external file but these: it is there in both or in neither, with the same bytes
+-- two images agree on the shown places of the index, and on each block and external file outside a footprint: it is there in both or in neither, with the same
+-- bytes
 pub record AgreeBut (touched : Claim → Bool) (old new : Image) : Type 0 where
   pub index : (i : ℕ) → is_shown_place i ≡ true → byte new Index i ≡ byte old Index i
   pub there : (n kind b : ℕ) → touched (BlockOf n b) ≡ false → is_there new n kind b ≡ is_there old n kind b
@@ -130,12 +135,12 @@ pub record AgreeBut (touched : Claim → Bool) (old new : Image) : Type 0 where
       → byte new (Block n) i ≡ byte old (Block n) i
   pub externals : (n : ℕ) → touched (ExternalOf n) ≡ false → new (External n) ≡ old (External n)
 
--- a used block is one that no linked file has
+-- a block is in no linked file, or at or past max_entries; never so of an external number
 abbrev pub is_past : Image → Claim → Bool
 is_past image (BlockOf n b) = not (is_some (linked_as image n)) || nat_le (max_entries_in image n) b
 is_past image (ExternalOf n) = false
 
--- a used block isn't there
+-- a block isn't there: its file isn't linked, or it lies past max_entries or the end of the file; never so of an external number
 unfoldable pub is_absent : Image → Claim → Bool
 is_absent image (BlockOf n b) = not (option_map_or (λ kind. is_there image n kind b) (linked_as image n) false)
 is_absent image (ExternalOf n) = false

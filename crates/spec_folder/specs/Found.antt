@@ -1,4 +1,4 @@
--- What a folder holds.
+-- What recovery finds in a folder: what it keeps and drops, and the recovered contents.
 use Rattle.std.specs.Prelude.{ℕ, ◌+◌, List, [], length, map, if◌then◌else◌}
 use Rattle.std.specs.List.{sum_by, range_with_len}
 use Rattle.blk_model.specs.Items.{Row, main_row, part_row, plain, sparse}
@@ -18,26 +18,26 @@ row_with key IsPlain streams = main_row key plain (stream 0 streams, stream 1 st
 row_with key (IsParent index) streams = main_row key (sparse index.signature) (stream 0 streams, [], [])
 row_with key (IsPart name index) streams = part_row name.key name.part (record { bytes = stream 1 streams; presence = record { blocks = map index.present (range_with_len 0 part_blocks); partial = index.partial } })
 
--- the row of a kept node
+-- the row that a kept record gives
 abbrev pub row_of_loaded : Loaded → Row
 row_of_loaded loaded = row_with loaded.key loaded.role loaded.streams
 
--- what a kept node is charged: its key, which is a part's name, and its streams, indexes included
+-- the charge of a kept record: the bytes of its key, which is a part's name, and of its streams, indexes included
 abbrev pub charge_of : Loaded → ℕ
 charge_of loaded = length loaded.key + sum_by length loaded.streams
 
--- what is shown once the operation in flight on the LRU list is completed: nothing else changes
+-- the view after the redo of the operation in flight on its LRU list: nothing else changes
 abbrev pub completed : View → View
 completed view = record view { list = completed_list view.list }
 
--- the kept of a finished folder
+-- the records that recovery keeps of a folder with a finished index, in the order of the LRU list
 unfoldable pub kept : Image → List Loaded
 kept image = kept_by held_rule (completed (view_of image))
 
--- the dropped of a finished folder, each with its reason
+-- the nodes and records that recovery drops of a folder with a finished index, each with its reason
 unfoldable pub dropped : Image → List (ℕ × Reason)
 dropped image = dropped_by held_rule (completed (view_of image))
 
--- the rows of the kept, in the order of the walk; an unfinished folder holds nothing
+-- the recovered contents of a folder: the rows of the kept records, in the order of the LRU list; none of an unfinished folder
 unfoldable pub found : Image → List Row
 found image = if unfinished image then [] else map row_of_loaded (kept image)

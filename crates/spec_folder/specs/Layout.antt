@@ -48,7 +48,7 @@ nodes_of layout items = map layout.place items
 abbrev pub order : State → Layout → List ℕ
 order state layout = nodes_of layout state.uses
 
--- the rule for the record of a node by itself
+-- the rule for a node's record by itself: it has the state that the layout says, and neither dirty flag nor chain matters
 abbrev pub rule_of : Layout → ℕ → Rule
 rule_of layout node = unchained_rule (layout.state node)
 
@@ -61,7 +61,7 @@ abbrev pub HasDirtyMark : State → Item → Loaded → Type 0
 HasDirtyMark state (main key) loaded = IfSome (model.owner_object state (main key)) (λ object. (loaded.dirty == 0) ≡ object.settled)
 HasDirtyMark state (part key n) loaded = loaded.dirty ≡ 0
 
--- a part's parent is the main item of its key
+-- a record is a part of this key, whose main item is listed and has the parent that the part's name says
 pub record IsPartAt (state : State) (layout : Layout) (key : List ℕ) (loaded : Loaded) : Type 0 where
   pub name : Name
   pub index : PartIndex
@@ -72,12 +72,12 @@ pub record IsPartAt (state : State) (layout : Layout) (key : List ℕ) (loaded :
   pub at_parent : layout.at (layout.place (main key)) ≡ Some parent
   pub of : is_parent_of name parent ≡ true
 
--- an item that is a part has its parent
+-- the parent of a part is its key's main item, which is listed; of a main item nothing is asked
 abbrev pub HasParentAt : State → Layout → Item → Loaded → Type 0
 HasParentAt state layout (main key) loaded = Unit {0}
 HasParentAt state layout (part key n) loaded = IsPartAt state layout key loaded
 
--- an item lies at its node with its value
+-- an item lies at its node: the record there has its row, dirty flag and parent
 pub record IsPlacedAt (state : State) (layout : Layout) (item : Item) : Type 0 where
   pub loaded : Loaded
   pub here : layout.at (layout.place item) ≡ Some loaded
@@ -85,7 +85,7 @@ pub record IsPlacedAt (state : State) (layout : Layout) (item : Item) : Type 0 w
   pub mark : HasDirtyMark state item loaded
   pub parent : HasParentAt state layout item loaded
 
--- a doomed object lies at its node, and no other does
+-- a doomed object lies at its node, which isn't listed and is no other doomed object's: the record there has its row and dirty flag
 pub record IsDoomedAt (state : State) (layout : Layout) (number : ℕ) (object : Object) : Type 0 where
   pub loaded : Loaded
   pub here : layout.at (layout.place_of_doomed number) ≡ Some loaded
@@ -103,7 +103,8 @@ pub record IsListedRecord (state : State) (layout : Layout) (contents : ℕ) : T
   pub here : layout.at node ≡ Some loaded
   pub record_is : loaded.contents ≡ contents
 
--- the layout is that of a state: this speaks of no image
+-- the layout fits the state, whatever an image has: items and doomed objects lie at their nodes, the chains have exactly the records of listed nodes, and each
+-- block has one owner
 pub record IsLayoutOf (state : State) (layout : Layout) : Type 0 where
   pub laid : (item : Item) → is_listed state item ≡ true → IsPlacedAt state layout item
   pub normal : (node : ℕ) → is_among (order state layout) node ≡ true → layout.state node ≡ 0
@@ -115,18 +116,19 @@ pub record IsLayoutOf (state : State) (layout : Layout) : Type 0 where
   pub single : (node : ℕ) (loaded : Loaded) → layout.at node ≡ Some loaded → repeats (all_claims loaded) ≡ false
   pub doomed_objects : (number : ℕ) (object : Object) → object_at state number ≡ Some object → object.live ≡ false → IsDoomedAt state layout number object
 
--- an image shows the layout: this speaks of no state, and of each node and each chain by itself
+-- a store view agrees with the layout, whatever the state: each node loads by itself as the layout has it, and each chain is whole, with the layout's records
 pub record Shows (store : StoreView) (layout : Layout) : Type 0 where
   pub no_record : store.entry 0 ≡ None
   pub each : (node : ℕ) (loaded : Loaded) → layout.at node ≡ Some loaded → load store (rule_of layout node) node ≡ Ok loaded
   pub chains : (bucket : ℕ) → bucket < table_length → IsChain store bucket (layout.chains bucket)
 
--- both
+-- a store view agrees with a layout that fits a state
 pub record Holds (store : StoreView) (state : State) (layout : Layout) : Type 0 where
   pub shows : Shows store layout
   pub lies : IsLayoutOf state layout
 
--- and the LRU list is whole, with the items' nodes in the order of the state, and no operation is in flight
+-- a view has the state by a layout: its store agrees with a layout that fits the state, its LRU list is whole, with the items' nodes in the state's order, and
+-- it is idle
 pub record Represents (view : View) (state : State) (layout : Layout) : Type 0 where
   pub holds : Holds view.store state layout
   pub list : IsList view.list (order state layout)
@@ -134,7 +136,7 @@ pub record Represents (view : View) (state : State) (layout : Layout) : Type 0 w
 
 -- Records in the midst of a change.
 
--- what of this is needed to say what is found, but for some nodes, whose records are in the midst of a change or gone
+-- as much of `Holds` as recovery needs, but for some nodes, whose records are in the midst of a change or gone
 pub record HoldsExcept (except : ℕ → Bool) (store : StoreView) (state : State) (layout : Layout) : Type 0 where
   pub no_record : store.entry 0 ≡ None
   pub each : (node : ℕ) (loaded : Loaded) → layout.at node ≡ Some loaded → except node ≡ false → load store (rule_of layout node) node ≡ Ok loaded
@@ -147,7 +149,7 @@ pub record HoldsExcept (except : ℕ → Bool) (store : StoreView) (state : Stat
       → layout.owner claim ≡ Some node
   pub single : (node : ℕ) (loaded : Loaded) → layout.at node ≡ Some loaded → repeats (all_claims loaded) ≡ false
 
--- the records in the midst are those of the dirty object of a key: its node is dirty, and its parts keep their keys
+-- the excepted records are those of one dirty object: the main item's node is dirty, so recovery doesn't keep it, and the parts keep their keys
 pub record IsInProgress (except : ℕ → Bool) (store : StoreView) (state : State) (layout : Layout) (key : List ℕ) : Type 0 where
   pub of_key : (item : Item) → is_listed state item ≡ true → except (layout.place item) ≡ true → key_of item ≡ key
   pub unsettled : (loaded : Loaded) → layout.at (layout.place (main key)) ≡ Some loaded → (loaded.dirty == 0) ≡ false
@@ -160,18 +162,19 @@ pub record IsInProgress (except : ℕ → Bool) (store : StoreView) (state : Sta
 
 -- One object changed.
 
--- two states differ in the value of one item, and list the same
+-- with these objects a state differs in the value of one item at most: other rows and dirty flags are the same, and there is no other doomed object
 pub record OneChanged (state : State) (objects : List (Option Object)) (item : Item) : Type 0 where
   pub rows : (other : Item) → same_item other item ≡ false → model.row_of (record state { objects = objects }) other ≡ model.row_of state other
   pub settled : (key : List ℕ) → same_item (main key) item ≡ false → settled_with (record state { objects = objects }) key ≡ settled_with state key
   pub doomed_same : (number : ℕ) (object : Object) → object_at (record state { objects = objects }) number ≡ Some object → object.live ≡ false
       → object_at state number ≡ Some object
 
--- the layout with something else at one node, and other owners
+-- the layout with another record at one node, and other owners
 abbrev pub changed_at : Layout → ℕ → Loaded → (Claim → Option ℕ) → Layout
 changed_at layout node loaded owner = record layout { at = put layout.at node (Some loaded); owner = owner }
 
--- what is to be shown of something else at the node of an item
+-- another record fits at an item's node: it has the old key and address, and the item's new row, dirty flag and parent; its blocks are the node's, and those of
+-- other nodes stay theirs
 pub record IsChange (state : State) (objects : List (Option Object)) (layout : Layout) (item : Item) (was now : Loaded) (owner : Claim → Option ℕ) : Type 0 where
   pub key : now.key ≡ was.key
   pub contents : now.contents ≡ was.contents
@@ -183,7 +186,7 @@ pub record IsChange (state : State) (objects : List (Option Object)) (layout : L
   pub others : (claim : Claim) (node : ℕ) → layout.owner claim ≡ Some node → (layout.place item == node) ≡ false → owner claim ≡ Some node
   pub single : repeats (all_claims now) ≡ false
 
--- what is to be shown of something else at the node of a doomed object, which is this afterwards
+-- another record fits at a doomed object's node: it has the object's row and dirty flag; its blocks are the node's, and those of other nodes stay theirs
 pub record IsDoomedChange (layout : Layout) (node : ℕ) (object : Object) (now : Loaded) (owner : Claim → Option ℕ) : Type 0 where
   pub dead : object.live ≡ false
   pub row : row_of_loaded now ≡ main_row object.key object.shape object.streams

@@ -12,11 +12,11 @@ operation_writes list =
     (if list.operation == remove then taking_out node (list.next node) (list.prev node) else
     taking_out node (list.next node) (list.prev node) ++ Operation insert ∷ putting_in_front node (take_out node list).head)
 
--- what is written after the transaction word names the node; at last that word becomes 0
+-- the writes of an operation after the transaction word names its node, with the transaction word 0 at the end
 abbrev pub pending_writes : ListView → List ListWrite
 pending_writes list = operation_writes list ++ Transaction 0 ∷ []
 
--- what completing writes: nothing where no operation is in flight, what is pending of one that counts, and else the end of its transaction alone
+-- the writes of the redo of an LRU list: none where no operation is in flight, those that are left of one that counts, and else the transaction word 0 alone
 unfoldable pub completion_writes : ListView → List ListWrite
 completion_writes list = if list.transaction == 0 then [] else (if counts list then pending_writes list else Transaction 0 ∷ [])
 
@@ -24,42 +24,42 @@ completion_writes list = if list.transaction == 0 then [] else (if counts list t
 abbrev pub writes_of : (code node : ℕ) → ListView → List ListWrite
 writes_of code node list = Operation code ∷ Transaction node ∷ pending_writes (record list { operation = code; transaction = node })
 
--- the writes of a touch, which moves a node to the front: touching the head starts no transaction
+-- the writes of an access, which moves a node to the front of the LRU list; none where it is the head
 abbrev pub touch_writes : (node : ℕ) → ListView → List ListWrite
 touch_writes node list = if list.head == node then [] else writes_of move node list
 
--- a word that is right already isn't written
+-- a write, or none where the word is right already
 abbrev pub unless : Bool → ListWrite → List ListWrite
 unless right write = if right then [] else write ∷ []
 
--- what makes a node the last of a list, by its next and the tail, which become the node; and what makes a list empty, by its head and the tail, which become 0
+-- the writes that make a node the last of a list, by its next and the tail, which become the node; or a list empty, by its head and the tail, which become 0
 abbrev pub ending_by : Option ℕ → (front tail : ℕ) → List ListWrite
 ending_by None front tail = unless (front == 0) (Head 0) ++ unless (tail == 0) (Tail 0)
 ending_by (Some node) front tail = unless (front == node) (Next node node) ++ unless (tail == node) (Tail node)
 
--- the next of a node, or the head of a list where there is none
+-- the next of a node, or the head of a list where no node is given
 abbrev pub front_of : ListView → Option ℕ → ℕ
 front_of list None = list.head
 front_of list (Some node) = list.next node
 
--- what makes a node the last of a list, or the list empty
+-- the writes that make a node the last of a list, or the list empty where no node is given
 abbrev pub ending_writes : ListView → Option ℕ → List ListWrite
 ending_writes list last = ending_by last (front_of list last) list.tail
 
--- what completing gives, but for the operation word, which nobody reads while no transaction is in flight
+-- the LRU list after its redo, but for the operation word, which nobody reads while no transaction is in flight
 unfoldable pub completed_but_operation : ListView → ListView
 completed_but_operation list = record (completed_list list) { operation = 0 }
 
--- P holds before each of these writes and after the last
+-- P holds of the list before each of these writes and after the last
 abbrev pub AtEachWrite : (ListView → Type 0) → List ListWrite → ListView → Type 0
 AtEachWrite P [] list = P list
 AtEachWrite P (write ∷ writes) list = P list × AtEachWrite P writes (with_write list write)
 
--- after any number of these writes completing gives the one list, before the second, and the other list from then on
+-- the redo gives the old nodes after none or one of these writes, and the new nodes after two or more
 abbrev pub CommitsAtTwo : ListView → List ListWrite → (old new : List ℕ) → Type 0
 CommitsAtTwo list writes old new = (count : ℕ) → walk (completed_list (after_writes (take count writes) list)) ≡ (if nat_lt count 2 then old else new)
 
--- completing, crashed after so many writes, and begun again, as often as there are numbers
+-- an LRU list after redos that crash: each of these numbers is how many writes a redo made before it was begun again
 abbrev pub stopped : List ℕ → ListView → ListView
 stopped [] list = list
 stopped (count ∷ counts) list = stopped counts (after_writes (take count (completion_writes list)) list)

@@ -35,6 +35,7 @@ touched_by_write (Tail word) = one_word Index tails_place
 touched_by_write (Transaction word) = one_word Index transaction_place
 touched_by_write (Operation word) = one_word Index operation_place
 
+-- what some writes into the LRU list may touch
 abbrev pub touched_by_writes : List ListWrite → Footprint
 touched_by_writes [] = nothing
 touched_by_writes (write ∷ writes) = either (touched_by_write write) (touched_by_writes writes)
@@ -48,7 +49,7 @@ pub record IsPartly (from : Image) (writes : List ListWrite) (image : Image) : T
   pub outside : SameOutside (touched_by_writes writes) from image
   pub well_formed : IsWellFormed from → IsWellFormed image
 
--- each node that is written has P
+-- P holds of each node whose next or prev is written
 abbrev pub AreOf : (ℕ → Type 0) → List ListWrite → Type 0
 AreOf P [] = Unit {0}
 AreOf P (Next node word ∷ writes) = P node × AreOf P writes
@@ -62,25 +63,25 @@ AreOf P (Operation word ∷ writes) = AreOf P writes
 abbrev pub IsSealed : Image → ℕ → Type 0
 IsSealed image node = node_is_sealed (node_at image node) ≡ true
 
--- nodes that were sealed are so still
+-- each rankings node that was sealed is sealed in the new image
 abbrev pub KeepsSealed : Image → Image → Type 0
 KeepsSealed from image = (node : ℕ) → kind_of node ≡ rankings → IsSealed from node → IsSealed image node
 
--- each node that is written is sealed
+-- each node whose next or prev is written is sealed
 abbrev pub AreNodesSealed : List ListWrite → Image → Type 0
 AreNodesSealed writes image = AreOf (IsSealed image) writes
 
--- the nodes that are written are sealed, and so is each that was
+-- each node whose next or prev is written is sealed, and so is each rankings node that was sealed before
 pub record Seals (from : Image) (writes : List ListWrite) (image : Image) : Type 0 where
   pub sealed : AreNodesSealed writes image
   pub keeps : KeepsSealed from image
 
--- both times of a node are a moment
+-- both times of a node are this moment
 pub record AreTimes (node moment : ℕ) (image : Image) : Type 0 where
   pub used : (node_at image node).last_used ≡ moment
   pub modified : (node_at image node).last_modified ≡ moment
 
--- the word that is written
+-- the word that a write into the LRU list writes
 abbrev pub word_of : ListWrite → ℕ
 word_of (Next node word) = word
 word_of (Prev node word) = word
@@ -89,21 +90,21 @@ word_of (Tail word) = word
 word_of (Transaction word) = word
 word_of (Operation word) = word
 
--- all of them write words
+-- each of the writes writes a word below 2 ^ 32
 abbrev pub AllWriteWords : List ListWrite → Type 0
 AllWriteWords [] = Unit {0}
 AllWriteWords (write ∷ writes) = (word_of write < 2 ^ 32) × AllWriteWords writes
 
--- the four words of a node's two times, which both become a moment
+-- the four words of a node's two times, each with its place in the node, where both times are one moment
 abbrev pub times_of : ℕ → List (ℕ × ℕ)
 times_of moment = (0, moment % 2 ^ 32) ∷ (4, moment / 2 ^ 32) ∷ (8, moment % 2 ^ 32) ∷ (12, moment / 2 ^ 32) ∷ []
 
--- the steps of writes, and then those of a node's times
+-- the steps of some writes into the LRU list, and then those that set a node's times to a moment
 abbrev pub touch_steps : ℕ → ℕ → List ListWrite → Image → List TrailStep
 touch_steps node moment writes image = steps_of_writes writes image ++ sealed_steps (after (steps_of_writes writes image) image) node (times_of moment)
 
--- in the midst of a touch a prefix of its writes is made; nothing else is shown to change, and every byte is as before outside the words of the index
--- and the nodes that are written and the node itself
+-- in the midst of an access a prefix of its writes into the LRU list is made; nothing else is shown to change, and every byte is as before but for the words of
+-- the index and the nodes that are written and the node itself
 pub record IsTouched (from : Image) (node : ℕ) (writes : List ListWrite) (image : Image) : Type 0 where
   pub made : ℕ
   pub within : made ≤ length writes

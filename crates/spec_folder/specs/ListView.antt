@@ -3,7 +3,7 @@ use Rattle.std.specs.Prelude.{◌≡◌, ℕ, ◌≤◌, ◌<◌, Bool, true, fa
 use Rattle.blk_model.specs.Sizes.{most_items}
 use Rattle.spec_format.specs.BlockFiles.{is_among}
 
--- what the list needs of an image; a word that names no node that is there and checks has `checks` false
+-- the LRU list as an image has it; `checks` says whether a word names a node that is there and whose seal is right or absent
 pub record ListView : Type 0 where
   pub head : ℕ
   pub tail : ℕ
@@ -30,7 +30,7 @@ pub data ListWrite : Type 0 where
   Transaction : ℕ → ListWrite
   Operation : ℕ → ListWrite
 
--- the list after a write; a node whose links are written checks as before, since it is sealed again
+-- the list after a write; a node whose links are written has a right seal as before, since it is sealed again
 abbrev pub with_write : ListView → ListWrite → ListView
 with_write list (Next node word) = record list { next = put list.next node word }
 with_write list (Prev node word) = record list { prev = put list.prev node word }
@@ -59,18 +59,18 @@ abbrev pub Distinct : List ℕ → Type 0
 Distinct [] = Unit {0}
 Distinct (word ∷ words) = (is_among words word ≡ false) × Distinct words
 
--- a node that checks, with these words as prev and next
+-- a node whose seal is right or absent, with these words as prev and next
 pub record Joined (checks : ℕ → Bool) (next prev : ℕ → ℕ) (before node following : ℕ) : Type 0 where
   pub good : checks node ≡ true
   pub next_is : next node ≡ following
   pub prev_is : prev node ≡ before
 
--- nodes that are linked both ways, the first with `before` as its prev and the last with `behind` as its next
+-- nodes that are linked both ways, the first with `before` as its prev and the last with `following` as its next
 abbrev pub Segment : (checks : ℕ → Bool) (next prev : ℕ → ℕ) (before : ℕ) → List ℕ → (following : ℕ) → Type 0
 Segment checks next prev before [] following = Unit {0}
 Segment checks next prev before (node ∷ nodes) following = Joined checks next prev before node (first_or following nodes) × Segment checks next prev node nodes following
 
--- the list is whole, with these nodes: the head's prev and the tail's next name the node itself
+-- the list is whole: these nodes, each once, are linked both ways from head to tail, and the head's prev and the tail's next name the node itself
 pub record IsList (list : ListView) (nodes : List ℕ) : Type 0 where
   pub head_is : list.head ≡ first_or 0 nodes
   pub tail_is : list.tail ≡ last_or 0 nodes
@@ -84,7 +84,7 @@ pub record IsAtRest (list : ListView) (nodes : List ℕ) : Type 0 where
   pub whole : IsList list nodes
   pub idle : list.transaction ≡ 0
 
--- a node that checks and isn't in an idle list, which has space for one more
+-- a node whose seal is right or absent and that isn't in an idle list, which has space for one more
 pub record CanBeInserted (list : ListView) (nodes : List ℕ) (node : ℕ) : Type 0 where
   pub rest : IsAtRest list nodes
   pub lacks : is_among nodes node ≡ false

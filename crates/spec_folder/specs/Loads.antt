@@ -20,19 +20,19 @@ pub record Rule : Type 0 where
   pub clean : Bool
   pub chained : Bool
 
--- what a folder holds
+-- the rule for what recovery keeps: a live state, clean, and chained
 abbrev pub held_rule : Rule
 held_rule = record { state = records.entry_normal; clean = true; chained = true }
 
--- the same, where the reason Dirty is left out
+-- the rule for what a folder lists, dirty or clean: a live state, and chained
 abbrev pub listed_rule : Rule
 listed_rule = record { state = records.entry_normal; clean = false; chained = true }
 
--- a record by itself, with the dirty word and the chain left out
+-- the rule for a record of this state by itself, with the dirty word and the chain left out
 abbrev pub unchained_rule : ℕ → Rule
 unchained_rule state = record { state = state; clean = false; chained = false }
 
--- what is known of a node for which none of the first twelve reasons holds; others are the address words of its long key and streams
+-- what is known of a node for which none of the first twelve reasons holds; `others` are the address words of its long key and streams
 pub record Loaded : Type 0 where
   pub node : ℕ
   pub contents : ℕ
@@ -42,7 +42,7 @@ pub record Loaded : Type 0 where
   pub streams : List (List ℕ)
   pub others : List ℕ
 
--- the reasons 3 to 10 in their order for a record that checks, or its key
+-- the key of a record whose seal is right or absent, or the first of the reasons 3 to 10 that holds of it
 unfoldable pub load_key : StoreView → Rule → ℕ → ℕ → ℕ → RecordFields → Result (List ℕ) Reason
 load_key store rule node contents dirty fields = do
   _ ← demand (fields.state == rule.state) reason.State
@@ -55,7 +55,7 @@ load_key store rule node contents dirty fields = do
   _ ← demand (not rule.chained || is_among (chain store (bucket_of_hash fields.hash)).reached contents) reason.Chain
   Ok key
 
--- the reasons 3 to 12, or what the record is
+-- what a record is, or the first of the reasons 3 to 12 that holds of it
 unfoldable pub load_record : StoreView → Rule → ℕ → ℕ → ℕ → RecordFields → Result Loaded Reason
 load_record store rule node contents dirty fields = do
   key ← load_key store rule node contents dirty fields
@@ -63,7 +63,7 @@ load_record store rule node contents dirty fields = do
   role ← ok_or (role_of fields key streams) reason.Sparse
   Ok (record { node = node; contents = contents; dirty = dirty; key = key; role = role; streams = streams; others = fields.long_key ∷ fields.data_addr })
 
--- the reasons 1 to 12 in their order, or what a node names
+-- what a node names, or the first of the reasons 1 to 12 that holds of it
 unfoldable pub load : StoreView → Rule → ℕ → Result Loaded Reason
 load store rule node = do
   node_fields ← ok_or (store.node_fields node) reason.Contents
@@ -81,14 +81,14 @@ is_part_role (IsPart name index) = true
 abbrev pub is_part : Loaded → Bool
 is_part loaded = is_part_role loaded.role
 
--- the used blocks of a record, its long key and its streams
+-- the used blocks and external numbers of a record, its long key and its streams
 unfoldable pub record_claims : Loaded → List Claim
 record_claims loaded = claims_of_all (loaded.contents ∷ loaded.others)
 
--- the same with the node's
+-- the used blocks and external numbers of a node and its record, long key and streams
 unfoldable pub all_claims : Loaded → List Claim
 all_claims loaded = claims_of loaded.node ++ record_claims loaded
 
--- the used blocks of several
+-- the used blocks and external numbers of several nodes and their records
 abbrev pub claims_of_loaded : List Loaded → List Claim
 claims_of_loaded loaded = flat_map all_claims loaded

@@ -22,7 +22,8 @@ use Rattle.spec_folder.specs.Layout.{Layout, settled_with, is_listed, nodes_of, 
 abbrev pub without_items : State → List (Option Object) → (Item → Bool) → State
 without_items state objects keep = record state { objects = objects; uses = filter keep state.uses }
 
--- it has the same rows for what is kept, no part is kept without its main item, and no other object is doomed
+-- with these objects and without some items a state has the same rows and dirty flags of what is kept, no part without its main item, and no other doomed
+-- object
 pub record ListsLess (state : State) (objects : List (Option Object)) (keep : Item → Bool) : Type 0 where
   pub rows : (item : Item) → keep item ≡ true → is_listed state item ≡ true → model.row_of (without_items state objects keep) item ≡ model.row_of state item
   pub settled : (key : List ℕ) → keep (main key) ≡ true → settled_with (without_items state objects keep) key ≡ settled_with state key
@@ -30,11 +31,11 @@ pub record ListsLess (state : State) (objects : List (Option Object)) (keep : It
   pub doomed_same : (number : ℕ) (object : Object) → object_at (without_items state objects keep) number ≡ Some object → object.live ≡ false
       → object_at state number ≡ Some object
 
--- the layout with other contents, chains and owners
+-- the layout with other records at the nodes, other chains and other owners
 abbrev pub placed_less : Layout → (ℕ → Option Loaded) → (ℕ → List ℕ) → (Claim → Option ℕ) → Layout
 placed_less layout at chains owner = record layout { at = at; chains = chains; owner = owner }
 
--- it has what is kept, in its chains, and nothing that was not there
+-- records, chains and owners for a layout without some items: what is kept, or wasn't listed, is there, chained and owned as before, and nothing is new
 pub record HasLess (state : State) (objects : List (Option Object)) (keep : Item → Bool) (layout : Layout) (at : ℕ → Option Loaded) (chains : ℕ → List ℕ) (owner : Claim → Option ℕ) : Type 0 where
   pub stays : (item : Item) (loaded : Loaded) → keep item ≡ true → is_listed state item ≡ true → layout.at (layout.place item) ≡ Some loaded
       → at (layout.place item) ≡ Some loaded
@@ -50,7 +51,7 @@ pub record HasLess (state : State) (objects : List (Option Object)) (keep : Item
 
 -- An object that is doomed.
 
--- the items of other keys stay
+-- an item is of another key
 abbrev pub is_of_another : List ℕ → Item → Bool
 is_of_another key item = not (bytes_eq key (key_of item))
 
@@ -58,7 +59,7 @@ is_of_another key item = not (bytes_eq key (key_of item))
 abbrev pub placed_doomed : Layout → ℕ → ℕ → (ℕ → Option Loaded) → (ℕ → List ℕ) → (Claim → Option ℕ) → Layout
 placed_doomed layout number node at chains owner = record (placed_less layout at chains owner) { place_of_doomed = put layout.place_of_doomed number node; state = put layout.state node records.entry_doomed }
 
--- whole chains, in which the records of the nodes that stay are
+-- each chain is whole, and has the records of the listed nodes but for the excepted ones
 pub record HasChains (except : ℕ → Bool) (store : StoreView) (state : State) (layout : Layout) (chains : ℕ → List ℕ) : Type 0 where
   pub whole : (bucket : ℕ) → bucket < table_length → IsChain store bucket (chains bucket)
   pub chained : (node : ℕ) (loaded : Loaded) → is_among (order state layout) node ≡ true → layout.at node ≡ Some loaded → except node ≡ false

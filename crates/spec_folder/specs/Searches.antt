@@ -16,7 +16,7 @@ use Rattle.spec_folder.specs.Layout.{Layout}
 abbrev pub bucket_of_key : List ℕ → ℕ
 bucket_of_key key = bucket_of_hash (hash key)
 
--- the records of its chain
+-- the records that are reached in the chain of a key's bucket
 abbrev pub chained_for : StoreView → List ℕ → List ℕ
 chained_for store key = (chain store (bucket_of_key key)).reached
 
@@ -36,7 +36,7 @@ pub record HasKey (store : StoreView) (name : List ℕ) (is_child : Bool) (w : �
 abbrev pub NoneHasKey : StoreView → List ℕ → List ℕ → Bool → Type 0
 NoneHasKey store words key is_child = (w : ℕ) → is_among words w ≡ true → HasKey store key is_child w → ⊥
 
--- a word names a record that checks and has a key, whose length and place are right
+-- a word names a record whose seal is right or absent and that has a key, whose length and place are right
 pub record HasCheckedKey (store : StoreView) (w : ℕ) : Type 0 where
   pub fields : RecordFields
   pub here : store.entry w ≡ Some fields

@@ -13,19 +13,19 @@ use Rattle.spec_folder.specs.Entries.{IsPart}
 use Rattle.spec_folder.specs.Loads.{Rule, Loaded, load, record_claims, all_claims}
 use Rattle.spec_folder.specs.Audit.{shares_key, is_parent_of}
 
--- one has no block and no external number of the other, and another name
+-- two records share no block and no external number, and differ in key or in being a part
 pub record Apart (one other : Loaded) : Type 0 where
   pub claims : overlap (all_claims one) (all_claims other) ≡ false
   pub names : shares_key (one ∷ []) other ≡ false
 
--- a part whose parent is not among what is given
+-- a part whose parent is not among the records that are given for some nodes
 pub record IsOrphanIn (nodes : List ℕ) (given : ℕ → Option Loaded) (loaded : Loaded) : Type 0 where
   pub name : Name
   pub index : PartIndex
   pub part : loaded.role ≡ IsPart name index
   pub none : (node : ℕ) (other : Loaded) → is_among nodes node ≡ true → given node ≡ Some other → is_parent_of name other ≡ false
 
--- the parent that a name says is among what is given
+-- the parent that a part's name says is among the records that are given for some nodes
 pub record HasParentIn (nodes : List ℕ) (given : ℕ → Option Loaded) (name : Name) : Type 0 where
   pub at : ℕ
   pub parent : Loaded
@@ -33,8 +33,8 @@ pub record HasParentIn (nodes : List ℕ) (given : ℕ → Option Loaded) (name 
   pub is : given at ≡ Some parent
   pub of : is_parent_of name parent ≡ true
 
--- of the nodes of a walk those with something given are kept as this, and the others are dropped:
--- what is given loads, is apart from all else that is given, and has its parent; what is not given is dropped already, or an orphan
+-- the records that are given for a walk's nodes are those that are kept, and the other nodes are dropped: a given record loads, is apart from all others and
+-- has its parent; a node without one doesn't load, or its record is an orphan
 pub record IsShown (store : StoreView) (rule : Rule) (nodes : List ℕ) (given : ℕ → Option Loaded) : Type 0 where
   pub once : Distinct nodes
   pub loads : (node : ℕ) (loaded : Loaded) → is_among nodes node ≡ true → given node ≡ Some loaded → load store rule node ≡ Ok loaded

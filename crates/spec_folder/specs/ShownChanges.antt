@@ -11,29 +11,29 @@ use Rattle.spec_folder.specs.Entries.{is_key_length}
 use Rattle.spec_folder.specs.Footprint.{IsClear, SameStore, SameBut}
 use Rattle.spec_format.specs.Storage.{longest_short_key}
 
--- what is shown changes only inside the blocks of a word, and what is valid and what is well formed stays so
+-- two images show the same but for the blocks of a word, the same addresses are valid, and the new one is well formed if the old one was
 pub record ChangesInside (w : ℕ) (from image : Image) : Type 0 where
   pub shown : SameBut (has_claim (claims_of w)) (view_of from) (view_of image)
   pub stands : (u : ℕ) → stands_in image u ≡ stands_in from u
   pub well_formed : IsWellFormed from → IsWellFormed image
 
--- two stocks show the same of all words
+-- two store views agree on all words and on the table
 pub record ShowsTheSame (old new : StoreView) : Type 0 where
   pub store : SameStore (λ claim. false) old new
   pub table : (bucket : ℕ) → old.table bucket ≡ new.table bucket
 
--- only the LRU list changes, by these writes
+-- two images show the same but for the LRU list, which changes by these writes
 pub record OnlyListChanges (writes : List ListWrite) (from image : Image) : Type 0 where
   pub list : list_of image ≡ after_writes writes (list_of from)
   pub store : ShowsTheSame (store_of from) (store_of image)
 
--- only what one node says of its record changes
+-- two images show the same but for the contents and dirty words of one node
 pub record OnlyNodeFieldsChange (w : ℕ) (from image : Image) : Type 0 where
   pub list : list_of image ≡ list_of from
   pub node_fields : (u : ℕ) → u ≢ w → (store_of from).node_fields u ≡ (store_of image).node_fields u
   pub rest : ShowsTheSame (record (store_of from) { node_fields = (store_of image).node_fields }) (store_of image)
 
--- beside the record of a word nothing changes: the list, the nodes, the table, its own key, and the keys and data in other blocks than its own
+-- two images agree beside the record of a word: on the list, the nodes, the table, its own key, and the keys and data in other blocks than its own
 pub record SameExceptRecord (w : ℕ) (from image : Image) : Type 0 where
   pub list : list_of image ≡ list_of from
   pub node_fields : (u : ℕ) → (store_of from).node_fields u ≡ (store_of image).node_fields u
@@ -43,13 +43,13 @@ pub record SameExceptRecord (w : ℕ) (from image : Image) : Type 0 where
       → (store_of from).key_place u fields.key_len ≡ (store_of image).key_place u fields.key_len
   pub stored : (size u : ℕ) → IsClear (has_claim (claims_of w)) u → (store_of from).stored size u ≡ (store_of image).stored size u
 
--- only the link of the record at one first block changes
+-- two images show the same but for the chain link of the record at one first block
 pub record OnlyChainNextChanges (w : ℕ) (from image : Image) : Type 0 where
   pub rest : SameExceptRecord w from image
   pub entry : (u : ℕ) → (store_of from).entry u ≡ (store_of image).entry u
   pub chain_next : (u : ℕ) → file_and_block u ≢ file_and_block w → (store_of from).chain_next u ≡ (store_of image).chain_next u
 
--- only the record at one first block changes, and not its link
+-- two images show the same but for the record at one first block, whose chain link stays
 pub record OnlyRecordFieldsChange (w : ℕ) (from image : Image) : Type 0 where
   pub rest : SameExceptRecord w from image
   pub entry : (u : ℕ) → file_and_block u ≢ file_and_block w → (store_of from).entry u ≡ (store_of image).entry u

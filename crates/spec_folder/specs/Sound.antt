@@ -18,7 +18,7 @@ use Rattle.spec_folder.specs.Found.{charge_of, kept, dropped}
 
 -- The list and the chains.
 
--- the walk ends at a node whose next is itself, or there is no node and head and tail are 0
+-- the walk of the LRU list ends at a node whose next is itself, or the list is empty, and head and tail are 0
 abbrev pub EndsWhole : ListView → Type 0
 EndsWhole list = ((walk list ≡ []) × (list.head ≡ 0) × (list.tail ≡ 0)) ⊎ ((0 < length (walk list)) × (list.next (last_or 0 (walk list)) ≡ last_or 0 (walk list)))
 
@@ -52,7 +52,7 @@ OnlyLinked image = (n : ℕ) → n < 256 → has_file image (Block n) ≡ is_som
 abbrev pub AreLongEnough : Image → Type 0
 AreLongEnough image = (n kind : ℕ) → linked_as image n ≡ Some kind → block_place kind (max_entries_in image n) ≤ length_of image (Block n)
 
--- the address words of what is kept
+-- the address words but 0 of a kept node: its own, and those of its record, long key and streams
 abbrev pub words_of : Loaded → List ℕ
 words_of loaded = filter (λ w. not (w == 0)) (loaded.node ∷ loaded.contents ∷ loaded.others)
 
@@ -80,7 +80,7 @@ pub record IsInOrder (image : Image) (listed doomed : List Loaded) : Type 0 wher
   pub index : IsIndexCounted image listed
   pub sealed : AllByRecursion (AreSealed image) (listed ++ doomed)
 
--- nothing is to be repaired
+-- the folder is consistent: recovery has nothing to do
 pub record IsSound (image : Image) : Type 0 where
   pub well_formed : IsWellFormed image
   pub transaction : (view_of image).list.transaction ≡ 0

@@ -1,4 +1,4 @@
--- An image that stands for a state.
+-- An image that represents a state.
 use Rattle.std.specs.Prelude.{◌≡◌, ℕ, ◌<◌, ◌^◌, List, [], ◌++◌, map, true, false, ◌==◌, IsSomeAnd, is_some}
 use Rattle.std.specs.Option.{option_map}
 use Rattle.std.specs.List.{filter_map, AllByRecursion}
@@ -23,7 +23,7 @@ use Rattle.spec_folder.specs.Found.{row_of_loaded}
 use Rattle.spec_folder.specs.Sound.{EndsWhole, ChainsEnd, AreOwned, IsInOrder}
 use Rattle.spec_folder.specs.Layout.{Layout, order, HasDirtyMark}
 
--- a node and a record of state 2 keep a doomed object with its key, shape and streams, neither listed nor chained
+-- a node and a record of state 2 keep a doomed object, with its key, shape, streams and dirty flag; they are neither listed nor chained
 pub record KeepsDoomed (view : View) (object : Object) (loaded : Loaded) : Type 0 where
   pub doomed : object.live ≡ false
   pub loads : load view.store (unchained_rule records.entry_doomed) loaded.node ≡ Ok loaded
@@ -32,7 +32,7 @@ pub record KeepsDoomed (view : View) (object : Object) (loaded : Loaded) : Type 
   pub unlisted : is_among (walk view.list) loaded.node ≡ false
   pub unchained : (bucket : ℕ) → bucket < table_length → is_among (chain view.store bucket).reached loaded.contents ≡ false
 
--- nodes and records, each by the number of a doomed object: one for each
+-- each doomed object of a state has one node and record that keep it, given by its number, and there are no others
 pub record AreDoomed (view : View) (state : State) (numbered : List (ℕ × Loaded)) : Type 0 where
   pub each : AllByRecursion (λ doomed. IsSomeAnd (object_at state doomed.0) (λ object. KeepsDoomed view object doomed.1)) numbered
   pub once : Distinct (map (λ doomed. doomed.0) numbered)
@@ -53,7 +53,7 @@ pub record ShowsState (view : View) (state : State) : Type 0 where
 -- an image represents a state, as a folder in use does between two commands
 pub record StandsFor (image : Image) (state : State) : Type 0 where
   pub well_formed : IsWellFormed image
-  -- its index has the version that is made now
+  -- the index has the version that is made now
   pub version : version_of (byte image Index) ≡ index_version
   pub shows : ShowsState (view_of image) state
   pub doomed : List (ℕ × Loaded)
@@ -67,7 +67,7 @@ pub record StandsFor (image : Image) (state : State) : Type 0 where
 abbrev pub doomed_of : Layout → List ℕ → List (ℕ × Loaded)
 doomed_of layout numbers = filter_map (λ number. option_map (λ loaded. (number, loaded)) (layout.at (layout.place_of_doomed number))) numbers
 
--- a node of the layout, listed or doomed, that uses it
+-- a node of the layout, listed or a doomed object's, has a record that uses this block or external number
 pub record IsOwner (state : State) (layout : Layout) (doomed_nodes : List ℕ) (claim : Claim) (node : ℕ) : Type 0 where
   pub among : is_among (order state layout ++ doomed_nodes) node ≡ true
   pub loaded : Loaded

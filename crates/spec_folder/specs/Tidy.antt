@@ -16,7 +16,7 @@ use Rattle.spec_folder.specs.Layout.{Layout, Represents, order}
 use Rattle.spec_folder.specs.Sound.{AreLongEnough, AreSealed, CountersAgree, OnlyLinked, words_of}
 use Rattle.spec_folder.specs.StandsFor.{AllIsOwned}
 
--- what lies at some nodes
+-- the records that a layout has at some nodes
 abbrev pub loaded_at : Layout → List ℕ → List Loaded
 loaded_at layout nodes = filter_map layout.at nodes
 

@@ -24,13 +24,13 @@ block_bytes image w = byte image (Block (file_selector w))
 abbrev pub node_at : Image → ℕ → Node
 node_at image w = node_in (block_bytes image w) (place w)
 
--- the record that lies there
+-- the entry record that lies at the place that a word names
 abbrev pub entry_at : Image → ℕ → Entry
 entry_at image w = entry_in (block_bytes image w) (place w)
 
 -- The LRU list.
 
--- whether a word names a node that is there and checks
+-- a word names a node that is there and whose seal is right or absent
 unfoldable pub checks_at : Image → ℕ → Bool
 checks_at image w = stands_as image rankings w && node_checks (node_at image w)
 
@@ -38,7 +38,7 @@ checks_at image w = stands_as image rankings w && node_checks (node_at image w)
 unfoldable pub next_at : Image → ℕ → ℕ
 next_at image w = if stands_as image rankings w then (node_at image w).next else 0
 
--- its prev, or 0
+-- a node's prev, or 0 where there is no node
 unfoldable pub prev_at : Image → ℕ → ℕ
 prev_at image w = if stands_as image rankings w then (node_at image w).prev else 0
 
@@ -56,16 +56,16 @@ list_of image = record {
 
 -- All but the LRU list.
 
--- what a node says of its record
+-- what a node says of its record: its address, and the dirty flag
 pub record NodeFields : Type 0 where
   pub contents : ℕ
   pub dirty : ℕ
 
--- what the node says that a word names
+-- what the node that a word names says of its record, None where there is no node
 unfoldable pub node_fields_at : Image → ℕ → Option NodeFields
 node_fields_at image w = if stands_as image rankings w then Some (record { contents = (node_at image w).contents; dirty = (node_at image w).dirty }) else None
 
--- a record without its link and its seal: whether it checks, and its fields
+-- a record without its link and its seal: whether the seal is right or absent, and the fields
 pub record RecordFields : Type 0 where
   pub checks : Bool
   pub hash : ℕ
@@ -77,7 +77,7 @@ pub record RecordFields : Type 0 where
   pub data_addr : List ℕ
   pub flags : ℕ
 
--- what is said of a record
+-- the fields of a record, and whether its seal is right or absent
 abbrev pub fields_of : Entry → RecordFields
 fields_of e = record {
   checks = entry_checks e;
@@ -91,15 +91,15 @@ fields_of e = record {
   flags = e.flags;
 }
 
--- the size of stream i
+-- the size of a record's stream i
 abbrev pub data_size_of : RecordFields → ℕ → ℕ
 data_size_of fields i = slice_index fields.data_size i
 
--- its address
+-- the address word of a record's stream i
 abbrev pub address_of : RecordFields → ℕ → ℕ
 address_of fields i = slice_index fields.data_addr i
 
--- the record that a word names
+-- the record that a word names, None where there is no record
 unfoldable pub fields_at : Image → ℕ → Option RecordFields
 fields_at image w = if stands_as image blocks_256 w then Some (fields_of (entry_at image w)) else None
 
@@ -130,7 +130,7 @@ pub record StoreView : Type 0 where
   pub key_place : ℕ → ℕ → List ℕ
   pub stored : ℕ → ℕ → Option (List ℕ)
 
--- what an image shows of that
+-- what an image shows but for the LRU list
 unfoldable pub store_of : Image → StoreView
 store_of image = record {
   node_fields = node_fields_at image;
@@ -141,10 +141,11 @@ store_of image = record {
   stored = stored_at image;
 }
 
--- all of it
+-- what an image shows: the LRU list, and all else
 pub record View : Type 0 where
   pub list : ListView
   pub store : StoreView
 
+-- what an image shows
 abbrev pub view_of : Image → View
 view_of image = record { list = list_of image; store = store_of image }

@@ -8,7 +8,7 @@ use Rattle.spec_format.specs.Headers.{CountsAs, count_of, counting, is_index_ver
 first_words : List (ℕ × ℕ)
 first_words = (4, 0x20000) ∷ (8, 3) ∷ (12, 661) ∷ (48, 7) ∷ (52, 7) ∷ (268, 3) ∷ []
 
--- and once they are raised
+-- the words of that header once its version is raised
 raised_words : List (ℕ × ℕ)
 raised_words = (4, 0x30000) ∷ (8, 3) ∷ (12, 0) ∷ (48, 661) ∷ (52, 0) ∷ (268, 3) ∷ []
 
@@ -26,7 +26,7 @@ first_counts : CountsAs 3 661 (count_of (header_of first_words))
 unfolding count_of header_of first_words with_word spliced zeros
 first_counts = record { entries = refl; nodes = refl; first = λ is. refl; now = λ is. absurd (no is) }
 
--- modulo 2 ^ 32
+-- the first version has that sum modulo 2 ^ 32
 first_counts_rest : CountsAs 3 (2 ^ 32 + 661) (count_of (header_of first_words))
 unfolding count_of header_of first_words with_word spliced zeros
 first_counts_rest = record { entries = refl; nodes = refl; first = λ is. refl; now = λ is. absurd (no is) }

@@ -7,7 +7,7 @@ use Rattle.spec_format.specs.Maps.{are_free, has_run, longest_run, groups_with, 
 abbrev pub marks_of_three : ℕ → ℕ
 marks_of_three i = if i == 80 then 0xFF else 0
 
--- the same without block 4, which was freed
+-- blocks 0 to 7 are marked but for block 4, which was freed
 abbrev pub marks_of_two : ℕ → ℕ
 marks_of_two i = if i == 80 then 0xEF else 0
 

@@ -77,7 +77,7 @@ block_word kind file start count = 2 ^ 31 + kind * 2 ^ 28 + (count - 1) * 2 ^ 24
 unfoldable pub external_word : ℕ → ℕ
 external_word number = 2 ^ 31 + number
 
--- the bytes of one block of a kind
+-- the size in bytes of one block of a kind
 unfoldable pub block_size : ℕ → ℕ
 block_size kind =
     if kind == rankings then 36 else
@@ -85,7 +85,7 @@ block_size kind =
     if kind == blocks_1k then 1024 else
     4096
 
--- the bytes before the first block of a block file: its header
+-- the size in bytes of a block file's header, which is before its first block
 abbrev pub header_size : ℕ
 header_size = 8192
 

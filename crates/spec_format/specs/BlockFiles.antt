@@ -31,7 +31,7 @@ is_among numbers n = list_any (λ m. m == n) numbers
 
 -- The linked files.
 
--- the next file of a block file's kind
+-- the number of the next file of a block file's kind, 0 in the last one
 unfoldable pub next_file_in : Image → ℕ → ℕ
 next_file_in image n = next_file_of (byte image (Block n))
 
@@ -39,7 +39,7 @@ next_file_in image n = next_file_of (byte image (Block n))
 unfoldable pub max_entries_in : Image → ℕ → ℕ
 max_entries_in image n = max_entries_of (byte image (Block n))
 
--- a file, and then those along its links, of which so many are followed at most
+-- a file and those along the links from it, in order; at most so many links are followed
 unfoldable pub files_along : (ℕ → ℕ) → ℕ → ℕ → List ℕ
 files_along next zero n = n ∷ []
 files_along next (suc left) n =
@@ -55,7 +55,7 @@ unfoldable pub linked_up_to : Image → ℕ → List ℕ
 linked_up_to image zero = []
 linked_up_to image (suc kind) = linked_up_to image kind ++ linked image (suc kind)
 
--- the kind in whose list a file is, where there is a list for each kind
+-- the kind in whose list a file is, given a list of files for each kind; None where it is in no list
 unfoldable pub kind_among : (ℕ → List ℕ) → ℕ → Option ℕ
 kind_among lists n =
     if is_among (lists rankings) n then Some rankings else
@@ -68,7 +68,7 @@ kind_among lists n =
 abbrev pub linked_as : Image → ℕ → Option ℕ
 linked_as image n = kind_among (linked image) n
 
--- a word is an address of blocks that are there: their file is linked and of its kind, and all are below max_entries and end inside the file
+-- the blocks that a word names are there: their file is linked and of its kind, and all are below max_entries and end inside the file
 abbrev pub stands_in_blocks : Image → ℕ → Bool
 stands_in_blocks image w = stands_as_blocks (linked_as image) (max_entries_in image) (λ n. length_of image (Block n)) (λ n. has_file image (External n)) w
 
@@ -78,16 +78,16 @@ stands_in image w = stands (linked_as image) (max_entries_in image) (λ n. lengt
 
 -- The checks of the headers.
 
--- next_file is 0; or it is 4 to 255, none of the files met, and so many more files may follow
+-- the next_file of a block file is right: it is 0; or it is 4 to 255, none of the files met, and so many more files may follow
 unfoldable pub is_link : List ℕ → ℕ → ℕ → Bool
 is_link met left next = (next == 0) || (nat_le 4 next && nat_le next 255 && not (is_among met next) && nat_lt 0 left)
 
--- max_entries is a multiple of 1024 up to 64512, or 64896
+-- the max_entries of a block file is right: a multiple of 1024 up to 64512, or 64896
 unfoldable pub is_block_count : ℕ → Bool
 is_block_count n = ((n % blocks_a_growth == 0) && nat_le n most_whole_blocks) || (n == most_blocks)
 
--- the checks of file n of a kind, by its content and length, where these files are met, n among them, and so many may follow, in their order:
--- the length, magic, version, this_file, next_file, entry_size and max_entries
+-- the checks of block file n of a kind, by its content and length, in their order: the length, magic, version, this_file, next_file, entry_size and
+-- max_entries; its next_file may not name the files in met, n among them, and so many links may follow
 unfoldable pub file_checks : ℕ → List ℕ → ℕ → ℕ → (ℕ → ℕ) → ℕ → List (Option Damage)
 file_checks kind met left n f length =
     check_length (Block n) header_size length (nat_le header_size length)
@@ -99,7 +99,7 @@ file_checks kind met left n f length =
     ∷ check_word (Block n) f blocks_place (is_block_count (max_entries_of f))
     ∷ []
 
--- the checks of file n of a kind and of those along its links, where these files were met before, and so many may follow
+-- the checks of file n of a kind and of those along its links, which may not lead to the files in met; at most so many links are followed
 unfoldable pub checks_along : Image → ℕ → List ℕ → ℕ → ℕ → List (Option Damage)
 checks_along image kind met zero n = file_checks kind (met ++ n ∷ []) 0 n (byte image (Block n)) (length_of image (Block n))
 checks_along image kind met (suc left) n =
@@ -130,15 +130,15 @@ first_damage image = first_of (head_checks (byte image Index) (length_of image I
 abbrev pub IsWellFormed : Image → Type 0
 IsWellFormed image = first_damage image ≡ None
 
--- a finished folder of which no check fails
+-- the folder has a finished index, and no check of a header fails
 pub record IsWhole (image : Image) : Type 0 where
   pub finished : IsUnfinished image → ⊥
   pub well_formed : IsWellFormed image
 
--- a well-formed folder is finished, so it is whole: an unfinished index fails the check of its magic or of its length
+-- a well-formed folder has a finished index: an unfinished one fails the check of its magic or of its length
 abbrev pub WellFormedIsFinished : Type 0
 WellFormedIsFinished = (image : Image) → IsWellFormed image → IsWhole image
 
--- and its index has all its bytes
+-- the index of a well-formed folder has all its bytes
 abbrev pub WellFormedHasWholeIndex : Type 0
 WellFormedHasWholeIndex = (image : Image) → IsWellFormed image → HasWholeIndex image

@@ -8,7 +8,7 @@ pub data Claim : Type 0 where
   BlockOf : ℕ → ℕ → Claim
   ExternalOf : ℕ → Claim
 
--- whether two used blocks are the same
+-- whether two claims are of the same block, or of the same external number
 abbrev pub same_claim : Claim → Claim → Bool
 same_claim (BlockOf file b) (BlockOf other c) = (file == other) && (b == c)
 same_claim (ExternalOf m) (ExternalOf n) = m == n
@@ -21,7 +21,7 @@ claims_of w =
     if kind_of w == external then ExternalOf (external_number w) ∷ [] else
     map (λ b. BlockOf (file_selector w) b) (range_with_len (first_block w) (block_count w))
 
--- whether a word is an address of blocks of a file
+-- whether a word names blocks of this block file
 unfoldable pub is_in_file : ℕ → ℕ → Bool
 is_in_file file w = not (kind_of w == external) && (file_selector w == file)
 
@@ -29,15 +29,15 @@ is_in_file file w = not (kind_of w == external) && (file_selector w == file)
 abbrev pub claims_of_all : List ℕ → List Claim
 claims_of_all words = flat_map claims_of words
 
--- whether a used block is in a list
+-- whether a block or an external number is in a list of used ones
 unfoldable pub has_claim : List Claim → Claim → Bool
 has_claim claims c = list_any (same_claim c) claims
 
--- whether two lists share a used block
+-- whether two lists share a used block or external number
 unfoldable pub overlap : List Claim → List Claim → Bool
 overlap claims others = list_any (has_claim claims) others
 
--- whether a used block occurs twice in a list
+-- whether a used block or external number occurs twice in a list
 unfoldable pub repeats : List Claim → Bool
 repeats [] = false
 repeats (c ∷ claims) = has_claim claims c || repeats claims

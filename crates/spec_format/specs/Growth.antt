@@ -27,7 +27,7 @@ pub record StaysWhole (from image : Image) : Type 0 where
   pub grown : HaveGrown from image
   pub formed : IsWellFormed from → IsWellFormed image
 
--- nothing outside a footprint has changed, and the folder stays whole
+-- all outside a footprint is as before, block files have grown or been linked at most, and a well-formed folder stays well formed
 pub record StaysWholeOutside (footprint : Footprint) (from image : Image) : Type 0 where
   pub outside : SameOutside footprint from image
   pub stays : StaysWhole from image

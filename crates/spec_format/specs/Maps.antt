@@ -7,15 +7,15 @@ use Rattle.spec_format.specs.Headers.{allocations_of, empty_of}
 use Rattle.spec_format.specs.SparseIndex.{map_bit}
 use Rattle.spec_format.specs.BlockFiles.{max_entries_in, most_blocks, stands_in}
 
--- the place of the map in a header
+-- the place of the map in a block file's header
 abbrev pub map_place : ℕ
 map_place = 80
 
--- the blocks of a group
+-- the number of blocks of a group
 abbrev pub group_size : ℕ
 group_size = 4
 
--- the groups of so many blocks
+-- the number of groups of so many blocks
 abbrev pub groups_of : ℕ → ℕ
 groups_of blocks = blocks / group_size
 
@@ -70,7 +70,7 @@ pub record HasAllocations (image : Image) (n : ℕ) : Type 0 where
   pub are : AreAllocations image n words
   pub empty : EmptyAgrees image n
 
--- the allocations of a file are as before, and so is what `empty` says of it
+-- the allocations of a file are its allocations in the new image too, and `empty` still agrees with the map if it did
 pub record KeepsFile (from image : Image) (n : ℕ) : Type 0 where
   pub allocations : (words : List ℕ) → AreAllocations from n words → AreAllocations image n words
   pub empty : EmptyAgrees from n → EmptyAgrees image n

@@ -11,11 +11,11 @@ use Rattle.spec_format.specs.Headers.{table_length, index_length, index_magic, b
 abbrev pub words_before_magic : ℕ → List (ℕ × ℕ)
 words_before_magic moment = (4, index_version) ∷ (28, table_length) ∷ (40, moment % 2 ^ 32) ∷ (44, moment / 2 ^ 32) ∷ []
 
--- all of them: the magic word is written last
+-- the words of a new index that aren't 0, each with its place; the magic word is the last
 abbrev pub new_index_words : ℕ → List (ℕ × ℕ)
 new_index_words moment = words_before_magic moment ++ (0, index_magic) ∷ []
 
--- those of a new block file: magic, version, this_file and entry_size
+-- the words that are written to a new block file, each with its place: magic, version, this_file and entry_size
 abbrev pub new_file_words : ℕ → List (ℕ × ℕ)
 new_file_words n = (0, block_magic) ∷ (4, block_version) ∷ (8, n) ∷ (12, block_size (suc n)) ∷ []
 
@@ -23,11 +23,11 @@ new_file_words n = (0, block_magic) ∷ (4, block_version) ∷ (8, n) ∷ (12, b
 abbrev pub new_block_file : ℕ → List ℕ
 new_block_file n = with_words (new_file_words n) (zeros header_size)
 
--- a new index without its magic word
+-- the bytes of a new index, made at this moment, without its magic word
 abbrev pub index_without_magic : ℕ → List ℕ
 index_without_magic moment = with_words (words_before_magic moment) (zeros index_length)
 
--- a new index
+-- the bytes of a new index, made at this moment
 abbrev pub new_index : ℕ → List ℕ
 new_index moment = with_words (new_index_words moment) (zeros index_length)
 

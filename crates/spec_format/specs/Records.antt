@@ -4,32 +4,35 @@ use Rattle.std.specs.List.{concat}
 use Rattle.spec_image.specs.Bytes.{content, word_at, long_at, words_at, word_bytes}
 use Rattle.spec_format.specs.Hash.{hash}
 
--- the bytes of a node
+-- the size of a node in bytes
 abbrev pub node_size : ℕ
 node_size = 36
 
--- the place of its seal
+-- the place of the seal in a node
 abbrev pub node_seal_place : ℕ
 node_seal_place = 32
 
--- the bytes of an entry record before its key
+-- the size in bytes of an entry record before its key
 abbrev pub entry_size : ℕ
 entry_size = 96
 
--- the place of its seal
+-- the place of the seal in an entry record
 abbrev pub entry_seal_place : ℕ
 entry_seal_place = 92
 
--- the places of a node's words
+-- the place of a node's word of the next node in the LRU list
 abbrev pub node_next_place : ℕ
 node_next_place = 16
 
+-- the place of a node's word of the node before it in the LRU list
 abbrev pub node_prev_place : ℕ
 node_prev_place = 20
 
+-- the place of a node's word of its entry record
 abbrev pub node_contents_place : ℕ
 node_contents_place = 24
 
+-- the place of a node's dirty flag
 abbrev pub node_dirty_place : ℕ
 node_dirty_place = 28
 
@@ -41,7 +44,7 @@ entry_next_place = 4
 abbrev pub seal_of : ℕ → List ℕ → ℕ
 seal_of place bytes = hash (take place bytes)
 
--- the bytes of a record check: the word at the place of the seal is 0, or the hash of the bytes before it
+-- the bytes of a record have no checksum or a right one: the word at the place of the seal is 0, or the hash of the bytes before it
 abbrev pub checks : ℕ → List ℕ → Bool
 checks place bytes = (word_at (content bytes) place == 0) || (word_at (content bytes) place == seal_of place bytes)
 
@@ -75,26 +78,26 @@ node_in f i = record {
   self_hash = word_at f (i + node_seal_place);
 }
 
--- its bytes before the seal
+-- the bytes of a node before its seal
 unfoldable pub node_body : Node → List ℕ
 node_body n =
     long_bytes n.last_used ++ long_bytes n.last_modified
     ++ word_bytes n.next ++ word_bytes n.prev
     ++ word_bytes n.contents ++ word_bytes n.dirty
 
--- the hash of those bytes, which the seal itself doesn't change
+-- the hash of a node's bytes before its seal: the seal that it should have
 abbrev pub node_seal : Node → ℕ
 node_seal n = hash (node_body (record n { self_hash = 0 }))
 
--- whether the seal is that hash
+-- whether a node's seal is the hash of the bytes before it
 unfoldable pub node_is_sealed : Node → Bool
 node_is_sealed n = n.self_hash == node_seal n
 
--- whether it is that hash or 0
+-- whether a node's seal is 0 or the hash of the bytes before it
 unfoldable pub node_checks : Node → Bool
 node_checks n = (n.self_hash == 0) || node_is_sealed n
 
--- the node with its seal
+-- the node with the hash of its other bytes as its seal
 abbrev pub sealed_node : Node → Node
 sealed_node n = record n { self_hash = node_seal n }
 
@@ -134,7 +137,7 @@ entry_in f i = record {
   self_hash = word_at f (i + 92);
 }
 
--- its bytes before the seal
+-- the bytes of an entry record before its seal
 unfoldable pub entry_body : Entry → List ℕ
 entry_body e =
     word_bytes e.hash ++ word_bytes e.next ++ word_bytes e.rankings_node
@@ -143,19 +146,19 @@ entry_body e =
     ++ bytes_of_words e.data_size ++ bytes_of_words e.data_addr
     ++ word_bytes e.flags ++ bytes_of_words e.pad
 
--- the hash of those bytes, which the seal itself doesn't change
+-- the hash of an entry record's bytes before its seal: the seal that it should have
 abbrev pub entry_seal : Entry → ℕ
 entry_seal e = hash (entry_body (record e { self_hash = 0 }))
 
--- whether the seal is that hash
+-- whether an entry record's seal is the hash of the bytes before it
 unfoldable pub entry_is_sealed : Entry → Bool
 entry_is_sealed e = e.self_hash == entry_seal e
 
--- whether it is that hash or 0
+-- whether an entry record's seal is 0 or the hash of the bytes before it
 unfoldable pub entry_checks : Entry → Bool
 entry_checks e = (e.self_hash == 0) || entry_is_sealed e
 
--- the record with its seal
+-- the entry record with the hash of its other bytes as its seal
 abbrev pub sealed_entry : Entry → Entry
 sealed_entry e = record e { self_hash = entry_seal e }
 

@@ -11,19 +11,19 @@ use Rattle.spec_format.specs.Records.{node_size, node_seal_place, entry_size, en
 abbrev pub BeginsWithRecord : ℕ → Type 0
 BeginsWithRecord w = (kind_of w ≡ rankings) ⊎ (kind_of w ≡ blocks_256)
 
--- the number of the bytes of a record at an address of this kind
+-- the size in bytes of a record at an address of this kind
 unfoldable pub size_by_kind : ℕ → ℕ
 size_by_kind kind = if kind == rankings then node_size else entry_size
 
--- the place of its seal in it
+-- the place of the seal in a record at an address of this kind
 unfoldable pub seal_by_kind : ℕ → ℕ
 seal_by_kind kind = if kind == rankings then node_seal_place else entry_seal_place
 
--- the number of the bytes of the record of an address
+-- the size in bytes of the record at an address
 abbrev pub record_size : ℕ → ℕ
 record_size w = size_by_kind (kind_of w)
 
--- the place of its seal in it
+-- the place of the seal in the record at an address
 abbrev pub seal_place : ℕ → ℕ
 seal_place w = seal_by_kind (kind_of w)
 
@@ -31,11 +31,11 @@ seal_place w = seal_by_kind (kind_of w)
 unfoldable pub record_at : Image → ℕ → List ℕ
 record_at image w = range_at (byte image (Block (file_selector w))) (place w) (record_size w)
 
--- the record of an address checks: its seal is 0 or the hash of the bytes before it
+-- the record of an address has no checksum or a right one: its seal is 0 or the hash of the bytes before it
 abbrev pub RecordChecks : ℕ → Image → Type 0
 RecordChecks w image = checks (seal_place w) (record_at image w) ≡ true
 
--- no two changes are of one place
+-- no two of the changes are at the same place
 abbrev pub AreDifferent : List (ℕ × ℕ) → Type 0
 AreDifferent [] = Unit {0}
 AreDifferent (change ∷ changes) = All (λ other. other.0 ≢ change.0) changes × AreDifferent changes
@@ -51,7 +51,7 @@ pub record AreChanges (seal : ℕ) (changes : List (ℕ × ℕ)) : Type 0 where
 abbrev pub sealed : ℕ → List ℕ → List ℕ
 sealed seal bytes = with_word seal (seal_of seal bytes) bytes
 
--- words, each with its place counted from another one on
+-- words whose places count from a start, with their places in the file
 abbrev pub placed : ℕ → List (ℕ × ℕ) → List (ℕ × ℕ)
 placed start words = map (λ (word : ℕ × ℕ). (start + word.0, word.1)) words
 
@@ -67,11 +67,11 @@ update_steps w changes seal = word_steps (Block (file_selector w)) (placed (plac
 abbrev pub steps_over : List ℕ → ℕ → List (ℕ × ℕ) → List TrailStep
 steps_over bytes w changes = update_steps w changes (seal_of (seal_place w) (with_words changes bytes))
 
--- the hash of the changed record
+-- the seal of the record of an address after the changes: the hash of the changed bytes before it
 unfoldable pub new_seal : Image → ℕ → List (ℕ × ℕ) → ℕ
 new_seal image w changes = seal_of (seal_place w) (with_words changes (record_at image w))
 
--- the steps of a sealed update
+-- the steps of a sealed update of the record of an address: the seal becomes 0, the changes are made, and the seal becomes the new hash
 abbrev pub sealed_steps : Image → ℕ → List (ℕ × ℕ) → List TrailStep
 sealed_steps image w changes = update_steps w changes (new_seal image w changes)
 
@@ -79,7 +79,7 @@ sealed_steps image w changes = update_steps w changes (new_seal image w changes)
 abbrev pub record_range : ℕ → Footprint
 record_range w = range (Block (file_selector w)) (place w) (record_size w)
 
--- in the midst of a sealed update the record checks, so many of the changes are made, in the order given, and all else is as before
+-- in the midst of a sealed update the record's seal is 0 or right, so many of the changes are made, in the order given, and all else is as before
 pub record IsMidUpdate (from : Image) (w : ℕ) (changes : List (ℕ × ℕ)) (image : Image) : Type 0 where
   pub made : ℕ
   pub within : made ≤ length changes
@@ -87,7 +87,7 @@ pub record IsMidUpdate (from : Image) (w : ℕ) (changes : List (ℕ × ℕ)) (i
   pub checks : RecordChecks w image
   pub outside : SameOutside (record_range w) from image
 
--- after a sealed update all changes are made, and the seal is the hash
+-- after a sealed update all changes are made to the record, and its seal is the hash of the bytes before it
 abbrev pub IsUpdated : Image → ℕ → List (ℕ × ℕ) → Image → Type 0
 IsUpdated from w changes image = record_at image w ≡ sealed (seal_place w) (with_words changes (record_at from w))
 
@@ -99,7 +99,7 @@ is_sealed seal bytes = word_at (content bytes) seal == seal_of seal bytes
 unfoldable pub seal_steps : Image → ℕ → List TrailStep
 seal_steps image w = if is_sealed (seal_place w) (record_at image w) then [] else word_step (Block (file_selector w)) (place w + seal_place w) (seal_of (seal_place w) (record_at image w))
 
--- once the record is the updated one, it checks, and all changes are made
+-- once the record is the updated one, and all else is as before, the image is one of the update's, with all changes made
 abbrev pub WholeUpdatesAreMade : Type 0
 WholeUpdatesAreMade = (from image : Image) (w : ℕ) (changes : List (ℕ × ℕ)) → IsUpdated from w changes image
     → SameOutside (record_range w) from image → (moment : IsMidUpdate from w changes image) × (moment.made ≡ length changes)

@@ -136,7 +136,7 @@ two_footprints = (refl, refl)
 true_notes : AreTrue 0 (Note 1 ∷ Delete Index ∷ Note 2 ∷ []) × AreTrue 2 (Note 3 ∷ [])
 true_notes = ((refl, (refl, tt)), (refl, tt))
 
--- and so they are one after another
+-- true notes, and true notes that go on from them, are true together
 true_notes_go_on : AreTrue 0 (Note 1 ∷ Delete Index ∷ Note 2 ∷ Note 3 ∷ [])
 true_notes_go_on = are_true-append 0 (Note 1 ∷ Delete Index ∷ Note 2 ∷ []) (Note 3 ∷ []) true_notes.0 true_notes.1
 

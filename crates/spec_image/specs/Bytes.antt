@@ -32,7 +32,7 @@ unfoldable pub words_at : (ℕ → ℕ) → ℕ → ℕ → List ℕ
 words_at f i zero = []
 words_at f i (suc n) = word_at f i ∷ words_at f (i + 4) n
 
--- old with new at place i, as far as old reaches: the length stays
+-- the list old, overwritten with the bytes new from place i on; what would reach past its end is dropped, and the length stays
 unfoldable pub spliced : ℕ → List ℕ → List ℕ → List ℕ
 spliced i new [] = []
 spliced zero [] (x ∷ old) = x ∷ old

@@ -9,17 +9,17 @@ pub record Damage : Type 0 where
   pub at : ℕ
   pub found : ℕ
 
--- the first of these checks that failed, where one did
+-- the first failed check in a list of results, None where none failed
 abbrev pub first_of : List (Option Damage) → Option Damage
 first_of [] = None
 first_of (None ∷ checks) = first_of checks
 first_of (Some damage ∷ checks) = Some damage
 
--- a check that found this word
+-- the result of a check: None where its test holds, else a corruption at the place of the file, with the word found
 abbrev pub check_found : File → ℕ → ℕ → Bool → Option Damage
 check_found file at found holds = if holds then None else Some (record { file = file; at = at; found = found })
 
--- a check of the word at a place of a file with this content
+-- the result of a check of the word at a place of a file with this content: None where the test holds, else a corruption with that word
 abbrev pub check_word : File → (ℕ → ℕ) → ℕ → Bool → Option Damage
 check_word file f at holds = check_found file at (word_at f at) holds
 

@@ -10,18 +10,18 @@ pub data File : Type 0 where
   Block : ℕ → File
   External : ℕ → File
 
--- whether two files are one
+-- whether two files are the same: of one kind and of one number
 abbrev pub same_file : File → File → Bool
 same_file Index Index = true
 same_file (Block m) (Block n) = nat_eq m n
 same_file (External m) (External n) = nat_eq m n
 same_file _ _ = false
 
--- the bytes of each file that is there
+-- the file system state: the bytes of each file, None for a file that is not there
 abbrev pub Image : Type 0
 Image = File → Option (List ℕ)
 
--- no file is there
+-- the image without files
 abbrev pub empty_image : Image
 empty_image file = None
 
@@ -29,19 +29,19 @@ empty_image file = None
 abbrev pub has_file : Image → File → Bool
 has_file image file = is_some (image file)
 
--- its bytes, and none where it is not there
+-- the bytes of a file, an empty list where it is not there
 abbrev pub bytes_of : Image → File → List ℕ
 bytes_of image file = unwrap_or (image file) []
 
--- their number
+-- the length of a file in bytes, 0 where it is not there
 abbrev pub length_of : Image → File → ℕ
 length_of image file = length (bytes_of image file)
 
--- the byte at each place, and 0 past the end
+-- the byte at a place of a file, 0 past its end
 abbrev pub byte : Image → File → ℕ → ℕ
 byte image file = content (bytes_of image file)
 
--- the word at a place, where a byte past the end counts as 0
+-- the word at a place of a file, where a byte past the end counts as 0
 abbrev pub word : Image → File → ℕ → ℕ
 word image file i = word_at (byte image file) i
 

@@ -12,25 +12,25 @@ abbrev pub WordsWriteTheBytes : Type 0
 WordsWriteTheBytes = (file : File) (place : ℕ) (bytes : List ℕ) (image : Image)
     → after (words file place bytes) image ≡ with_file image file (written_over place bytes (image file))
 
--- each of them is a write of one to four bytes inside one aligned word
+-- the word steps of a write inside a file are valid writes: each is of one to four bytes inside one aligned word
 abbrev pub WordsAreAligned : Type 0
 WordsAreAligned = (file : File) (place : ℕ) (bytes : List ℕ) (image : Image) → All (λ b. b < 256) bytes → HasRange image file place (length bytes)
     → IsTrail image (words file place bytes)
 
--- at each of them only bytes of the range have changed, and bytes stay bytes
+-- before and after each word step of a write all but the bytes of the written range is as it was before the write
 abbrev pub WordsStayInside : Type 0
 WordsStayInside = (file : File) (place : ℕ) (bytes : List ℕ) (image : Image)
     → Along (SameOutside (range file place (length bytes)) image) image (words file place bytes)
 
--- at each of some steps, what none of them touches is as before
+-- before and after each of some steps all outside the union of their footprints is as it was before the first
 abbrev pub StepsStayInside : Type 0
 StepsStayInside = (steps : List TrailStep) (image : Image) → Along (SameOutside (touched_by_all steps) image) image steps
 
--- where the write trace is told, the steps of a call are known: so what two clauses of it say of each moment holds of the same steps
+-- where the write trace is told before a call, the steps that the call applied are determined: two lists of them are equal
 abbrev pub StepsOfOneCallAreOne : Type 0
 StepsOfOneCallAreOne = (old new : Told) (trail : Trail) (steps others : List TrailStep) → old.trail ≡ Some trail → Applies old new steps
     → Applies old new others → steps ≡ others
 
--- notes that are true, and true notes after them
+-- true completion markers can be joined: steps with true notes, and then steps whose notes go on from theirs, have true notes together
 abbrev pub NotesGoOn : Type 0
 NotesGoOn = (n : ℕ) (steps more : List TrailStep) → AreTrue n steps → AreTrue (n + notes_in steps) more → AreTrue n (steps ++ more)

@@ -15,21 +15,21 @@ file_number Index = 0
 file_number (Block n) = n
 file_number (External n) = n
 
--- a file comes before another
+-- one file comes before another in the order: by kind, and then by number
 abbrev pub IsBefore : File → File → Type 0
 IsBefore one other = (file_rank one < file_rank other) ⊎ ((file_rank one ≡ file_rank other) × (file_number one < file_number other))
 
--- a file comes after another, where there is one
+-- the file comes after the one before it in the order, where one is given; any file does where none is given
 abbrev pub IsAfter : Option File → File → Type 0
 IsAfter None file = Unit {0}
 IsAfter (Some before) file = IsBefore before file
 
--- there is a first one, and it is this file or comes before it
+-- an optional file is given, and it is this file or comes before it in the order
 abbrev pub IsUpTo : File → Option File → Type 0
 IsUpTo file None = ⊥
 IsUpTo file (Some first) = (first ≡ file) ⊎ IsBefore first file
 
--- the least file that is there and comes after another, where there is one
+-- next is the first file of the image that comes after another, or the first of all where no other is given; None where there is none
 pub record IsNextFile (image : Image) (before next : Option File) : Type 0 where
   pub there : ForSome next (λ file. has_file image file ≡ true)
   pub follows : ForSome next (IsAfter before)

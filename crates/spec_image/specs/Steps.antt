@@ -6,14 +6,14 @@ use Rattle.std.specs.declared.option.Option.TheVariants.{None, Some}
 use Rattle.spec_image.specs.Bytes.{spliced, resized, word_bytes}
 use Rattle.spec_image.specs.Image.{File, Image, bytes_of, length_of, with_file}
 
--- bytes written at a place, a new length, a file deleted, a number of commands done
+-- a step of a write trace: bytes written at a place of a file, a new length of a file, a file deleted, or a completion marker (so many commands done)
 pub data TrailStep : Type 0 where
   Word : File → ℕ → List ℕ → TrailStep
   SetLength : File → ℕ → TrailStep
   Delete : File → TrailStep
   Note : ℕ → TrailStep
 
--- the bytes of a file after a write
+-- the bytes of a file after a write at a place: its length stays, and a file that is not there stays absent
 abbrev pub written_over : ℕ → List ℕ → Option (List ℕ) → Option (List ℕ)
 written_over place bytes None = None
 written_over place bytes (Some old) = Some (spliced place bytes old)
@@ -41,19 +41,19 @@ pub record IsWordStep (image : Image) (file : File) (place : ℕ) (bytes : List 
   pub inside_file : place + length bytes ≤ length_of image file
   pub are_bytes : All (λ b. b < 256) bytes
 
--- what a step of a folder may be
+-- a step is possible on an image: a write is a valid word write, and changes of length, deletions and notes always are
 abbrev pub IsStep : Image → TrailStep → Type 0
 IsStep image (Word file place bytes) = IsWordStep image file place bytes
 IsStep image (SetLength file length) = Unit {0}
 IsStep image (Delete file) = Unit {0}
 IsStep image (Note number) = Unit {0}
 
--- steps that may follow one another
+-- the steps are possible in turn, each on the image that those before it leave
 abbrev pub IsTrail : Image → List TrailStep → Type 0
 IsTrail image [] = Unit {0}
 IsTrail image (step ∷ steps) = IsStep image step × IsTrail (applied step image) steps
 
--- a byte before the word steps of what follows it: one with the first of them, unless its word ends with it
+-- the word steps of a byte and the bytes after it, from those of the bytes after it: it joins their first write, unless its aligned word ends with it
 unfoldable pub before_words : File → ℕ → ℕ → List TrailStep → List TrailStep
 before_words file place b [] = Word file place (b ∷ []) ∷ []
 before_words file place b (Word other next bytes ∷ steps) =
@@ -74,11 +74,11 @@ abbrev pub word_steps : File → List (ℕ × ℕ) → List TrailStep
 word_steps file [] = []
 word_steps file (word ∷ words) = word_step file word.0 word.1 ++ word_steps file words
 
--- bytes with a word over them
+-- bytes overwritten by one word at a place
 unfoldable pub with_word : ℕ → ℕ → List ℕ → List ℕ
 with_word place value bytes = spliced place (word_bytes value) bytes
 
--- bytes with these words over them, each with its place
+-- bytes overwritten by some words, each with its place, the first of them first
 abbrev pub with_words : List (ℕ × ℕ) → List ℕ → List ℕ
 with_words [] bytes = bytes
 with_words (word ∷ words) bytes = with_words words (with_word word.0 word.1 bytes)

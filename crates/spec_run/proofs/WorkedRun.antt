@@ -39,7 +39,7 @@ use Rattle.spec_run.proofs.Openings.{begun}
 
 -- The crash word.
 
--- where it is written a well-formed folder holds what it held
+-- the write of the crash word keeps the recovered contents of a well-formed folder
 pub crash_word_hidden : (from image : Image) → IsWellFormed from → SameOutside (one_word Index 32) from image → HoldsStill from image
 unfolding found kept
 crash_word_hidden from image formed outside =

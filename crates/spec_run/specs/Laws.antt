@@ -27,11 +27,11 @@ use Rattle.spec_run.specs.Playing.{IsPlayed}
 
 -- The opening.
 
--- a run begins with an opening
+-- an opening that succeeds is the beginning of a run: no command is done yet
 abbrev pub RunsBegin : Type 0
 RunsBegin = (from : Image) (opened : State) (old new : Told) → old.files ≡ Some from → IsUsable from → Opens from opened old new → Progress from opened [] old new
 
--- and in an opening that failed it may crash, whatever commands would follow
+-- an opening that failed leaves the folder as a crash of a run may, whatever commands would follow
 abbrev pub RunsMayStopInTheOpening : Type 0
 RunsMayStopInTheOpening = (from : Image) (opened : State) (commands : List Stamped) (old new : Told) → old.files ≡ Some from → IsUsable from → FailsToOpen from opened old new → Stops from opened commands old new
 
@@ -42,21 +42,21 @@ abbrev pub RunsGoOn : Type 0
 RunsGoOn = (from : Image) (opened : State) (done : List Stamped) (old mid new : Told) (command : Stamped) → old.files ≡ Some from → Progress from opened done old mid
     → IsNoted mid new command.moment command.request (length done + 1) (state_after opened done) → Progress from opened (done ++ command ∷ []) old new
 
--- and with commands that are done in turn
+-- a run goes on with several commands that are done and noted in turn
 abbrev pub RunsGoOnInTurn : Type 0
 RunsGoOnInTurn = (from : Image) (opened : State) (done more : List Stamped) (old mid new : Told) → old.files ≡ Some from → Progress from opened done old mid
     → AreNoted mid new (state_after opened done) (length done + 1) more → Progress from opened (done ++ more) old new
 
--- in a command that is made in part, or done and noted, a run may crash
+-- a command that is made in part, or done and noted, leaves the folder as a crash of the run may
 abbrev pub RunsMayStopInACommand : Type 0
 RunsMayStopInACommand = (from : Image) (opened : State) (done more : List Stamped) (old mid new : Told) (command : Stamped) → old.files ≡ Some from → Progress from opened done old mid
     → IsStepped mid new command.moment command.request (length done + 1) (state_after opened done) → Stops from opened (done ++ command ∷ more) old new
 
--- and it may crash where it is, whatever commands would follow
+-- a run may crash between two commands: after those that are done, whatever commands would follow
 abbrev pub RunsMayStopBetween : Type 0
 RunsMayStopBetween = (from : Image) (opened : State) (done more : List Stamped) (old new : Told) → Progress from opened done old new → Stops from opened (done ++ more) old new
 
--- commands that are done in turn, and one more, and several more
+-- commands that are done and noted in turn, and more of them after those, are all done and noted in turn
 abbrev pub NotedCommandsFollow : Type 0
 NotedCommandsFollow = (old mid new : Told) (state : State) (number : ℕ) (done more : List Stamped) → AreNoted old mid state number done
     → AreNoted mid new (state_after state done) (number + length done) more → AreNoted old new state number (done ++ more)
@@ -67,106 +67,106 @@ NoteNumbersAreExact = (count : ℕ) → count < 2 ^ 64 → note_number count ≡
 
 -- The end.
 
--- where all commands are done, steps at which the folder holds what it held end the run
+-- a run is whole where all its commands are done and the steps after them leave the recovered contents as they are
 abbrev pub RunsEnd : Type 0
 RunsEnd = (from : Image) (opened : State) (commands : List Stamped) (old mid new : Told) → old.files ≡ Some from → Progress from opened commands old mid
     → ForSome mid.files (λ image. Passes mid new (HoldsStill image)) → IsWholeRun from opened commands old new
 
 -- Iterations.
 
--- the iterations of some lines and of those after them: these begin where the others left the state and the clock
+-- after the iterations of some lines the lines after them are left to be played, in the state and with the clock that the iterations leave
 abbrev pub LinesArePlayedInTurn : Type 0
 LinesArePlayedInTurn = (number : ℕ) (texts more : List (List ℕ)) (state : State) (clock : Readings)
     → IsPlayed (session_script number (texts ++ more)) state clock (turns (session_script number texts) state clock) (session_script (number + length texts) more)
     (state_after state (commands_of (turns (session_script number texts) state clock))) (clock_after clock (readings_of (turns (session_script number texts) state clock)))
 
--- nothing is played at first
+-- before the first iteration a script is played by no iteration, and all of it is left, with the same state and clock
 abbrev pub NothingIsPlayed : Type 0
 NothingIsPlayed = (script : Script) (state : State) (clock : Readings) → IsPlayed script state clock [] script state clock
 
--- a command is played: its iteration is made, and what follows its outcome is left
+-- where a command comes next, a script is played on by its iteration: what follows its outcome is left, in the state after the command
 abbrev pub CommandsArePlayed : Type 0
 CommandsArePlayed = (script : Script) (state : State) (clock : Readings) (made : List Turn) (request : Request) (shown : Outcome → Shown) (next : Outcome → Script) (now : State) (readings : Readings)
     → IsPlayed script state clock made (asks request shown next) now readings
     → IsPlayed script state clock (made ++ command_turn (stamped_by readings request) (shown (outcome_in now (stamped_by readings request))) ∷ [])
     (next (outcome_in now (stamped_by readings request))) (state_then now (stamped_by readings request)) (later_of readings)
 
--- what is no command is played
+-- where an error comes next, a script is played on by its iteration, and state and clock stay
 abbrev pub ErrorsArePlayed : Type 0
 ErrorsArePlayed = (script : Script) (state : State) (clock : Readings) (made : List Turn) (text : List ℕ) (next : Script) (now : State) (readings : Readings)
     → IsPlayed script state clock made (errs text next) now readings → IsPlayed script state clock (made ++ error_turn text ∷ []) next now readings
 
--- what is turned away is played: it takes a reading
+-- where something is turned away next, a script is played on by its iteration, which takes a reading of the clock
 abbrev pub RefusalsOutsideArePlayed : Type 0
 RefusalsOutsideArePlayed = (script : Script) (state : State) (clock : Readings) (made : List Turn) (text : List ℕ) (next : Script) (now : State) (readings : Readings)
     → IsPlayed script state clock made (turns_away text next) now readings → IsPlayed script state clock (made ++ away_turn text ∷ []) next now (later_of readings)
 
--- a text of the state is played
+-- where a text of the state comes next, a script is played on by its iteration, and state and clock stay
 abbrev pub TextsArePlayed : Type 0
 TextsArePlayed = (script : Script) (state : State) (clock : Readings) (made : List Turn) (text : State → List ℕ) (next : Script) (now : State) (readings : Readings)
     → IsPlayed script state clock made (says text next) now readings → IsPlayed script state clock (made ++ text_turn (text now) ∷ []) next now readings
 
--- a script that was played is played on
+-- iterations of a script, and then iterations of what they left of it, are all iterations of the script
 abbrev pub PlayingGoesOn : Type 0
 PlayingGoesOn = (script : Script) (state : State) (clock : Readings) (made : List Turn) (left : Script) (now : State) (readings : Readings) (more : List Turn) (last : Script) (state_last : State) (clock_last : Readings)
     → IsPlayed script state clock made left now readings → IsPlayed left now readings more last state_last clock_last → IsPlayed script state clock (made ++ more) last state_last clock_last
 
--- of a script that was played up to some iterations, the run that is cut there has these iterations; then its names are closed
+-- a run that is cut after the iterations by which its script was played has exactly these, and its commands are theirs and the Closes of the names bound then
 abbrev pub PlayedRunsAreCut : Type 0
 PlayedRunsAreCut = (script : Script) (found : List Row) (limits : Bounds) (readings : Readings) (made : List Turn) (left : Script) (now : State) (readings_now : Readings)
     → IsPlayed script (open_state found limits) (later_of readings) made left now readings_now
     → ((cut_after (length made) (run_of script found limits readings)).turns ≡ made)
     × (commands (cut_after (length made) (run_of script found limits readings)) ≡ commands_of made ++ closings (bound_names now) readings_now)
 
--- and a script that was played to its end has them all
+-- a run whose script was played to its end has exactly these iterations, and its commands are theirs and the Closes of the names bound then
 abbrev pub PlayedRunsAreWhole : Type 0
 PlayedRunsAreWhole = (script : Script) (found : List Row) (limits : Bounds) (readings : Readings) (made : List Turn) (now : State) (readings_now : Readings)
     → IsPlayed script (open_state found limits) (later_of readings) made ended now readings_now
     → ((run_of script found limits readings).turns ≡ made) × (commands (run_of script found limits readings) ≡ commands_of made ++ closings (bound_names now) readings_now)
 
--- of a script that was played so far, these commands come first in the run
+-- the commands of the iterations by which a script was played come first among the commands of its run
 abbrev pub PlayedCommandsComeFirst : Type 0
 PlayedCommandsComeFirst = (script : Script) (found : List Row) (limits : Bounds) (readings : Readings) (made : List Turn) (left : Script) (now : State) (readings_now : Readings)
     → IsPlayed script (open_state found limits) (later_of readings) made left now readings_now → (more : List Stamped) × (commands (run_of script found limits readings) ≡ commands_of made ++ more)
 
--- and a command that is asked next is the next
+-- a command that comes next in what is left of a played script is the next command of the run
 abbrev pub AskedCommandsAreNext : Type 0
 AskedCommandsAreNext = (script : Script) (found : List Row) (limits : Bounds) (readings : Readings) (made : List Turn) (request : Request) (shown : Outcome → Shown) (next : Outcome → Script) (now : State) (readings_now : Readings)
     → IsPlayed script (open_state found limits) (later_of readings) made (asks request shown next) now readings_now
     → (more : List Stamped) × (commands (run_of script found limits readings) ≡ commands_of made ++ stamped_by readings_now request ∷ more)
 
--- where a script turns none away the clock is read for its commands alone, in each front of its iterations
+-- where a script turns nothing away the clock is read once for each command and for nothing else, in each prefix of its iterations
 abbrev pub ClockIsReadForCommands : Type 0
 ClockIsReadForCommands = (script : Script) → TurnsNoneAway script → (count : ℕ) (state : State) (clock : Readings)
     → readings_of (take count (turns script state clock)) ≡ length (commands_of (take count (turns script state clock)))
 
--- so it is with the lines of a session
+-- the script of a session's lines turns nothing away
 abbrev pub LinesTurnNoneAway : Type 0
 LinesTurnNoneAway = (number : ℕ) (texts : List (List ℕ)) → TurnsNoneAway (session_script number texts)
 
--- and with the scripts of the other subcommands: commands up to the first that is refused, the totals, and `put`
+-- the scripts of the other subcommands turn nothing away: commands up to the first that is refused, the totals, and `put`
 abbrev pub FixedScriptsTurnNoneAway : Type 0
 FixedScriptsTurnNoneAway = ((requests : List Request) → TurnsNoneAway (until_refused requests)) × (TurnsNoneAway count_script × ((key : List ℕ) (stream : ℕ) (bytes : List ℕ) → TurnsNoneAway (put_script key stream bytes)))
 
--- a session makes fewer commands than its input has bytes: each has a line that isn't empty
+-- a session makes at most half as many commands as its input has bytes, rounded up: each has a line that isn't empty
 abbrev pub CommandsAreFew : Type 0
 CommandsAreFew = (number : ℕ) (bytes : List ℕ) (state : State) (clock : Readings) → 2 * length (commands_of (turns (session_script number (lines bytes)) state clock)) ≤ length bytes + 1
 
 -- Lines.
 
--- bytes that come later are cut after those that came before: whole lines stay, and what had no end goes on
+-- bytes can be cut into lines piece by piece: whole lines stay, and later bytes go on with the line that has no end yet
 abbrev pub LinesGoOn : Type 0
 LinesGoOn = (cut : Cut) (bytes more : List ℕ) → (with_bytes cut (bytes ++ more) ≡ with_bytes (with_bytes cut bytes) more)
     × ((with_bytes cut more).whole ≡ cut.whole ++ (with_bytes (record { whole = []; rest = cut.rest }) more).whole)
     × ((with_bytes cut more).rest ≡ (with_bytes (record { whole = []; rest = cut.rest }) more).rest)
 
--- the whole lines of the bytes that come first are the first lines
+-- the whole lines of a prefix of an input are the first lines of the input
 abbrev pub WholeLinesComeFirst : Type 0
 WholeLinesComeFirst = (bytes more : List ℕ) → (later : List (List ℕ)) × (lines (bytes ++ more) ≡ whole_lines bytes ++ later)
 
 -- The closings.
 
--- a name is bound, and no lesser one is
+-- a handle name is bound, and no lesser one is
 pub record IsLeastBound (state : State) (name : ℕ) : Type 0 where
   pub bound : is_some (named_by state name) ≡ true
   pub least : (other : ℕ) → other < name → is_some (named_by state other) ≡ false
@@ -176,16 +176,16 @@ abbrev pub LeastNamesAreClosedFirst : Type 0
 LeastNamesAreClosedFirst = (state : State) (clock : Readings) (name : ℕ) → IsValidState state → IsLeastBound state name
     → closings (bound_names state) clock ≡ stamped_by clock (to_close name) ∷ closings (bound_names (state_then state (stamped_by clock (to_close name)))) (later_of clock)
 
--- where none is bound none is closed
+-- where no handle name is bound there is none to close
 abbrev pub NoneIsClosedWhereNoneIsBound : Type 0
 NoneIsClosedWhereNoneIsBound = (state : State) → ((name : ℕ) → is_some (named_by state name) ≡ false) → bound_names state ≡ []
 
--- a Close gives its name free, and leaves the others as they are
+-- a Close unbinds its handle name, and leaves the others as they are
 abbrev pub ClosesFreeTheirName : Type 0
 ClosesFreeTheirName = (state : State) (moment name : ℕ) → IsValidState state → is_some (named_by state name) ≡ true
     → (state_then state (record { moment = moment; request = to_close name })).names ≡ slice_set state.names name None
 
--- no more names are bound than there are
+-- no more handle names are bound than there are
 abbrev pub BoundNamesAreFew : Type 0
 BoundNamesAreFew = (state : State) → IsValidState state → length (bound_names state) ≤ handle_names
 
@@ -199,12 +199,12 @@ pub record IsLeftAlone (state : State) (command : Stamped) (item : Item) (row : 
   pub row_is : row_of state item ≡ Some row
   pub listed : (count : ℕ) → count ≤ length (list_steps state command.moment command.request) → Contains (list_after state command.moment command.request count) item
 
--- wherever a run crashes once its folder is opened, each clean entry that the next command leaves as it is is found with its exact bytes
+-- wherever a run crashes once its folder is opened, the recovered contents have each clean entry that the next command leaves alone, with its exact bytes
 abbrev pub SettledEntriesAreFound : Type 0
 SettledEntriesAreFound = (from : Image) (opened : State) (commands : List Stamped) (steps : List TrailStep) (image : Image) (command : Stamped) (item : Item) (row : Row) → IsStopped from opened commands steps image → has_opened steps ≡ true
     → command_after commands (notes_in steps) ≡ Some command → IsLeftAlone (state_at opened commands (notes_in steps)) command item row → Contains (found image) row
 
--- and where no command is left just the durable contents are recovered
+-- where a run crashes after its last command exactly the durable contents are recovered
 abbrev pub RestsAreFound : Type 0
 RestsAreFound = (from : Image) (opened : State) (commands : List Stamped) (steps : List TrailStep) (image : Image) → IsStopped from opened commands steps image → has_opened steps ≡ true
     → command_after commands (notes_in steps) ≡ None → found image ≡ rest (state_at opened commands (notes_in steps))

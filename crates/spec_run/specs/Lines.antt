@@ -10,20 +10,20 @@ pub record Cut : Type 0 where
 abbrev pub with_byte : Cut → ℕ → Cut
 with_byte cut byte = cond (byte == 10) (record { whole = cut.whole ++ cut.rest ∷ []; rest = [] }) (record { whole = cut.whole; rest = cut.rest ++ byte ∷ [] })
 
--- bytes more, one after another
+-- some more bytes, one after another, after what is cut
 unfoldable pub with_bytes : Cut → List ℕ → Cut
 with_bytes cut [] = cut
 with_bytes cut (byte ∷ bytes) = with_bytes (with_byte cut byte) bytes
 
--- no bytes
+-- the cut of no bytes
 abbrev pub nothing_cut : Cut
 nothing_cut = record { whole = []; rest = [] }
 
--- the bytes of an input, cut
+-- the bytes of an input, cut at the ends of its lines
 abbrev pub cut : List ℕ → Cut
 cut bytes = with_bytes nothing_cut bytes
 
--- the lines that have an end
+-- the lines of an input that have an end
 abbrev pub whole_lines : List ℕ → List (List ℕ)
 whole_lines bytes = (cut bytes).whole
 
@@ -32,6 +32,6 @@ abbrev pub open_line : List ℕ → List (List ℕ)
 open_line [] = []
 open_line (byte ∷ bytes) = (byte ∷ bytes) ∷ []
 
--- all lines
+-- the lines of an input, with a last one that has no end where it isn't empty
 abbrev pub lines : List ℕ → List (List ℕ)
 lines bytes = whole_lines bytes ++ open_line (cut bytes).rest

@@ -15,36 +15,35 @@ use Rattle.spec_folder.specs.StandsFor.{StandsFor}
 use Rattle.spec_run.specs.Run.{Stamped, state_at, command_after}
 use Rattle.spec_run.specs.Opening.{IsUsable, has_opened, marks_open}
 
--- a step is a note, or ends the opening, after the steps before it
+-- a step, after the steps before it, is a note, or the write that ends the opening: after it the folder represents a state
 abbrev pub Completes : List TrailStep → TrailStep → Type 0
 Completes before (Note number) = Unit {0}
 Completes before (Word file place bytes) = (has_opened before ≡ false) × (marks_open (Word file place bytes) ≡ true)
 Completes before (SetLength file length) = ⊥
 Completes before (Delete file) = ⊥
 
--- what is found where commands are made in turn, and n of them are done: a crash outcome of the next, or the durable contents where there
--- is none
+-- what may be recovered after a crash where n commands are done: a crash outcome of the next one, or exactly the durable contents where there is none
 abbrev pub IsLeftAt : State → List Stamped → ℕ → Option Stamped → List Row → Type 0
 IsLeftAt opened commands n None rows = rows ≡ rest (state_at opened commands n)
 IsLeftAt opened commands n (Some next) rows = StopOutcome (state_at opened commands n) next.moment next.request (state_at opened commands (n + 1)) rows
 
--- what a crash after these steps may leave, where commands are made in turn from the state that was opened on what was found
+-- what may be recovered after a crash after these steps, where commands are made in turn from the state that was opened on what was found
 pub record IsLeft (found : List Row) (opened : State) (commands : List Stamped) (steps : List TrailStep) (rows : List Row) : Type 0 where
-  -- before the opening has ended it is what was found
+  -- before the opening has ended the rows are those that were found
   pub opening : has_opened steps ≡ false → rows ≡ found
-  -- later it is a crash outcome of the next command, and the durable contents where there is none
+  -- later they are a crash outcome of the next command, and the durable contents where there is none
   pub later : has_opened steps ≡ true → IsLeftAt opened commands (notes_in steps) (command_after commands (notes_in steps)) rows
-  -- directly after a note, and at the end of the opening, it is exactly the durable contents
+  -- directly after a note, and at the end of the opening, they are exactly the durable contents
   pub completed : (before : List TrailStep) (step : TrailStep) → steps ≡ before ++ step ∷ [] → Completes before step → rows ≡ rest (state_at opened commands (notes_in steps))
 
--- the folder after these steps of a call that began with an image
+-- the folder as a crash after these steps may leave it, in a call that began with an image
 pub record IsStopped (from : Image) (opened : State) (commands : List Stamped) (steps : List TrailStep) (image : Image) : Type 0 where
-  -- it is unfinished or well formed, and unfinished only while it is being made
+  -- the folder is unfinished or well formed, and unfinished only while it is being made
   pub usable : IsUsable image
   pub making : IsUnfinished image → IsUnfinished from × (has_opened steps ≡ false)
-  -- it holds what a crash may leave
+  -- its recovered contents are what a crash may leave
   pub left : IsLeft (found from) opened commands steps (found image)
   -- before the opening has ended no command is noted
   pub unnoted : has_opened steps ≡ false → notes_in steps ≡ 0
-  -- at the end of the opening, and directly after each note, it stands for the state
+  -- at the end of the opening, and directly after each note, the folder represents the state
   pub stands : (before : List TrailStep) (step : TrailStep) → steps ≡ before ++ step ∷ [] → Completes before step → StandsFor image (state_at opened commands (notes_in steps))

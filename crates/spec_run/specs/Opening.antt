@@ -13,11 +13,11 @@ use Rattle.blk_model.specs.State.{State}
 use Rattle.spec_folder.specs.Found.{found}
 use Rattle.spec_folder.specs.StandsFor.{StandsFor}
 
--- a folder that a session may be opened on, and that each crash leaves
+-- a folder that a session may be opened on, and that each crash leaves: its index is unfinished, or no check of a header fails
 abbrev pub IsUsable : Image → Type 0
 IsUsable image = IsUnfinished image ⊎ IsWellFormed image
 
--- the same is found as in another image, and the folder is well formed where that was, and unfinished or well formed where that was so
+-- the recovered contents are those of another image; the folder is well formed where that one was, and unfinished or well formed where that one was so
 pub record HoldsStill (entry image : Image) : Type 0 where
   pub usable : IsUsable entry → IsUsable image
   pub formed : IsWellFormed entry → IsWellFormed image
@@ -30,7 +30,7 @@ marks_open (SetLength file length) = false
 marks_open (Delete file) = false
 marks_open (Note number) = false
 
--- whether the opening has ended: the first such step is its last
+-- whether the opening has ended: the first step that marks a session as open is its last
 abbrev pub has_opened : List TrailStep → Bool
 has_opened steps = list_any marks_open steps
 
@@ -38,7 +38,8 @@ has_opened steps = list_any marks_open steps
 abbrev pub open_mark : TrailStep
 open_mark = Word Index 32 (word_bytes 1)
 
--- an opening: no step is a note, at each the folder holds what it held, and the last is the first that marks a session as open; there the folder stands for the state that is opened
+-- an opening: no step is a note, at each the recovered contents are those of the old folder, and the last is the first that marks a session as open; there the
+-- folder represents the state that is opened
 pub record Opens (from : Image) (opened : State) (old new : Told) : Type 0 where
   pub before : List TrailStep
   pub quiet : IsQuiet before
@@ -47,7 +48,7 @@ pub record Opens (from : Image) (opened : State) (old new : Told) : Type 0 where
   pub along : Along (HoldsStill from) from (before ++ open_mark ∷ [])
   pub stands : ForSome new.files (λ image. StandsFor image opened)
 
--- an opening that broke off: no step that was made is a note or marks a session as open, and at each the folder holds what it held
+-- an opening that broke off: no step that was made is a note or marks a session as open, and at each the recovered contents are those of the old folder
 pub record BreaksOff (from : Image) (old new : Told) : Type 0 where
   pub steps : List TrailStep
   pub quiet : IsQuiet steps
@@ -55,6 +56,6 @@ pub record BreaksOff (from : Image) (old new : Told) : Type 0 where
   pub applies : Applies old new steps
   pub along : Along (HoldsStill from) from steps
 
--- an opening that failed: it broke off, or all of it was made
+-- an opening that failed: it broke off, or all its steps were made
 abbrev pub FailsToOpen : Image → State → Told → Told → Type 0
 FailsToOpen from opened old new = BreaksOff from old new ⊎ Opens from opened old new

@@ -14,7 +14,8 @@ use Rattle.spec_run.specs.Run.{Stamped, state_after, state_then}
 use Rattle.spec_run.specs.Moments.{IsStopped}
 use Rattle.spec_run.specs.Opening.{has_opened}
 
--- the steps of a call that began with an image, where commands are made in turn: after each prefix of them the folder is as a crash may leave it, and the notes are true and no more than the commands
+-- the steps of a call that began with an image, where commands are made in turn: after each prefix of them the folder is as a crash may leave it, and the notes
+-- are true and no more than the commands
 pub record Stops (from : Image) (opened : State) (commands : List Stamped) (old new : Told) : Type 0 where
   pub steps : List TrailStep
   pub applies : Applies old new steps
@@ -29,7 +30,8 @@ pub record IsWholeRun (from : Image) (opened : State) (commands : List Stamped) 
   pub noted : notes_in stops.steps ≡ length commands
   pub holds : ForSome new.files (λ image. found image ≡ rest (state_after opened commands))
 
--- the folder was opened and these commands are done, since a call began with an image: whatever commands follow, after each prefix of the steps the folder is as a crash may leave it, and now it stands for the state after the commands
+-- since a call began with an image the folder was opened and these commands are done: whatever commands follow, after each prefix of the steps the folder is as
+-- a crash may leave it, and now it represents the state after the commands
 pub record Progress (from : Image) (opened : State) (done : List Stamped) (old new : Told) : Type 0 where
   pub steps : List TrailStep
   pub applies : Applies old new steps

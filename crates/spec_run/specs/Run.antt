@@ -31,15 +31,15 @@ pub record Turn : Type 0 where
   pub text : List ℕ
   pub refuses : Bool
 
--- the iteration of what is no command
+-- the iteration of a line that is no command, with the text of its fault
 abbrev pub error_turn : List ℕ → Turn
 error_turn text = record { command = None; reads = false; text = text; refuses = true }
 
--- the iteration of a text of the state
+-- the iteration that prints a text of the state
 abbrev pub text_turn : List ℕ → Turn
 text_turn text = record { command = None; reads = false; text = text; refuses = false }
 
--- the iteration of what is turned away: it is none of the cache's commands
+-- the iteration of something that is turned away: the clock is read, but the cache is given no command
 abbrev pub away_turn : List ℕ → Turn
 away_turn text = record { command = None; reads = true; text = text; refuses = true }
 
@@ -47,7 +47,7 @@ away_turn text = record { command = None; reads = true; text = text; refuses = t
 abbrev pub command_turn : Stamped → Shown → Turn
 command_turn command shown = record { command = Some command; reads = true; text = shown.text; refuses = shown.refuses }
 
--- a command at the next reading
+-- a command with the clock's next reading before it
 abbrev pub stamped_by : Readings → Request → Stamped
 stamped_by clock request = record { moment = reading_of clock; request = request }
 
@@ -62,28 +62,28 @@ turns (asks request shown script) state clock =
     let outcome = outcome_in state command in
     command_turn command (shown outcome) ∷ turns (script outcome) outcome.state (later_of clock)
 
--- the commands of iterations
+-- the commands of some iterations, in their order
 abbrev pub commands_of : List Turn → List Stamped
 commands_of turns = filter_map (λ turn. turn.command) turns
 
--- how often the clock was read for iterations
+-- how often the clock was read for some iterations
 abbrev pub readings_of : List Turn → ℕ
 readings_of turns = count_by (λ turn. turn.reads) turns
 
--- what iterations print
+-- what some iterations print
 abbrev pub text_of : List Turn → List ℕ
 text_of turns = flat_map (λ turn. turn.text) turns
 
--- whether one of them is a refusal or a fault
+-- whether one of some iterations is a refusal or a fault
 abbrev pub refuse : List Turn → Bool
 refuse turns = list_any (λ turn. turn.refuses) turns
 
--- the state after commands
+-- the state after some commands, the first of them first
 unfoldable pub state_after : State → List Stamped → State
 state_after state [] = state
 state_after state (command ∷ commands) = state_after (state_then state command) commands
 
--- the readings to come after so many
+-- the readings that are to come after so many were taken
 abbrev pub clock_after : Readings → ℕ → Readings
 clock_after clock count = record { ahead = drop count clock.ahead; last = clock.last }
 
@@ -99,7 +99,7 @@ bound_from name (Some number ∷ slots) = name ∷ bound_from (name + 1) slots
 abbrev pub bound_names : State → List ℕ
 bound_names state = bound_from 0 state.names
 
--- each of these names is closed, at the next reading
+-- the Closes of some handle names, in their order, each at the clock's next reading
 unfoldable pub closings : List ℕ → Readings → List Stamped
 closings [] clock = []
 closings (name ∷ names) clock = stamped_by clock (to_close name) ∷ closings names (later_of clock)
@@ -112,29 +112,29 @@ pub record Run : Type 0 where
   pub clock : Readings
   pub turns : List Turn
 
--- the run of a script over what was found; the first reading was that of the opening
+-- the run of a script over recovered contents; the first reading was that of the opening
 abbrev pub run_of : Script → List Row → Bounds → Readings → Run
 run_of script found limits readings =
     let opened = open_state found limits in
     record { opened = opened; clock = later_of readings; turns = turns script opened (later_of readings) }
 
--- the same run, ended after so many iterations
+-- a run that is ended after so many iterations
 abbrev pub cut_after : ℕ → Run → Run
 cut_after count run = record { opened = run.opened; clock = run.clock; turns = take count run.turns }
 
--- its closings
+-- the Closes at the end of a run, of the handle names that its iterations leave bound
 abbrev pub closings_of : Run → List Stamped
 closings_of run = closings (bound_names (state_after run.opened (commands_of run.turns))) (clock_after run.clock (readings_of run.turns))
 
--- its commands, the closings last
+-- the commands of a run, the Closes of the bound handle names last
 unfoldable pub commands : Run → List Stamped
 commands run = commands_of run.turns ++ closings_of run
 
--- how often the clock is read in it: for its iterations, and before each closing
+-- how often the clock is read in a run after its opening: for its iterations, and before each Close at its end
 abbrev pub readings_in : Run → ℕ
 readings_in run = readings_of run.turns + length (closings_of run)
 
--- the state after all of them
+-- the state after all commands of a run
 abbrev pub last_state : Run → State
 last_state run = state_after run.opened (commands run)
 

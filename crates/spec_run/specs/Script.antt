@@ -23,7 +23,8 @@ pub record Shown : Type 0 where
   pub text : List ℕ
   pub refuses : Bool
 
--- nothing more; a text of what is no command; a text of the state; a text of what is turned away: the clock is read as before a command, and the cache is asked nothing; or a command, with what is shown of it and what follows, by its outcome
+-- a script: its end; or, before what follows, the text of a fault, a text of the state, the text of something that is turned away (the clock is read as before
+-- a command, and the cache is asked nothing), or a command, with what is shown of it; what follows a command may depend on its outcome
 pub data Script : Type 0 where
   ended : Script
   errs : List ℕ → Script → Script
@@ -58,13 +59,13 @@ is_missing outcome = is_missing_refusal (refusal_of (answer_of outcome.reply))
 abbrev pub outcome_text : Outcome → List ℕ
 outcome_text outcome = evicted_text outcome.groups ++ reply_text outcome.reply
 
--- all of it is shown where a test passes, and nothing else: a refusal that isn't shown doesn't count
+-- what is shown of a command: all of it where a test passes, else nothing, and a refusal that isn't shown doesn't count
 abbrev pub shown_where : Bool → Outcome → Shown
 shown_where test outcome = record { text = if test then outcome_text outcome else []; refuses = test && is_refused outcome }
 
 -- The script of a session.
 
--- one line, and what follows it in any case
+-- the script of one line, a command or a fault, and what follows it in any case
 abbrev pub line_script : ℕ → Result Request LineFault → Script → Script
 line_script number (Err why) following = errs (line_fault_text number why) following
 line_script number (Ok request) following = asks request (shown_where true) (λ outcome. following)
@@ -76,24 +77,24 @@ session_script number (text ∷ texts) = line_script number (read_text text) (se
 
 -- The scripts of the other subcommands.
 
--- commands up to the first that is refused, each with its reply
+-- the script of some commands up to the first that is refused, each with its reply
 unfoldable pub until_refused : List Request → Script
 until_refused [] = ended
 until_refused (request ∷ requests) = asks request (shown_where true) (λ outcome. if is_refused outcome then ended else until_refused requests)
 
--- the listing
+-- the script of `list`
 abbrev pub list_script : Script
 list_script = until_refused (to_list ∷ [])
 
--- a stream of the entry with a key is read whole
+-- the script of `get`: the entry with a key is opened, one of its streams is read whole, and it is closed
 abbrev pub get_script : List ℕ → ℕ → Script
 get_script key stream = until_refused (to_open 0 key ∷ to_read 0 stream 0 (2 ^ 64 - 1) ∷ to_close 0 ∷ [])
 
--- the entry with a key is doomed
+-- the script of `doom`: the entry with a key is doomed
 abbrev pub doom_script : List ℕ → Script
 doom_script key = until_refused (to_doom_key key ∷ [])
 
--- what is used least is evicted until so many bytes are left
+-- the script of `trim`: the least recently used items are evicted until so many bytes are left
 abbrev pub trim_script : ℕ → Script
 trim_script bytes = until_refused (to_trim bytes ∷ [])
 
@@ -101,7 +102,7 @@ trim_script bytes = until_refused (to_trim bytes ∷ [])
 abbrev pub put_after : Outcome → List ℕ → List Request → Script
 put_after opened key requests = if is_missing opened then until_refused (to_create 0 key ∷ requests) else if is_refused opened then ended else until_refused requests
 
--- the whole input is written to a stream of the entry with a key, which is made where it is missing; that it was missing isn't shown
+-- the script of `put`: the whole input is written to a stream of the entry with a key, which is made where it is missing; that it was missing isn't shown
 abbrev pub put_script : List ℕ → ℕ → List ℕ → Script
 put_script key stream bytes =
     asks (to_open 0 key) (λ opened. shown_where (not (is_missing opened)) opened) (λ opened. put_after opened key (to_write 0 stream 0 true bytes ∷ to_close 0 ∷ []))
@@ -114,13 +115,13 @@ totals_line item_count byte_count = codes "items " ++ (number_text item_count ++
 abbrev pub totals_text : State → List ℕ
 totals_text state = totals_line (items state) (total state)
 
--- no command, and then the totals
+-- the script of `count`: no command, and then the totals
 abbrev pub count_script : Script
 count_script = says totals_text ended
 
 -- What a script doesn't do.
 
--- whatever comes of its commands, it turns none away
+-- a script turns nothing away, whatever its commands' outcomes are
 unfoldable pub TurnsNoneAway : Script → Type 0
 TurnsNoneAway ended = Unit {0}
 TurnsNoneAway (errs text script) = TurnsNoneAway script

@@ -59,7 +59,7 @@ family_is_kept : kept_nodes family ≡ 0x90000001 ∷ 0x90000000 ∷ []
 unfolding family kept_among verdicts load load_record load_key admit is_key_length stored_key stored_stream stored_streams role_of parent_role part_role is_covered read_parent_index read_part_index read_name split_last child_name digits words_at shares_key is_orphan record_claims all_claims claims_of has_claim overlap repeats kind_of block_count file_selector first_block external_number entry_blocks walk walk_from chain_from hash mixed of_bytes of_four of_three of_one
 family_is_kept = refl
 
--- and both are candidates, the part for its parent
+-- both nodes are candidates, the part since its parent is listed
 family_are_candidates : candidates family ≡ 0x90000001 ∷ 0x90000000 ∷ []
 unfolding family is_candidate name_at is_parent_at is_key_length stored_key stored_stream stored_streams role_of parent_role read_parent_index read_name split_last child_name digits words_at block_count entry_blocks walk walk_from
 family_are_candidates = refl
@@ -80,7 +80,7 @@ candidate_parts : (candidates no_bit ≡ 0x90000001 ∷ 0x90000000 ∷ []) × (c
 unfolding no_bit orphan is_candidate name_at is_parent_at is_key_length stored_key stored_stream stored_streams role_of parent_role read_parent_index read_name split_last child_name digits words_at block_count entry_blocks walk walk_from
 candidate_parts = (refl, refl)
 
--- nor is one whose parent is dirty
+-- a part whose parent is dirty is no candidate
 dirty_parent : View
 dirty_parent = sparse_view 1 0x90000001 ((0x90000001, node 0x90000000 0x90000001 0xA0010001) ∷ (0x90000000, record { next = 0x90000000; prev = 0x90000001; contents = 0xA0010000; dirty = 5 }) ∷ [])
 

@@ -101,7 +101,7 @@ looped_is_kept : kept_nodes looped ≡ 0x90000000 ∷ []
 unfolding looped kept_among verdicts load load_record load_key admit is_key_length stored_key stored_stream stored_streams role_of shares_key is_orphan record_claims all_claims claims_of has_claim overlap repeats kind_of block_count file_selector first_block external_number entry_blocks walk walk_from chain_from hash mixed of_bytes of_one
 looped_is_kept = refl
 
--- and its chain ends at itself
+-- the chain of a record whose next names itself ends at that word
 looped_chain : chain looped.store 0xA782 ≡ record { reached = 0xA0010000 ∷ []; end = 0xA0010000 }
 unfolding looped chain_from
 looped_chain = refl
@@ -119,12 +119,12 @@ in_three prev =
       };
     }
 
--- where it is right all three are kept
+-- where the prev of the node in the middle is right, all three are kept
 all_three : kept_nodes (in_three 0x90000002) ≡ 0x90000002 ∷ 0x90000001 ∷ 0x90000000 ∷ []
 unfolding in_three kept_among verdicts load load_record load_key admit is_key_length stored_key stored_stream stored_streams role_of shares_key is_orphan record_claims all_claims claims_of has_claim overlap repeats kind_of block_count file_selector first_block external_number entry_blocks walk walk_from chain_from hash mixed of_bytes of_one
 all_three = refl
 
--- where it is wrong the walk ends before it
+-- where the prev of the node in the middle is wrong, the walk ends before it
 crossed : View
 crossed = in_three 0x90000001
 
@@ -132,12 +132,12 @@ crossed_walk : walk crossed.list ≡ 0x90000002 ∷ []
 unfolding crossed in_three walk walk_from
 crossed_walk = refl
 
--- so the first alone is kept
+-- where the walk ends before the second node, the first alone is kept
 crossed_kept : kept_nodes crossed ≡ 0x90000002 ∷ []
 unfolding crossed in_three kept_among verdicts load load_record load_key admit is_key_length stored_key stored_stream stored_streams role_of shares_key is_orphan record_claims all_claims claims_of has_claim overlap repeats kind_of block_count file_selector first_block external_number entry_blocks walk walk_from chain_from hash mixed of_bytes of_one
 crossed_kept = refl
 
--- and the records of the other two are unlisted
+-- the records of nodes that the walk doesn't reach are unlisted
 crossed_unlisted : (unlisted_in crossed 0x3EBF ≡ []) × (unlisted_in crossed 0xA0E1 ≡ (0xA0010001, reason.Unlisted) ∷ []) × (unlisted_in crossed 0xA782 ≡ (0xA0010000, reason.Unlisted) ∷ [])
 unfolding crossed in_three is_unlisted walk walk_from chain_from
 crossed_unlisted = (refl, refl, refl)
@@ -192,7 +192,7 @@ lost_next : (counts (in_flight 0x90000000 0x90000007 0x90000000 1) ≡ true)
 unfolding in_flight counts
 lost_next = (refl, refl, refl)
 
--- and so with a right next and a prev that isn't there
+-- with a right next and a prev that isn't there a removal doesn't count, nor does a move; an insertion does
 lost_prev : (counts (in_flight 0x90000000 0x90000001 0x90000007 1) ≡ true)
     × (counts (in_flight 0x90000000 0x90000001 0x90000007 2) ≡ false)
     × (counts (in_flight 0x90000000 0x90000001 0x90000007 3) ≡ false)

@@ -45,7 +45,7 @@ use Rattle.law_folder.proofs.examples.ExampleDoomed.{doomed_object, doomed_state
 abbrev node_words : List (ℕ × ℕ)
 node_words = (8208, 0) ∷ (8224, 0xED1A3109) ∷ []
 
--- and the state of the record is 2, and it is sealed again
+-- in the record the state is 2, and it is sealed again
 abbrev record_words : List (ℕ × ℕ)
 record_words = (8212, 2) ∷ (8284, 0xC1C0878B) ∷ []
 
@@ -102,7 +102,7 @@ folder-is_represented = record {
 
 -- ---- owners
 
--- the same files are linked as in the whole folder
+-- the doomed folder links the same files as the whole folder
 same-next : (n : ℕ) → next_file_in doomed_folder n ≡ next_file_in whole_folder n
 unfolding next_file_in doomed_folder whole_folder zeros with_word spliced
 same-next zero = refl
@@ -126,7 +126,7 @@ same-header (suc (suc zero)) k small early = refl
 same-header (suc (suc (suc zero))) k small early = refl
 same-header (suc (suc (suc (suc n)))) k small early = absurd (omega arith)
 
--- so the same blocks are marked
+-- the doomed folder has the same blocks marked as the whole folder
 doomed-marks : (n b : ℕ) → n < 4 → b < 64896 → is_block_marked doomed_folder n b ≡ marks n b
 doomed-marks n b small few = ap (λ (x : ℕ). bit_at x (b % 8) == 1) (same-header n (80 + b / 8) small (omega arith)) ∙ whole-marks n b small few
 
@@ -242,7 +242,7 @@ folder-sealed = record { node = refl; entry = refl }
 pub folder-is_in_order : IsInOrder doomed_folder [] (one.loaded 0 ∷ [])
 folder-is_in_order = record { only_linked = folder-only; long_enough = folder-long; counted = λ n is. folder-counted n (below n is); index = folder-index; sealed = (folder-sealed, tt) }
 
--- ---- what it stands for
+-- ---- the state that it represents
 
 -- nothing is listed
 none-listed : kept_by listed_rule (view_of doomed_folder) ≡ []
@@ -256,12 +256,12 @@ folder-keeps_doomed = are-doomed doomed_folder (doomed_state true) (doomed_layou
 pub keeps-the_object : KeepsDoomed (view_of doomed_folder) (doomed_object true) (one.loaded 0)
 keeps-the_object = folder-keeps_doomed.each.0
 
--- the folder stands for the state of the doomed object
+-- the folder represents the state of the doomed object
 pub doomed-stands : StandsFor doomed_folder (doomed_state true)
 doomed-stands = stands-for doomed_folder (doomed_state true) (doomed_layout 0) folder-is_represented (doomed-is_valid true) (0 ∷ []) folder-is_allocated doomed-is_well_formed (its-version (byte doomed_folder Index) 0 0 folder-counts)
     (subst (λ (ls : List Loaded). IsInOrder doomed_folder ls (one.loaded 0 ∷ [])) (sym none-listed) folder-is_in_order)
 
--- and it holds nothing
+-- nothing is recovered of the folder of a doomed object
 is_finished : unfinished doomed_folder ≡ false
 unfolding unfinished doomed_folder zeros with_word spliced
 is_finished = refl

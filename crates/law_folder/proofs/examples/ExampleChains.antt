@@ -1,4 +1,4 @@
--- The laws of chains at a chain of three records: it is linked from the table, one more goes in front, and the first and the second go out.
+-- The laws of chains at a chain of three records: it is linked from the table, one more is put in front, and the first and the second are taken out.
 use Rattle.std.proofs.Common.{◌≡◌, ℕ, ◌<◌, ◌≤◌, length, [], ◌∷◌, refl, sym, subst, arith, lit≤, true, false}
 use Rattle.std.specs.Prelude.{◌==◌, ◌||◌}
 use Rattle.std.proofs.lemmas.Bool.Decides.{nat_tests}
@@ -28,20 +28,20 @@ three-are_chained = record { linked = (refl, refl, (refl, refl, (refl, refl, ref
 pub chain-is_three : chain four_records bucket ≡ record { reached = 0xA0010000 ∷ 0xA0010001 ∷ 0xA0010002 ∷ []; end = 0 }
 chain-is_three = chain-is four_records bucket (0xA0010000 ∷ 0xA0010001 ∷ 0xA0010002 ∷ []) refl three-are_chained
 
--- the fourth goes in front
+-- the fourth record is put in front of the chain
 pub four-are_chained : IsChain (record four_records { table = put four_records.table bucket 0xA0010003 }) bucket (0xA0010003 ∷ 0xA0010000 ∷ 0xA0010001 ∷ 0xA0010002 ∷ [])
 four-are_chained = linked-front four_records bucket 0xA0010003 (0xA0010000 ∷ 0xA0010001 ∷ 0xA0010002 ∷ []) three-are_chained refl refl refl
 
--- and another chain stays
+-- the chain of another bucket stays
 pub other-stays : chain (record four_records { table = put four_records.table bucket 0xA0010003 }) 5 ≡ chain four_records 5
 other-stays = others-stay four_records bucket 5 0xA0010003 refl
 
--- the first goes out: the table names the second
+-- the first record is taken out of the chain: the table names the second
 pub first-goes_out : Linked (record four_records { table = put four_records.table bucket 0xA0010001 }) bucket 0xA0010001 (0xA0010001 ∷ 0xA0010002 ∷ [])
 first-goes_out =
     unlink-first four_records (record four_records { table = put four_records.table bucket 0xA0010001 }) bucket 0xA0010000 0xA0010000 (0xA0010001 ∷ 0xA0010002 ∷ []) (λ w among. (refl, refl)) three-are_chained.linked
 
--- the second goes out: the first has its next
+-- the second record is taken out of the chain: the first has its next
 abbrev without_second : StoreView
 without_second = record four_records { chain_next = put four_records.chain_next 0xA0010000 0xA0010002 }
 
@@ -54,7 +54,7 @@ second-goes_out =
       only : (w : ℕ) → ((0xA0010002 == w) || false) ≡ true → w ≡ 0xA0010002
       only w among = grind (arith, nat_tests)
 
--- so the chains are without it
+-- the chains without the first record, and without the second
 pub first-leaves_chain : IsChain (record four_records { table = put four_records.table bucket 0xA0010001 }) bucket (0xA0010001 ∷ 0xA0010002 ∷ [])
 unfolding put
 first-leaves_chain = first-leaves four_records (record four_records { table = put four_records.table bucket 0xA0010001 }) bucket 0xA0010000 (0xA0010001 ∷ 0xA0010002 ∷ []) (λ w among. (refl, refl)) refl three-are_chained

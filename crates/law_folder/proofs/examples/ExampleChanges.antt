@@ -98,7 +98,7 @@ now-loads : load (with_data (Some (codes "yyy"))).store (unchained_rule 0) node 
 unfolding load load_record load_key is_key_length entries.stored_key stored_stream stored_streams role_of block_count entry_blocks hash mixed of_bytes of_one
 now-loads = refl
 
--- it uses no block twice
+-- the changed record uses no block twice
 pub now-once : repeats (all_claims now) ≡ false
 unfolding repeats has_claim all_claims record_claims claims_of kind_of block_count file_selector first_block external_number
 now-once = refl
@@ -145,7 +145,7 @@ written_state = record (state false) { objects = Some written_object ∷ [] }
 pub written-is_laid : IsLayoutOf written_state (changed_at (layout 5) node now owners_now)
 written-is_laid = lies-changed (state false) (Some written_object ∷ []) (layout 5) (main (codes "a")) (loaded 5) now owners_now (represented 5).holds.lies one-changed refl refl is-change
 
--- and represented
+-- the state with the changed item is represented
 pub written-is_represented : Represents (with_data (Some (codes "yyy"))) written_state (changed_at (layout 5) node now owners_now)
 written-is_represented =
     replaced touched (view 5) (with_data (Some (codes "yyy"))) (state false) (layout 5) (represented 5) (Some written_object ∷ []) (main (codes "a")) (loaded 5) now owners_now (same-but (Some (codes "yyy"))) one-changed refl refl is-change is-replaced
@@ -156,7 +156,7 @@ torn-is_at_rest =
     moment-rest touched (view 5) (with_data None) (state false) (layout 5) (represented 5) (state_is_valid false) 0 (object false) (main (codes "a")) refl refl refl (loaded 5) refl (same-but None)
     (record { apart = apart-but; node_fields = refl; bucket = λ b. refl; chain_next = refl; links = record { checks = refl; next = refl; prev = refl } }) tt
 
--- and so it is with the node's record in the midst of this
+-- the durable contents are kept too with the node's record in the midst of that change
 torn-chains : (b : ℕ) → b < 65536 → IsChain (with_data None).store b ((layout 5).chains b)
 torn-chains b below = ⊎_elim
     (λ (e : (b == bucket) ≡ true). subst (λ (x : ℕ). IsChain (with_data None).store x ((layout 5).chains x)) (sym (eqb-true b bucket e)) (record { linked = (refl, refl, refl); once = (refl, tt) }))
@@ -211,7 +211,7 @@ same-but_more = record {
   table = λ b. refl;
 }
 
--- it is nobody's
+-- block 2 of data_1 has no owner
 pub block-is_free : IsFree new_block (layout 0)
 unfolding has_claim
 block-is_free claim w owned = go claim (subst (λ (cs : List Claim). has_claim cs claim ≡ true) claims (choice (has_claim (all_claims (loaded 0)) claim) node w owned).0) where
@@ -219,7 +219,7 @@ block-is_free claim w owned = go claim (subst (λ (cs : List Claim). has_claim c
   go (BlockOf f b) h = grind (arith, nat_tests)
   go (ExternalOf n) h = refl
 
--- a change of what is nobody's keeps what is represented
+-- a change of blocks without an owner keeps what is represented
 pub more-is_represented : Represents with_more (state true) (layout 0)
 more-is_represented = represents-outside new_block (view 0) with_more (state true) (layout 0) same-but_more block-is_free (represented 0)
 
@@ -238,18 +238,18 @@ same-but_dirt = record {
   table = λ b. refl;
 }
 
--- that makes the object dirty
+-- with the dirty word 5 the object is dirty
 pub dirtied-is_represented : Represents (view 5) (marked (state true) 0 (object true) false) (dirtied (layout 0) node (loaded 0) 5)
 dirtied-is_represented =
     written-settles (view 0) (view 5) (state true) (layout 0) (represented 0) (state_is_valid true) 0 (object true) (loaded 0) (lies 0) 5 same-but_dirt
     (λ node_fields is. let s : ◌≡◌ {A = NodeFields} (record { contents = contents; dirty = 0 }) node_fields = cc in ap (λ (n : NodeFields). Some (record n { dirty = 5 })) s)
     (record { checks = refl; next = refl; prev = refl })
 
--- the durable contents before and after this are picked by it
+-- the durable contents before and after the object becomes dirty are what survives a crash in that
 pub turned-is_picked : (rest (state true) ≡ pick (state true) (turned (state true) 0 (object true) false (state true).names) true (state true).uses)
     × (rest (turned (state true) 0 (object true) false (state true).names) ≡ pick (state true) (turned (state true) 0 (object true) false (state true).names) false (state true).uses)
 turned-is_picked = (before-turning (state true) (state_is_valid true) 0 (object true) false (state true).names refl refl, after-turning (state true) (state_is_valid true) 0 (object true) false (state true).names refl refl)
 
--- and so it does where the word alone is another
+-- the object is dirty also in the view in which the dirty word alone is another
 pub marked-is_represented : Represents (record (view 0) { store = record (view 0).store { node_fields = put (view 0).store.node_fields node (Some (record { contents = contents; dirty = 5 })) } }) (marked (state true) 0 (object true) false) (dirtied (layout 0) node (loaded 0) 5)
 marked-is_represented = dirty-settles (view 0) (state true) (layout 0) (represented 0) (state_is_valid true) 0 (object true) (loaded 0) (lies 0) (record { contents = contents; dirty = 0 }) 5 refl

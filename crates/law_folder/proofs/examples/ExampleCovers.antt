@@ -37,7 +37,7 @@ not-external e = let two : 2 ≡ external = sym its-place.0 ∙ e in cc
 pub stream-is_covered : Covers whole_folder (range (Block (file_selector its_stream)) (place its_stream) (byte_size its_stream)) (has_claim (claims_of its_stream))
 stream-is_covered = blocks-covered whole_folder its_stream stream-stands not-external
 
--- so is each part of them
+-- each range of bytes of the stream's blocks is covered by its used blocks
 pub part-is_covered : Covers whole_folder (range (Block 1) 8448 2) (has_claim (claims_of its_stream))
 unfolding kind_of file_selector place byte_size block_place block_size first_block block_count
 part-is_covered = covers-less whole_folder (range (Block 1) 8448 2) (range (Block (file_selector its_stream)) (place its_stream) (byte_size its_stream)) (has_claim (claims_of its_stream)) (range_within (Block 1) 8448 2 8448 256 (lit≤ tt) (lit≤ tt)) stream-is_covered
@@ -46,11 +46,11 @@ part-is_covered = covers-less whole_folder (range (Block 1) 8448 2) (range (Bloc
 pub counter-needs_no_cover : Covers whole_folder (range (Block 1) 16 4) (λ claim. false)
 counter-needs_no_cover = headers-covered whole_folder 1 16 4 (lit≤ tt) (inr (inl (lit≤ tt, lit≤ tt)))
 
--- so it is covered by the used blocks of the stream too
+-- the counter of the allocations is covered by the used blocks of the stream too
 counter-is_covered : Covers whole_folder (range (Block 1) 16 4) (has_claim (claims_of its_stream))
 counter-is_covered = covers-more whole_folder (range (Block 1) 16 4) (λ claim. false) (has_claim (claims_of its_stream)) (λ claim none. absurd (let z : false ≡ true = none in cc)) counter-needs_no_cover
 
--- and both are
+-- the counter and the bytes of the stream are both covered by the used blocks of the stream
 pub both-are_covered : Covers whole_folder (either (range (Block 1) 16 4) (range (Block 1) 8448 2)) (has_claim (claims_of its_stream))
 both-are_covered = covers-either whole_folder (range (Block 1) 16 4) (range (Block 1) 8448 2) (has_claim (claims_of its_stream)) counter-is_covered part-is_covered
 
@@ -86,7 +86,7 @@ pub first-links_the_same : (n : ℕ) → linked_as first_write n ≡ linked_as w
 unfolding next_file_in
 first-links_the_same = same-links whole_folder first_write (λ n i. first-outside.bytes (Block n) 10 (and-false (same_file (Block 1) (Block n))) i + 256 * first-outside.bytes (Block n) 11 (and-false (same_file (Block 1) (Block n))) i)
 
--- so the second write is covered where the first is made
+-- the second write is covered in the image with the first write made
 still-covered : Covers first_write (range (Block 1) 8448 2) (has_claim (claims_of its_stream))
 still-covered = record {
   index = part-is_covered.index;
@@ -102,10 +102,10 @@ second-agrees =
     covered-agrees (range (Block 1) 8449 1) first_write second_write (has_claim (claims_of its_stream)) (outside_write (Block 1) 8449 (120 ∷ []) first_write)
     (covers-less first_write (range (Block 1) 8449 1) (range (Block 1) 8448 2) (has_claim (claims_of its_stream)) (range_within (Block 1) 8449 1 8448 2 (lit≤ tt) (lit≤ tt)) still-covered)
 
--- after both writes the images agree but there
+-- after both writes the images agree but for the blocks of the stream
 pub both-agree : AgreeBut (has_claim (claims_of its_stream)) whole_folder second_write
 both-agree = agreement-goes_on (has_claim (claims_of its_stream)) whole_folder first_write second_write first-agrees second-agrees
 
--- and but on more
+-- after both writes the images agree but for more blocks
 pub more-agree : AgreeBut (λ claim. has_claim (claims_of its_stream) claim || same_claim claim (BlockOf 1 5)) whole_folder second_write
 more-agree = agreement-more (has_claim (claims_of its_stream)) (λ claim. has_claim (claims_of its_stream) claim || same_claim claim (BlockOf 1 5)) whole_folder second_write (λ claim h. rw h refl) both-agree

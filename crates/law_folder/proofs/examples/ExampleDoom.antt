@@ -307,7 +307,7 @@ doomed-holds = others-outside (has_claim (claims_of contents)) gone unlinked doo
 doomed-loads : load doomed_stock (unchained_rule records.entry_doomed) node ≡ Ok (loaded 0)
 doomed-loads = another-state unlinked doomed_stock 0 records.entry_doomed node (loaded 0) fields unlinked-loads (once-claimed 0) (record { node_fields = λ w. refl; key_place = λ w fields clear is long short. refl; stored = λ size w clear. refl }) refl refl
 
--- and the record of `kmyb` as it did
+-- the record of `kmyb` loads as it did
 second-stays : load doomed_stock (unchained_rule 0) second_node ≡ Ok (second 0)
 unfolding put
 second-stays = records-outside (has_claim (claims_of contents)) unlinked doomed_stock 0 second_node (second 0) (unlinked-holds.each second_node (second 0) refl refl) state-is_written (second-touched)
@@ -357,7 +357,7 @@ doomed-now = record {
 pub doom-is_laid : IsLayoutOf (doomed 0 two (Some (object true))) (placed_doomed two_layout 0 node two_layout.at one_chain two_layout.owner)
 doom-is_laid = doomed-is-laid two two_layout two-is_represented.holds.lies two-is_valid 0 (object true) (loaded 0) two_layout.at one_chain two_layout.owner doomed-now
 
--- and represented
+-- the state after the doom is represented
 pub doom-is_represented : Represents doomed_view (doomed 0 two (Some (object true))) (placed_doomed two_layout 0 node two_layout.at one_chain two_layout.owner)
 unfolding created closed
 doom-is_represented = doomed-is-represented gone doomed_view two two_layout two-is_represented.holds.lies two-is_valid 0 (object true) (loaded 0) two_layout.at one_chain two_layout.owner doomed-now doomed-holds

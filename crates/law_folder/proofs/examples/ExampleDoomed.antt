@@ -125,7 +125,7 @@ doomed-is_valid settled = record { objects = objects; names = refl; bound = boun
 pub doomed-is_not_walked : walk (doomed_view 0 None).list ≡ []
 doomed-is_not_walked = walk-order (doomed_view 0 None) (doomed_state true) (doomed_layout 0) (doomed-is_represented 0)
 
--- and nothing is held
+-- nothing is recovered of a doomed object
 pub doomed-is_not_held : map volume.row_of_loaded (kept_by held_rule (volume.completed (doomed_view 0 None))) ≡ []
 unfolding rest
 doomed-is_not_held = found-rest (doomed_view 0 None) (doomed_state true) (doomed_layout 0) (doomed-is_represented 0) (doomed-is_valid true)
@@ -165,12 +165,12 @@ dirt-is_inside = record {
   table = λ b. refl;
 }
 
--- that makes it dirty
+-- with the dirty word 5 the doomed object is dirty
 pub doomed-is_dirtied : Represents (doomed_view 5 None) (marked (doomed_state true) 0 (doomed_object true) false) (dirtied (doomed_layout 0) one.node (one.loaded 0) 5)
 doomed-is_dirtied = written-doomed-settles (doomed_view 0 None) (doomed_view 5 None) (doomed_state true) (doomed_layout 0) (doomed-is_represented 0) 0 (doomed_object true) (one.loaded 0) (here-doomed 0) 5 dirt-is_inside
     (λ node_fields is. let s : ◌≡◌ {A = NodeFields} (record { contents = one.contents; dirty = 0 }) node_fields = cc in ap (λ (n : NodeFields). Some (record n { dirty = 5 })) s)
 
--- and so it does where the word alone is another
+-- the doomed object is dirty also in the view in which the dirty word alone is another
 pub doomed-is_marked : Represents (record (doomed_view 0 None) { store = record (doomed_view 0 None).store { node_fields = put (doomed_view 0 None).store.node_fields one.node (Some (record { contents = one.contents; dirty = 5 })) } })
     (marked (doomed_state true) 0 (doomed_object true) false) (dirtied (doomed_layout 0) one.node (one.loaded 0) 5)
 doomed-is_marked = doomed-settles (doomed_view 0 None) (doomed_state true) (doomed_layout 0) (doomed-is_represented 0) 0 (doomed_object true) (one.loaded 0) (here-doomed 0) (record { contents = one.contents; dirty = 0 }) 5 refl
@@ -226,7 +226,7 @@ written-is_represented =
     changed-doomed touched (doomed_view 5 None) (written_view (Some (codes "yyy"))) (doomed_state false) (doomed_layout 5) (doomed-is_represented 5) 0 (doomed_object false) written_object (one.loaded 5) now owners_now (here-doomed 5)
     (written-is_inside (Some (codes "yyy"))) written-alone written-loads written-change
 
--- where the data isn't there yet, nothing is held either
+-- where the data isn't there yet, nothing is recovered either
 pub torn-is_not_held : map volume.row_of_loaded (kept_by held_rule (volume.completed (written_view None))) ≡ []
 unfolding rest
 torn-is_not_held = doomed-rest touched (doomed_view 5 None) (written_view None) (doomed_state false) (doomed_layout 5) (doomed-is_represented 5) (doomed-is_valid false) 0 (doomed_object false) refl refl (written-is_inside None) written-alone

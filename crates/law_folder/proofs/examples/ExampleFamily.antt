@@ -69,7 +69,7 @@ the_parent = record { node = parent_node; contents = 0xA0010000; dirty = 0; key 
 abbrev pub the_part : Loaded
 the_part = record { node = part_node; contents = 0xA0010001; dirty = 0; key = codes "Range_a:5:0"; role = IsPart part_name part_index; streams = [] ∷ [] ∷ part_bytes ∷ []; others = 0 ∷ 0 ∷ 0 ∷ 0xA0010008 ∷ 0 ∷ [] }
 
--- what is shown of both, but for the list
+-- the store view of the parent and the part
 abbrev pub family_stock : StoreView
 family_stock = (sparse_view 1 part_node both_nodes).store
 
@@ -102,7 +102,7 @@ abbrev pub place_of : Item → ℕ
 place_of (main key) = parent_node
 place_of (part key n) = part_node
 
--- where all lies
+-- the layout of the parent and the part
 abbrev pub family_layout : Layout
 family_layout = record {
   place = place_of;
@@ -208,7 +208,7 @@ of-a_chain b c below h = go (b == 0xA782) (b == 0xD945) h where
   go false true e = record { node = part_node; loaded = the_part; listed = refl; here = refl; record_is = among-one 0xA0010001 c e }
   go false false e = absurd (let z : false ≡ true = e in cc)
 
--- the stock shows the layout, which is that of the state
+-- the store view agrees with the layout, which fits the state
 pub family-holds : Holds family_stock family_state family_layout
 family-holds = record {
   shows = record {
@@ -254,7 +254,7 @@ its-main key n h = ⊎_elim
     (λ (e : part key n ≡ main (codes "a")). absurd (cc))
     (which-item (part key n) h)
 
--- so the part goes with its main item
+-- the part is listed with its main item
 pub main-listed : (key : List ℕ) (n : ℕ) → is_listed family_state (part key n) ≡ true → is_listed family_state (main key) ≡ true
 main-listed key n h = subst (λ (k : List ℕ). is_listed family_state (main k) ≡ true) (sym (its-main key n h).0) refl
 
@@ -275,14 +275,14 @@ family-is_shown = laid-shown family_stock family_state family_layout family-hold
 pub family-is_kept : kept_among family_stock held_rule (part_node ∷ parent_node ∷ []) ≡ the_part ∷ the_parent ∷ []
 family-is_kept = kept-given family_stock held_rule (part_node ∷ parent_node ∷ []) (given_by is_clean family_layout) family-is_shown
 
--- both are of one object, which passes
+-- the parent and the part are of one object, which passes the test
 is-test : IsTest family_state family_layout family_state.uses (λ number. true)
 is-test = record {
   owners = λ key n h. let k = its-main key n h in subst (λ (i : ℕ). owner family_state (part key i) ≡ owner family_state (main key)) (sym k.1) (subst (λ (x : List ℕ). owner family_state (part x 0) ≡ owner family_state (main x)) (sym k.0) refl);
   main_test = λ key l number h at own. let s : the_parent ≡ l = cc in ap is_clean (sym s);
 }
 
--- and their rows are picked
+-- the rows of the parent and the part are those of the object that passes
 pub family-is_picked : map volume.row_of_loaded (kept_among family_stock held_rule (part_node ∷ parent_node ∷ [])) ≡ part_row (codes "a") 0 part_value ∷ main_row (codes "a") (sparse 5) ([], [], []) ∷ []
 unfolding row_of
 family-is_picked = found-picked family_state family_layout family-holds.lies.laid family_state.uses (λ item h. h) (λ number. true) is-test family_stock family-holds (refl, (refl, tt)) main-listed

@@ -1,4 +1,4 @@
--- The laws of folders at the whole folder: it shows its state, stands for it and is sound, and its allocations are its node, its record and its stream.
+-- The laws of folders at the whole folder: it represents its state and is consistent, and its allocations are its node, its record and its stream.
 use Rattle.std.proofs.Common.{◌≡◌, ℕ, zero, suc, ◌+◌, ◌<◌, ◌≤◌, List, [], ◌∷◌, ◌++◌, map, refl, ap, sym, ◌∙◌, subst, arith, lit≤, Bool, true, false, Option, Some, None}
 use Rattle.std.specs.Prelude.{if◌then◌else◌, ◌==◌, ◌||◌, nat_lt, is_some}
 use Rattle.std.specs.Option.{IsSomeAnd}
@@ -192,7 +192,7 @@ none-doomed (d ∷ doomed) are = absurd (go (object_at (one.state true) d.0) ref
 pub whole-is_shown : ShowsState (view_of whole_folder) (one.state true)
 whole-is_shown = shows-state whole_folder (one.state true) (one.layout 0) whole-is_represented (state_is_valid true) [] whole-is_allocated
 
--- it stands for it
+-- the folder represents the state of the entry
 pub whole-stands : StandsFor whole_folder (one.state true)
 whole-stands = stands-for whole_folder (one.state true) (one.layout 0) whole-is_represented (state_is_valid true) [] whole-is_allocated whole-is_well_formed (its-version (byte whole_folder Index) 1 3 whole-counts)
     (subst (λ (ls : List Loaded). IsInOrder whole_folder ls []) (sym kept-listed) whole-is_in_order)
@@ -202,7 +202,7 @@ whole-is_owned =
     subst (λ (ls : List Loaded). AreOwned whole_folder (claims_of_loaded (ls ++ []))) kept-listed
     (subst (λ (ds : List (ℕ × Loaded)). AreOwned whole_folder (claims_of_loaded (kept_by listed_rule (view_of whole_folder) ++ map (λ (d : ℕ × Loaded). d.1) ds))) (none-doomed whole-stands.doomed whole-stands.are_doomed) whole-stands.owned)
 
--- it is sound
+-- the folder is consistent
 pub whole-is_sound : IsSound whole_folder
 whole-is_sound = record {
   well_formed = whole-is_well_formed;
@@ -219,7 +219,7 @@ pub its-records : AreAllocations whole_folder 1 (one.contents ∷ 0xA0010001 ∷
 unfolding is_in_file kind_of file_selector
 its-records = subst (λ (ls : List Loaded). AreAllocations whole_folder 1 (filter (is_in_file 1) (flat_map words_of ls))) whole-is_kept (sound-allocated whole_folder whole-is_sound 1 (linked-below 1))
 
--- and that of data_0 is the node
+-- the allocation of data_0 is the node
 pub its-nodes : AreAllocations whole_folder 0 (one.node ∷ [])
 unfolding is_in_file kind_of file_selector
 its-nodes =
@@ -227,23 +227,23 @@ its-nodes =
     (subst (λ (ds : List (ℕ × Loaded)). AreAllocations whole_folder 0 (filter (is_in_file 0) (flat_map words_of (kept_by listed_rule (view_of whole_folder) ++ map (λ (d : ℕ × Loaded). d.1) ds)))) (none-doomed whole-stands.doomed whole-stands.are_doomed)
     (stood-allocated whole_folder (one.state true) whole-stands 0 (linked-below 0)))
 
--- A new folder is bare: it holds nothing, is sound, and represents the empty state and stands for it.
+-- A new folder is an empty cache: nothing is recovered of it, it is consistent, and it represents the empty state.
 
 abbrev pub some_limits : Bounds
 some_limits = record { max_bytes = 1000; max_items = 10 }
 
--- it holds nothing
+-- the recovered contents of a new folder are empty
 pub new-is_empty : found (new_folder 50) ≡ []
 new-is_empty = bare-found (new_folder 50) (new-bare 50 (new_folder 50) (new-is_new 50))
 
--- it is sound
+-- a new folder is consistent
 pub new-is_sound : IsSound (new_folder 50)
 new-is_sound = bare-sound (new_folder 50) (new-bare 50 (new_folder 50) (new-is_new 50))
 
--- it represents the empty state
+-- the view of a new folder represents the empty state
 pub new-is_represented : Represents (view_of (new_folder 50)) (open_state [] some_limits) no_layout
 new-is_represented = represents-empty (new_folder 50) (new-bare 50 (new_folder 50) (new-is_new 50)) some_limits
 
--- and stands for it
+-- a new folder represents the empty state, with its files, maps and counters
 pub new-stands : StandsFor (new_folder 50) (open_state [] some_limits)
 new-stands = bare-stands (new_folder 50) (new-bare 50 (new_folder 50) (new-is_new 50)) some_limits

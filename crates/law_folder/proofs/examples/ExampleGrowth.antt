@@ -125,11 +125,11 @@ have-grown = record {
 pub grown-agrees : AgreeBut (is_past whole_folder) whole_folder grown_folder
 grown-agrees = growth-past whole_folder grown_folder whole-long have-grown
 
--- so all else is shown as before
+-- all that is shown is as before
 pub grown-shows_the_same : SameBut (is_past whole_folder) (view_of whole_folder) (view_of grown_folder)
 grown-shows_the_same = agreeing-views (is_past whole_folder) whole_folder grown_folder grown-agrees
 
--- and the folder still represents its state
+-- the folder after the growth represents the same state
 pub grown-is_represented : Represents (view_of grown_folder) (one.state true) (one.layout 0)
 grown-is_represented = growth-keeps whole_folder grown_folder (one.state true) (one.layout 0) [] have-grown whole-is_represented whole-is_allocated.exact
 

@@ -57,7 +57,7 @@ use Rattle.law_folder.proofs.commands.Created.{creates-moments, creates-end, cre
 abbrev pub is_clean : Loaded → Bool
 is_clean l = l.dirty == 0
 
--- that goes with the rule of what is held
+-- the test on dirty words agrees with the rule for what recovery keeps
 pub goes-with : GoesWith (layout 0) (main (codes "a") ∷ []) held_rule is_clean
 goes-with = record {
   clean = λ item l h at passes. passes;
@@ -70,11 +70,11 @@ goes-with = record {
 pub entry-is_shown : IsShown (store contents 0) held_rule (node ∷ []) (given_by is_clean (layout 0))
 entry-is_shown = laid-shown (store contents 0) (state true) (layout 0) (represented 0).holds held_rule (main (codes "a") ∷ []) is_clean refl (λ item h. h) (refl, tt) goes-with
 
--- so it is kept
+-- the one entry is kept
 pub entry-is_kept : kept_among (store contents 0) held_rule (node ∷ []) ≡ loaded 0 ∷ []
 entry-is_kept = kept-given (store contents 0) held_rule (node ∷ []) (given_by is_clean (layout 0)) entry-is_shown
 
--- and not dropped
+-- the one entry isn't dropped
 pub entry-is_not_dropped : dropped_among (store contents 0) held_rule (node ∷ []) ≡ []
 entry-is_not_dropped = dropped-none (store contents 0) held_rule (node ∷ []) (given_by is_clean (layout 0)) entry-is_shown (λ w among none. go w among none) where
   go : (w : ℕ) → ((node == w) || false) ≡ true → given_by is_clean (layout 0) w ≡ None → ⊥
@@ -87,7 +87,7 @@ entry-is_test = record {
   main_test = λ key l number h at own. let s : loaded 0 ≡ l = cc in ap is_clean (sym s);
 }
 
--- and its row is picked
+-- the row of the one object is that of the object that passes
 pub entry-is_picked : map volume.row_of_loaded (kept_among (store contents 0) held_rule (node ∷ [])) ≡ main_row (codes "a") plain (codes "zz", [], []) ∷ []
 unfolding row_of
 entry-is_picked =
@@ -100,7 +100,7 @@ entry-is_picked =
 abbrev pub second_node : ℕ
 second_node = 0x90000001
 
--- its record
+-- the record of the second entry
 abbrev pub second_contents : ℕ
 second_contents = 0xA0010002
 
@@ -123,7 +123,7 @@ second-loads : load with_second.store (unchained_rule 0) second_node ≡ Ok seco
 unfolding load load_record load_key is_key_length entries.stored_key stored_stream stored_streams role_of block_count entry_blocks hash mixed of_bytes of_one
 second-loads = refl
 
--- its used blocks
+-- the used blocks of the second entry
 second-claims : all_claims second ≡ BlockOf 0 1 ∷ BlockOf 1 2 ∷ []
 unfolding all_claims record_claims claims_of kind_of block_count file_selector first_block external_number
 second-claims = refl
@@ -167,7 +167,7 @@ second-same = record {
   or-false true = refl
   or-false false = refl
 
--- the record and the node are written outside what is anybody's
+-- the record and the node of the second entry are written outside what any node owns
 pub second-is_written : IsWrittenApart (view 0) with_second (state true) (layout 0) (codes "b") second
 unfolding hash mixed of_bytes of_one
 second-is_written = record {
@@ -212,7 +212,7 @@ both_view = record { list = after_writes (writes_of insert second_node with_seco
 pub both-are_represented : Represents both_view both both_layout
 both-are_represented = creates-end (view 0) with_second (state true) (layout 0) (codes "b") second second-is_written 1
 
--- and the durable contents are the same
+-- the durable contents with both entries are those with the first
 pub both-leave_the_rest : rest both ≡ rest (state true)
 both-leave_the_rest = creates-rest (view 0) with_second (state true) (layout 0) (codes "b") second second-is_written 1
 
@@ -221,7 +221,7 @@ pub create-is_not_refused : (refused 7 (to_create 1 (codes "b")) (state true) �
 unfolding refusals evicted room_for effect created room charge pinned_of
 create-is_not_refused = (refl, refl)
 
--- and the old durable contents are an outcome of a crash
+-- the old durable contents are a crash outcome of the Create
 pub create-may_be_stopped : StopOutcome (state true) 7 (to_create 1 (codes "b")) (step (state true) 7 (to_create 1 (codes "b"))).state (rest (state true))
 create-may_be_stopped = create-stops (state true) 1 (codes "b") 7 create-is_not_refused.0 create-is_not_refused.1
 
@@ -229,7 +229,7 @@ create-may_be_stopped = create-stops (state true) 1 (codes "b") 7 create-is_not_
 key-is_good : IsKey (codes "b")
 key-is_good = record { some = omega arith; short = omega arith; bytes = bytes-small (codes "b") (omega arith, tt) }
 
--- it is one that a cache may have
+-- the state of both entries is one that a cache may have
 pub both-are_valid : IsValidState both
 both-are_valid = state_created (state true) (state_is_valid true) 1 (codes "b") key-is_good (omega arith) refl refl
 
@@ -239,11 +239,11 @@ pub open-is_not_refused : refused 7 (to_open 2 (codes "a")) both ≡ None
 unfolding refusals created
 open-is_not_refused = refl
 
--- at each write of its touch what is kept may be left by a crash in it
+-- at each write of the access of `a` what is kept is a crash outcome of the Open
 pub open-may_be_stopped : (count : ℕ) → StopOutcome both 7 (to_open 2 (codes "a")) (step both 7 (to_open 2 (codes "a"))).state (map volume.row_of_loaded (kept_by held_rule (volume.completed (touched_view both_view node count))))
 open-may_be_stopped = open-moments both_view both both_layout both-are_represented both-are_valid 7 2 (codes "a") open-is_not_refused
 
--- and in the end `a` is in front
+-- after the access `a` is in front
 pub open-is_represented : Represents (record both_view { list = after_writes (touch_writes node both_view.list) both_view.list }) (step both 7 (to_open 2 (codes "a"))).state both_layout
 open-is_represented = open-ends both_view both both_layout both-are_represented both-are_valid 7 2 (codes "a") open-is_not_refused
 
@@ -355,7 +355,7 @@ pub both-are_listed : map volume.row_of_loaded (kept_by listed_rule both_view) �
 unfolding created rows row_of
 both-are_listed = rows-kept both_view both both_layout both-are_represented both-are_valid
 
--- nothing is dropped but for dirt
+-- nothing is dropped where dirty nodes are kept too
 pub both-are_not_dropped : dropped_by listed_rule both_view ≡ []
 both-are_not_dropped = none-dropped both_view both both_layout both-are_represented both-are_valid
 
@@ -363,7 +363,7 @@ both-are_not_dropped = none-dropped both_view both both_layout both-are_represen
 pub both-chains_end : ChainsEnd both_view.store
 both-chains_end = chain-end both_view.store both both_layout both-are_represented.holds both-are_valid
 
--- and what is kept is `a` alone, which is clean
+-- recovery keeps `a` alone, which is clean
 pub both-keep_the_first : map volume.row_of_loaded (kept_by held_rule (volume.completed both_view)) ≡ main_row (codes "a") plain (codes "zz", [], []) ∷ []
 unfolding created rest settled_row
 both-keep_the_first = found-rest both_view both both_layout both-are_represented both-are_valid

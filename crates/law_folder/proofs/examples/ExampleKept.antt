@@ -33,7 +33,7 @@ use Rattle.law_folder.proofs.examples.SmallFolder.{small_index, small_records, f
 pub second-may_be_left_out : kept_among pair.store held_rule (0x90000000 ∷ []) ≡ kept_among pair.store held_rule (0x90000000 ∷ 0x90000001 ∷ [])
 second-may_be_left_out = leaving-out pair.store held_rule (λ w. w == 0x90000000) (0x90000000 ∷ 0x90000001 ∷ []) second_is_left_out
 
--- both are in one chain
+-- both records of one key are in one chain
 pub both-are_in_one_chain : (is_among (chain pair.store (bucket_of_hash (hash (codes "a")))).reached 0xA0010000 ≡ true) × (is_among (chain pair.store (bucket_of_hash (hash (codes "a")))).reached 0xA0010001 ≡ true)
 both-are_in_one_chain = let c = one-chain pair.store 0x90000000 0x90000001 0xA0010000 0xA0010001 0 0 first_core second_core (codes "a") both_are_keyed.0 both_are_keyed.1 in (c.1, c.2)
 
@@ -61,12 +61,12 @@ other-walks : (walk (completed (view_of (folder_with small_records))).list ≡ 0
 unfolding folder_with dirty_folder zeros with_word spliced next_file_in max_entries_in linked files_along kind_among walk walk_from completed_list counts list_of checks_at next_at prev_at stands stands_as_blocks is_address is_initialized names_external names_blocks kind_of reserved_bits block_count file_selector first_block external_number block_size block_place place byte_size node_checks node_in
 other-walks = (refl, refl)
 
--- and the candidate is the same
+-- both folders have the same candidate
 one-candidate : (candidates (completed (view_of (folder_with small_records))) ≡ 0x90000000 ∷ []) × (candidates (completed (view_of dirty_folder)) ≡ 0x90000000 ∷ [])
 unfolding folder_with dirty_folder zeros with_word spliced next_file_in max_entries_in linked files_along kind_among is_candidate store_of node_fields_at fields_at stands stands_as_blocks is_address is_initialized names_external names_blocks kind_of reserved_bits block_count file_selector first_block external_number block_size block_place place byte_size node_in entry_in entry_checks words_at
 one-candidate = (rw other-walks.0 refl, rw other-walks.1 refl)
 
--- they agree on what it names
+-- both folders agree on what the candidate names
 abbrev old_stock : StoreView
 old_stock = (completed (view_of (folder_with small_records))).store
 
@@ -92,12 +92,12 @@ is-same = record {
   });
 }
 
--- so they hold the same
+-- both folders have the same recovered contents
 pub same-is_held : found (folder_with small_records) ≡ found dirty_folder
 same-is_held =
     frame-law (folder_with small_records) dirty_folder are-well_formed.0 are-well_formed.1 (one-candidate.0 ∙ sym one-candidate.1)
     (subst (AllByRecursion (SameNamed old_stock new_stock)) (sym one-candidate.0) (is-same, tt))
 
--- what is kept of each are its candidates
+-- what is kept of the folder with the dirty node is what is kept of its candidate
 pub only-the_candidate : kept_by held_rule (completed (view_of dirty_folder)) ≡ kept_among new_stock held_rule (0x90000000 ∷ [])
 only-the_candidate = only-candidates (completed (view_of dirty_folder)) ∙ ap (kept_among new_stock held_rule) one-candidate.1

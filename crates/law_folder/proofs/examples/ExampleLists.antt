@@ -21,15 +21,15 @@ fourth-is_inserted = (inserts-turn 4 three (3 ∷ 2 ∷ 1 ∷ []) fourth, insert
 pub second-is_removed : CommitsAtTwo three (writes_of remove 2 three) (3 ∷ 2 ∷ 1 ∷ []) (3 ∷ 1 ∷ []) × IsAtRest (after_writes (writes_of remove 2 three) three) (3 ∷ 1 ∷ [])
 second-is_removed = (removals-turn 2 three (3 ∷ []) (1 ∷ []) three_at_rest, removals-end 2 three (3 ∷ []) (1 ∷ []) three_at_rest)
 
--- the third is touched
+-- the third node is accessed
 pub third-is_touched : CommitsAtTwo three (touch_writes 1 three) (3 ∷ 2 ∷ 1 ∷ []) (1 ∷ 3 ∷ 2 ∷ []) × IsAtRest (after_writes (touch_writes 1 three) three) (1 ∷ 3 ∷ 2 ∷ [])
 third-is_touched = (touches-turn 1 three (3 ∷ 2 ∷ []) [] three_at_rest, touches-end 1 three (3 ∷ 2 ∷ []) [] three_at_rest)
 
--- an insert that was begun is completed, in three attempts
+-- the redo of an insert that was begun ends it, in three attempts
 abbrev begun_insert : ListView
 begun_insert = record three { transaction = 4; operation = insert }
 
--- completing it again gives the same list, and ends it
+-- the redo of the redone list gives the same list, without an operation in flight
 pub insert-is_completed : (completed_but_operation (stopped (2 ∷ 3 ∷ 1 ∷ []) begun_insert) ≡ completed_but_operation begun_insert)
     × (completed_but_operation (after_writes (completion_writes begun_insert) begun_insert) ≡ completed_but_operation begun_insert)
     × ((after_writes (completion_writes begun_insert) begun_insert).transaction ≡ 0)

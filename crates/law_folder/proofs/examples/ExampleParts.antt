@@ -1,4 +1,4 @@
--- The laws on changes and removals at a part: it is written anew, and it goes while its parent stays.
+-- The laws on changes and removals at a part: it is written anew, and it is removed while its parent stays.
 use Rattle.std.proofs.Common.{◌≡◌, ⊎_elim, ℕ, zero, suc, ◌<◌, ◌≤◌, List, [], ◌∷◌, ◌++◌, map, refl, ap, sym, ◌∙◌, subst, arith, Bool, true, false, Option, Some, None, Ok, get_or}
 use Rattle.std.specs.Prelude.{if◌then◌else◌, ◌==◌, ◌&&◌, not, nat_lt, codes, replicate, IfSome}
 use Rattle.std.specs.List.{range_with_len}
@@ -82,7 +82,7 @@ one-owner (main key) = ⊎_elim (λ (e : bytes_eq key (codes "a") ≡ true). rw 
 one-owner (part key zero) = ⊎_elim (λ (e : bytes_eq key (codes "a") ≡ true). rw e (refl, omega arith)) (λ (e : bytes_eq key (codes "a") ≡ false). rw e (refl, omega arith)) (cases_Bool (bytes_eq key (codes "a")))
 one-owner (part key (suc n)) = let z : (suc n == 0) ≡ false = grind (arith, nat_tests) in ⊎_elim (λ (e : bytes_eq key (codes "a") ≡ true). rw (e, no-other n part_value, z) (refl, omega arith)) (λ (e : bytes_eq key (codes "a") ≡ false). rw e (refl, omega arith)) (cases_Bool (bytes_eq key (codes "a")))
 
--- it is one that a cache may have
+-- the state of the sparse object with its part is one that a cache may have
 pub family-is_valid : IsValidState family_state
 family-is_valid = record {
   objects = objects;
@@ -129,19 +129,19 @@ lists-less = record {
   doomed-same zero o is dead = let s : (let z : Object = record family { parts = [] } in z) ≡ o = cc in let c : true ≡ false = ap (λ (z : Object). z.live) s ∙ dead in absurd (cc)
   doomed-same (suc n) o is dead = absurd (cc)
 
--- what then lies where
+-- the records at the nodes once the part is gone
 abbrev pub parent_at : ℕ → Option Loaded
 parent_at w = if w == parent_node then Some the_parent else None
 
--- in which chains
+-- the chains once the part is gone
 abbrev pub parent_chains : ℕ → List ℕ
 parent_chains b = if b == 0xA782 then 0xA0010000 ∷ [] else []
 
--- and who owns what
+-- the owners once the part is gone
 abbrev pub parent_owner : Claim → Option ℕ
 parent_owner claim = if has_claim (all_claims the_parent) claim then Some parent_node else None
 
--- and the layout has less
+-- records, chains and owners without the part are as `HasLess` asks
 pub has-less : HasLess family_state without_part stays family_layout parent_at parent_chains parent_owner
 unfolding hash mixed of_bytes of_one
 has-less = record {
@@ -168,7 +168,7 @@ has-less = record {
 pub parent-is_laid : IsLayoutOf (without_items family_state without_part stays) (placed_less family_layout parent_at parent_chains parent_owner)
 parent-is_laid = lies-less family_state without_part stays family_layout parent_at parent_chains parent_owner family-holds.lies lists-less has-less
 
--- the stock once its node is gone
+-- the store view once the part's node is gone
 abbrev pub without_node : StoreView
 without_node = record family_stock { node_fields = λ w. if w == parent_node then family_stock.node_fields parent_node else None }
 

@@ -172,7 +172,7 @@ emptied = record {
 list-is_empty : IsAtRest emptied.list []
 list-is_empty = removals-end part_node (after_writes (writes_of remove parent_node family_view.list) family_view.list) [] [] (removals-end parent_node family_view.list (part_node ∷ []) [] family-at_rest)
 
--- that is represented
+-- the state in which the object is doomed is represented
 pub family-is_doomed : Represents emptied (doomed 0 named_state (Some family)) (placed_doomed family_layout 0 parent_node parent_at (λ b. []) parent_owner)
 family-is_doomed = doomed-is-represented both_gone emptied named_state family_layout family-is_represented.holds.lies (named-is_valid true) 0 family the_parent parent_at (λ b. []) parent_owner doomed-now doomed-holds
     (λ w l is h. let p = choice (w == parent_node) the_parent l is in sym (eqb-true w parent_node p.0)) doomed-loads list-is_empty

@@ -40,7 +40,7 @@ use Rattle.law_folder.proofs.examples.ExampleParts.{good-family, one-owner}
 abbrev pub named_state : State
 named_state = record family_state { names = Some 0 ∷ replicate 4095 None }
 
--- it is one that a cache may have, clean or not
+-- the state of the object, which a handle names, is one that a cache may have, clean or dirty
 pub named-is_valid : (settled : Bool) → IsValidState (marked named_state 0 family settled)
 named-is_valid settled = record {
   objects = objects;

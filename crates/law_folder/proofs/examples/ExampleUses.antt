@@ -79,7 +79,7 @@ itself store = record {
   table = λ b. refl;
 }
 
--- the second item is `a`; its touch crashes after one write, and is made
+-- the second item is `a`; its access crashes after one write, and is made
 touch-stopped : map volume.row_of_loaded (kept_by held_rule (volume.completed (record { list = after_writes (take 1 (touch_writes one.node both_view.list)) both_view.list; store = both_view.store }))) ≡ rest both
 unfolding created
 touch-stopped = touched-items both_view both both_layout both-are_represented both-are_valid (main (codes "a")) refl both_view.store (itself both_view.store) 1
@@ -140,7 +140,7 @@ record-is_live = found-live (one.view 0) (one.state true) (one.layout 0) (one.re
 chain-is_short : (length ((one.layout 0).chains one.bucket) ≤ 1) × (length ((one.layout 0).chains one.bucket) ≤ 131072)
 chain-is_short = represented-chains-short (one.view 0) (one.state true) (one.layout 0) (one.represented 0) one.bucket (omega arith)
 
--- in a new folder nothing is found
+-- in a new folder no record has the key
 none-there : NoneHasKey (store_of (new_folder 50)) (chained_for (store_of (new_folder 50)) (codes "a")) (codes "a") false
 none-there w among has = absurd (let c : false ≡ true = sym (ap (λ (ws : List ℕ). is_among ws w) (chains-are (view_of (new_folder 50)) (open_state [] some_limits) no_layout new-is_represented (bucket_of_key (codes "a")) (omega arith))) ∙ among in cc)
 
@@ -231,7 +231,7 @@ whole-small (External n) = λ i. lit< tt
 pub whole-writable : IsWritable whole_folder
 whole-writable = record { bytes = λ file i. whole-small file i; has_header = let long = whole_index_is whole_folder whole-is_well_formed in omega (arith, long) }
 
--- its entry is touched
+-- the entry of the whole folder is accessed
 touched-has : HasState (record (one.state true) { uses = used (main (codes "a")) (one.state true).uses }) (one.layout 0) [] (after (steps_of_touch one.node 70 whole_folder) whole_folder)
 touched-has = touched-state whole_folder (one.state true) (one.layout 0) [] whole-has whole-writable (main (codes "a")) 70 refl
 

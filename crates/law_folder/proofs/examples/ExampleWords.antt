@@ -56,7 +56,7 @@ pair_folder more (Block (suc (suc zero))) = Some (with_words (new_file_words 2) 
 pair_folder more (Block (suc (suc (suc zero)))) = Some (with_words (new_file_words 3) (zeros 8192))
 pair_folder more _ = None
 
--- it can be written
+-- the folder of the pair has bytes, and its index a header
 pair-small : (more : List (ℕ × ℕ)) (file : File) → AreSmall (bytes_of (pair_folder more) file)
 unfolding pair_folder
 pair-small more Index = small-words (index_words more) (zeros header_length) (small-zeros header_length)
@@ -74,7 +74,7 @@ pair-long more = length-with_words (index_words more) (zeros header_length) ∙ 
 pub pair-writable : (more : List (ℕ × ℕ)) → IsWritable (pair_folder more)
 pair-writable more = record { bytes = λ file i. pair-small more file i; has_header = let long = pair-long more in omega (arith, long) }
 
--- its list is idle, and the third node can be put into it
+-- the LRU list of the pair is idle, and a third node can be inserted
 pub pair-at_rest : IsAtRest (list_of (pair_folder [])) (first ∷ last ∷ [])
 unfolding list_of checks_at next_at prev_at pair_folder zeros with_word spliced next_file_in max_entries_in linked files_along kind_among stands stands_as_blocks is_address is_initialized names_external names_blocks kind_of reserved_bits block_count file_selector first_block external_number block_size block_place place byte_size node_in node_checks
 pair-at_rest = record {
@@ -156,7 +156,7 @@ removal-turns = removals-turn_words pair last (first ∷ []) [] (pair-writable [
 pub removal-ends : HasListAtRest (first ∷ []) (after (operation_steps remove last pair) pair)
 removal-ends = removals-rest pair last (first ∷ []) [] (pair-writable []) pair-at_rest
 
--- it is touched
+-- the tail is accessed
 pub touch-goes_on : Along IsWritable pair (steps_of_touch last 70 pair)
 touch-goes_on = touches-go_on pair last 70 (pair-writable [])
 
@@ -181,7 +181,7 @@ touch-seals = touches-seal pair last 70 (first ∷ []) [] (pair-writable []) pai
 pub touch-keeps_seals : KeepsSealed pair (after (steps_of_touch last 70 pair) pair)
 touch-keeps_seals = touches-keep pair last 70 (first ∷ []) [] (pair-writable []) pair-at_rest
 
--- so is the head, which stays where it is
+-- the head is accessed, and stays where it is
 pub head-turns : CommitsAt 2 (CompletesTo (first ∷ last ∷ [])) (CompletesTo (first ∷ last ∷ [])) pair (steps_of_touch first 70 pair)
 head-turns = touches-turn_words pair first 70 [] (last ∷ []) (pair-writable []) pair-at_rest
 

@@ -53,7 +53,7 @@ same-word place beside = words_beside place first_words whole_index beside
 behind : (place : ℕ) → 56 ≤ place → word_at (content first_index) place ≡ word_at (content whole_index) place
 behind place later = same-word place (inr (omega arith), (inr (omega arith), (inr (omega arith), (inr (omega arith), tt))))
 
--- so the same is shown
+-- the folder of the first version shows the same as the whole folder
 same-list : list_of first_folder ≡ list_of whole_folder
 unfolding list_of whole_folder
 same-list = list-indexed whole_folder (Some first_index) ∙ (λ i. record (list_of whole_folder) { head = behind 288 (lit≤ tt) i; tail = behind 308 (lit≤ tt) i; transaction = behind 328 (lit≤ tt) i; operation = behind 332 (lit≤ tt) i })
@@ -73,7 +73,7 @@ none-dropped : dropped first_folder ≡ []
 unfolding dropped
 none-dropped = ap (λ (view : View). dropped_by held_rule (completed view)) same-view ∙ whole-is_sound.nothing_dropped
 
--- and so are the files but for the index
+-- the files but for the index are the same too
 module _ (image : Image) (bytes : Option (List ℕ)) where
   same-owned : (claims : List Claim) → AreOwned image claims → AreOwned (with_index image bytes) claims
   unfolding with_index linked next_file_in

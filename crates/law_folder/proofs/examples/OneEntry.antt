@@ -46,7 +46,7 @@ bucket = 0xA782
 abbrev pub loaded : ℕ → Loaded
 loaded dirty = record { node = node; contents = contents; dirty = dirty; key = codes "a"; role = IsPlain; streams = codes "zz" ∷ [] ∷ [] ∷ []; others = 0 ∷ 0xA0010001 ∷ 0 ∷ 0 ∷ 0 ∷ [] }
 
--- its layout
+-- the layout of the one entry
 abbrev pub layout : ℕ → Layout
 layout dirty = record {
   place = λ item. node;
@@ -90,7 +90,7 @@ pub loads : (first dirty : ℕ) → load (store first dirty) (unchained_rule 0) 
 unfolding load load_record load_key is_key_length entries.stored_key stored_stream stored_streams role_of block_count entry_blocks hash mixed of_bytes of_one
 loads first dirty = refl
 
--- its used blocks
+-- the used blocks of the one entry
 pub claims : all_claims (loaded 0) ≡ BlockOf 0 0 ∷ BlockOf 1 0 ∷ BlockOf 1 1 ∷ []
 unfolding all_claims record_claims claims_of kind_of block_count file_selector first_block external_number
 claims = refl
@@ -159,11 +159,11 @@ represented dirty = record {
       (λ (e : (b == bucket) ≡ false). let none : false ≡ true = rw e at h in absurd (let z : false ≡ true = none in cc))
       (cases_Bool (b == bucket))
 
--- its object lies at its node
+-- the object of the one entry lies at its node
 pub lies : (dirty : ℕ) → IsPlacedAsLive (state (dirty == 0)) (layout dirty) 0 (object (dirty == 0)) (loaded dirty)
 lies dirty = record { here = refl; live = refl; at = refl }
 
--- its node is in the midst of a change
+-- the node of the dirty entry may be in the midst of a change
 pub midst : IsInProgress (λ w. w == node) (store contents 5) (state false) (layout 5) (codes "a")
 unfolding load load_record load_key
 midst = record {
@@ -212,7 +212,7 @@ node_fields-1 : (has_claim (claims_of contents) (BlockOf 1 0) ≡ true) × (has_
 unfolding has_claim all_claims record_claims claims_of kind_of block_count file_selector first_block external_number
 node_fields-1 = (refl, refl)
 
--- it is written beside nothing, and goes in front of the empty list and chain
+-- the entry is written where nothing else is, ready to be the first of the empty list and chain
 pub written : IsWrittenApart no_view written_view (open_state [] (record { max_bytes = 1000; max_items = 10 })) no_layout (codes "a") fresh
 unfolding open_state objects_in
 written = record {

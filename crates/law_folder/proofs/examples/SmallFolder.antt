@@ -59,7 +59,7 @@ small_is_well_formed : first_damage (folder_with small_records) ≡ None
 unfolding folder_with head_checks list_checks checks_of_kind checks_along file_checks next_file_in is_link is_block_count linked_up_to linked files_along zeros with_word spliced block_size
 small_is_well_formed = refl
 
--- it holds the entry
+-- the recovered contents of the small folder are the entry
 pub small_is_found : found (folder_with small_records) ≡ main_row (codes "a") plain (codes "zz", [], []) ∷ []
 unfolding folder_with zeros with_word spliced unfinished next_file_in max_entries_in linked files_along kind_among found kept kept_among verdicts load load_record load_key is_key_length stored_key stored_stream stored_streams role_of shares_key is_orphan record_claims all_claims claims_of has_claim overlap repeats admit walk walk_from chain_from completed_list counts list_of checks_at next_at prev_at store_of node_fields_at fields_at follow_at key_place_at stored_at stands stands_as_blocks is_address is_initialized names_external names_blocks kind_of reserved_bits block_count file_selector first_block external_number block_size block_place place byte_size kind_for blocks_for entry_blocks is_storage node_checks node_is_sealed entry_checks entry_is_sealed node_in node_body entry_in entry_body range_at words_at hash mixed of_bytes of_four of_three of_two of_one
 small_is_found = refl
@@ -118,12 +118,12 @@ cut_is_finished : unfinished (cut_to 8448) ≡ false
 unfolding unfinished cut_to zeros with_word spliced
 cut_is_finished = refl
 
--- so the entry whose record is block 0 is held
+-- the entry whose record is block 0 is recovered
 cut_is_found : found (cut_to 8448) ≡ main_row (codes "a") plain ([], [], []) ∷ []
 unfolding found kept kept_among
 cut_is_found = rw (cut_is_finished, cut_is_walked, cut_is_judged) refl
 
--- that of the first is all that is kept
+-- the record of the first entry is all that is kept
 pub cut_is_kept : kept (cut_to 8448) ≡ without_streams 0x90000000 0xA0010000 (codes "a") ∷ []
 unfolding kept kept_among
 cut_is_kept = rw (cut_is_walked, cut_is_judged) refl
@@ -167,12 +167,12 @@ none_unlisted = flat_map-none (unlisted_in (completed (view_of (cut_to 8448)))) 
   each b (inr apart) (inl second) = subst (λ (x : ℕ). unlisted_in (completed (view_of (cut_to 8448))) x ≡ []) (sym (eqb-true b 0xA0E1 second)) its_buckets.1
   each b (inr not_first) (inr not_second) = rw (chain-is (store_of (cut_to 8448)) b [] (no-record (cut_to 8448)) (record { linked = unfold store_of in other_bucket b not_first not_second; once = tt })) refl
 
--- and the other node is all that is dropped
+-- the other node is all that is dropped
 cut_is_dropped : dropped (cut_to 8448) ≡ (0x90000001, reason.Contents) ∷ []
 unfolding dropped dropped_among
 cut_is_dropped = rw (cut_is_walked, cut_is_judged, none_unlisted) refl
 
--- with one byte less neither is held
+-- with one byte less neither entry is recovered
 less_is_found : found (cut_to 8447) ≡ []
 unfolding cut_to zeros with_word spliced unfinished next_file_in max_entries_in linked files_along kind_among found kept kept_among verdicts load load_record load_key is_key_length stored_key stored_stream stored_streams role_of shares_key is_orphan record_claims all_claims claims_of has_claim overlap repeats admit walk walk_from chain_from completed_list counts list_of checks_at next_at prev_at store_of node_fields_at fields_at follow_at key_place_at stored_at stands stands_as_blocks is_address is_initialized names_external names_blocks kind_of reserved_bits block_count file_selector first_block external_number block_size block_place place byte_size kind_for blocks_for entry_blocks is_storage node_checks node_is_sealed entry_checks entry_is_sealed node_in node_body entry_in entry_body range_at words_at hash mixed of_bytes of_four of_three of_two of_one
 less_is_found = refl

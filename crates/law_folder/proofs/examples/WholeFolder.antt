@@ -57,7 +57,7 @@ pub whole-is_well_formed : IsWellFormed whole_folder
 unfolding whole_folder head_checks list_checks checks_of_kind checks_along file_checks next_file_in is_link is_block_count linked_up_to linked files_along zeros with_word spliced block_size
 whole-is_well_formed = refl
 
--- its node loads
+-- the node of the entry loads by itself
 pub whole-loads : load (store_of whole_folder) (unchained_rule 0) one.node ≡ Ok (one.loaded 0)
 unfolding whole_folder zeros with_word spliced next_file_in max_entries_in linked files_along kind_among load load_record load_key is_key_length stored_key stored_stream stored_streams role_of store_of node_fields_at fields_at follow_at key_place_at stored_at stands stands_as_blocks is_address is_initialized names_external names_blocks kind_of reserved_bits block_count file_selector first_block external_number block_size block_place place byte_size kind_for blocks_for entry_blocks is_storage node_checks node_is_sealed entry_checks entry_is_sealed node_in node_body entry_in entry_body range_at words_at hash mixed of_bytes of_four of_three of_two of_one
 whole-loads = refl
@@ -146,7 +146,7 @@ whole-is_finished : unfinished whole_folder ≡ false
 unfolding unfinished whole_folder zeros with_word spliced
 whole-is_finished = refl
 
--- so it holds the durable contents in it
+-- the recovered contents of the whole folder are the durable contents of its state
 pub whole-is_found : found whole_folder ≡ rest (one.state true)
 whole-is_found = found-at_rest whole_folder (one.state true) (one.layout 0) whole-is_represented (state_is_valid true) whole-is_finished
 
