@@ -3,6 +3,12 @@
 # last, and always the same ones: 16; or all, those before each write, after its first word, midway and before its last; or words, those
 # between any two words that are written. ERASE_PART=K/N tries the K-th of N parts of these places alone. ERASE_SEED is what the script is
 # drawn from.
+# Of each place it is asked that the next opening ends well, also where it is killed too (behind each third place); that no piece of what was
+# removed is in any file then, no byte in a block that is free or behind the end of a stream; and that what the command leaves alone has its
+# bytes. With words a command runs once, and its places are replayed from a record of what it wrote (tests/replayed.py): a folder that was
+# tried isn't tried again, and it is asked besides, at each word, that what gets out of use is blank before it does. At 16 places of each
+# command the program is killed indeed, and has to leave the replayed folder. In every run five records are replayed that leave out one byte of
+# the zeros, and one of a program that doesn't erase: each has to be refused.
 . "$(dirname "${BASH_SOURCE[0]}")/common.sh"
 
 for tool in awk grep basenc; do
@@ -441,13 +447,18 @@ if ! command -v cc >/dev/null || ! cc -shared -fPIC -o "$room/stopped.so" "$top/
     skip 'what a kill leaves' 'cc is missing'
     finish
 fi
-between=writes
-[ "$places_of_each" != words ] || between=words
-# Runs the program, with the input that is fed, until the place with a number: NUMBER BETWEEN FOLDER WORDS
+if ! command -v python3 >/dev/null; then
+    skip 'kills between any two words, and records that leave out a byte' 'python3 is missing'
+    [ "$places_of_each" != words ] || finish
+fi
+# Runs the program, with the input that is fed, until the place with a number: NUMBER FOLDER WORDS
 stopped() {
-    { STOPPED=$1 STOPPED_BETWEEN=$2 LD_PRELOAD=$room/stopped.so "$program" "${@:3}" <"$room/fed" >"$room/said" 2>"$room/complained"; } 2>/dev/null
+    { STOPPED=$1 LD_PRELOAD=$room/stopped.so "$program" "${@:2}" <"$room/fed" >"$room/said" 2>"$room/complained"; } 2>/dev/null
     status=$?
 }
+# What is replayed is in memory where there is room for it.
+scratch=$(mktemp -d /dev/shm/erase.XXXXXX 2>/dev/null) || scratch=$(mktemp -d)
+trap 'rm -rf "$room" "$scratch"' EXIT
 export BLKCACHE_ERASE=1
 mkdir "$room/base"
 drawn=0
@@ -483,6 +494,7 @@ told_of() {
 declare -A looked
 places=0
 killed_openings=0
+images=
 # Shows that nothing of what was removed is left in a folder, and that the entries that stay have their bytes: NAME FOLDER
 is_clean() {
     local sum
@@ -500,24 +512,74 @@ take() {
     rm -rf "$room/$1"
     cp -a "$2" "$room/$1"
 }
+# Feeds the input to a command, and asks what is told of the entries of the list stay, which have to stay.
+feed() {
+    printf %b "$1" >"$room/fed"
+    take try "$base"
+    told=$(told_of "$room/try" "${stay[@]}" | cksum)
+    # What was found before was of other entries.
+    looked=()
+}
+# Replays places of a command, and leaves what was wrong, and the counts: PART NAMES NAME INPUT WORDS. Where there are NAMES a byte is left out
+# of the zeros over the files whose names begin so.
+replay() {
+    local leave=()
+    [ -z "$2" ] || leave=(--leave "$2")
+    feed "$4"
+    rm -rf "${scratch:?}/out"
+    mkdir "$scratch/out"
+    tried=0 total=0 tried_images=0 openings=0 folders=0 compared=0
+    python3 -B "$top/tests/replayed.py" "${leave[@]}" "$program" "$room/stopped.so" "$base" "$room/fed" "$scratch/out" "$1" -- "${@:5}" \
+        >"$room/replayed" 2>&1 || echo 'wrong: it did not come to its end' >>"$room/replayed"
+    wrong=$(grep -vx '[0-9 ]*' "$room/replayed")
+    read -r tried total tried_images openings folders compared < <(grep -x '[0-9][0-9 ]*' "$room/replayed")
+}
+# Kills between any two words, replayed: NAME INPUT WORDS
+replays() {
+    local told wrong tried total tried_images openings folders compared number from=$SECONDS
+    replay "$(((part - 1) * step + 1))/$((part_of * step))" '' "$@"
+    is "$1: what is replayed" '' "$wrong"
+    is "$1: there are places" yes "$([ "$total" -gt 16 ] && echo yes)"
+    for ((number = 1; number <= folders; number++)); do
+        is_clean "$1, $(cat "$scratch/out/left/$number.place")" "$scratch/out/left/$number"
+    done
+    places=$((places + tried)) killed_openings=$((killed_openings + openings)) images=$((${images:-0} + tried_images))
+    echo "$1: $tried of $total places, and $openings of the next openings: $tried_images folders, which openings made $folders;" \
+        "$compared kills were compared; in $((SECONDS - from)) seconds"
+}
+# A byte is left out of the zeros over the files whose names begin so, or all of them where there is no name: this is refused at its word, by
+# what the next opening leaves, or by both. HOW NAMES NAME INPUT WORDS
+planted() {
+    local told wrong tried total tried_images openings folders compared number folder by='' left=''
+    command -v python3 >/dev/null || return
+    [ -n "$2" ] || local -x BLKCACHE_ERASE=0
+    # (no command has so many places, so that of no kill alone is opened)
+    replay 9999999/9999999 "${@:2}"
+    [[ $wrong != *' before it is blank'* ]] || by='at its word'
+    for ((number = 1; number <= folders; number++)); do
+        folder=$scratch/out/left/$number
+        [ "$(left_in "$folder") $(blocks_left_in "$folder") $(behind_ends_in "$folder")" = '0 0 0' ] || left=' by what is left'
+    done
+    is "refused: $3, with ${2:+a byte of the }zeros left out${2:+ of $2*}" "$1" "$by$left"
+}
 # Of each so many places one is tried, where all are asked for.
 step=1
 # Kills the program at places of what it writes: NAME INPUT WORDS. The entries that have to stay are those of the list stay. Behind each
 # third place the next opening is killed too, at one of its own places, another each time.
 kills() {
     local name=$1 number turn total stride told next tried=0 openings=0
-    printf %b "$2" >"$room/fed"
+    if [ "$places_of_each" = words ]; then
+        replays "$@"
+        return
+    fi
+    feed "$2"
     take try "$base"
-    told=$(told_of "$room/try" "${stay[@]}" | cksum)
-    # What was found before was of other entries.
-    looked=()
-    take try "$base"
-    stopped 0 "$between" "$room/try" "${@:3}"
+    stopped 0 "$room/try" "${@:3}"
     is "$name, killed nowhere" 0 "$status"
     total=$(cat "$room/complained")
     is "$name: there are places" yes "$([ "$total" -gt 16 ] && echo yes)"
     is_clean "$name, killed nowhere" "$room/try"
-    case $places_of_each in all | words) stride=$step ;; *) stride=$((total / places_of_each)) ;; esac
+    case $places_of_each in all) stride=$step ;; *) stride=$((total / places_of_each)) ;; esac
     [ "$stride" -gt 0 ] || stride=1
     # In steps of a length each place of a step is met in its turn, so that not all are at the beginning of a write.
     for ((turn = 0; turn * stride < total; turn++)); do
@@ -525,15 +587,15 @@ kills() {
         [ "$number" -le "$total" ] || break
         [ $((turn % part_of)) = $((part - 1)) ] || continue
         take try "$base"
-        stopped "$number" "$between" "$room/try" "${@:3}"
+        stopped "$number" "$room/try" "${@:3}"
         is "$name, it is killed at place $number" 137 "$status"
         tried=$((tried + 1))
-        if [ $((turn % 3)) = 0 ]; then
+        if [ $((turn / part_of % 3)) = 0 ]; then
             take again "$room/try"
-            stopped 0 "$between" "$room/again" count
+            stopped 0 "$room/again" count
             next=$(cat "$room/complained")
             next=$((turn / 3 * 7 % next + 1))
-            stopped "$next" "$between" "$room/try" count
+            stopped "$next" "$room/try" count
             is "$name, killed at place $number: the next opening is killed at place $next" 137 "$status"
             openings=$((openings + 1))
         fi
@@ -571,6 +633,13 @@ kills 'trim' '' trim 0
 stay=("$third" sparse)
 kills 'doom of entries that are open at the end' "open 0 $first\ndoomkey $first\nopen 1 $second\ndoomkey $second\n" session
 
+# Zeros that are left out: of a block that is freed, of a file that is removed or cut, behind the end of a stream in its block, and all.
+planted 'at its word by what is left' data_ 'doom of blocks' '' doom "$first"
+planted 'at its word' f_ 'doom of a file' '' doom "$second"
+planted 'at its word' f_ 'a file that is cut' "open 0 $second\ncut 0 0 16400 -\nclose 0\n" session
+planted ' by what is left' data_ 'a cut in a block' "open 0 $first\ncut 0 2 8000 -\nclose 0\n" session
+planted 'at its word by what is left' '' 'doom of blocks' '' doom "$first"
+
 # Sparse data that are evicted: the others were used since.
 take turned "$room/base"
 printf '%s\nclose 0\n' "open 0 $first" "open 0 $second" "open 0 $third" >"$room/input"
@@ -579,13 +648,13 @@ base=$room/turned
 stay=("$first" "$second" "$third")
 kills 'eviction of sparse data' "$new" put more 0 --items 4
 
-# A folder without an index, which is made anew. Most of what it writes are zeros over zeros, more than a million words in pages, so it is
-# killed at each seventh place of the writes.
+# A folder without an index, which is made anew. Most of what it writes are zeros over zeros, so it is killed at each seventh place of the
+# writes where all are asked for, and at each seventh of those between words.
 take headless "$room/base"
 rm "$room/headless/index"
 base=$room/headless
 stay=()
-between=writes step=7 kills 'a folder that is made anew' '' count
+step=7 kills 'a folder that is made anew' '' count
 
 # An opening that drops what a killed session left dirty, and the same of a folder of the first version, which is raised besides.
 take dirty "$room/base"
@@ -626,11 +695,12 @@ is 'where their places were used and freed again they are gone' yes "$([ "$less"
 base=$room/dirty
 stay=("$third")
 kills 'an opening that drops entries' '' count
+planted 'at its word by what is left' data_ 'an opening that drops entries' '' count
 take dirty_old "$room/dirty"
 bytes=$("$program" "$room/dirty" verify | awk '/^items/ { print $4 }')
 put_back "$room/dirty_old" "$(printf '\\%03o' $((bytes & 255)) $((bytes >> 8 & 255)) $((bytes >> 16 & 255)) $((bytes >> 24 & 255)))"
 is 'a folder of the first version' 00020000 "$(words_of "$room/dirty_old" 4)"
 base=$room/dirty_old
 kills 'an opening that raises a folder' '' count
-echo "$places places of a kill were tried, and $killed_openings of the next openings"
+echo "$places places of a kill were tried, and $killed_openings of the next openings${images:+, in $images folders}"
 finish

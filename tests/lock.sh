@@ -143,6 +143,49 @@ else
     BLKCACHE_WAIT=1 strace -o "$room/calls" -e trace=flock,nanosleep,clock_nanosleep -e inject=flock:error=EAGAIN:when=1..3 "$program" "$folder" count >/dev/null 2>&1
     is 'with 50 ms between them' 3 "$(count_like '*tv_sec=0, tv_nsec=50000000*' <"$room/calls")"
     is 'the folder has what it had' "$before" "$(held "$folder")"
+
+    # The lock is had until nothing more is written: the folder, on which it is, isn't closed before.
+    printf 'create 0 page\nwrite 0 0 0 %040000d\nclose 0\ndoomkey page\ncreate 1 open\nwrite 1 0 0 61\n' 0 >"$room/input"
+    strace -o "$room/calls" -e trace=flock,close,pwrite64,ftruncate,unlink,openat "$program" "$folder" session <"$room/input" >"$room/said" 2>"$room/complained"
+    is 'a session that writes, while its calls are looked at' '0 6' "$? $(count_like 'ok*' <"$room/said")"
+    : >"$room/input"
+    number=none had=0 lost=0
+    while IFS= read -r line; do
+        case $line in
+            flock\(*) number=${line#flock(} number=${number%%,*} ;;
+            "close($number)"*) number=gone ;;
+            pwrite64\(* | ftruncate\(* | unlink\(* | *O_CREAT*) [[ $number == +([0-9]) ]] && had=$((had + 1)) || lost=$((lost + 1)) ;;
+        esac
+    done <"$room/calls"
+    is 'it writes with the lock alone' '0 yes' "$lost $([ "$had" -gt 20 ] && echo yes)"
+    run "$folder" doom open
+    is 'what it wrote is removed' '0 ok' "$status $said"
+fi
+
+# The same for each number that an error of the system may have, answered by a library: the program continues at three of them alone (ENOLCK,
+# ENOSYS and EOPNOTSUPP) and where the question was interrupted (EINTR), which it asks again.
+if ! command -v cc >/dev/null || ! cc -shared -fPIC -o "$room/unlocked.so" "$top/tests/unlocked.c" -ldl 2>/dev/null; then
+    skip 'each error of the question for a lock' 'cc is missing'
+else
+    before=$(held "$folder")
+    for words in count verify; do
+        answers=
+        for ((number = 1; number < 134; number++)); do
+            UNLOCKED=$number LD_PRELOAD=$room/unlocked.so "$program" "$folder" "$words" <"$room/input" >"$room/said" 2>"$room/complained"
+            status=$?
+            said=
+            read -r said <"$room/said"
+            case "$status ${said%% *}" in
+                '3 ') ;;
+                '6 ') answers+="$number: out of memory, " ;;
+                '0 items' | '0 kept') answers+="$number: continues, " ;;
+                *) answers+="$number: $status $said, " ;;
+            esac
+        done
+        is "each error of the question for a lock, $words: where it isn't 3 with nothing printed" \
+            '4: continues, 12: out of memory, 37: continues, 38: continues, 95: continues, ' "$answers"
+    done
+    is 'each error of the question for a lock: the folder has what it had' "$before" "$(held "$folder")"
 fi
 
 if ! type -P flock >/dev/null; then

@@ -90,10 +90,106 @@ else
 fi
 exec 5>&- 6>&- 7<&- 8>&- 9<&-
 
+# Who waits so sleeps: it takes next to no processor time, and continues soon once there is a line to read, or room to write. One session waits
+# for its input, another one at the same time for its output.
+mkfifo "$room/asks" "$room/tells"
+exec 5<>"$room/asks" 6<>"$room/tells"
+exec 7<"$room/asks" 8>"$room/tells" 9<"$room/tells"
+dd iflag=nonblock count=0 status=none <&7
+dd oflag=nonblock count=0 status=none >&8
+# The processor time of a process, in hundredths of a second.
+taken() {
+    local stat fields
+    stat=$(<"/proc/$1/stat")
+    read -r -a fields <<<"${stat##*) }"
+    echo $((fields[11] + fields[12]))
+}
+# How often a process has gone to sleep.
+sleeps() {
+    local name value
+    while read -r name value; do
+        [ "$name" != voluntary_ctxt_switches: ] || echo "$value"
+    done <"/proc/$1/status"
+}
+# Gives the session a line, and leaves after how many microseconds its reply was there.
+answered() {
+    local from=${EPOCHREALTIME/./}
+    echo total >&5
+    read -r -t 20 reply <&"$waiter_out"
+    took=$((${EPOCHREALTIME/./} - from))
+}
+if is_nonblocking 7 && is_nonblocking 8 && [ -r /proc/self/stat ]; then
+    for it in waits other reads writes; do
+        rm -rf "${room:?}/$it"
+    done
+    cp -a "$folder" "$room/other"
+    cp -a "$folder" "$room/reads"
+    cp -a "$folder" "$room/writes"
+    timeout 60 "$program" "$room/other" session <"$room/lines" >"$room/said" 2>"$room/complained"
+    coproc waiter { exec "$program" "$room/reads" session <&7 5>&- 6>&- 8>&- 9<&- 2>"$room/complained"; }
+    # (bash closes its own once the program has ended)
+    exec {waiter_out}<&"${waiter[0]}"
+    waiter_id=$waiter_PID
+    "$program" "$room/writes" session <"$room/lines" >&8 5>&- 6>&- 7<&- 9<&- 2>"$room/complained" &
+    writer_id=$!
+    exec 6>&- 7<&- 8>&-
+    answered
+    is 'a session whose input does not block replies' 'total 1 3004' "$reply"
+    before=($(taken "$waiter_id") $(taken "$writer_id") $(sleeps "$waiter_id") $(sleeps "$writer_id"))
+    sleep 1.1
+    after=($(taken "$waiter_id") $(taken "$writer_id") $(sleeps "$waiter_id") $(sleeps "$writer_id"))
+    for it in 0 1; do
+        spent=$((after[it] - before[it]))0 slept=$((after[it + 2] - before[it + 2]))
+        is "while it waits for its $([ "$it" = 0 ] && echo input || echo output) it sleeps, and takes no tenth of the processor time" yes \
+            "$([ "$spent" -lt 110 ] && [ "$slept" -ge 4 ] && echo yes || echo "$spent ms of 1100, and $slept sleeps")"
+    done
+    # A sleep that goes on to double would last half a second more by now, each time.
+    answered
+    first=$took
+    sleep 0.55
+    answered
+    is 'it replies soon once a line is there' yes "$([ "$first" -lt 300000 ] || [ "$took" -lt 300000 ] && echo yes || echo "$first and $took us")"
+    exec 5>&-
+    wait "$waiter_id"
+    is 'it ends with its input' 0 $?
+    from=${EPOCHREALTIME/./}
+    cat <&9 >"$room/waited"
+    took=$((${EPOCHREALTIME/./} - from))
+    wait "$writer_id"
+    is 'once its output is read it continues: the status, and all replies' '0 same' "$? $(are_same "$room/said" "$room/waited" && echo same)"
+    is 'and that soon' yes "$([ "$took" -lt 500000 ] && echo yes || echo "$took us")"
+    exec {waiter_out}<&-
+else
+    skip 'what a wait takes' 'dd or /proc cannot make and tell such streams'
+fi
+exec 5>&- 6>&- 7<&- 8>&- 9<&-
+
 if ! command -v strace >/dev/null || ! strace -o /dev/null true 2>/dev/null; then
     skip 'the calls of the program' 'strace is missing, or may not look at a program'
     finish
 fi
+
+# How long a session sleeps that waits for an input which does not block: 1 ms, then twice as long each time, up to 20 ms.
+mkfifo "$room/given"
+exec 5<>"$room/given" 7<"$room/given"
+dd iflag=nonblock count=0 status=none <&7
+if is_nonblocking 7; then
+    strace -o "$room/calls" -e trace=nanosleep,clock_nanosleep "$program" "$room/other" session <&7 5>&- >"$room/said" 2>"$room/complained" &
+    sleep 0.3
+    exec 5>&-
+    wait "$!"
+    status=$?
+    slept=
+    while IFS= read -r line; do
+        [[ $line =~ tv_sec=([0-9]+),\ tv_nsec=([0-9]+)\} ]] || continue
+        slept+="$((BASH_REMATCH[1] * 1000000 + BASH_REMATCH[2] / 1000)) "
+    done <"$room/calls"
+    is 'how long it sleeps' '0 1000 2000 4000 8000 16000 20000 20000 ' "$status ${slept:0:38}"
+    is 'and never longer than 20 ms' 0 "$(tr ' ' '\n' <<<"${slept:26}" | count_unlike '@(|20000)')"
+else
+    skip 'how long a session sleeps' 'dd or /proc cannot make and tell such an input'
+fi
+exec 5>&- 7<&-
 
 # How many writes to standard output the program makes with these arguments, the script of the input before them.
 writes_of() {
