@@ -247,7 +247,7 @@ planted 'an option that there is not' 'Call it with `--nosuchoption`.' 'no --nos
 printf '%s\n' '```' 'ensures performs { IsNoSuchThing from old }' '```' >"$room/copy/docs/ARCHITECTURE.md"
 is 'refused: a word in a fence that names nothing' 'docs/ARCHITECTURE.md:2: no IsNoSuchThing' "$(look_at "$room/copy" docs/ARCHITECTURE.md)"
 sed 's/^  pub stopped : Stopped /  pub stopped : IsStopped /' docs/GUARANTEES.md >"$room/other_page"
-is 'refused: a line that no definition has' 'no line   pub stopped : IsStopped result from run old new' "$(look_for_lines "$room/other_page")"
+is 'refused: a line that no definition has' 'no line   pub stopped : IsStopped result from run sink old new' "$(look_for_lines "$room/other_page")"
 sed 's/^\.It 1 Li BadHandle$/.It 1 Li NoSuchHandle/' man/blkcache.1 >"$room/other_page"
 is 'refused: a word of the manual page that names nothing' 'no NoSuchHandle' "$(look_at_manual "$room/other_page" | sed 's/^page:[0-9]*: //')"
 for it in 'It takes FOUR_MINUTES.' 'TODO: more.'; do

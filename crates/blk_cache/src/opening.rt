@@ -47,7 +47,7 @@ pub(crate) fn open_folder<F: Folder>(
     ensures last { OnOk result (ForSome (F.told folder.old).files (λ from. OpensFolder from (F.told folder.old) (F.told folder.new))) }
     ensures damaged { IfOpenDamaged result (IsOpeningDamage (F.told folder.new)) }
     ensures first { IfOpenDamaged result (λ damage. ForSome (F.told folder.old).files (IsFirstDamage damage)) }
-    ensures unwritten { IfOpenDamaged result (λ _. ForSome (F.told folder.old).files (λ _. Stays (F.told folder.old) (F.told folder.new))) }
+    ensures unwritten { ForSome (F.told folder.old).files (λ from. (IsUsable from → ⊥) → Stays (F.told folder.old) (F.told folder.new)) }
     ensures memory { IfOpenMemory result (Stays (F.told folder.old) (F.told folder.new)) }
     ensures writes { MayWrite F.told F.faults folder.old folder.new (IfOpenDevice result) }
 {
@@ -96,7 +96,7 @@ fn open_finished<F: Folder>(alloc: Global, folder: &mut F) -> Result<Opened, Ope
     ensures last { OnOk result (ForSome (F.told folder.old).files (λ from. IsFinished from → OpensFolder from (F.told folder.old) (F.told folder.new))) }
     ensures damaged { IfOpenDamaged result (IsOpeningDamage (F.told folder.new)) }
     ensures first { IfOpenDamaged result (λ damage. ForSome (F.told folder.old).files (λ from. IsFinished from → first_damage from ≡ Some (damage_of damage))) }
-    ensures unwritten { IfOpenDamaged result (λ _. ForSome (F.told folder.old).files (λ from. IsFinished from → Stays (F.told folder.old) (F.told folder.new))) }
+    ensures unwritten { ForSome (F.told folder.old).files (λ from. IsFinished from → (IsWellFormed from → ⊥) → Stays (F.told folder.old) (F.told folder.new)) }
     ensures memory { IfOpenMemory result (Stays (F.told folder.old) (F.told folder.new)) }
     ensures writes { MayWrite F.told F.faults folder.old folder.new (IfOpenDevice result) }
 {

@@ -30,7 +30,7 @@ impl Cache {
     /// # Errors
     ///
     /// `Damaged` with the first check of the index and of the block files that fails; where the folder is observable
-    /// nothing was written then. `Memory` when out of memory, before anything was written: a session takes no more
+    /// nothing was written then, nor where it failed before these checks were through. `Memory` when out of memory, before anything was written: a session takes no more
     /// later. `Device` where the folder failed in this call.
     pub fn start<F: Folder>(
         alloc: Global,
@@ -55,7 +55,9 @@ impl Cache {
         // An observable folder reports corruption only where a check of its headers fails, and the first one.
         ensures damaged { IfOpenDamaged result (IsOpeningDamage (F.told f.new)) }
         ensures first { IfOpenDamaged result (λ damage. ForSome (F.told f.old).files (IsFirstDamage damage)) }
-        ensures unwritten { IfOpenDamaged result (λ _. ForSome (F.told f.old).files (λ _. Stays (F.told f.old) (F.told f.new))) }
+
+        // A folder that is neither unfinished nor well formed is left as it is, whatever is answered.
+        ensures unwritten { ForSome (F.told f.old).files (λ from. (IsUsable from → ⊥) → Stays (F.told f.old) (F.told f.new)) }
         ensures memory { IfOpenMemory result (Stays (F.told f.old) (F.told f.new)) }
 
         ensures writes { MayWrite F.told F.faults f.old f.new (IfOpenDevice result) }

@@ -1,30 +1,29 @@
 -- What a step of a cache makes of a run.
-use Rattle.std.proofs.Common.{ℕ, ◌+◌, ◌≡◌, Bool, ◌||◌, true, false, List, [], ◌∷◌, ◌++◌, length, Option, None, Some, Ok, Err, Result, IfOk, OnOk, refl, sym, ◌∙◌, ap, subst, arith}
+use Rattle.std.proofs.Common.{ℕ, ◌+◌, ◌≡◌, ◌⊎◌, inl, inr, Bool, ◌||◌, true, false, List, [], ◌∷◌, ◌++◌, length, Option, None, Some, Ok, Err, Result, IfOk, OnOk, refl, sym, ◌∙◌, ap, subst, arith, append_assoc}
 use Rattle.std.specs.Option.{option_map, ForSome}
 use Rattle.std.proofs.lemmas.List.{append-nil, length-append}
 use Rattle.spec_image.specs.Image.{Image}
 use Rattle.spec_image.specs.Steps.{Note, after}
-use Rattle.spec_image.specs.Told.{Told}
+use Rattle.spec_image.specs.Told.{Passes, Told}
 use Rattle.blk_io.specs.Streams.{Appends, Readings, later_of}
 use Rattle.blk_model.specs.declared.Answer.{Answer}
 use Rattle.blk_model.specs.Reply.{answer_of}
 use Rattle.blk_model.specs.Request.{Request}
 use Rattle.blk_model.specs.State.{State}
 use Rattle.blk_model.specs.Step.{step}
-use Rattle.law_state.specs.Commands.{ForKept, IsNoted, IsStepped, note_number}
+use Rattle.blk_script.specs.Reply.{reply_text}
+use Rattle.law_state.specs.Commands.{ForKept, IsNoted, IsStepped, MayStop, note_number}
 use Rattle.spec_run.specs.Script.{is_refusal, is_refused, outcome_text, refusal_of}
-use Rattle.spec_run.specs.Run.{Stamped, clock_after}
+use Rattle.spec_run.specs.Progress.{StopsAfter}
+use Rattle.spec_run.specs.Run.{Stamped, Turn, clock_after, text_of}
 use Rattle.spec_run.proofs.CommandStates.{state_after-one}
-use Rattle.spec_run.proofs.Composing.{one_more, some_after, stopped}
+use Rattle.spec_run.proofs.Composing.{one_more, some_after, stopped_noted, stopped_part}
 use Rattle.spec_run.proofs.InTurn.{note_exact}
+use Rattle.spec_run.proofs.Replies.{no_less_one, no_more_evicted, no_more_whole}
 use Rattle.blk_cache.specs.declared.fault.StepFault.{StepFault}
 use Rattle.blk_cache.specs.declared.fault.StepFault.TheVariants as fault
-use Rattle.blk_cache.specs.Stepping.{IfDone, IfStepDamaged}
-use Rattle.blk_run.specs.Playing.{SoFar, StandsAt, Around, Plays, asked_turn, has_refused, state_now, with_more}
-
--- what is told around, by its parts
-abbrev pub around : Told → Option (List ℕ) → Option Readings → Bool → Around
-around folder written clock refused = record { folder = folder; written = written; clock = clock; refused = refused }
+use Rattle.blk_cache.specs.Stepping.{IfDone, IfStepDamaged, IfStepDevice, evicted_first}
+use Rattle.blk_run.specs.Playing.{AreStopped, Around, Plays, SoFar, StandsAt, around, asked_turn, has_refused, state_now, with_more}
 
 -- the number of the next note
 pub next_note : (far : SoFar) (keeps : State → Image → Type 0) (notes left : ℕ) (now : Told) → StandsAt far keeps notes (left + 2) now → note_number (notes + 1) ≡ length far.done + 1
@@ -70,9 +69,10 @@ module _ (far : SoFar) (moment : ℕ) (request : Request) (keeps_old keeps : Sta
   pub of_step : (result : Result Answer StepFault) → IfOk result (λ answer. ForKept keeps_old old (λ state. answer ≡ answer_of (step state moment request).reply))
       → IfDone result (ForKept keeps_old old (λ state. ForSome new.files (keeps (step state moment request).state))) → IfDone result (ForKept keeps_old old (IsNoted old new moment request (note_number (notes_old + 1))))
       → IfDone result (notes ≡ note_number (notes_old + 1)) → OnOk result (ForKept keeps_old old (λ state. w_new ≡ option_map (λ (w : List ℕ). w ++ outcome_text (step state moment request)) w_old))
+      → IfStepDevice result (ForKept keeps_old old (λ state. Appends w_old w_new (evicted_first (step state moment request))) ⊎ ForKept keeps_old old (IsNoted old new moment request (note_number (notes_old + 1))))
       → (ForSome old.files (λ image. (state : State) × keeps_old state image) → IfStepDamaged result (λ _. old.files ≡ None))
       → Plays result (asked_turn far command ∷ []) far keeps notes left (around old w_old c_old false) (around new w_new c_new (has_refused result))
-  of_step (Ok answer) answered kept noted counts printed untold =
+  of_step (Ok answer) answered kept noted counts printed unanswered untold =
       let answer_is : answer ≡ answer_of (step (state_now far) moment request).reply = answered at.image at.here (state_now far) at.kept in
       record {
         stands = stands_after far command keeps_old keeps notes_old notes left old new at (noted at.image at.here (state_now far) at.kept) (kept at.image at.here (state_now far) at.kept) counts;
@@ -84,7 +84,7 @@ module _ (far : SoFar) (moment : ℕ) (request : Request) (keeps_old keeps : Sta
       or_false : (b : Bool) → b ≡ (b || false)
       or_false true = refl
       or_false false = refl
-  of_step (Err fault.Sink) answered kept noted counts printed untold =
+  of_step (Err fault.Sink) answered kept noted counts printed unanswered untold =
       let f : Appends w_old w_new (outcome_text (step (state_now far) moment request)) = front at.image at.here (state_now far) at.kept in
       record {
         count = 0;
@@ -96,14 +96,49 @@ module _ (far : SoFar) (moment : ℕ) (request : Request) (keeps_old keeps : Sta
         printed = f.written;
         read = read_once;
       }
-  of_step (Err fault.Device) answered kept noted counts printed untold =
-      let number = next_note far keeps_old notes_old left old at in
-      record {
-        stops = λ more. stopped far.from far.opened far.done more far.start old new command at.began at.progress
-            (subst (λ (n : ℕ). IsStepped old new moment request n (state_now far)) number (stepped at.image at.here (state_now far) at.kept));
-        printed = subst (Appends w_old w_new) (sym (one_text (outcome_text (step (state_now far) moment request)))) (front at.image at.here (state_now far) at.kept);
+  of_step (Err fault.Device) answered kept noted counts printed unanswered untold = by_note unanswered (stepped at.image at.here (state_now far) at.kept)
+    where
+      turn : Turn
+      turn = asked_turn far command
+
+      number : note_number (notes_old + 1) ≡ length far.done + 1
+      number = next_note far keeps_old notes_old left old at
+
+      text_part : Appends w_old w_new (text_of (turn ∷ []))
+      text_part = subst (Appends w_old w_new) (sym (one_text (outcome_text (step (state_now far) moment request)))) (front at.image at.here (state_now far) at.kept)
+
+      -- it is noted, and a prefix of its text was printed
+      is_noted : IsNoted old new moment request (note_number (notes_old + 1)) (state_now far) → AreStopped (turn ∷ []) far (around old w_old c_old false) (around new w_new c_new false)
+      is_noted made = record {
+        noted = 1;
+        few = omega arith;
+        stops = λ more. stopped_noted far.from far.opened far.done more far.start old new command at.began at.progress (subst (λ (n : ℕ). IsNoted old new moment request n (state_now far)) number made);
+        printed = text_part;
+        no_more = no_more_whole (turn ∷ []) (state_now far) 1 w_old w_new (omega arith) text_part;
+        no_less = no_less_one turn 1 w_old w_new (text_of (turn ∷ [])) (omega arith) text_part;
       }
-  of_step (Err (fault.Damaged damage)) answered kept noted counts printed untold = no_files (sym at.here ∙ untold (λ image here. (state_now far, subst (λ (i : Image). keeps_old (state_now far) i) (some_same (sym at.here ∙ here)) at.kept)))
+
+      -- it isn't, and nothing but lines of what it evicts was printed
+      in_part : Passes old new (MayStop (state_now far) moment request) → Appends w_old w_new (evicted_first (step (state_now far) moment request)) → AreStopped (turn ∷ []) far (around old w_old c_old false) (around new w_new c_new false)
+      in_part made says = record {
+        noted = 0;
+        few = omega arith;
+        stops = λ more. subst (λ (n : ℕ). StopsAfter far.from far.opened (far.done ++ command ∷ more) n far.start new) none_more (stopped_part far.from far.opened far.done more far.start old new command at.began at.progress made);
+        printed = text_part;
+        no_more = no_more_evicted turn (state_now far) 0 w_old w_new says.front
+            ((says.rest ++ reply_text (step (state_now far) moment request).reply, ap (λ (l : List ℕ). l ++ reply_text (step (state_now far) moment request).reply) says.split ∙ append_assoc says.front says.rest (reply_text (step (state_now far) moment request).reply)), (says.rest, says.split)) says.written;
+        no_less = no_less_one turn 0 w_old w_new (text_of (turn ∷ [])) (omega arith) text_part;
+      }
+        where
+          none_more : length far.done ≡ length far.done + 0
+          none_more = omega arith
+
+      by_note : ForKept keeps_old old (λ state. Appends w_old w_new (evicted_first (step state moment request))) ⊎ ForKept keeps_old old (IsNoted old new moment request (note_number (notes_old + 1))) → IsStepped old new moment request (note_number (notes_old + 1)) (state_now far)
+          → AreStopped (turn ∷ []) far (around old w_old c_old false) (around new w_new c_new false)
+      by_note (inr made) how = is_noted (made at.image at.here (state_now far) at.kept)
+      by_note (inl says) (inr made) = is_noted made
+      by_note (inl says) (inl made) = in_part made (says at.image at.here (state_now far) at.kept)
+  of_step (Err (fault.Damaged damage)) answered kept noted counts printed unanswered untold = no_files (sym at.here ∙ untold (λ image here. (state_now far, subst (λ (i : Image). keeps_old (state_now far) i) (some_same (sym at.here ∙ here)) at.kept)))
     where
       no_files : ◌≡◌ {A = Option Image} (Some at.image) None → ⊥
       no_files e = cc

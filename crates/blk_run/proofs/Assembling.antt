@@ -1,8 +1,9 @@
 -- How a session ended, by what its parts say: its opening, its iterations, its closings and its end.
 use Rattle.std.proofs.Common.{ℕ, zero, suc, ◌+◌, ◌^◌, ◌<◌, ◌≡◌, ◌⊎◌, true, false, inl, inr, List, [], ◌∷◌, ◌++◌, length, take, Option, Some, Ok, Err, refl, sym, ◌∙◌, ap, subst, arith, append_assoc}
 use Rattle.std.specs.Option.{option_map, ForSome}
-use Rattle.std.proofs.lemmas.List.{append-nil, take-append-le}
+use Rattle.std.proofs.lemmas.List.{append-nil, length-append, take-append-le}
 use Rattle.spec_image.specs.Image.{Image}
+use Rattle.spec_image.specs.Notes.{notes_in}
 use Rattle.spec_image.specs.Steps.{after}
 use Rattle.spec_image.specs.Told.{Told, Passes}
 use Rattle.spec_image.proofs.Runs.{passes_end, passes_weaker}
@@ -17,11 +18,13 @@ use Rattle.blk_io.specs.Streams.{Appends, Readings, later_of}
 use Rattle.spec_run.specs.Inputs.{by_lines}
 use Rattle.spec_run.specs.Lines.{lines, whole_lines}
 use Rattle.spec_run.specs.Opening.{FailsToOpen, HoldsStill, IsUsable, Opens, open_mark}
-use Rattle.spec_run.specs.Progress.{IsWholeRun, Stops}
+use Rattle.spec_run.specs.Progress.{IsWholeRun, Stops, StopsAfter, StopsPast}
+use Rattle.spec_run.specs.Replies.{PrintsNoLess, PrintsNoMore}
 use Rattle.spec_run.specs.Run.{Run, Stamped, Turn, bound_names, clock_after, closings, commands, commands_of, cut_after, readings_in, readings_of, refuse, run_of, state_after, text_of, turns}
 use Rattle.spec_run.specs.Script.{Script, session_script}
 use Rattle.spec_run.proofs.Composing.{ended, some_after}
 use Rattle.spec_run.proofs.Openings.{begun, failed}
+use Rattle.spec_run.proofs.Replies.{no_less_longer, no_less_whole, no_more_longer, no_more_whole}
 use Rattle.spec_run.proofs.Turns.{clock_after-more, commands_of-append, more_turns, text_of-append}
 use Rattle.blk_cache.specs.Opening.{EndsSession}
 use Rattle.blk_run.specs.declared.ending.Status.TheVariants as status
@@ -29,9 +32,9 @@ use Rattle.blk_cache.specs.declared.fault.StepFault.TheVariants as step_fault
 use Rattle.blk_run.specs.declared.input.InputEnd.TheVariants as end
 use Rattle.blk_run.specs.Closings.{ClosesAll}
 use Rattle.blk_run.specs.Inputs.{IsPastBudget, IsTaken, IsTakenUpTo, PlaysInput}
-use Rattle.blk_run.specs.Playing.{AreMade, AreMadeTo, Around, PlaysPart, SoFar, StandsAt, state_now, with_more}
+use Rattle.blk_run.specs.Playing.{AreMade, AreMadeTo, AreStopped, Around, PlaysPart, SoFar, StandsAt, state_now, with_more}
 use Rattle.blk_run.specs.Ending.{EndsRun}
-use Rattle.blk_run.specs.Session.{EndsAs, FixedRuns, IsEnded, IsUnopened, Outside, Runs, all_made, session_run, taken, unprinted}
+use Rattle.blk_run.specs.Session.{EndsAs, FixedRuns, IsEnded, IsUnopened, Outside, Runs, StopsByNotes, all_made, session_run, taken, unprinted}
 
 -- The end, after the commands of a run.
 
@@ -67,7 +70,10 @@ module _ (far : SoFar) (keeps : State → Image → Type 0) (stands_for : (state
 
   -- the folder failed where it was to be closed
   pub ends_unfinished : EndsRun (Err fault.Device) far new clock_old clock_new
-  ends_unfinished = record { commands = closes.commands; are = closes.are; closes = whole.stops }
+  ends_unfinished =
+      let noted = whole.noted in
+      let all = length-append far.done closes.commands in
+      record { commands = closes.commands; are = closes.are; closes = record { stops = whole.stops; count = omega (arith, noted, all) } }
 
 -- a Close failed
 pub ends_unclosed : (why : Fault) (far : SoFar) (keeps : State → Image → Type 0) (notes left : ℕ) (new : Told) (clock_old clock_new : Option Readings) → ClosesAll (Err why) far keeps notes left new clock_old clock_new → EndsRun (Err why) far new clock_old clock_new
@@ -202,11 +208,50 @@ module _ (from : Image) (limits : Bounds) (readings : Readings) (old : Outside) 
 
     -- the folder failed after these iterations
     stops_behind : (all made : List Turn) → all ≡ made → (clock_mid clock_new : Option Readings) → clock_mid ≡ option_map (λ r. clock_after r (readings_of made)) clock_first → (new : Told)
-        → EndsRun (Err fault.Device) (with_more begun_far (commands_of made)) new clock_mid clock_new → Stops from opened (commands (run_with all)) old.folder new
+        → EndsRun (Err fault.Device) (with_more begun_far (commands_of made)) new clock_mid clock_new → StopsPast from opened (commands (run_with all)) (length (commands_of all)) old.folder new
     stops_behind all made same clock_mid clock_new read new ends =
-        subst (λ (l : List Stamped). Stops from opened l old.folder new)
+        subst (λ (n : ℕ). StopsPast from opened (commands (run_with all)) n old.folder new) (ap (λ (l : List Turn). length (commands_of l)) (sym same))
+        (subst (λ (l : List Stamped). StopsPast from opened l (length (commands_of made)) old.folder new)
         (sym (commands_are opened (later_of readings) all made ends.commands same (ends.are (clock_after (later_of readings) (readings_of made)) (clock_made made clock_mid read))))
-        ends.closes
+        ends.closes)
+
+    -- behind all iterations of a run, whose texts were printed
+    stops_printed : (all : List Turn) (sink : Type 0) (new : Outside) → new.written ≡ option_map (λ (w : List ℕ). w ++ text_of all) old.written → StopsPast from opened (commands (run_with all)) (length (commands_of all)) old.folder new.folder
+        → StopsByNotes from (run_with all) sink old new
+    stops_printed all sink new printed past = record {
+      stops = past.stops;
+      no_more = no_more_whole all opened (notes_in past.stops.steps) old.written new.written past.count (appends_whole old.written new.written (text_of all) printed);
+      no_less = λ level. no_less_whole all (notes_in past.stops.steps) old.written new.written printed;
+    }
+
+    -- and behind those up to one whose text was printed in part, where the sink failed
+    stops_unprinted : (all : List Turn) (sink : Type 0) (new : Outside) → sink → Appends old.written new.written (text_of all) → StopsPast from opened (commands (run_with all)) (length (commands_of all)) old.folder new.folder
+        → StopsByNotes from (run_with all) sink old new
+    stops_unprinted all sink new rose printed past = record {
+      stops = past.stops;
+      no_more = no_more_whole all opened (notes_in past.stops.steps) old.written new.written past.count printed;
+      no_less = λ level. absurd (level rose);
+    }
+
+    -- in one of the iterations
+    stops_within : (all made later : List Turn) → all ≡ made ++ later → (sink : Type 0) (told : Told) (mid : Around) (new : Outside) → mid.folder ≡ new.folder → new.written ≡ mid.written
+        → AreStopped made begun_far (record { folder = told; written = old.written; clock = clock_first; refused = false }) mid → StopsByNotes from (run_with all) sink old new
+    unfolding state_after
+    stops_within all made later begin sink told mid new same since stopped =
+        let more = commands_begin opened (later_of readings) all made later begin in
+        let none_before : 0 + stopped.noted ≡ stopped.noted = omega arith in
+        let here : StopsAfter from opened (commands_of made ++ more.0) stopped.noted old.folder mid.folder = subst (λ (n : ℕ). StopsAfter from opened (commands_of made ++ more.0) n old.folder mid.folder) none_before (stopped.stops more.0) in
+        let stops : StopsAfter from opened (commands (run_with all)) stopped.noted old.folder new.folder =
+        subst (λ (l : List Stamped). StopsAfter from opened l stopped.noted old.folder new.folder) (sym more.1) (subst (λ (t : Told). StopsAfter from opened (commands_of made ++ more.0) stopped.noted old.folder t) same here) in
+        let no_more : PrintsNoMore made opened stopped.noted old.written new.written = subst (PrintsNoMore made opened stopped.noted old.written) (sym since) stopped.no_more in
+        let no_less : PrintsNoLess made stopped.noted old.written new.written = subst (PrintsNoLess made stopped.noted old.written) (sym since) stopped.no_less in
+        record {
+          stops = stops.stops;
+          no_more = subst (λ (n : ℕ). PrintsNoMore all opened n old.written new.written) (sym stops.count)
+              (subst (λ (l : List Turn). PrintsNoMore l opened stopped.noted old.written new.written) (sym begin) (no_more_longer made later opened stopped.noted old.written new.written no_more));
+          no_less = λ level. subst (λ (n : ℕ). PrintsNoLess all n old.written new.written) (sym stops.count)
+              (subst (λ (l : List Turn). PrintsNoLess l stopped.noted old.written new.written) (sym begin) (no_less_longer made later stopped.noted old.written new.written stopped.few no_less));
+        }
 
     -- The exits of a session.
 
@@ -231,7 +276,7 @@ module _ (from : Image) (limits : Bounds) (readings : Readings) (old : Outside) 
         whole_refused = plays.part.plays.refused ∙ ap (λ (l : List Turn). refuse l) (sym whole_turns)
 
         module _ (ends : EndsRun (Ok tt) (with_more begun_far (commands_of whole_made)) new.folder mid.clock new.clock) where
-          ends_as_ok : EndsAs status.Ok all_made from (run_with (turns (session_script 1 (lines input)) opened (later_of readings))) old new
+          ends_as_ok : EndsAs status.Ok all_made from (run_with (turns (session_script 1 (lines input)) opened (later_of readings))) sink old new
           ends_as_ok = record {
             printed = whole_printed;
             ended = is_ended (turns (session_script 1 (lines input)) opened (later_of readings)) whole_made whole_turns mid.clock plays.part.plays.read new ends;
@@ -268,7 +313,7 @@ module _ (from : Image) (limits : Bounds) (readings : Readings) (old : Outside) 
           ends = record {
             printed = appends_whole old.written new.written (text_of (turns (session_script 1 (lines input)) opened (later_of readings))) whole_printed;
             ended = tt;
-            stopped = stops_behind (turns (session_script 1 (lines input)) opened (later_of readings)) whole_made whole_turns mid.clock new.clock plays.part.plays.read new.folder ends;
+            stopped = stops_printed (turns (session_script 1 (lines input)) opened (later_of readings)) sink new whole_printed (stops_behind (turns (session_script 1 (lines input)) opened (later_of readings)) whole_made whole_turns mid.clock new.clock plays.part.plays.read new.folder ends);
           };
         }
 
@@ -315,7 +360,7 @@ module _ (from : Image) (limits : Bounds) (readings : Readings) (old : Outside) 
           ends = record {
             printed = appends_whole old.written new.written (text_of taken_turns) taken_printed;
             ended = tt;
-            stopped = stops_behind taken_turns made turns_taken mid.clock new.clock plays.read new.folder ends;
+            stopped = stops_printed taken_turns sink new taken_printed (stops_behind taken_turns made turns_taken mid.clock new.clock plays.read new.folder ends);
           };
         }
 
@@ -348,7 +393,6 @@ module _ (from : Image) (limits : Bounds) (readings : Readings) (old : Outside) 
           let split = turns_first plays.texts (plays.of input refl).0 (lines input) opened (later_of readings) (plays.of input refl).1 in
           let later : List Turn = split.0 in
           let begin : all ≡ made ++ later = split.1 ∙ ap (λ (l : List Turn). l ++ later) (sym (plays.part.are (later_of readings) clock_told)) in
-          let more = commands_begin opened (later_of readings) all made later begin in
           record {
             ending = all_made;
             run = session_run from limits readings (session_script 1 (lines input));
@@ -359,7 +403,7 @@ module _ (from : Image) (limits : Bounds) (readings : Readings) (old : Outside) 
               printed = subst (λ (w : Option (List ℕ)). Appends old.written w (text_of all)) (sym unprinted_since)
                   (appends_longer old.written mid.written (text_of made) (text_of later) (text_of all) (ap (λ (l : List Turn). text_of l) begin ∙ text_of-append made later) plays.part.plays.printed);
               ended = tt;
-              stopped = subst (λ (l : List Stamped). Stops from opened l old.folder new.folder) (sym more.1) (subst (λ (t : Told). Stops from opened (commands_of made ++ more.0) old.folder t) same (plays.part.plays.stops more.0));
+              stopped = stops_within all made later begin sink told mid new same unprinted_since plays.part.plays;
             };
           }
 
@@ -411,6 +455,14 @@ module _ (from : Image) (limits : Bounds) (readings : Readings) (old : Outside) 
           };
         }
 
+        sink_part : Appends old.written new.written (text_of (take (made_to.count + 1) all_turns))
+        sink_part = record {
+          front = text_of (take made_to.count sink_made) ++ made_to.front;
+          rest = made_to.rest;
+          split = text_split ∙ sym (append_assoc (text_of (take made_to.count sink_made)) made_to.front made_to.rest);
+          written = unprinted_since ∙ made_to.printed;
+        }
+
         pub exit_sink_device : sink → EndsRun (Err fault.Device) (with_more begun_far (commands_of (take (made_to.count + 1) sink_made))) new.folder mid.clock new.clock → Runs by_lines status.Device limits budget from readings input source sink old new
         exit_sink_device rose ends = record {
           ending = unprinted made_to.count;
@@ -419,14 +471,9 @@ module _ (from : Image) (limits : Bounds) (readings : Readings) (old : Outside) 
           may_end = (rose, within_cut);
           takes = takes;
           ends = record {
-            printed = record {
-              front = text_of (take made_to.count sink_made) ++ made_to.front;
-              rest = made_to.rest;
-              split = text_split ∙ sym (append_assoc (text_of (take made_to.count sink_made)) made_to.front made_to.rest);
-              written = unprinted_since ∙ made_to.printed;
-            };
+            printed = sink_part;
             ended = tt;
-            stopped = stops_behind (take (made_to.count + 1) all_turns) (take (made_to.count + 1) sink_made) cut_same mid.clock new.clock made_to.read new.folder ends;
+            stopped = stops_unprinted (take (made_to.count + 1) all_turns) sink new rose sink_part (stops_behind (take (made_to.count + 1) all_turns) (take (made_to.count + 1) sink_made) cut_same mid.clock new.clock made_to.read new.folder ends);
           };
         }
 
@@ -481,7 +528,7 @@ module _ (from : Image) (limits : Bounds) (readings : Readings) (old : Outside) 
           ends = record {
             printed = appends_whole old.written new.written (text_of script_turns) script_printed;
             ended = tt;
-            stopped = stops_behind script_turns plays.made script_made mid.clock new.clock plays.plays.read new.folder ends;
+            stopped = stops_printed script_turns sink new script_printed (stops_behind script_turns plays.made script_made mid.clock new.clock plays.plays.read new.folder ends);
           };
         }
 
@@ -490,7 +537,6 @@ module _ (from : Image) (limits : Bounds) (readings : Readings) (old : Outside) 
       unfolding state_after
       fixed_device plays same =
           let begin : script_turns ≡ plays.made ++ [] = sym (plays.are (later_of readings) clock_told) ∙ sym (append-nil plays.made) in
-          let more = commands_begin opened (later_of readings) script_turns plays.made [] begin in
           record {
             ending = all_made;
             run = run_of script (found from) limits readings;
@@ -500,7 +546,7 @@ module _ (from : Image) (limits : Bounds) (readings : Readings) (old : Outside) 
               printed = subst (λ (w : Option (List ℕ)). Appends old.written w (text_of script_turns)) (sym unprinted_since)
                   (appends_longer old.written mid.written (text_of plays.made) [] (text_of script_turns) (ap (λ (l : List Turn). text_of l) begin ∙ text_of-append plays.made []) plays.plays.printed);
               ended = tt;
-              stopped = subst (λ (l : List Stamped). Stops from opened l old.folder new.folder) (sym more.1) (subst (λ (t : Told). Stops from opened (commands_of plays.made ++ more.0) old.folder t) same (plays.plays.stops more.0));
+              stopped = stops_within script_turns plays.made [] begin sink told mid new same unprinted_since plays.plays;
             };
           }
 
@@ -540,6 +586,14 @@ module _ (from : Image) (limits : Bounds) (readings : Readings) (old : Outside) 
           };
         }
 
+        fixed_part : Appends old.written new.written (text_of (take (fixed_to.count + 1) script_turns))
+        fixed_part = record {
+          front = text_of (take fixed_to.count plays.made) ++ fixed_to.front;
+          rest = fixed_to.rest;
+          split = fixed_split ∙ sym (append_assoc (text_of (take fixed_to.count plays.made)) fixed_to.front fixed_to.rest);
+          written = unprinted_since ∙ fixed_to.printed;
+        }
+
         pub fixed_sink_device : sink → EndsRun (Err fault.Device) (with_more begun_far (commands_of (take (fixed_to.count + 1) plays.made))) new.folder mid.clock new.clock → FixedRuns status.Device script limits from readings sink old new
         fixed_sink_device rose ends = record {
           ending = unprinted fixed_to.count;
@@ -547,13 +601,8 @@ module _ (from : Image) (limits : Bounds) (readings : Readings) (old : Outside) 
           is = refl;
           may_end = (rose, fixed_within);
           ends = record {
-            printed = record {
-              front = text_of (take fixed_to.count plays.made) ++ fixed_to.front;
-              rest = fixed_to.rest;
-              split = fixed_split ∙ sym (append_assoc (text_of (take fixed_to.count plays.made)) fixed_to.front fixed_to.rest);
-              written = unprinted_since ∙ fixed_to.printed;
-            };
+            printed = fixed_part;
             ended = tt;
-            stopped = stops_behind (take (fixed_to.count + 1) script_turns) (take (fixed_to.count + 1) plays.made) fixed_cut mid.clock new.clock fixed_to.read new.folder ends;
+            stopped = stops_unprinted (take (fixed_to.count + 1) script_turns) sink new rose fixed_part (stops_behind (take (fixed_to.count + 1) script_turns) (take (fixed_to.count + 1) plays.made) fixed_cut mid.clock new.clock fixed_to.read new.folder ends);
           };
         }

@@ -21,10 +21,10 @@ use Rattle.blk_model.specs.Request.{to_close}
 use Rattle.blk_model.specs.Step.{step}
 use Rattle.law_state.specs.Commands.{ForKept, IsNoted, IsStepped, note_number}
 use Rattle.spec_run.specs.Run.{Stamped, bound_names, clock_after, closings, stamped_by, state_after, state_then}
-use Rattle.spec_run.specs.Progress.{Stops}
+use Rattle.spec_run.specs.Progress.{StopsPast}
 use Rattle.spec_run.proofs.Closing.{few_names, least_closed, least_of_slots, none_closed, none_of_slots}
 use Rattle.spec_run.proofs.CommandStates.{state_after-one}
-use Rattle.spec_run.proofs.Composing.{stopped}
+use Rattle.spec_run.proofs.Composing.{stopped_past}
 use Rattle.blk_run.specs.Playing.{SoFar, StandsAt, state_now, with_more}
 use Rattle.blk_run.specs.Closings.{Closes, ClosesAll}
 use Rattle.blk_run.proofs.Parts.{handed_on, stands_fewer, stands_joined, stands_none}
@@ -160,11 +160,14 @@ module _ {Y : Type 0} (slots : List (Option Y)) (keeps : State → Image → Typ
             let enough : left + 2 * length (bound_names state) ≡ (left + 2 * length (bound_names (state_then state command))) + 2 = omega (arith, one_less) in
             subst (λ (n : ℕ). StandsAt (with_more far so_far.closed) keeps notes n now) enough so_far.stands
 
-        stops : Stops far.from far.opened (far.done ++ (so_far.closed ++ command ∷ following clock_old)) far.start new
+        stops : StopsPast far.from far.opened (far.done ++ (so_far.closed ++ command ∷ following clock_old)) (length far.done) far.start new
         stops =
-            subst (λ (l : List Stamped). Stops far.from far.opened l far.start new) (append_assoc far.done so_far.closed (command ∷ following clock_old))
-            (stopped far.from far.opened (far.done ++ so_far.closed) (following clock_old) far.start now new command so_far.stands.began so_far.stands.progress
-            (subst (λ (n : ℕ). IsStepped now new moment (to_close name) n state) (next_note (with_more far so_far.closed) keeps notes (left + 2 * length (bound_names (state_then state command))) now room) (stepped so_far.stands.image so_far.stands.here state so_far.stands.kept)))
+            let made = stopped_past far.from far.opened (far.done ++ so_far.closed) (following clock_old) far.start now new command so_far.stands.began so_far.stands.progress
+            (subst (λ (n : ℕ). IsStepped now new moment (to_close name) n state) (next_note (with_more far so_far.closed) keeps notes (left + 2 * length (bound_names (state_then state command))) now room) (stepped so_far.stands.image so_far.stands.here state so_far.stands.kept)) in
+            let fewer = made.count in
+            let all = length-append far.done so_far.closed in
+            subst (λ (l : List Stamped). StopsPast far.from far.opened l (length far.done) far.start new) (append_assoc far.done so_far.closed (command ∷ following clock_old))
+            (record { stops = made.stops; count = omega (arith, fewer, all) })
 
         no_files : {image : Image} → ◌≡◌ {A = Option Image} (Some image) None → ⊥
         no_files e = cc

@@ -22,10 +22,9 @@ use Rattle.blk_cache.specs.Stepping.{IfSink}
 use Rattle.blk_run.specs.declared.ending.Status.TheVariants as status
 use Rattle.blk_run.specs.Closings.{ClosesAll}
 use Rattle.blk_run.specs.Errors.{IsOnlySink}
-use Rattle.blk_run.specs.Playing.{PlaysPart, SoFar, StandsAt}
+use Rattle.blk_run.specs.Playing.{PlaysPart, SoFar, StandsAt, around}
 use Rattle.blk_run.specs.Scripts.{closes_script, script_status}
 use Rattle.blk_run.specs.Session.{FixedRuns, Outside}
-use Rattle.blk_run.proofs.Asking.{around}
 use Rattle.blk_run.proofs.Assembling.{ends_closed, ends_unfinished}
 use Rattle.blk_run.proofs.ClosingAll.{all_closed, none_so_far}
 use Rattle.blk_run.proofs.HeadlineBridge.{cache_stands, held_still, names_bound}

@@ -4,7 +4,7 @@ use Rattle.std.specs.Option.{ForSome}
 use Rattle.std.specs.Prelude.{IsErrAnd}
 use Rattle.spec_image.specs.Image.{Image}
 use Rattle.spec_image.specs.Told.{Told}
-use Rattle.blk_io.specs.Streams.{Readings, reading_of, later_of}
+use Rattle.blk_io.specs.Streams.{Appends, Readings, reading_of, later_of}
 use Rattle.blk_model.specs.declared.Answer.{Answer}
 use Rattle.blk_model.specs.Reply.{answer_of}
 use Rattle.blk_model.specs.Request.{Request}
@@ -15,6 +15,7 @@ use Rattle.blk_model.specs.Step.{Outcome}
 use Rattle.spec_run.specs.Run.{Stamped, commands_of, outcome_in, stamped_by, state_after, turns}
 use Rattle.spec_run.specs.Script.{Script, is_missing, is_missing_refusal, is_refused, refusal_of}
 use Rattle.spec_run.proofs.CommandStates.{state_after-append, state_after-one}
+use Rattle.spec_run.proofs.Replies.{no_less_one, no_more_unshown}
 use Rattle.blk_gen.specs.declared.counting.Counts.{Counts}
 use Rattle.blk_gen.specs.Counting.{AreLong, bytes_read, evicted_items, refusals_in, with_answer, with_outcome}
 use Rattle.blk_gen.specs.Generator.{asks_counted}
@@ -25,8 +26,7 @@ use Rattle.blk_cache.specs.CacheKeeping.{KeepsState}
 use Rattle.blk_cache.specs.Stepping.{IfSink}
 use Rattle.blk_run.specs.Fixed.{GoOn, PlaysUpTo}
 use Rattle.blk_run.specs.Generating.{AreWithin, AsksCounted, Following, IsGeneratedRequest, PlaysCounted, PlaysOn, evicted_by, hidden_turn, longest_read, unshown}
-use Rattle.blk_run.specs.Playing.{AreMade, Around, Asks, Plays, PlaysPart, SoFar, StandsAt, asked_turn, has_refused, refuses, state_now, with_more}
-use Rattle.blk_run.proofs.Asking.{around}
+use Rattle.blk_run.specs.Playing.{AreMade, Around, Asks, Plays, PlaysPart, SoFar, StandsAt, around, asked_turn, has_refused, refuses, state_now, with_more}
 use Rattle.blk_run.proofs.EvictedCounts.{read_few, told_by}
 use Rattle.blk_run.proofs.FixedTurns.{fault_is, first_fault, up_to_more, up_to_none, up_to_part}
 use Rattle.blk_run.proofs.Parts.{stands_fewer}
@@ -41,7 +41,17 @@ hidden_plays : (result : Result Answer StepFault) (far : SoFar) (command : Stamp
     → (w : Option (List ℕ)) (refused : Bool) → Plays result (hidden_turn far command ∷ []) far keeps notes left (unshown told w c_old refused) (unshown now w c_new refused)
 hidden_plays (Ok answer) far command keeps notes left told now c_old c_new p none w refused = record { stands = p.stands; printed = printed_none w; read = p.read; refused = or_none refused }
 hidden_plays (Err fault.Sink) far command keeps notes left told now c_old c_new p none w refused = absurd none
-hidden_plays (Err fault.Device) far command keeps notes left told now c_old c_new p none w refused = record { stops = p.stops; printed = record { front = []; rest = []; split = refl; written = printed_none w } }
+hidden_plays (Err fault.Device) far command keeps notes left told now c_old c_new p none w refused =
+    let few : p.noted ≤ 1 = p.few in
+    let part : Appends w w [] = record { front = []; rest = []; split = refl; written = printed_none w } in
+    record {
+      noted = p.noted;
+      few = few;
+      stops = p.stops;
+      printed = part;
+      no_more = no_more_unshown (hidden_turn far command) (state_now far) p.noted w (printed_none w);
+      no_less = no_less_one (hidden_turn far command) p.noted w w [] few part;
+    }
 hidden_plays (Err (fault.Damaged damage)) far command keeps notes left told now c_old c_new p none w refused = p
 
 -- counts of few commands are numbers of 64 bits
@@ -132,7 +142,7 @@ module _ (request : Request) (counts counted : Counts) (following : Outcome → 
       by_fault : (f : StepFault) → Plays {A = Answer} (Err f) (hidden_turn far (record { moment = asked.moment; request = request }) ∷ []) far keeps notes left (unshown told w c_old refused) (unshown now w c_new refused)
           → Plays {A = Unit {0}} (Err f) (hidden_turn far (record { moment = asked.moment; request = request }) ∷ []) far keeps notes left (unshown told w c_old refused) (unshown now w c_new refused)
       by_fault fault.Sink p = record { count = p.count; within = p.within; stands = p.stands; front = p.front; rest = p.rest; split = p.split; printed = p.printed; read = p.read }
-      by_fault fault.Device p = record { stops = p.stops; printed = p.printed }
+      by_fault fault.Device p = p
       by_fault (fault.Damaged damage) p = p
 
 -- One part of a script after another.

@@ -15,8 +15,7 @@ use Rattle.spec_run.specs.Run.{clock_after, commands_of, outcome_in, readings_of
 use Rattle.blk_cache.specs.declared.fault.StepFault.{StepFault}
 use Rattle.blk_cache.specs.declared.fault.StepFault.TheVariants as fault
 use Rattle.blk_run.specs.Fixed.{GoOn, PlaysUpTo}
-use Rattle.blk_run.specs.Playing.{SoFar, StandsAt, Around, AreMade, Asks, Plays, PlaysPart, asked_turn, refuses, state_now, with_more}
-use Rattle.blk_run.proofs.Asking.{around}
+use Rattle.blk_run.specs.Playing.{AreMade, Around, Asks, Plays, PlaysPart, SoFar, StandsAt, around, asked_turn, refuses, state_now, with_more}
 use Rattle.blk_run.proofs.Parts.{made_then, made_then_to, made_then_stopped, made_to_only, stopped_only, stands_none}
 use Rattle.blk_run.proofs.RunLaws.{or_none}
 use Rattle.spec_run.proofs.CommandStates.{state_after-append}
@@ -200,7 +199,7 @@ module _ (whole : State → Readings → List Turn) (all requests : List Request
       by_fault : (f : StepFault) → Plays {A = Answer} (Err f) (asked_turn here (record { moment = asked.moment; request = request }) ∷ []) here keeps notes left (around told w_mid c_mid false) (around now w_new c_new false)
           → Plays {A = Unit {0}} (Err f) (asked_turn here (record { moment = asked.moment; request = request }) ∷ []) here keeps notes left (around told w_mid c_mid refused) (around now w_new c_new refused)
       by_fault fault.Sink p = record { count = p.count; within = p.within; stands = p.stands; front = p.front; rest = p.rest; split = p.split; printed = p.printed; read = p.read }
-      by_fault fault.Device p = record { stops = p.stops; printed = p.printed }
+      by_fault fault.Device p = record { noted = p.noted; few = p.few; stops = p.stops; printed = p.printed; no_more = p.no_more; no_less = p.no_less }
       by_fault (fault.Damaged damage) p = absurd p
 
 -- Of some commands.

@@ -16,8 +16,7 @@ use Rattle.blk_inspect.specs.declared.fault.InspectFault.{InspectFault}
 use Rattle.blk_inspect.specs.declared.fault.InspectFault.TheVariants as inspect_fault
 use Rattle.blk_inspect.specs.Inspecting.{AnswersFor, IfInspectDamaged, IfInspectDevice, IfInspectSink, PrintsAt, UnlessSink}
 use Rattle.blk_run.specs.Errors.{IsFlushed}
-use Rattle.blk_run.specs.Playing.{AreMade, AreMadeTo, Asks, SoFar, has_refused}
-use Rattle.blk_run.proofs.Asking.{around}
+use Rattle.blk_run.specs.Playing.{AreMade, AreMadeTo, Asks, SoFar, around, has_refused}
 use Rattle.blk_run.proofs.Printed.{whole_part}
 use Rattle.blk_run.proofs.ScriptCauses.{rises_until}
 use Rattle.blk_run.proofs.SessionEnds.{rises_since}

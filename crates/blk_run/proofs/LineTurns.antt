@@ -20,9 +20,8 @@ use Rattle.spec_run.specs.Run.{Turn, error_turn, turns, clock_after}
 use Rattle.blk_cache.specs.declared.fault.StepFault.{StepFault}
 use Rattle.blk_cache.specs.declared.fault.StepFault.TheVariants as fault
 use Rattle.blk_run.specs.Errors.{IsOnlySink}
-use Rattle.blk_run.specs.Playing.{SoFar, StandsAt, Around, AreMade, Asks, Plays, PlaysPart, asked_turn, refuses, state_now}
+use Rattle.blk_run.specs.Playing.{AreMade, Around, Asks, Plays, PlaysPart, SoFar, StandsAt, around, asked_turn, refuses, state_now}
 use Rattle.blk_run.proofs.Parts.{stands_none}
-use Rattle.blk_run.proofs.Asking.{around}
 
 -- parts with the same iterations
 pub part_same : {A : Type 0} (result : Result A StepFault) (far : SoFar) (one other : State → Readings → List Turn) (keeps : State → Image → Type 0) (notes left : ℕ) (old new : Around) → ((state : State) (clock : Readings) → one state clock ≡ other state clock)
@@ -103,7 +102,7 @@ module _ (number : ℕ) (request : Request) (far : SoFar) (keeps : State → Ima
       by_fault : (f : StepFault) → Plays {A = Answer} (Err f) (asked_turn far (record { moment = asked.moment; request = request }) ∷ []) far keeps notes left (around told w_old c_old false) (around now w_new c_new false)
           → Plays {A = Unit {0}} (Err f) (asked_turn far (record { moment = asked.moment; request = request }) ∷ []) far keeps notes left (around told w_old c_old refused_old) (around now w_new c_new refused_new)
       by_fault fault.Sink p = record { count = p.count; within = p.within; stands = p.stands; front = p.front; rest = p.rest; split = p.split; printed = p.printed; read = p.read }
-      by_fault fault.Device p = record { stops = p.stops; printed = p.printed }
+      by_fault fault.Device p = record { noted = p.noted; few = p.few; stops = p.stops; printed = p.printed; no_more = p.no_more; no_less = p.no_less }
       by_fault (fault.Damaged damage) p = absurd p
 
 -- What a line says.

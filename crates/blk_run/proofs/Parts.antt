@@ -10,12 +10,14 @@ use Rattle.spec_image.specs.Told.{Told}
 use Rattle.blk_io.specs.Streams.{Appends, Readings}
 use Rattle.blk_model.specs.State.{State}
 use Rattle.spec_run.specs.Run.{clock_after, commands_of, readings_of, refuse, Stamped, state_after, text_of, Turn}
-use Rattle.spec_run.specs.Progress.{Stops}
+use Rattle.spec_run.specs.Progress.{StopsAfter}
+use Rattle.spec_run.specs.Replies.{PrintsNoMore}
 use Rattle.blk_cache.specs.declared.fault.StepFault.{StepFault}
 use Rattle.blk_cache.specs.declared.fault.StepFault.TheVariants as fault
 use Rattle.blk_run.specs.Playing.{SoFar, StandsAt, Around, AreMade, AreMadeTo, AreStopped, Plays, PlaysPart, state_now, with_more}
 use Rattle.blk_run.proofs.Printed.{then_more, then_part, part_of, printed_none}
 use Rattle.spec_run.proofs.CommandStates.{state_after-append}
+use Rattle.spec_run.proofs.Replies.{no_less_longer, no_less_then, no_more_longer, no_more_then}
 use Rattle.spec_run.proofs.Turns.{commands_of-append, readings_of-append, refuse-append, text_of-append}
 use Rattle.blk_run.proofs.RunLaws.{or_assoc, or_none, read_twice}
 
@@ -73,11 +75,23 @@ module _ (far : SoFar) (first second : List Turn) (old mid new : Around) (keeps_
   -- up to one in which the folder failed
   pub made_then_stopped : AreStopped second (with_more far (commands_of first)) mid new → AreStopped (first ++ second) far old new
   made_then_stopped stopped = record {
-    stops = λ more. subst (λ (l : List Stamped). Stops far.from far.opened l far.start new.folder)
+    noted = length (commands_of first) + stopped.noted;
+    few = let few = stopped.few in let more = commands_more in omega (arith, few, more);
+    stops = λ more. subst (λ (n : ℕ). StopsAfter far.from far.opened (far.done ++ (commands_of (first ++ second) ++ more)) n far.start new.folder) count_more
+        (subst (λ (l : List Stamped). StopsAfter far.from far.opened l (length (far.done ++ commands_of first) + stopped.noted) far.start new.folder)
         (append_assoc far.done (commands_of first) (commands_of second ++ more)
-        ∙ ap (λ (l : List Stamped). far.done ++ l) (sym (append_assoc (commands_of first) (commands_of second) more) ∙ ap (λ (l : List Stamped). l ++ more) (sym (commands_of-append first second)))) (stopped.stops more);
+        ∙ ap (λ (l : List Stamped). far.done ++ l) (sym (append_assoc (commands_of first) (commands_of second) more) ∙ ap (λ (l : List Stamped). l ++ more) (sym (commands_of-append first second)))) (stopped.stops more));
     printed = subst (Appends old.written new.written) (sym (text_of-append first second)) (then_part (text_of first) (text_of second) old.written mid.written new.written before.printed stopped.printed);
+    no_more = no_more_then first second (state_now far) stopped.noted old.written mid.written new.written before.printed
+        (subst (λ (s : State). PrintsNoMore second s stopped.noted mid.written new.written) (state_after-append far.opened far.done (commands_of first)) stopped.no_more);
+    no_less = no_less_then first second (state_now far) stopped.noted old.written mid.written new.written before.printed stopped.no_less;
   }
+    where
+      commands_more : length (commands_of (first ++ second)) ≡ length (commands_of first) + length (commands_of second)
+      commands_more = ap (λ (l : List Stamped). length l) (commands_of-append first second) ∙ length-append (commands_of first) (commands_of second)
+
+      count_more : length (far.done ++ commands_of first) + stopped.noted ≡ length far.done + (length (commands_of first) + stopped.noted)
+      count_more = let all = length-append far.done (commands_of first) in omega (arith, all)
 
 -- Iterations that would follow are not made.
 module _ (far : SoFar) (first second : List Turn) (old new : Around) (keeps : State → Image → Type 0) (notes left : ℕ) where
@@ -99,10 +113,17 @@ module _ (far : SoFar) (first second : List Turn) (old new : Around) (keeps : St
 
   pub stopped_only : AreStopped first far old new → AreStopped (first ++ second) far old new
   stopped_only stopped = record {
-    stops = λ more. subst (λ (l : List Stamped). Stops far.from far.opened (far.done ++ l) far.start new.folder)
+    noted = stopped.noted;
+    few = let few = stopped.few in let more = commands_more in omega (arith, few, more);
+    stops = λ more. subst (λ (l : List Stamped). StopsAfter far.from far.opened (far.done ++ l) (length far.done + stopped.noted) far.start new.folder)
         (sym (append_assoc (commands_of first) (commands_of second) more) ∙ ap (λ (l : List Stamped). l ++ more) (sym (commands_of-append first second))) (stopped.stops (commands_of second ++ more));
     printed = subst (Appends old.written new.written) (sym (text_of-append first second)) (part_of (text_of first) (text_of second) old.written new.written stopped.printed);
+    no_more = no_more_longer first second (state_now far) stopped.noted old.written new.written stopped.no_more;
+    no_less = no_less_longer first second stopped.noted old.written new.written stopped.few stopped.no_less;
   }
+    where
+      commands_more : length (commands_of (first ++ second)) ≡ length (commands_of first) + length (commands_of second)
+      commands_more = ap (λ (l : List Stamped). length l) (commands_of-append first second) ∙ length-append (commands_of first) (commands_of second)
 
 -- Parts of a script.
 

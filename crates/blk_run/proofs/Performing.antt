@@ -88,6 +88,7 @@ pub record RunsScript (script : Script) (result : Status) (limits : Bounds) (dev
   pub complete : ForSome old.folder.files (λ from. IsUsable from → ForSome old.clock (λ readings. (device → ⊥) → (Rises before now → ⊥) → IsCompleteScript result script limits from readings old new))
   pub damage : ForSome old.folder.files (λ from. (damage : Damage) → IsDamagedBy damage from → OnDamage result damage before now old new)
   pub cause : CauseOf result (IsDamagedRun old.folder new.folder old.written new.written before now) device ⊥ (Rises before now) ⊥
+  pub memory : result ≡ status.Memory → DoesNothing old new
 
 module _ (result : Status) (limits : Bounds) (device source : Type 0) (before now : ℕ) (old new : Outside) where
   -- a script that leaves the input unread
@@ -98,6 +99,7 @@ module _ (result : Status) (limits : Bounds) (device source : Type 0) (before no
     damage = runs.damage;
     cause = cause_wider result (IsDamagedRun old.folder new.folder old.written new.written before now) device source (Rises before now) ⊥ runs.cause;
     takes = unread;
+    memory = runs.memory;
   })
 
   -- a call that has no source
@@ -108,6 +110,7 @@ module _ (result : Status) (limits : Bounds) (device source : Type 0) (before no
     damage = does.damage;
     cause = cause_wider result (IsDamagedRun old.folder new.folder old.written new.written before now) device source (Rises before now) ⊥ does.cause;
     takes = does.takes;
+    memory = does.memory;
   }
 
   -- Of the whole input.
@@ -147,6 +150,7 @@ module _ (result : Status) (limits : Bounds) (device source : Type 0) (before no
     damage = λ from there damage is. reads_of result damage (λ input left. (whole input left).1) (runs.damage from there damage is);
     cause = cause_wider result (IsDamagedRun old.folder new.folder old.written new.written before now) device source (Rises before now) (ForSome old.left (λ input. longest_input < length input)) runs.cause;
     takes = λ input left. up_to_more longest_input (longest_input + 1) new.left input (omega arith) (all_taken longest_input input new.left (whole input left).1);
+    memory = λ is. let nothing = runs.memory is in record { unwritten = nothing.unwritten; unprinted = nothing.unprinted };
   }
 
 -- Where nothing was done.
@@ -159,6 +163,7 @@ idle_script script limits device source before now old new nothing = record {
   damage = λ from there damage is. nothing;
   cause = tt;
   takes = nothing.unread;
+  memory = λ is. nothing;
 }
 
 pub idle_put : (script : List ℕ → Script) (limits : Bounds) (device source : Type 0) (before now : ℕ) (old new : Outside) → DoesNothing old new → Performs (whole_input script) status.Memory limits device source before now old new
@@ -168,6 +173,7 @@ idle_put script limits device source before now old new nothing = record {
   damage = λ from there damage is. (λ input left. inl nothing.unread, record { unwritten = nothing.unwritten; unprinted = nothing.unprinted });
   cause = tt;
   takes = none_yet (longest_input + 1) old.left new.left nothing.unread;
+  memory = λ is. record { unwritten = nothing.unwritten; unprinted = nothing.unprinted };
 }
 
 -- the input failed
@@ -179,6 +185,7 @@ unread_put script limits device source before now old new rose taken nothing = r
   damage = λ from there damage is. (taken, nothing);
   cause = rose;
   takes = λ input left. up_to_more longest_input (longest_input + 1) new.left input (omega arith) (taken input left);
+  memory = λ is. nothing;
 }
 
 -- it has too many bytes
@@ -190,6 +197,7 @@ long_put script limits device source before now old new past nothing = record {
   damage = λ from there damage is. (past, nothing);
   cause = λ input left. past_long longest_input new.left input (past input left);
   takes = λ input left. past_taken longest_input new.left input (past input left);
+  memory = λ is. nothing;
 }
   where
     too_many : (n : ℕ) → n ≤ longest_input → longest_input < n → ⊥

@@ -1,5 +1,5 @@
 -- Iterations of the script of `put`.
-use Rattle.std.proofs.Common.{ℕ, ◌≡◌, Bool, ◌||◌, true, false, not, if◌then◌else◌, List, [], ◌∷◌, ◌++◌, Option, None, Some, Ok, Err, Result, refl, sym, ◌∙◌, ap, subst, arith}
+use Rattle.std.proofs.Common.{ℕ, ◌≡◌, ◌≤◌, Bool, ◌||◌, true, false, not, if◌then◌else◌, List, [], ◌∷◌, ◌++◌, Option, None, Some, Ok, Err, Result, refl, sym, ◌∙◌, ap, subst, arith}
 use Rattle.std.specs.Option.{option_map, ForSome}
 use Rattle.std.specs.Prelude.{IsErrAnd}
 use Rattle.std.proofs.lemmas.List.{append-nil}
@@ -21,11 +21,11 @@ use Rattle.blk_cache.specs.declared.fault.StepFault.TheVariants as fault
 use Rattle.blk_run.specs.Fixed.{GoOn, PlaysUpTo, opened_answer}
 use Rattle.blk_cache.specs.Stepping.{IfSink}
 use Rattle.blk_run.specs.Errors.{IsOnlySink}
-use Rattle.blk_run.specs.Playing.{SoFar, AreMade, AreMadeTo, Asks, Plays, PlaysPart, asked_turn, refuses, state_now, with_more}
-use Rattle.blk_run.proofs.Asking.{around}
+use Rattle.blk_run.specs.Playing.{AreMade, AreMadeTo, Asks, Plays, PlaysPart, SoFar, around, asked_turn, refuses, state_now, with_more}
 use Rattle.blk_run.proofs.FixedTurns.{fault_is, first_fault, no_more}
 use Rattle.blk_run.proofs.RunLaws.{or_none}
 use Rattle.spec_run.proofs.CommandStates.{state_after-append}
+use Rattle.spec_run.proofs.Replies.{no_less_one, no_more_unshown}
 use Rattle.blk_run.proofs.Printed.{printed_none}
 
 -- What an Open prints.
@@ -164,7 +164,18 @@ module _ (key : List ℕ) (stream : ℕ) (bytes : List ℕ) (far : SoFar) (keeps
       by_fault : (f : StepFault) → Plays {A = Answer} (Err f) (asked_turn far (opened_by key asked.moment) ∷ []) far keeps notes left (around told None c_old false) (around now None c_new false) → IfSink {A = Answer} (Err f) ⊥
           → Plays {A = Unit {0}} (Err f) (open_turn far key asked.moment (not (is_missing (opening asked.moment))) ∷ []) far keeps notes left (around told w c_old refused) (around now w c_new refused)
       by_fault fault.Sink p none = absurd none
-      by_fault fault.Device p none = record { stops = p.stops; printed = record { front = []; rest = text_of (open_turn far key asked.moment (not (is_missing (opening asked.moment))) ∷ []); split = refl; written = printed_none w } }
+      by_fault fault.Device p none =
+          let turn : Turn = open_turn far key asked.moment (not (is_missing (opening asked.moment))) in
+          let few : p.noted ≤ 1 = p.few in
+          let part : Appends w w (text_of (turn ∷ [])) = record { front = []; rest = text_of (turn ∷ []); split = refl; written = printed_none w } in
+          record {
+            noted = p.noted;
+            few = few;
+            stops = p.stops;
+            printed = part;
+            no_more = no_more_unshown turn (state_now far) p.noted w (printed_none w);
+            no_less = no_less_one turn p.noted w w (text_of (turn ∷ [])) few part;
+          }
       by_fault (fault.Damaged damage) p none = absurd p
 
 -- a failed sink that was handed on

@@ -18,12 +18,13 @@ use Rattle.blk_run.specs.Session.{IsDamagedBy, Outside}
 use Rattle.blk_run.specs.Shown.{PrintsFault, status_shown}
 use Rattle.blk_run.specs.Texts.{Prints, damage_line}
 use Rattle.blk_run.specs.Work.{Performs, folder_text}
+use Rattle.blk_run.proofs.OutOfMemory.{not_memory}
 use Rattle.blk_run.proofs.Performing.{cause_wider}
 use Rattle.blk_run.proofs.ScriptCauses.{rises_until}
 use Rattle.blk_run.proofs.SessionEnds.{rises_since}
 
 -- a folder that is unfinished or well formed is not corrupt
-sound : {P : Type 0} (damage : checks.Damage) (image : Image) → IsUsable image → IsDamagedBy damage image → P
+pub sound : {P : Type 0} (damage : checks.Damage) (image : Image) → IsUsable image → IsDamagedBy damage image → P
 sound damage image (inl unfinished) is = absurd (is.finished unfinished)
 sound damage image (inr formed) is = absurd (never (sym formed ∙ is.first))
   where
@@ -62,13 +63,15 @@ module _ (text : Image → List ℕ) (limits : Bounds) (device : Type 0) (before
     damage = λ from there damage is. sound damage from (answer from there) is;
     cause = tt;
     takes = refl;
+    memory = λ is. absurd (not_memory _ refl is);
   }
   shown_at (Err fault.Device) printed answer unprinted cause_is device_is sink_is behind = record {
     plays = λ from there usable readings c. record { printed = behind ∙ unprinted; unwritten = stays; unread = refl };
     complete = λ from there usable readings c no_device no_source no_sink. no_device device_is;
-    damage = λ from there damage is. record { unread = refl; unprinted = behind ∙ unprinted };
+    damage = λ from there damage is. record { unwritten = stays; unread = refl; unprinted = behind ∙ unprinted };
     cause = device_is;
     takes = refl;
+    memory = λ is. absurd (not_memory _ refl is);
   }
   shown_at (Err (fault.Damaged found)) printed answer unprinted cause_is device_is sink_is behind = record {
     plays = λ from there usable readings c. sound (damage_of found) from usable (damaged_by found from (answer from there));
@@ -86,6 +89,7 @@ module _ (text : Image → List ℕ) (limits : Bounds) (device : Type 0) (before
       printed = printed_since w_old w_mid w_new before between now (damage_line (damage_of found)) unprinted less behind;
     };
     takes = refl;
+    memory = λ is. absurd (not_memory _ refl is);
   }
   shown_at (Err fault.Sink) printed answer unprinted cause_is device_is sink_is behind = record {
     plays = λ from there usable readings c. record { printed = subst (λ (w : Option (List ℕ)). Appends w_old w (text from)) (sym behind) (printed from there); unwritten = stays; unread = refl };
@@ -93,6 +97,7 @@ module _ (text : Image → List ℕ) (limits : Bounds) (device : Type 0) (before
     damage = λ from there damage is. sound damage from (answer from there) is;
     cause = rises_until before between now later sink_is;
     takes = refl;
+    memory = λ is. absurd (not_memory _ refl is);
   }
   shown_at (Err fault.Memory) printed answer unprinted cause_is device_is sink_is behind = record {
     plays = λ from there usable readings c. record { printed = behind ∙ unprinted; unwritten = stays; unread = refl };
@@ -100,6 +105,7 @@ module _ (text : Image → List ℕ) (limits : Bounds) (device : Type 0) (before
     damage = λ from there damage is. record { unwritten = stays; unread = refl; unprinted = behind ∙ unprinted };
     cause = tt;
     takes = refl;
+    memory = λ is. record { unwritten = stays; unread = refl; unprinted = behind ∙ unprinted };
   }
 
   -- by the status of what an inspection answered
@@ -116,4 +122,5 @@ text_wider text result limits device source before now old new does = record {
   damage = does.damage;
   cause = cause_wider result (IsFailedInReading old.folder old.written new.written before now) device source (Rises before now) ⊥ does.cause;
   takes = does.takes;
+  memory = does.memory;
 }

@@ -14,8 +14,7 @@ use Rattle.blk_cache.specs.declared.fault.StepFault.{StepFault}
 use Rattle.blk_cache.specs.declared.fault.StepFault.TheVariants as fault
 use Rattle.blk_cache.specs.CacheKeeping.{KeepsState}
 use Rattle.blk_run.specs.Errors.{IsOnlySink}
-use Rattle.blk_run.specs.Playing.{SoFar, StandsAt, Plays, PlaysPart, state_now}
-use Rattle.blk_run.proofs.Asking.{around}
+use Rattle.blk_run.specs.Playing.{Plays, PlaysPart, SoFar, StandsAt, around, state_now}
 use Rattle.blk_run.proofs.Parts.{stands_none}
 use Rattle.blk_run.proofs.RunLaws.{or_none}
 

@@ -28,6 +28,7 @@ performs_nothing (input_by protocol) limits device source before now old new not
   damage = λ from there damage is. nothing;
   cause = tt;
   takes = λ input left. none_taken _ new.left input (nothing.unread ∙ left);
+  memory = λ is. nothing;
 }
 performs_nothing (whole_input script) limits device source before now old new nothing = record {
   plays = λ from there usable readings clock input left. (inl nothing.unread, unput old new nothing);
@@ -35,6 +36,7 @@ performs_nothing (whole_input script) limits device source before now old new no
   damage = λ from there damage is. ((λ input left. inl nothing.unread), unput old new nothing);
   cause = tt;
   takes = λ input left. none_taken _ new.left input (nothing.unread ∙ left);
+  memory = λ is. unput old new nothing;
 }
 performs_nothing (no_input script) limits device source before now old new nothing = record {
   plays = λ from there usable readings clock. nothing;
@@ -42,6 +44,7 @@ performs_nothing (no_input script) limits device source before now old new nothi
   damage = λ from there damage is. nothing;
   cause = tt;
   takes = nothing.unread;
+  memory = λ is. nothing;
 }
 performs_nothing (folder_text text) limits device source before now old new nothing = record {
   plays = λ from there usable readings clock. record { printed = nothing.unprinted; unwritten = nothing.unwritten; unread = nothing.unread };
@@ -49,6 +52,7 @@ performs_nothing (folder_text text) limits device source before now old new noth
   damage = λ from there damage is. nothing;
   cause = tt;
   takes = nothing.unread;
+  memory = λ is. nothing;
 }
 
 still : (start image : Image) → start ≡ image → HoldsStill start image
@@ -73,7 +77,6 @@ counts_nothing limits before now old new nothing read = record {
   ended = λ well. no_end well;
   made = λ well. no_end well;
   stops = λ start there. passes_none (HoldsStill start) nothing.unwritten (λ image is. still start image (inj start image (sym there ∙ is)));
-  stays = λ _. nothing.unwritten;
   unwritten = λ e. absurd (no_damage e);
   silent = λ none. ap (λ (t : Told). t.files) nothing.unwritten ∙ none;
   clock = read;

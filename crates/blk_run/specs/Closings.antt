@@ -9,7 +9,7 @@ use Rattle.blk_io.specs.declared.fault.Fault.{Fault}
 use Rattle.blk_io.specs.declared.fault.Fault.TheVariants as fault
 use Rattle.blk_model.specs.State.{State}
 use Rattle.spec_run.specs.Run.{Stamped, bound_names, clock_after, closings}
-use Rattle.spec_run.specs.Progress.{Stops}
+use Rattle.spec_run.specs.Progress.{StopsPast}
 use Rattle.blk_run.specs.Playing.{SoFar, StandsAt, state_now, with_more}
 
 -- the commands were done after those of the run, each at the next reading of the clock
@@ -17,11 +17,11 @@ pub record AreClosed (commands : List Stamped) (far : SoFar) (keeps : State → 
   pub stands : StandsAt (with_more far commands) keeps notes left now
   pub read : clock_new ≡ option_map (λ r. clock_after r (length commands)) clock_old
 
--- the outcome of closing: the commands were done; at an I/O error the folder is as a crash during them may leave it; an observable folder reports no failed
--- check
+-- the outcome of closing: the commands were done; at an I/O error the folder is as a crash during them may leave it, with all commands before them noted; an
+-- observable folder reports no failed check
 abbrev pub Closes : Result (Unit {0}) Fault → List Stamped → SoFar → (State → Image → Type 0) → (notes left : ℕ) → Told → (clock_old clock_new : Option Readings) → Type 0
 Closes (Ok done) commands far keeps notes left now clock_old clock_new = AreClosed commands far keeps notes left now clock_old clock_new
-Closes (Err fault.Device) commands far keeps notes left now clock_old clock_new = Stops far.from far.opened (far.done ++ commands) far.start now
+Closes (Err fault.Device) commands far keeps notes left now clock_old clock_new = StopsPast far.from far.opened (far.done ++ commands) (length far.done) far.start now
 Closes (Err (fault.Damaged damage)) commands far keeps notes left now clock_old clock_new = ⊥
 
 -- a Close of each handle in use, the least first, and its outcome

@@ -29,8 +29,7 @@ pub record Counts (result : Status) (limits : Bounds) (before now : ℕ) (old ne
   pub made : IsDoneOrSink result → ForSome old.folder.files (λ start. IsUnfinished start → ForSome new.folder.files (IsMadeAtNext old.clock))
   -- after each single write recovery gives the same, and the folder is usable where it was
   pub stops : ForSome old.folder.files (λ start. Passes old.folder new.folder (HoldsStill start))
-  -- nothing is written where memory ran out, or where a check of an observable folder failed
-  pub stays : result ≡ status.Memory → Stays old.folder new.folder
+  -- nothing is written where a check of an observable folder failed
   pub unwritten : result ≡ status.Damaged → ForSome old.folder.files (λ _. Stays old.folder new.folder)
   pub silent : old.folder.files ≡ None → new.folder.files ≡ None
   -- the clock is read once

@@ -9,7 +9,7 @@ use Rattle.blk_io.specs.declared.fault.Fault.TheVariants as fault
 use Rattle.blk_model.specs.Holding.{rest}
 use Rattle.spec_folder.specs.Found.{found}
 use Rattle.spec_run.specs.Run.{Stamped, bound_names, clock_after, closings, state_after}
-use Rattle.spec_run.specs.Progress.{IsWholeRun, Stops}
+use Rattle.spec_run.specs.Progress.{IsWholeRun, StopsPast}
 use Rattle.blk_cache.specs.Opening.{EndsSession}
 use Rattle.blk_run.specs.Playing.{SoFar, state_now}
 
@@ -21,11 +21,11 @@ pub record HasClosedAll (commands : List Stamped) (far : SoFar) (new : Told) (cl
   pub ends : ForSome new.files EndsSession
   pub read : clock_new ≡ option_map (λ r. clock_after r (length commands)) clock_old
 
--- the outcome of the end of a run: all was closed; at an I/O error the folder is as a crash during it may leave it; an observable folder reports no failed
--- check
+-- the outcome of the end of a run: all was closed; at an I/O error the folder is as a crash during it may leave it, with all commands before the closings
+-- noted; an observable folder reports no failed check
 abbrev pub ClosesBy : Result (Unit {0}) Fault → List Stamped → SoFar → Told → (clock_old clock_new : Option Readings) → Type 0
 ClosesBy (Ok done) commands far new clock_old clock_new = HasClosedAll commands far new clock_old clock_new
-ClosesBy (Err fault.Device) commands far new clock_old clock_new = Stops far.from far.opened (far.done ++ commands) far.start new
+ClosesBy (Err fault.Device) commands far new clock_old clock_new = StopsPast far.from far.opened (far.done ++ commands) (length far.done) far.start new
 ClosesBy (Err (fault.Damaged damage)) commands far new clock_old clock_new = ⊥
 
 -- a Close of each handle in use, the least first, then the closing of the folder, and the outcome

@@ -1,5 +1,5 @@
 -- A run of a script as far as it has come, and the iterations that were made of it.
-use Rattle.std.specs.Prelude.{ℕ, ◌≡◌, ◌+◌, ◌*◌, ◌<◌, ◌^◌, ◌||◌, Bool, true, false, List, [], ◌∷◌, ◌++◌, length, take, Result, Ok, Err, IfOk}
+use Rattle.std.specs.Prelude.{ℕ, ◌≡◌, ◌+◌, ◌*◌, ◌<◌, ◌≤◌, ◌^◌, ◌||◌, Bool, true, false, List, [], ◌∷◌, ◌++◌, length, take, Result, Ok, Err, IfOk}
 use Rattle.std.specs.Option.{option_map, ForSome}
 use Rattle.std.specs.declared.option.Option.{Option}
 use Rattle.std.specs.declared.option.Option.TheVariants.{Some}
@@ -13,7 +13,8 @@ use Rattle.spec_run.specs.Script.{is_refusal, refusal_of, shown_where}
 use Rattle.blk_model.specs.State.{State}
 use Rattle.spec_run.specs.Run.{Stamped, Turn, command_turn, outcome_in, commands_of, readings_of, text_of, refuse, state_after, clock_after}
 use Rattle.spec_run.specs.Lines.{Cut, with_bytes}
-use Rattle.spec_run.specs.Progress.{Progress, Stops}
+use Rattle.spec_run.specs.Progress.{Progress, StopsAfter}
+use Rattle.spec_run.specs.Replies.{PrintsNoLess, PrintsNoMore}
 use Rattle.blk_cache.specs.declared.fault.StepFault.{StepFault}
 use Rattle.blk_cache.specs.declared.fault.StepFault.TheVariants as fault
 
@@ -50,6 +51,10 @@ pub record Around : Type 0 where
   pub clock : Option Readings
   pub refused : Bool
 
+-- what is told around a player, from its four parts
+abbrev pub around : Told → (written : Option (List ℕ)) → Option Readings → (refused : Bool) → Around
+around folder written clock refused = record { folder = folder; written = written; clock = clock; refused = refused }
+
 -- Outcomes of iterations.
 
 -- all iterations were made: their commands are done, each at the next reading of the clock, and their texts are printed
@@ -70,10 +75,15 @@ pub record AreMadeTo (made : List Turn) (far : SoFar) (keeps : State → Image �
   pub printed : new.written ≡ option_map (λ (w : List ℕ). w ++ (text_of (take count made) ++ front)) old.written
   pub read : new.clock ≡ option_map (λ r. clock_after r (readings_of (take (count + 1) made))) old.clock
 
--- iterations were made up to one in which the folder failed: whatever commands follow, the folder is as a crash during them may leave it
+-- iterations were made up to one in which the folder failed, with the first `noted` of their commands noted: whatever commands follow, the folder is as a crash
+-- during them may leave it; and what was printed goes by the notes
 pub record AreStopped (made : List Turn) (far : SoFar) (old new : Around) : Type 0 where
-  pub stops : (more : List Stamped) → Stops far.from far.opened (far.done ++ (commands_of made ++ more)) far.start new.folder
+  pub noted : ℕ
+  pub few : noted ≤ length (commands_of made)
+  pub stops : (more : List Stamped) → StopsAfter far.from far.opened (far.done ++ (commands_of made ++ more)) (length far.done + noted) far.start new.folder
   pub printed : Appends old.written new.written (text_of made)
+  pub no_more : PrintsNoMore made (state_now far) noted old.written new.written
+  pub no_less : PrintsNoLess made noted old.written new.written
 
 -- the outcome of iterations by the answer: all, up to a text that wasn't printed, or up to an I/O error; an observable folder reports no failed check
 abbrev pub Plays : {A : Type 0} → Result A StepFault → List Turn → SoFar → (State → Image → Type 0) → (notes left : ℕ) → (old new : Around) → Type 0

@@ -5,6 +5,7 @@ use Rattle.std.specs.declared.option.Option.{Option}
 use Rattle.std.specs.declared.option.Option.TheVariants.{Some}
 use Rattle.spec_image.specs.Checks.{Damage}
 use Rattle.spec_image.specs.Image.{Image}
+use Rattle.spec_image.specs.Notes.{notes_in}
 use Rattle.spec_image.specs.Told.{Told, Stays}
 use Rattle.spec_format.specs.BlockFiles.{first_damage}
 use Rattle.spec_format.specs.Headers.{IsUnfinished}
@@ -14,6 +15,7 @@ use Rattle.spec_folder.specs.Found.{found}
 use Rattle.blk_io.specs.Streams.{Appends, Readings, later_of}
 use Rattle.spec_run.specs.Inputs.{Protocol}
 use Rattle.spec_run.specs.Progress.{IsWholeRun, Stops}
+use Rattle.spec_run.specs.Replies.{PrintsNoLess, PrintsNoMore}
 use Rattle.spec_run.specs.Run.{Run, Stamped, clock_after, commands, cut_after, last_state, readings_in, refuse, run_of, text_of}
 use Rattle.spec_run.specs.Script.{Script}
 use Rattle.blk_cache.specs.Opening.{EndsSession}
@@ -29,6 +31,10 @@ pub record Outside : Type 0 where
   pub written : Option (List ℕ)
   pub left : Option (List ℕ)
   pub clock : Option Readings
+
+-- these are told
+abbrev pub outside : Told → (written left : Option (List ℕ)) → Option Readings → Outside
+outside folder written left clock = record { folder = folder; written = written; left = left; clock = clock }
 
 -- How the iterations ended.
 
@@ -88,10 +94,17 @@ pub record IsEnded (run : Run) (old new : Outside) : Type 0 where
   pub ends : ForSome new.folder.files EndsSession
   pub read : new.clock ≡ option_map (λ r. clock_after (later_of r) (readings_in run)) old.clock
 
--- at an I/O error the folder is as a crash during the run may leave it; otherwise the run is whole
-abbrev pub Stopped : Status → Image → Run → Outside → Outside → Type 0
-Stopped status.Device from run old new = Stops from run.opened (commands run) old.folder new.folder
-Stopped _ from run old new = IsWholeRun from run.opened (commands run) old.folder new.folder
+-- a run that the folder failed, by its notes: the folder is as a crash during the run may leave it; no reply was printed but of a noted command; and unless the
+-- output failed, which `sink` says, the replies of all noted commands were printed but that of the last
+pub record StopsByNotes (from : Image) (run : Run) (sink : Type 0) (old new : Outside) : Type 0 where
+  pub stops : Stops from run.opened (commands run) old.folder new.folder
+  pub no_more : PrintsNoMore run.turns run.opened (notes_in stops.steps) old.written new.written
+  pub no_less : (sink → ⊥) → PrintsNoLess run.turns (notes_in stops.steps) old.written new.written
+
+-- at an I/O error the folder is as a crash during the run may leave it, and what was printed goes by the notes; otherwise the run is whole
+abbrev pub Stopped : Status → Image → Run → (sink : Type 0) → Outside → Outside → Type 0
+Stopped status.Device from run sink old new = StopsByNotes from run sink old new
+Stopped _ from run sink old new = IsWholeRun from run.opened (commands run) old.folder new.folder
 
 -- P holds unless the status is an I/O error of the folder
 abbrev pub UnlessDevice : Status → Type 0 → Type 0
@@ -99,10 +112,10 @@ UnlessDevice status.Device P = Unit {0}
 UnlessDevice _ P = P
 
 -- the outcome of a run with this status and ending: what it printed, how it left the folder, and what a crash after any of its writes leaves
-pub record EndsAs (result : Status) (ending : Ending) (from : Image) (run : Run) (old new : Outside) : Type 0 where
+pub record EndsAs (result : Status) (ending : Ending) (from : Image) (run : Run) (sink : Type 0) (old new : Outside) : Type 0 where
   pub printed : Printed result ending run old new
   pub ended : UnlessDevice result (IsEnded run old new)
-  pub stopped : Stopped result from run old new
+  pub stopped : Stopped result from run sink old new
 
 -- a session whose folder was opened: its ending, the run in the model, and the outcome
 pub record Runs (protocol : Protocol) (result : Status) (limits : Bounds) (budget : ℕ) (from : Image) (readings : Readings) (input : List ℕ) (source sink : Type 0) (old new : Outside) : Type 0 where
@@ -112,7 +125,7 @@ pub record Runs (protocol : Protocol) (result : Status) (limits : Bounds) (budge
   pub may_end : MayEnd protocol result ending budget input run new.left source sink
   -- at most one byte more than the budget is read
   pub takes : IsTakenUpTo (budget + 1) new.left input
-  pub ends : EndsAs result ending from run old new
+  pub ends : EndsAs result ending from run sink old new
 
 -- a session in whose opening the folder failed: nothing was printed or read, and the folder is as a crash in the opening may leave it
 pub record IsUnopened (limits : Bounds) (from : Image) (old new : Outside) : Type 0 where
@@ -163,17 +176,11 @@ pub record ShowsDamage (damage : Damage) (before now : ℕ) (old new : Outside) 
   pub unread : new.left ≡ old.left
   pub printed : Prints old.written new.written before now (damage_line damage)
 
--- nothing was printed or read
-pub record ShowsNothing (old new : Outside) : Type 0 where
-  pub unread : new.left ≡ old.left
-  pub unprinted : new.written ≡ old.written
-
--- a session on a folder of which this check fails, by its status: the check is printed; or memory ran out, and nothing was done; or the folder failed, and
--- nothing was printed or read
+-- a session on a folder of which this check fails, by its status: the check is printed; or memory ran out or the folder failed, and nothing was done
 abbrev pub OnDamage : Status → Damage → (before now : ℕ) → Outside → Outside → Type 0
 OnDamage status.Damaged damage before now old new = ShowsDamage damage before now old new
 OnDamage status.Memory damage before now old new = DoesNothing old new
-OnDamage status.Device damage before now old new = ShowsNothing old new
+OnDamage status.Device damage before now old new = DoesNothing old new
 OnDamage _ damage before now old new = ⊥
 
 -- Fixed scripts.
@@ -198,7 +205,7 @@ pub record FixedRuns (result : Status) (script : Script) (limits : Bounds) (from
   pub run : Run
   pub is : run ≡ fixed_run script from limits readings ending
   pub may_end : FixedMayEnd result ending run sink
-  pub ends : EndsAs result ending from run old new
+  pub ends : EndsAs result ending from run sink old new
 
 -- the contract of a fixed script by its status, for an image that is uninitialized or well formed
 abbrev pub FixedScript : Status → Script → Bounds → Image → Readings → (sink : Type 0) → Outside → Outside → Type 0

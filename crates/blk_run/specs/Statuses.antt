@@ -23,6 +23,12 @@ may_close (Err fault.Sink) = true
 may_close (Err fault.Device) = false
 may_close (Err (fault.Damaged damage)) = false
 
+-- P holds of a session, or of a script, that was played to its end: with status 0 or 1
+abbrev pub IfWhole : Status → Type 0 → Type 0
+IfWhole status.Ok P = P
+IfWhole status.Refused P = P
+IfWhole _ P = Unit {0}
+
 -- the cause of each status: a failed check; a raised error counter of folder, input or output; an input longer than the budget. Out of memory has none
 abbrev pub CauseOf : Status → (damaged device source sink long : Type 0) → Type 0
 CauseOf status.Ok damaged device source sink long = Unit {0}

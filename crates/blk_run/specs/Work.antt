@@ -19,7 +19,7 @@ use Rattle.blk_run.specs.declared.ending.Status.{Status}
 use Rattle.blk_run.specs.declared.ending.Status.TheVariants as status
 use Rattle.blk_run.specs.Failing.{IsDamagedRun, IsFailedInReading}
 use Rattle.blk_run.specs.Inputs.{IsReadWhole, IsTakenUpTo}
-use Rattle.blk_run.specs.Session.{FixedScript, IsComplete, IsCompleteScript, IsDamagedBy, LeavesUnput, OnDamage, Outside, Put, Session, TakesUnput}
+use Rattle.blk_run.specs.Session.{DoesNothing, FixedScript, IsComplete, IsCompleteScript, IsDamagedBy, LeavesUnput, OnDamage, Outside, Put, Session, TakesUnput}
 use Rattle.blk_run.specs.Shown.{IsCompleteText, ShowsText}
 use Rattle.blk_run.specs.Statuses.{CauseOf}
 use Rattle.blk_run.specs.WholeInputs.{longest_input}
@@ -99,6 +99,13 @@ IsDamagedWork (whole_input script) before now old new = IsDamagedRun old.folder 
 IsDamagedWork (no_input script) before now old new = IsDamagedRun old.folder new.folder old.written new.written before now
 IsDamagedWork (folder_text text) before now old new = IsFailedInReading old.folder old.written new.written before now
 
+-- where memory ran out nothing was done, but that a script of the whole input may have read it
+abbrev pub DoesNoWork : Work → Outside → Outside → Type 0
+DoesNoWork (input_by protocol) old new = DoesNothing old new
+DoesNoWork (whole_input script) old new = LeavesUnput old new
+DoesNoWork (no_input script) old new = DoesNothing old new
+DoesNoWork (folder_text text) old new = DoesNothing old new
+
 -- the contract of the work; `device` and `source` say that the error counter of folder or input rose, `before` and `now` are the error counter of the output
 pub record Performs (work : Work) (result : Status) (limits : Bounds) (device source : Type 0) (before now : ℕ) (old new : Outside) : Type 0 where
   -- on a folder that is uninitialized or well formed the work is the run in the model
@@ -110,6 +117,8 @@ pub record Performs (work : Work) (result : Status) (limits : Bounds) (device so
   -- the cause of each status, on every folder
   pub cause : CauseOf result (IsDamagedWork work before now old new) device source (Rises before now) (IsInputTooLong work old.left)
   pub takes : TakesInput work old.left new.left
+  -- out of memory nothing was done, on every folder
+  pub memory : result ≡ status.Memory → DoesNoWork work old new
 
 -- the work leaves the input unread
 abbrev pub IsUnread : Work → Type 0

@@ -1,5 +1,5 @@
 // The totals are counted.
-ghost use Rattle.std.specs.Prelude.{◌≡◌, ◌≢◌, ◌⊎◌, ◌≤◌, ◌*◌, ◌++◌, List, [], ℕ, None, OnOk, Option, Some};
+ghost use Rattle.std.specs.Prelude.{◌≡◌, ◌≢◌, ◌⊎◌, ◌≤◌, ◌*◌, ◌++◌, List, [], ℕ, None, OnOk, Option, Some, false};
 ghost use Rattle.std.specs.Option.{ForSome, option_map};
 ghost use Rattle.spec_image.specs.Image.{Image, Index as index, byte};
 ghost use Rattle.spec_image.specs.Checks.{Damage as check_damage};
@@ -22,8 +22,8 @@ ghost use Rattle.blk_run.specs.Count.{CountAnswersFor, EndsSame, IsMadeAtNext, P
 ghost use Rattle.blk_run.specs.Errors.{IsOnlySink};
 ghost use Rattle.blk_run.specs.Failing.{IsDamagedRun, IsFailedInOpening};
 ghost use Rattle.blk_run.specs.Playing.{StandsAt};
-ghost use Rattle.blk_run.specs.Session.{FixedRuns, FixedScript, IsCompleteScript, IsDamagedBy, OnDamage};
-ghost use Rattle.blk_run.specs.Statuses.{CauseOf};
+ghost use Rattle.blk_run.specs.Session.{FixedRuns, FixedScript, IsCompleteScript, IsDamagedBy, OnDamage, outside};
+ghost use Rattle.blk_run.specs.Statuses.{CauseOf, IfWhole};
 
 use crate::ending::Status;
 use crate::printing::{print_damage, print_totals};
@@ -41,17 +41,21 @@ pub(crate) fn run_count<F: Folder, K: Sink, C: Clock>(
     clock: &mut C,
 ) -> Status
     // On a folder that is unfinished or well formed it is the run of the script of `count` on the map model.
-    ensures script { ForSome (F.told folder.old).files (λ from. IsUsable from → ForSome (C.readings clock.old) (λ readings. (left : Option (List ℕ)) → FixedScript result count_script (bounds_of limits) from readings (Rises (K.faults out.old) (K.faults out.new)) (record { folder = F.told folder.old; written = K.written out.old; left = left; clock = C.readings clock.old }) (record { folder = F.told folder.new; written = K.written out.new; left = left; clock = C.readings clock.new }))) }
+    ensures script { ForSome (F.told folder.old).files (λ from. IsUsable from → ForSome (C.readings clock.old) (λ readings. (left : Option (List ℕ)) → FixedScript result count_script (bounds_of limits) from readings (Rises (K.faults out.old) (K.faults out.new)) (outside (F.told folder.old) (K.written out.old) left (C.readings clock.old)) (outside (F.told folder.new) (K.written out.new) left (C.readings clock.new)))) }
 
     // Where nothing fails the whole output is printed, unless it is out of memory.
-    ensures complete { ForSome (F.told folder.old).files (λ from. IsUsable from → ForSome (C.readings clock.old) (λ readings. (left : Option (List ℕ)) → (Rises (F.faults folder.old) (F.faults folder.new) → ⊥) → (Rises (K.faults out.old) (K.faults out.new) → ⊥) → IsCompleteScript result count_script (bounds_of limits) from readings (record { folder = F.told folder.old; written = K.written out.old; left = left; clock = C.readings clock.old }) (record { folder = F.told folder.new; written = K.written out.new; left = left; clock = C.readings clock.new }))) }
+    ensures complete { ForSome (F.told folder.old).files (λ from. IsUsable from → ForSome (C.readings clock.old) (λ readings. (left : Option (List ℕ)) → (Rises (F.faults folder.old) (F.faults folder.new) → ⊥) → (Rises (K.faults out.old) (K.faults out.new) → ⊥) → IsCompleteScript result count_script (bounds_of limits) from readings (outside (F.told folder.old) (K.written out.old) left (C.readings clock.old)) (outside (F.told folder.new) (K.written out.new) left (C.readings clock.new)))) }
 
     // On a finished folder of which a check fails that is printed, and no more is done.
-    ensures shows { ForSome (F.told folder.old).files (λ from. (damage : check_damage) → IsDamagedBy damage from → (left : Option (List ℕ)) → OnDamage result damage (K.faults out.old) (K.faults out.new) (record { folder = F.told folder.old; written = K.written out.old; left = left; clock = C.readings clock.old }) (record { folder = F.told folder.new; written = K.written out.new; left = left; clock = C.readings clock.new })) }
+    ensures shows { ForSome (F.told folder.old).files (λ from. (damage : check_damage) → IsDamagedBy damage from → (left : Option (List ℕ)) → OnDamage result damage (K.faults out.old) (K.faults out.new) (outside (F.told folder.old) (K.written out.old) left (C.readings clock.old)) (outside (F.told folder.new) (K.written out.new) left (C.readings clock.new))) }
 
     // The cause of each status, on every folder.
     ensures cause { CauseOf result (IsDamagedRun (F.told folder.old) (F.told folder.new) (K.written out.old) (K.written out.new) (K.faults out.old) (K.faults out.new)) (Rises (F.faults folder.old) (F.faults folder.new)) ⊥ (Rises (K.faults out.old) (K.faults out.new)) ⊥ }
     ensures later { (F.faults folder.old ≤ F.faults folder.new) × GoesOn K.is K.faults out.old out.new }
+    ensures handed { IfWhole result (K.waiting out.old ≡ false → K.waiting out.new ≡ false) }
+
+    // Out of memory nothing is done, on every folder.
+    ensures memory { result ≡ Status.Memory → Stays (F.told folder.old) (F.told folder.new) × (K.written out.new ≡ K.written out.old) }
 
     // The folder decides the status, but for failures and out of memory.
     ensures answer { ForSome (F.told folder.old).files (CountAnswersFor result) }
@@ -69,8 +73,7 @@ pub(crate) fn run_count<F: Folder, K: Sink, C: Clock>(
     // At each word the same is found, and the folder is unfinished or well formed where it was.
     ensures stops { ForSome (F.told folder.old).files (λ start. Passes (F.told folder.old) (F.told folder.new) (HoldsStill start)) }
 
-    // No step is made when out of memory, and where an observable folder is corrupt.
-    ensures stays { result ≡ Status.Memory → Stays (F.told folder.old) (F.told folder.new) }
+    // No step is made where an observable folder is corrupt.
     ensures unwritten { result ≡ Status.Damaged → ForSome (F.told folder.old).files (λ _. Stays (F.told folder.old) (F.told folder.new)) }
     ensures silent { (F.told folder.old).files ≡ None → (F.told folder.new).files ≡ None }
 
@@ -95,7 +98,7 @@ pub(crate) fn run_count<F: Folder, K: Sink, C: Clock>(
 fn count<F: Folder, K: Sink>(cache: Cache, folder: &mut F, out: &mut K) -> Status
     requires free { AreAllFree cache.handles }
     requires is_open { ForSome (F.told folder.old).files (IsOpen cache.files) }
-    ensures runs { (from : Image) (limits : Bounds) (readings : Readings) (left : Option (List ℕ)) (start : Told) (first next : Option Readings) → start.files ≡ Some from → first ≡ Some readings → next ≡ option_map later_of first → StandsAt (record { start = start; from = from; opened = open_state (found from) limits; done = [] }) (KeepsState cache) cache.notes (2 * handle_names) (F.told folder.old) → FixedRuns result count_script limits from readings (Rises (K.faults out.old) (K.faults out.new)) (record { folder = start; written = K.written out.old; left = left; clock = first }) (record { folder = F.told folder.new; written = K.written out.new; left = left; clock = next }) }
+    ensures runs { (from : Image) (limits : Bounds) (readings : Readings) (left : Option (List ℕ)) (start : Told) (first next : Option Readings) → start.files ≡ Some from → first ≡ Some readings → next ≡ option_map later_of first → StandsAt (record { start = start; from = from; opened = open_state (found from) limits; done = [] }) (KeepsState cache) cache.notes (2 * handle_names) (F.told folder.old) → FixedRuns result count_script limits from readings (Rises (K.faults out.old) (K.faults out.new)) (outside start (K.written out.old) left first) (outside (F.told folder.new) (K.written out.new) left next) }
     ensures answers { (result ≡ Status.Ok) ⊎ ((result ≡ Status.Sink) ⊎ (result ≡ Status.Device)) }
     ensures printed { PrintsCountAt result (totals_line cache.items cache.bytes) (K.written out.old) (K.written out.new) }
     ensures ended { (result ≡ Status.Ok) ⊎ (result ≡ Status.Sink) → ForSome (F.told folder.old).files (λ from. (state : State) → KeepsState cache state from → ForSome (F.told folder.new).files EndsSession) }
@@ -105,6 +108,7 @@ fn count<F: Folder, K: Sink>(cache: Cache, folder: &mut F, out: &mut K) -> Statu
     ensures silent { (F.told folder.old).files ≡ None → (F.told folder.new).files ≡ None }
     ensures later { F.faults folder.old ≤ F.faults folder.new }
     ensures sink_later { GoesOn K.is K.faults out.old out.new }
+    ensures handed { IfWhole result (K.waiting out.old ≡ false → K.waiting out.new ≡ false) }
     ensures device { result ≡ Status.Device → Rises (F.faults folder.old) (F.faults folder.new) }
     ensures sink { result ≡ Status.Sink → Rises (K.faults out.old) (K.faults out.new) }
 {
@@ -122,6 +126,7 @@ pub(crate) fn show_totals<K: Sink>(cache: &Cache, out: &mut K) -> Result<(), Ste
     ensures front { Appends (K.written out.old) (K.written out.new) (totals_line cache.now.items cache.now.bytes) }
     ensures only { IsOnlySink result }
     ensures later { GoesOn K.is K.faults out.old out.new }
+    ensures handed { OnOk result (K.waiting out.new ≡ false) }
     ensures sink { IfSink result (Rises (K.faults out.old) (K.faults out.new)) }
 {
     let (items, bytes) = cache.totals();

@@ -1,5 +1,5 @@
 // The fixed scripts: commands that are played up to the first that is refused.
-ghost use Rattle.std.specs.Prelude.{◌≡◌, ◌*◌, true, ◌≤◌, ◌+◌, ◌++◌, ℕ, length, map, OnOk};
+ghost use Rattle.std.specs.Prelude.{◌≡◌, ◌*◌, true, ◌≤◌, ◌+◌, ◌++◌, ℕ, length, map, OnOk, false};
 ghost use Rattle.std.specs.Option.{ForSome, option_map};
 ghost use Rattle.spec_image.specs.Told.{Rises};
 ghost use Rattle.blk_io.specs.Streams.{Appends, GoesOn};
@@ -12,7 +12,7 @@ ghost use Rattle.blk_run.specs.Fixed.{opened_answer};
 ghost use Rattle.blk_object.specs.FailedChecks.{IsFailedCheck};
 ghost use Rattle.blk_cache.specs.Stepping.{IfDone, IfSink, IfStepDamaged, IfStepDevice};
 ghost use Rattle.blk_run.specs.Errors.{IsOnlySink};
-ghost use Rattle.blk_run.specs.Playing.{PlaysPart, SoFar, StandsAt};
+ghost use Rattle.blk_run.specs.Playing.{PlaysPart, SoFar, StandsAt, around};
 ghost use Rattle.blk_disk.specs.Open.{IsOpen};
 ghost use Rattle.blk_cache.specs.CacheKeeping.{KeepsState};
 
@@ -33,10 +33,11 @@ pub(crate) fn play_until_refused<F: Folder, K: Sink, C: Clock>(
     clock: &mut C,
 ) -> Result<(), StepFault>
     requires is_open { ForSome (F.told folder.old).files (IsOpen cache.old.files) }
-    ensures played { (far : SoFar) (left : ℕ) → StandsAt far (KeepsState cache.old) (cache.old.notes) (left + 2 * length commands.now) (F.told folder.old) → PlaysPart result (turns (until_refused (map request_of commands.now))) far (KeepsState cache.new) (cache.new.notes) left (record { folder = F.told folder.old; written = K.written out.old; clock = C.readings clock.old; refused = refused.old }) (record { folder = F.told folder.new; written = K.written out.new; clock = C.readings clock.new; refused = refused.new }) }
+    ensures played { (far : SoFar) (left : ℕ) → StandsAt far (KeepsState cache.old) (cache.old.notes) (left + 2 * length commands.now) (F.told folder.old) → PlaysPart result (turns (until_refused (map request_of commands.now))) far (KeepsState cache.new) (cache.new.notes) left (around (F.told folder.old) (K.written out.old) (C.readings clock.old) refused.old) (around (F.told folder.new) (K.written out.new) (C.readings clock.new) refused.new) }
     ensures is_open { IfDone result (ForSome (F.told folder.new).files (IsOpen cache.new.files)) }
     ensures later { F.faults folder.old ≤ F.faults folder.new }
     ensures printed_later { GoesOn K.is K.faults out.old out.new }
+    ensures handed { OnOk result (K.waiting out.old ≡ false → K.waiting out.new ≡ false) }
     ensures damaged { IfStepDamaged result (IsFailedCheck cache.new.files (F.told folder.new)) }
     ensures device { IfStepDevice result (Rises (F.faults folder.old) (F.faults folder.new)) }
     ensures sink { IfSink result (Rises (K.faults out.old) (K.faults out.new)) }
@@ -62,10 +63,11 @@ pub(crate) fn play_put<F: Folder, K: Sink, C: Clock>(
     clock: &mut C,
 ) -> Result<(), StepFault>
     requires is_open { ForSome (F.told folder.old).files (IsOpen cache.old.files) }
-    ensures played { (far : SoFar) (left : ℕ) → StandsAt far (KeepsState cache.old) (cache.old.notes) (left + 8) (F.told folder.old) → PlaysPart result (turns (put_script put.entry.key.now put.entry.stream put.entry.bytes.now)) far (KeepsState cache.new) (cache.new.notes) left (record { folder = F.told folder.old; written = K.written out.old; clock = C.readings clock.old; refused = refused.old }) (record { folder = F.told folder.new; written = K.written out.new; clock = C.readings clock.new; refused = refused.new }) }
+    ensures played { (far : SoFar) (left : ℕ) → StandsAt far (KeepsState cache.old) (cache.old.notes) (left + 8) (F.told folder.old) → PlaysPart result (turns (put_script put.entry.key.now put.entry.stream put.entry.bytes.now)) far (KeepsState cache.new) (cache.new.notes) left (around (F.told folder.old) (K.written out.old) (C.readings clock.old) refused.old) (around (F.told folder.new) (K.written out.new) (C.readings clock.new) refused.new) }
     ensures is_open { IfDone result (ForSome (F.told folder.new).files (IsOpen cache.new.files)) }
     ensures later { F.faults folder.old ≤ F.faults folder.new }
     ensures printed_later { GoesOn K.is K.faults out.old out.new }
+    ensures handed { OnOk result (K.waiting out.old ≡ false → K.waiting out.new ≡ false) }
     ensures damaged { IfStepDamaged result (IsFailedCheck cache.new.files (F.told folder.new)) }
     ensures device { IfStepDevice result (Rises (F.faults folder.old) (F.faults folder.new)) }
     ensures sink { IfSink result (Rises (K.faults out.old) (K.faults out.new)) }
@@ -117,6 +119,7 @@ fn print_opened<K: Sink>(out: &mut K, answer: &Answer) -> Result<(), StepFault>
     ensures front { Appends (K.written out.old) (K.written out.new) (reply_text (answered (opened_answer answer.now))) }
     ensures only { IsOnlySink result }
     ensures later { GoesOn K.is K.faults out.old out.new }
+    ensures handed { OnOk result (K.waiting out.new ≡ false) }
     ensures sink { IfSink result (Rises (K.faults out.old) (K.faults out.new)) }
 {
     let printed = match *answer {

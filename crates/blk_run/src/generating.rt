@@ -1,5 +1,5 @@
 // The iterations of a generator are played.
-ghost use Rattle.std.specs.Prelude.{◌≡◌, ◌≤◌, ◌<◌, ◌+◌, ◌*◌, ◌^◌, ◌++◌, Bool, List, Option, ℕ, length, OnOk};
+ghost use Rattle.std.specs.Prelude.{◌≡◌, ◌≤◌, ◌<◌, ◌+◌, ◌*◌, ◌^◌, ◌++◌, Bool, List, Option, ℕ, length, OnOk, false};
 ghost use Rattle.std.specs.Option.{ForSome, option_map};
 ghost use Rattle.spec_image.specs.Told.{Rises};
 ghost use Rattle.blk_io.specs.Streams.{Appends, GoesOn};
@@ -13,7 +13,7 @@ ghost use Rattle.blk_object.specs.FailedChecks.{IsFailedCheck};
 ghost use Rattle.blk_cache.specs.Stepping.{IfDone, IfSink, IfStepDamaged, IfStepDevice};
 ghost use Rattle.blk_run.specs.Errors.{IsOnlySink};
 ghost use Rattle.blk_run.specs.Generating.{AreWithin, AsksCounted, Following, IsGeneratedRequest, PlaysCounted, evicted_by, unshown};
-ghost use Rattle.blk_run.specs.Playing.{PlaysPart, SoFar, StandsAt};
+ghost use Rattle.blk_run.specs.Playing.{PlaysPart, SoFar, StandsAt, around};
 ghost use Rattle.blk_disk.specs.Open.{IsOpen};
 ghost use Rattle.blk_cache.specs.CacheKeeping.{KeepsState};
 
@@ -42,10 +42,11 @@ pub(crate) fn play_generated<F: Folder, K: Sink, C: Clock>(
     clock: &mut C,
 ) -> Result<(), StepFault>
     requires is_open { ForSome (F.told folder.old).files (IsOpen cache.old.files) }
-    ensures played { (refused : Bool) (far : SoFar) (left : ℕ) → StandsAt far (KeepsState cache.old) (cache.old.notes) (left + 2 * (5 * count)) (F.told folder.old) → PlaysPart result (turns (gen_script seed count)) far (KeepsState cache.new) (cache.new.notes) left (record { folder = F.told folder.old; written = K.written out.old; clock = C.readings clock.old; refused = refused }) (record { folder = F.told folder.new; written = K.written out.new; clock = C.readings clock.new; refused = refused }) }
+    ensures played { (refused : Bool) (far : SoFar) (left : ℕ) → StandsAt far (KeepsState cache.old) (cache.old.notes) (left + 2 * (5 * count)) (F.told folder.old) → PlaysPart result (turns (gen_script seed count)) far (KeepsState cache.new) (cache.new.notes) left (around (F.told folder.old) (K.written out.old) (C.readings clock.old) refused) (around (F.told folder.new) (K.written out.new) (C.readings clock.new) refused) }
     ensures is_open { IfDone result (ForSome (F.told folder.new).files (IsOpen cache.new.files)) }
     ensures later { F.faults folder.old ≤ F.faults folder.new }
     ensures printed_later { GoesOn K.is K.faults out.old out.new }
+    ensures handed { OnOk result (K.waiting out.old ≡ false → K.waiting out.new ≡ false) }
     ensures damaged { IfStepDamaged result (IsFailedCheck cache.new.files (F.told folder.new)) }
     ensures device { IfStepDevice result (Rises (F.faults folder.old) (F.faults folder.new)) }
     ensures sink { IfSink result (Rises (K.faults out.old) (K.faults out.new)) }
@@ -234,6 +235,7 @@ fn show_counts<K: Sink>(cache: &Cache, counts: &Counts, out: &mut K) -> Result<(
     ensures front { Appends (K.written out.old) (K.written out.new) (counts_line counts.now ++ totals_line cache.now.items cache.now.bytes) }
     ensures only { IsOnlySink result }
     ensures later { GoesOn K.is K.faults out.old out.new }
+    ensures handed { OnOk result (K.waiting out.new ≡ false) }
     ensures sink { IfSink result (Rises (K.faults out.old) (K.faults out.new)) }
 {
     match counts.print_counts(out) {

@@ -1,12 +1,12 @@
 // The lines of an input are played.
-ghost use Rattle.std.specs.Prelude.{◌≡◌, ◌≤◌, ◌<◌, ◌+◌, ℕ, [], length, take, drop, IfOk, OnErr};
+ghost use Rattle.std.specs.Prelude.{◌≡◌, ◌≤◌, ◌<◌, ◌+◌, ℕ, [], length, take, drop, IfOk, OnErr, false, OnOk};
 ghost use Rattle.blk_io.specs.Streams.{GoesOn};
 ghost use Rattle.std.specs.Option.{ForSome, option_map};
 ghost use Rattle.spec_image.specs.Told.{Rises};
 ghost use Rattle.blk_object.specs.FailedChecks.{IsFailedCheck};
 ghost use Rattle.blk_cache.specs.Stepping.{IfDone, IfSink, IfStepDamaged, IfStepDevice};
 ghost use Rattle.blk_run.specs.Pending.{HoldsLine, pending};
-ghost use Rattle.blk_run.specs.Playing.{SoFar, StandsAt};
+ghost use Rattle.blk_run.specs.Playing.{SoFar, StandsAt, around};
 ghost use Rattle.blk_run.specs.Inputs.{IsTakenUpTo, PlaysInput, IfFailed, IfTooLong};
 ghost use Rattle.blk_disk.specs.Open.{IsOpen};
 ghost use Rattle.blk_cache.specs.CacheKeeping.{KeepsState};
@@ -69,11 +69,12 @@ pub(crate) fn play_input<F: Folder, S: Source, K: Sink, C: Clock>(
     requires buffer { 2200000 ≤ length buffer.old }
     requires first { played.old.lines + pending line.old ≡ 0 }
     requires nothing { HoldsLine line.old [] }
-    ensures played { (far : SoFar) (spare : ℕ) → StandsAt far (KeepsState cache.old) (cache.old.notes) (spare + (budget + 1)) (F.told folder.old) → PlaysInput result budget (S.left input.old) (S.left input.new) far (KeepsState cache.new) (cache.new.notes) spare (record { folder = F.told folder.old; written = K.written out.old; clock = C.readings clock.old; refused = played.old.refused }) (record { folder = F.told folder.new; written = K.written out.new; clock = C.readings clock.new; refused = played.new.refused }) }
+    ensures played { (far : SoFar) (spare : ℕ) → StandsAt far (KeepsState cache.old) (cache.old.notes) (spare + (budget + 1)) (F.told folder.old) → PlaysInput result budget (S.left input.old) (S.left input.new) far (KeepsState cache.new) (cache.new.notes) spare (around (F.told folder.old) (K.written out.old) (C.readings clock.old) played.old.refused) (around (F.told folder.new) (K.written out.new) (C.readings clock.new) played.new.refused) }
     ensures taken { ForSome (S.left input.old) (IsTakenUpTo (budget + 1) (S.left input.new)) }
     ensures is_open { IfDone result (ForSome (F.told folder.new).files (IsOpen cache.new.files)) }
     ensures later { F.faults folder.old ≤ F.faults folder.new }
     ensures printed_later { GoesOn K.is K.faults out.old out.new }
+    ensures handed { OnOk result (K.waiting out.old ≡ false → K.waiting out.new ≡ false) }
     ensures taken_later { S.faults input.old ≤ S.faults input.new }
     ensures damaged { IfStepDamaged result (IsFailedCheck cache.new.files (F.told folder.new)) }
     ensures device { IfStepDevice result (Rises (F.faults folder.old) (F.faults folder.new)) }

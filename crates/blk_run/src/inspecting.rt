@@ -1,5 +1,5 @@
 // The subcommands that print what a folder holds, and leave it as it is.
-ghost use Rattle.std.specs.Prelude.{◌≡◌, ◌≤◌, List, Option, ℕ};
+ghost use Rattle.std.specs.Prelude.{◌≡◌, ◌≤◌, List, Option, ℕ, false, OnOk};
 ghost use Rattle.spec_image.specs.Told.{Rises, Stays};
 ghost use Rattle.blk_io.specs.Streams.{GoesOn, Readings};
 ghost use Rattle.blk_model.specs.State.{Bounds};
@@ -7,6 +7,8 @@ ghost use Rattle.blk_inspect.specs.Texts.{inspect_text, verify_text};
 ghost use Rattle.blk_run.specs.Shown.{PrintsFault, status_shown};
 ghost use Rattle.blk_run.specs.Errors.{IsFlushed};
 ghost use Rattle.blk_run.specs.Work.{Performs, folder_text};
+ghost use Rattle.blk_run.specs.Session.{outside};
+ghost use Rattle.blk_run.specs.Statuses.{IfWhole};
 
 use crate::ending::Status;
 use crate::printing::print_damage;
@@ -21,9 +23,10 @@ pub(crate) fn show_part<F: Folder, K: Sink>(
     out: &mut K,
     folder: &mut F,
 ) -> Status
-    ensures performs { (limits : Bounds) (left : Option (List ℕ)) (clock : Option Readings) → Performs (folder_text (inspect_text part.now)) result limits (Rises (F.faults folder.old) (F.faults folder.new)) ⊥ (K.faults out.old) (K.faults out.new) (record { folder = F.told folder.old; written = K.written out.old; left = left; clock = clock }) (record { folder = F.told folder.new; written = K.written out.new; left = left; clock = clock }) }
+    ensures performs { (limits : Bounds) (left : Option (List ℕ)) (clock : Option Readings) → Performs (folder_text (inspect_text part.now)) result limits (Rises (F.faults folder.old) (F.faults folder.new)) ⊥ (K.faults out.old) (K.faults out.new) (outside (F.told folder.old) (K.written out.old) left clock) (outside (F.told folder.new) (K.written out.new) left clock) }
     ensures stays { Stays (F.told folder.old) (F.told folder.new) }
     ensures later { (F.faults folder.old ≤ F.faults folder.new) × GoesOn K.is K.faults out.old out.new }
+    ensures handed { IfWhole result (K.waiting out.old ≡ false → K.waiting out.new ≡ false) }
 {
     let shown = flush_text(inspect(alloc, folder, out, part), out);
     end_shown(&shown, out)
@@ -31,9 +34,10 @@ pub(crate) fn show_part<F: Folder, K: Sink>(
 
 // Prints what the folder holds, and what is dropped of it.
 pub(crate) fn show_verdict<F: Folder, K: Sink>(alloc: Global, out: &mut K, folder: &mut F) -> Status
-    ensures performs { (limits : Bounds) (left : Option (List ℕ)) (clock : Option Readings) → Performs (folder_text verify_text) result limits (Rises (F.faults folder.old) (F.faults folder.new)) ⊥ (K.faults out.old) (K.faults out.new) (record { folder = F.told folder.old; written = K.written out.old; left = left; clock = clock }) (record { folder = F.told folder.new; written = K.written out.new; left = left; clock = clock }) }
+    ensures performs { (limits : Bounds) (left : Option (List ℕ)) (clock : Option Readings) → Performs (folder_text verify_text) result limits (Rises (F.faults folder.old) (F.faults folder.new)) ⊥ (K.faults out.old) (K.faults out.new) (outside (F.told folder.old) (K.written out.old) left clock) (outside (F.told folder.new) (K.written out.new) left clock) }
     ensures stays { Stays (F.told folder.old) (F.told folder.new) }
     ensures later { (F.faults folder.old ≤ F.faults folder.new) × GoesOn K.is K.faults out.old out.new }
+    ensures handed { IfWhole result (K.waiting out.old ≡ false → K.waiting out.new ≡ false) }
 {
     let shown = flush_text(verify(alloc, folder, out), out);
     end_shown(&shown, out)
@@ -44,6 +48,7 @@ fn flush_text<K: Sink>(shown: Result<(), InspectFault>, out: &mut K) -> Result<(
     ensures flushed { IsFlushed shown result InspectFault.Sink (Rises (K.faults out.old) (K.faults out.new)) }
     ensures stays { K.written out.new ≡ K.written out.old }
     ensures later { GoesOn K.is K.faults out.old out.new }
+    ensures handed { OnOk result (K.waiting out.new ≡ false) }
 {
     match (shown, out.flush()) {
         (Ok(()), Err(_)) => Err(InspectFault::Sink),
@@ -56,6 +61,7 @@ fn end_shown<K: Sink>(shown: &Result<(), InspectFault>, out: &mut K) -> Status
     ensures status { result ≡ status_shown shown.now }
     ensures printed { PrintsFault shown.now (K.written out.old) (K.written out.new) (K.faults out.old) (K.faults out.new) }
     ensures later { GoesOn K.is K.faults out.old out.new }
+    ensures handed { IfWhole result (K.waiting out.new ≡ K.waiting out.old) }
 {
     match *shown {
         Ok(()) => Status::Ok,

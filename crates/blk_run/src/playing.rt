@@ -8,7 +8,7 @@ ghost use Rattle.blk_model.specs.Request.{request_of};
 ghost use Rattle.blk_script.specs.Reply.{line_fault_text};
 ghost use Rattle.spec_run.specs.Script.{ended, line_script, session_script};
 ghost use Rattle.spec_run.specs.Run.{turns};
-ghost use Rattle.blk_run.specs.Playing.{cut_behind};
+ghost use Rattle.blk_run.specs.Playing.{around, cut_behind};
 ghost use Rattle.blk_object.specs.FailedChecks.{IsFailedCheck};
 ghost use Rattle.blk_cache.specs.Stepping.{IfDone, IfSink, IfStepDamaged, IfStepDevice};
 ghost use Rattle.blk_run.specs.Errors.{IsFlushed, IsOnlySink};
@@ -36,6 +36,7 @@ fn print_error<K: Sink>(out: &mut K, number: u64, why: LineFault) -> Result<(), 
     ensures steps { OnOk result (K.written out.new ≡ option_map (λ w. w ++ line_fault_text number why) (K.written out.old)) }
     ensures prefix { Appends (K.written out.old) (K.written out.new) (line_fault_text number why) }
     ensures later { GoesOn K.is K.faults out.old out.new }
+    ensures handed { OnOk result (K.waiting out.new ≡ false) }
     ensures failed { OnErr result (Rises (K.faults out.old) (K.faults out.new)) }
 {
     print_fields(
@@ -63,11 +64,12 @@ pub(crate) fn play_line<F: Folder, K: Sink, C: Clock>(
     requires is_open { ForSome (F.told folder.old).files (IsOpen cache.old.files) }
     requires buffer { 2200000 ≤ length buffer.old }
     requires few { played.old.lines < 2 ^ 64 - 1 }
-    ensures played { (bytes : List ℕ) → HoldsLine line.now bytes → (far : SoFar) (left : ℕ) → StandsAt far (KeepsState cache.old) (cache.old.notes) (left + (length bytes + 1)) (F.told folder.old) → PlaysPart result (λ state readings. turns (session_script (played.old.lines + 1) (bytes ∷ [])) state readings) far (KeepsState cache.new) (cache.new.notes) left (record { folder = F.told folder.old; written = K.written out.old; clock = C.readings clock.old; refused = played.old.refused }) (record { folder = F.told folder.new; written = K.written out.new; clock = C.readings clock.new; refused = played.new.refused }) }
+    ensures played { (bytes : List ℕ) → HoldsLine line.now bytes → (far : SoFar) (left : ℕ) → StandsAt far (KeepsState cache.old) (cache.old.notes) (left + (length bytes + 1)) (F.told folder.old) → PlaysPart result (λ state readings. turns (session_script (played.old.lines + 1) (bytes ∷ [])) state readings) far (KeepsState cache.new) (cache.new.notes) left (around (F.told folder.old) (K.written out.old) (C.readings clock.old) played.old.refused) (around (F.told folder.new) (K.written out.new) (C.readings clock.new) played.new.refused) }
     ensures lines { played.new.lines ≡ played.old.lines + 1 }
     ensures is_open { IfDone result (ForSome (F.told folder.new).files (IsOpen cache.new.files)) }
     ensures later { F.faults folder.old ≤ F.faults folder.new }
     ensures printed_later { GoesOn K.is K.faults out.old out.new }
+    ensures handed { OnOk result (K.waiting out.new ≡ false) }
     ensures damaged { IfStepDamaged result (IsFailedCheck cache.new.files (F.told folder.new)) }
     ensures device { IfStepDevice result (Rises (F.faults folder.old) (F.faults folder.new)) }
     ensures sink { IfSink result (Rises (K.faults out.old) (K.faults out.new)) }
@@ -92,11 +94,12 @@ fn play_command<F: Folder, K: Sink, C: Clock>(
     clock: &mut C,
 ) -> Result<(), StepFault>
     requires is_open { ForSome (F.told folder.old).files (IsOpen cache.old.files) }
-    ensures played { (far : SoFar) (left : ℕ) → StandsAt far (KeepsState cache.old) (cache.old.notes) (left + 2) (F.told folder.old) → PlaysPart result (λ state readings. turns (line_script played.old.lines (Ok (request_of command.now)) ended) state readings) far (KeepsState cache.new) (cache.new.notes) left (record { folder = F.told folder.old; written = K.written out.old; clock = C.readings clock.old; refused = played.old.refused }) (record { folder = F.told folder.new; written = K.written out.new; clock = C.readings clock.new; refused = played.new.refused }) }
+    ensures played { (far : SoFar) (left : ℕ) → StandsAt far (KeepsState cache.old) (cache.old.notes) (left + 2) (F.told folder.old) → PlaysPart result (λ state readings. turns (line_script played.old.lines (Ok (request_of command.now)) ended) state readings) far (KeepsState cache.new) (cache.new.notes) left (around (F.told folder.old) (K.written out.old) (C.readings clock.old) played.old.refused) (around (F.told folder.new) (K.written out.new) (C.readings clock.new) played.new.refused) }
     ensures lines { played.new.lines ≡ played.old.lines }
     ensures is_open { IfDone result (ForSome (F.told folder.new).files (IsOpen cache.new.files)) }
     ensures later { F.faults folder.old ≤ F.faults folder.new }
     ensures printed_later { GoesOn K.is K.faults out.old out.new }
+    ensures handed { OnOk result (K.waiting out.new ≡ false) }
     ensures damaged { IfStepDamaged result (IsFailedCheck cache.new.files (F.told folder.new)) }
     ensures device { IfStepDevice result (Rises (F.faults folder.old) (F.faults folder.new)) }
     ensures sink { IfSink result (Rises (K.faults out.old) (K.faults out.new)) }
@@ -127,10 +130,11 @@ pub(crate) fn ask<F: Folder, K: Sink, C: Clock>(
     clock: &mut C,
 ) -> Result<Answer, StepFault>
     requires is_open { ForSome (F.told folder.old).files (IsOpen cache.old.files) }
-    ensures asked { (far : SoFar) (left : ℕ) → StandsAt far (KeepsState cache.old) (cache.old.notes) (left + 2) (F.told folder.old) → Asks result (request_of command.now) far (KeepsState cache.new) (cache.new.notes) left (record { folder = F.told folder.old; written = K.written out.old; clock = C.readings clock.old; refused = false }) (record { folder = F.told folder.new; written = K.written out.new; clock = C.readings clock.new; refused = has_refused result }) }
+    ensures asked { (far : SoFar) (left : ℕ) → StandsAt far (KeepsState cache.old) (cache.old.notes) (left + 2) (F.told folder.old) → Asks result (request_of command.now) far (KeepsState cache.new) (cache.new.notes) left (around (F.told folder.old) (K.written out.old) (C.readings clock.old) false) (around (F.told folder.new) (K.written out.new) (C.readings clock.new) (has_refused result)) }
     ensures is_open { IfDone result (ForSome (F.told folder.new).files (IsOpen cache.new.files)) }
     ensures later { F.faults folder.old ≤ F.faults folder.new }
     ensures printed_later { GoesOn K.is K.faults out.old out.new }
+    ensures handed { OnOk result (K.waiting out.new ≡ false) }
     ensures damaged { IfStepDamaged result (IsFailedCheck cache.new.files (F.told folder.new)) }
     ensures device { IfStepDevice result (Rises (F.faults folder.old) (F.faults folder.new)) }
     ensures sink { IfSink result (Rises (K.faults out.old) (K.faults out.new)) }
@@ -147,6 +151,7 @@ fn flush_reply<K: Sink>(
     ensures flushed { IsFlushed answered result StepFault.Sink (Rises (K.faults out.old) (K.faults out.new)) }
     ensures stays { K.written out.new ≡ K.written out.old }
     ensures later { GoesOn K.is K.faults out.old out.new }
+    ensures handed { OnOk result (K.waiting out.new ≡ false) }
 {
     match (answered, out.flush()) {
         (Ok(_), Err(_)) => Err(StepFault::Sink),
@@ -162,6 +167,7 @@ fn play_error<K: Sink>(played: &mut Played, why: LineFault, out: &mut K) -> Resu
     ensures lines { played.new.lines ≡ played.old.lines }
     ensures only { IsOnlySink result }
     ensures later { GoesOn K.is K.faults out.old out.new }
+    ensures handed { OnOk result (K.waiting out.new ≡ false) }
     ensures sink { IfSink result (Rises (K.faults out.old) (K.faults out.new)) }
 {
     played.refused = true;
@@ -200,13 +206,14 @@ pub(crate) fn play_bytes<F: Folder, K: Sink, C: Clock>(
     requires is_open { ForSome (F.told folder.old).files (IsOpen cache.old.files) }
     requires buffer { 2200000 ≤ length buffer.old }
     requires few { played.old.lines + pending line.old + length bytes.now < 2 ^ 64 }
-    ensures played { (before : List ℕ) → HoldsLine line.old before → (far : SoFar) (left : ℕ) → StandsAt far (KeepsState cache.old) (cache.old.notes) (left + (length before + length bytes.now)) (F.told folder.old) → PlaysPart result (λ state readings. turns (session_script (played.old.lines + 1) (cut_behind before bytes.now).whole) state readings) far (KeepsState cache.new) (cache.new.notes) (left + length (cut_behind before bytes.now).rest) (record { folder = F.told folder.old; written = K.written out.old; clock = C.readings clock.old; refused = played.old.refused }) (record { folder = F.told folder.new; written = K.written out.new; clock = C.readings clock.new; refused = played.new.refused }) }
+    ensures played { (before : List ℕ) → HoldsLine line.old before → (far : SoFar) (left : ℕ) → StandsAt far (KeepsState cache.old) (cache.old.notes) (left + (length before + length bytes.now)) (F.told folder.old) → PlaysPart result (λ state readings. turns (session_script (played.old.lines + 1) (cut_behind before bytes.now).whole) state readings) far (KeepsState cache.new) (cache.new.notes) (left + length (cut_behind before bytes.now).rest) (around (F.told folder.old) (K.written out.old) (C.readings clock.old) played.old.refused) (around (F.told folder.new) (K.written out.new) (C.readings clock.new) played.new.refused) }
     ensures holds { OnOk result ((before : List ℕ) → HoldsLine line.old before → HoldsLine line.new (cut_behind before bytes.now).rest) }
     ensures counted { OnOk result ((before : List ℕ) → HoldsLine line.old before → played.new.lines ≡ played.old.lines + length (cut_behind before bytes.now).whole) }
     ensures lines { OnOk result (played.new.lines + pending line.new ≤ played.old.lines + pending line.old + length bytes.now) }
     ensures is_open { IfDone result (ForSome (F.told folder.new).files (IsOpen cache.new.files)) }
     ensures later { F.faults folder.old ≤ F.faults folder.new }
     ensures printed_later { GoesOn K.is K.faults out.old out.new }
+    ensures handed { OnOk result (K.waiting out.old ≡ false → K.waiting out.new ≡ false) }
     ensures damaged { IfStepDamaged result (IsFailedCheck cache.new.files (F.told folder.new)) }
     ensures device { IfStepDevice result (Rises (F.faults folder.old) (F.faults folder.new)) }
     ensures sink { IfSink result (Rises (K.faults out.old) (K.faults out.new)) }

@@ -1,5 +1,5 @@
 // The lines that are printed. Each goes to the sink in pieces, takes no memory, and is flushed at its end.
-ghost use Rattle.std.specs.Prelude.{◌≡◌, ◌++◌, ◌≤◌, OnOk, OnErr, drop, length};
+ghost use Rattle.std.specs.Prelude.{◌≡◌, ◌++◌, ◌≤◌, OnOk, OnErr, drop, length, false};
 ghost use Rattle.std.specs.List.{flat_map};
 ghost use Rattle.std.specs.Option.{option_map};
 ghost use Rattle.spec_image.specs.Told.{Rises};
@@ -17,6 +17,7 @@ fn print_all<K: Sink>(out: &mut K, pieces: &[&[u8]]) -> Result<(), Failed>
     ensures steps { OnOk result (K.written out.new ≡ option_map (λ w. w ++ flat_map (λ piece. piece.now) pieces.now) (K.written out.old)) }
     ensures prefix { Appends (K.written out.old) (K.written out.new) (flat_map (λ piece. piece.now) pieces.now) }
     ensures later { GoesOn K.is K.faults out.old out.new }
+    ensures handed { OnOk result (K.waiting out.new ≡ false) }
     ensures failed { OnErr result (Rises (K.faults out.old) (K.faults out.new)) }
 {
     for piece in pieces {
@@ -32,6 +33,7 @@ pub(crate) fn print_usage<K: Sink>(out: &mut K) -> Result<(), Failed>
     ensures steps { OnOk result (K.written out.new ≡ option_map (λ w. w ++ usage_text) (K.written out.old)) }
     ensures prefix { Appends (K.written out.old) (K.written out.new) usage_text }
     ensures later { GoesOn K.is K.faults out.old out.new }
+    ensures handed { OnOk result (K.waiting out.new ≡ false) }
     ensures failed { OnErr result (Rises (K.faults out.old) (K.faults out.new)) }
 {
     out.put(b"usage\n")?;
@@ -57,6 +59,7 @@ pub fn print_damage<K: Sink>(out: &mut K, damage: Damage) -> Result<(), Failed>
     ensures steps { OnOk result (K.written out.new ≡ option_map (λ w. w ++ damage_line (damage_of damage)) (K.written out.old)) }
     ensures prefix { Appends (K.written out.old) (K.written out.new) (damage_line (damage_of damage)) }
     ensures later { GoesOn K.is K.faults out.old out.new }
+    ensures handed { OnOk result (K.waiting out.new ≡ false) }
     ensures failed { OnErr result (Rises (K.faults out.old) (K.faults out.new)) }
 {
     let mut number = Buffer::new();
@@ -98,6 +101,7 @@ pub fn print_totals<K: Sink>(out: &mut K, items: u64, bytes: u64) -> Result<(), 
     ensures steps { OnOk result (K.written out.new ≡ option_map (λ w. w ++ totals_line items bytes) (K.written out.old)) }
     ensures prefix { Appends (K.written out.old) (K.written out.new) (totals_line items bytes) }
     ensures later { GoesOn K.is K.faults out.old out.new }
+    ensures handed { OnOk result (K.waiting out.new ≡ false) }
     ensures failed { OnErr result (Rises (K.faults out.old) (K.faults out.new)) }
 {
     let mut count = Buffer::new();

@@ -1,9 +1,9 @@
 // A session: the lines of an input are played on a folder.
-ghost use Rattle.std.specs.Prelude.{◌≡◌, ◌≢◌, ◌≤◌, ◌<◌, ◌+◌, ◌*◌, List, [], ℕ, length, IfOk, Option, Some};
+ghost use Rattle.std.specs.Prelude.{◌≡◌, ◌≢◌, ◌≤◌, ◌<◌, ◌+◌, ◌*◌, List, [], ℕ, length, IfOk, Option, Some, false};
 ghost use Rattle.std.specs.Option.{ForSome, option_map};
 ghost use Rattle.spec_image.specs.Image.{Image};
 ghost use Rattle.spec_image.specs.Checks.{Damage as check_damage};
-ghost use Rattle.spec_image.specs.Told.{Rises, Told};
+ghost use Rattle.spec_image.specs.Told.{Rises, Stays, Told};
 ghost use Rattle.blk_io.specs.Faults.{IfDamaged, IfDevice};
 ghost use Rattle.blk_io.specs.Streams.{GoesOn, Readings, later_of};
 ghost use Rattle.blk_model.specs.Bounds.{bounds_of};
@@ -20,8 +20,8 @@ ghost use Rattle.blk_run.specs.Failing.{IsCommandDamage, IsDamagedRun, IsFailedS
 ghost use Rattle.blk_run.specs.Inputs.{IsTakenUpTo};
 ghost use Rattle.blk_run.specs.Pending.{HoldsLine, pending};
 ghost use Rattle.blk_run.specs.Playing.{SoFar, StandsAt};
-ghost use Rattle.blk_run.specs.Session.{IsComplete, IsDamagedBy, OnDamage, Runs, Session};
-ghost use Rattle.blk_run.specs.Statuses.{CauseOf, may_close, status_after};
+ghost use Rattle.blk_run.specs.Session.{IsComplete, IsDamagedBy, OnDamage, Runs, Session, outside};
+ghost use Rattle.blk_run.specs.Statuses.{CauseOf, may_close, status_after, IfWhole};
 
 use crate::closing::close_all;
 use crate::ending::Status;
@@ -51,17 +51,24 @@ pub fn session<F: Folder, S: Source, K: Sink, C: Clock>(
     clock: &mut C,
 ) -> Status
     // On a folder that is unfinished or well formed it is the run of the lines on the map model.
-    ensures session { ForSome (F.told folder.old).files (λ from. IsUsable from → ForSome (C.readings clock.old) (λ readings. ForSome (S.left input.old) (λ bytes. Session by_lines result (bounds_of limits) budget from readings bytes (Rises (S.faults input.old) (S.faults input.new)) (Rises (K.faults out.old) (K.faults out.new)) (record { folder = F.told folder.old; written = K.written out.old; left = S.left input.old; clock = C.readings clock.old }) (record { folder = F.told folder.new; written = K.written out.new; left = S.left input.new; clock = C.readings clock.new })))) }
+    ensures session { ForSome (F.told folder.old).files (λ from. IsUsable from → ForSome (C.readings clock.old) (λ readings. ForSome (S.left input.old) (λ bytes. Session by_lines result (bounds_of limits) budget from readings bytes (Rises (S.faults input.old) (S.faults input.new)) (Rises (K.faults out.old) (K.faults out.new)) (outside (F.told folder.old) (K.written out.old) (S.left input.old) (C.readings clock.old)) (outside (F.told folder.new) (K.written out.new) (S.left input.new) (C.readings clock.new))))) }
 
     // Where nothing fails and the input is within the budget the whole output is printed, unless it is out of memory.
-    ensures complete { ForSome (F.told folder.old).files (λ from. IsUsable from → ForSome (C.readings clock.old) (λ readings. ForSome (S.left input.old) (λ bytes. length bytes ≤ budget → (Rises (F.faults folder.old) (F.faults folder.new) → ⊥) → (Rises (S.faults input.old) (S.faults input.new) → ⊥) → (Rises (K.faults out.old) (K.faults out.new) → ⊥) → IsComplete by_lines result (bounds_of limits) from readings bytes (record { folder = F.told folder.old; written = K.written out.old; left = S.left input.old; clock = C.readings clock.old }) (record { folder = F.told folder.new; written = K.written out.new; left = S.left input.new; clock = C.readings clock.new })))) }
+    ensures complete { ForSome (F.told folder.old).files (λ from. IsUsable from → ForSome (C.readings clock.old) (λ readings. ForSome (S.left input.old) (λ bytes. length bytes ≤ budget → (Rises (F.faults folder.old) (F.faults folder.new) → ⊥) → (Rises (S.faults input.old) (S.faults input.new) → ⊥) → (Rises (K.faults out.old) (K.faults out.new) → ⊥) → IsComplete by_lines result (bounds_of limits) from readings bytes (outside (F.told folder.old) (K.written out.old) (S.left input.old) (C.readings clock.old)) (outside (F.told folder.new) (K.written out.new) (S.left input.new) (C.readings clock.new))))) }
 
     // On a finished folder of which a check fails that is printed, and no more is done.
-    ensures damage { ForSome (F.told folder.old).files (λ from. (damage : check_damage) → IsDamagedBy damage from → OnDamage result damage (K.faults out.old) (K.faults out.new) (record { folder = F.told folder.old; written = K.written out.old; left = S.left input.old; clock = C.readings clock.old }) (record { folder = F.told folder.new; written = K.written out.new; left = S.left input.new; clock = C.readings clock.new })) }
+    ensures damage { ForSome (F.told folder.old).files (λ from. (damage : check_damage) → IsDamagedBy damage from → OnDamage result damage (K.faults out.old) (K.faults out.new) (outside (F.told folder.old) (K.written out.old) (S.left input.old) (C.readings clock.old)) (outside (F.told folder.new) (K.written out.new) (S.left input.new) (C.readings clock.new))) }
+
+    // Out of memory nothing is done, on every folder.
+    ensures memory { result ≡ Status.Memory → Stays (F.told folder.old) (F.told folder.new) × (K.written out.new ≡ K.written out.old) }
+    ensures untaken { result ≡ Status.Memory → S.left input.new ≡ S.left input.old }
 
     // The cause of each status, on every folder.
     ensures cause { CauseOf result (IsDamagedRun (F.told folder.old) (F.told folder.new) (K.written out.old) (K.written out.new) (K.faults out.old) (K.faults out.new)) (Rises (F.faults folder.old) (F.faults folder.new)) (Rises (S.faults input.old) (S.faults input.new)) (Rises (K.faults out.old) (K.faults out.new)) (ForSome (S.left input.old) (λ bytes. budget < length bytes)) }
     ensures later { (F.faults folder.old ≤ F.faults folder.new) × ((S.faults input.old ≤ S.faults input.new) × GoesOn K.is K.faults out.old out.new) }
+
+    // Where all is done nothing of it waits in the sink, on every sink.
+    ensures handed { IfWhole result (K.waiting out.old ≡ false → K.waiting out.new ≡ false) }
 
     // No more of the input is taken than the budget and one byte.
     ensures takes { ForSome (S.left input.old) (IsTakenUpTo (budget + 1) (S.left input.new)) }
@@ -114,10 +121,12 @@ fn play<F: Folder, S: Source, K: Sink, C: Clock>(
     requires buffer { 2200000 ≤ length buffer.old }
     requires first { pending line.old ≡ 0 }
     requires nothing { HoldsLine line.old [] }
-    ensures runs { (from : Image) (limits : Bounds) (readings : Readings) (bytes : List ℕ) (start : Told) (first : Option Readings) → start.files ≡ Some from → first ≡ Some readings → C.readings clock.old ≡ option_map later_of first → S.left input.old ≡ Some bytes → StandsAt (record { start = start; from = from; opened = open_state (found from) limits; done = [] }) (KeepsState cache) cache.notes (2 * handle_names + (budget + 1)) (F.told folder.old) → Runs by_lines result limits budget from readings bytes (Rises (S.faults input.old) (S.faults input.new)) (Rises (K.faults out.old) (K.faults out.new)) (record { folder = start; written = K.written out.old; left = S.left input.old; clock = first }) (record { folder = F.told folder.new; written = K.written out.new; left = S.left input.new; clock = C.readings clock.new }) }
+    ensures runs { (from : Image) (limits : Bounds) (readings : Readings) (bytes : List ℕ) (start : Told) (first : Option Readings) → start.files ≡ Some from → first ≡ Some readings → C.readings clock.old ≡ option_map later_of first → S.left input.old ≡ Some bytes → StandsAt (record { start = start; from = from; opened = open_state (found from) limits; done = [] }) (KeepsState cache) cache.notes (2 * handle_names + (budget + 1)) (F.told folder.old) → Runs by_lines result limits budget from readings bytes (Rises (S.faults input.old) (S.faults input.new)) (Rises (K.faults out.old) (K.faults out.new)) (outside start (K.written out.old) (S.left input.old) first) (outside (F.told folder.new) (K.written out.new) (S.left input.new) (C.readings clock.new)) }
     ensures untold { (far : SoFar) → StandsAt far (KeepsState cache) cache.notes (2 * handle_names + (budget + 1)) (F.told folder.old) → result ≢ Status.Damaged }
+    ensures memory { result ≢ Status.Memory }
     ensures cause { CauseOf result (IsFailedSomewhere (F.told folder.new)) (Rises (F.faults folder.old) (F.faults folder.new)) (Rises (S.faults input.old) (S.faults input.new)) (Rises (K.faults out.old) (K.faults out.new)) (ForSome (S.left input.old) (λ bytes. budget < length bytes)) }
     ensures later { (F.faults folder.old ≤ F.faults folder.new) × ((S.faults input.old ≤ S.faults input.new) × GoesOn K.is K.faults out.old out.new) }
+    ensures handed { IfWhole result (K.waiting out.old ≡ false → K.waiting out.new ≡ false) }
     ensures takes { ForSome (S.left input.old) (IsTakenUpTo (budget + 1) (S.left input.new)) }
 {
     let mut played = Played {

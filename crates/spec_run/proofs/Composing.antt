@@ -20,11 +20,11 @@ use Rattle.blk_model.proofs.StopRests.{rest_before}
 use Rattle.spec_folder.specs.Found.{found}
 use Rattle.spec_folder.specs.StandsFor.{StandsFor}
 use Rattle.law_folder.proofs.states.StoodFor.{stood-found}
-use Rattle.law_state.specs.Commands.{MayStop}
+use Rattle.law_state.specs.Commands.{IsNoted, IsStepped, MayStop}
 use Rattle.spec_run.specs.Run.{Stamped, state_after, state_then, state_at, command_after}
 use Rattle.spec_run.specs.Moments.{IsStopped, IsLeftAt, Completes}
 use Rattle.spec_run.specs.Opening.{HoldsStill, has_opened}
-use Rattle.spec_run.specs.Progress.{Progress, Stops}
+use Rattle.spec_run.specs.Progress.{Progress, Stops, StopsAfter, StopsPast}
 use Rattle.spec_run.specs.Laws.{RunsGoOn, RunsMayStopInACommand, RunsMayStopBetween, RunsEnd}
 use Rattle.spec_run.proofs.StepFacts.{true_false, along_head, quiet_first, quiet_later, quiet_true, opened_more, quiet_counts, not_complete, snoc_step}
 use Rattle.spec_run.proofs.CommandStates.{state_after-one, state_here, next_here, state_next}
@@ -213,6 +213,34 @@ stopped from opened done more old mid new c there before (inl made) =
 stopped from opened done more old mid new c there before (inr made) =
     subst (λ (l : List Stamped). Stops from opened l old new) (append_assoc done (c ∷ []) more)
     (stays from opened (done ++ c ∷ []) more old new (one_more from opened done old mid new c there before made))
+
+-- the same with the notes counted: a command that was done in part isn't noted
+pub stopped_part : (from : Image) (opened : State) (done more : List Stamped) (old mid new : Told) (c : Stamped) → old.files ≡ Some from → Progress from opened done old mid
+    → Passes mid new (MayStop (state_after opened done) c.moment c.request) → StopsAfter from opened (done ++ c ∷ more) (length done) old new
+unfolding stops_with
+stopped_part from opened done more old mid new c there before made = record {
+  stops = stops_with (c ∷ more) (MayStop (state_after opened done) c.moment c.request) there before made refl (stopped_in_left opened (done ++ c ∷ more) done more c refl);
+  count = quiet_counts before.steps made.steps (length done) before.noted made.quiet;
+}
+
+-- and one that was noted is
+pub stopped_noted : (from : Image) (opened : State) (done more : List Stamped) (old mid new : Told) (c : Stamped) → old.files ≡ Some from → Progress from opened done old mid
+    → IsNoted mid new c.moment c.request (length done + 1) (state_after opened done) → StopsAfter from opened (done ++ c ∷ more) (length done + 1) old new
+unfolding stays
+stopped_noted from opened done more old mid new c there before made =
+    let next = one_more from opened done old mid new c there before made in
+    subst (λ (l : List Stamped). StopsAfter from opened l (length done + 1) old new) (append_assoc done (c ∷ []) more)
+    (record { stops = stays from opened (done ++ c ∷ []) more old new next; count = next.noted ∙ length-append done (c ∷ []) })
+
+-- at least those before it are noted
+pub stopped_past : (from : Image) (opened : State) (done more : List Stamped) (old mid new : Told) (c : Stamped) → old.files ≡ Some from → Progress from opened done old mid
+    → IsStepped mid new c.moment c.request (length done + 1) (state_after opened done) → StopsPast from opened (done ++ c ∷ more) (length done) old new
+stopped_past from opened done more old mid new c there before (inl made) =
+    let stops = stopped_part from opened done more old mid new c there before made in
+    record { stops = stops.stops; count = let n = stops.count in omega (arith, n) }
+stopped_past from opened done more old mid new c there before (inr made) =
+    let stops = stopped_noted from opened done more old mid new c there before made in
+    record { stops = stops.stops; count = let n = stops.count in omega (arith, n) }
 
 -- the end of a run, of whose commands none is left
 pub ended : RunsEnd

@@ -9,3 +9,9 @@ pub mod Closing
 pub mod Examples
 pub mod WorkedRun
 pub mod SettledEntries
+pub mod ListOrder
+pub mod CrashedCommands
+pub mod WholeEntries
+pub mod ValidStates
+pub mod FoundExamples
+pub mod Replies

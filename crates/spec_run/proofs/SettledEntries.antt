@@ -18,7 +18,7 @@ behind_option None ys y there = there
 behind_option (Some z) ys y there = (suc there.0, omega (arith, there.1), there.2)
 
 -- what an element gives is among what all give
-given_contained : {X Y : Type 0} (h : X → Option Y) (xs : List X) (x : X) (y : Y) → h x ≡ Some y → (k : ℕ) → k < length xs → get_or xs k x ≡ x → Contains (filter_map h xs) y
+pub given_contained : {X Y : Type 0} (h : X → Option Y) (xs : List X) (x : X) (y : Y) → h x ≡ Some y → (k : ℕ) → k < length xs → get_or xs k x ≡ x → Contains (filter_map h xs) y
 given_contained h [] x y is k below at = absurd (omega (arith, below))
 given_contained {X} {Y} h (z ∷ xs) x y is zero below at =
     let first : h z ≡ Some y = ap h at ∙ is in
@@ -26,7 +26,7 @@ given_contained {X} {Y} h (z ∷ xs) x y is zero below at =
 given_contained h (z ∷ xs) x y is (suc k) below at = behind_option (h z) (filter_map h xs) y (given_contained h xs x y is k (omega (arith, below)) at)
 
 -- the state after the command that is next
-next_state : (opened : State) (commands : List Stamped) (n : ℕ) (c : Stamped) → first_in (drop n commands) ≡ Some c → state_after opened (take (suc n) commands) ≡ state_then (state_after opened (take n commands)) c
+pub next_state : (opened : State) (commands : List Stamped) (n : ℕ) (c : Stamped) → first_in (drop n commands) ≡ Some c → state_after opened (take (suc n) commands) ≡ state_then (state_after opened (take n commands)) c
 unfolding state_after
 next_state opened [] zero c is = cc
 next_state opened [] (suc n) c is = cc

@@ -1,29 +1,31 @@
 -- The laws by which a run composes: an opening, commands one after another, the closing, and the iterations of a script.
-use Rattle.std.specs.Prelude.{◌≡◌, ◌<◌, ◌≤◌, ◌+◌, ◌*◌, ◌^◌, ℕ, true, false, List, [], ◌∷◌, ◌++◌, length, Some, None, is_some, slice_set, take}
+use Rattle.std.specs.Prelude.{◌≡◌, ◌<◌, ◌≤◌, ◌+◌, ◌*◌, ◌^◌, ◌⊎◌, ℕ, Bool, true, false, ◌||◌, List, [], ◌∷◌, ◌++◌, length, Some, None, is_some, slice_set, take}
 use Rattle.std.specs.List.{Contains}
 use Rattle.std.specs.Option.{ForSome}
 use Rattle.spec_image.specs.Image.{Image}
 use Rattle.spec_image.specs.Steps.{TrailStep}
-use Rattle.spec_image.specs.Notes.{notes_in}
+use Rattle.spec_image.specs.Notes.{AtEachPrefix, notes_in}
 use Rattle.spec_image.specs.Told.{Told, Passes}
 use Rattle.blk_model.specs.Sizes.{handle_names}
-use Rattle.blk_model.specs.Items.{Item, Row}
-use Rattle.blk_model.specs.State.{State, Bounds, IsValidState, named_by}
+use Rattle.blk_model.specs.Items.{Item, main, part, Row, item_of}
+use Rattle.blk_model.specs.State.{State, Bounds, IsValidState, named_by, object_at}
 use Rattle.blk_model.specs.Holding.{open_state, owner, rest, row_of}
 use Rattle.blk_model.specs.Request.{Request, to_close}
-use Rattle.blk_model.specs.ListSteps.{list_after, list_steps}
+use Rattle.blk_model.specs.Room.{single}
+use Rattle.blk_model.specs.ListSteps.{front, list_after, list_steps}
 use Rattle.blk_model.specs.Step.{Outcome}
-use Rattle.blk_model.specs.Stops.{is_safe}
+use Rattle.blk_model.specs.Stops.{is_live_and_settled, is_safe}
 use Rattle.blk_io.specs.Streams.{Readings, later_of}
 use Rattle.law_state.specs.Commands.{IsNoted, IsStepped, note_number}
 use Rattle.spec_folder.specs.Found.{found}
 use Rattle.spec_run.specs.Lines.{Cut, with_bytes, lines, whole_lines}
 use Rattle.spec_run.specs.Script.{Script, Shown, TurnsNoneAway, ended, errs, says, turns_away, asks, count_script, put_script, session_script, until_refused}
-use Rattle.spec_run.specs.Run.{Stamped, Turn, error_turn, text_turn, away_turn, command_turn, stamped_by, outcome_in, state_then, state_after, clock_after, turns, commands_of, readings_of, bound_names, closings, run_of, cut_after, commands, command_after, state_at}
+use Rattle.spec_run.specs.Run.{Stamped, Turn, error_turn, text_turn, away_turn, command_turn, stamped_by, outcome_in, state_then, state_after, clock_after, turns, commands_of, readings_of, text_of, bound_names, closings, run_of, cut_after, commands, command_after, state_at}
 use Rattle.spec_run.specs.Moments.{IsStopped}
 use Rattle.spec_run.specs.Opening.{IsUsable, HoldsStill, Opens, FailsToOpen, has_opened}
 use Rattle.spec_run.specs.Progress.{Progress, Stops, IsWholeRun, AreNoted}
 use Rattle.spec_run.specs.Playing.{IsPlayed}
+use Rattle.spec_run.specs.Replies.{PrintsNoMore, evictions_of}
 
 -- The opening.
 
@@ -208,3 +210,116 @@ SettledEntriesAreFound = (from : Image) (opened : State) (commands : List Stampe
 abbrev pub RestsAreFound : Type 0
 RestsAreFound = (from : Image) (opened : State) (commands : List Stamped) (steps : List TrailStep) (image : Image) → IsStopped from opened commands steps image → has_opened steps ≡ true
     → command_after commands (notes_in steps) ≡ None → found image ≡ rest (state_at opened commands (notes_in steps))
+
+-- What is found of any entry, and in which order.
+
+-- a crash in a command of a run: the folder was opened and is as a crash may leave it, and this command is next, in this state
+pub record CrashesIn (from image : Image) (opened state : State) (commands : List Stamped) (steps : List TrailStep) (command : Stamped) : Type 0 where
+  pub stopped : IsStopped from opened commands steps image
+  pub opens : has_opened steps ≡ true
+  pub next : command_after commands (notes_in steps) ≡ Some command
+  pub state_is : state ≡ state_at opened commands (notes_in steps)
+
+-- whether the object with a number is live and clean before a command or after it
+abbrev pub is_clean_before_or_after : State → Stamped → ℕ → Bool
+is_clean_before_or_after state command number =
+    is_live_and_settled (object_at state number) || is_live_and_settled (object_at (state_then state command) number)
+
+-- a row from before a command: what its item has in the state before, of an object that is clean before the command or after it
+pub record IsFromBefore (state : State) (command : Stamped) (row : Row) : Type 0 where
+  pub number : ℕ
+  pub owned : owner state (item_of row) ≡ Some number
+  pub row_is : row_of state (item_of row) ≡ Some row
+  pub clean : is_clean_before_or_after state command number ≡ true
+
+-- wherever a run crashes in a command, each row that is found is from before that command, whatever it was about to make of the item
+abbrev pub FoundRowsAreFromBefore : Type 0
+FoundRowsAreFromBefore = (from image : Image) (opened state : State) (commands : List Stamped) (steps : List TrailStep) (command : Stamped)
+    → CrashesIn from image opened state commands steps command → (row : Row) → Contains (found image) row → IsFromBefore state command row
+
+-- an item is unsaved in a command: no object has it before, or one that is dirty before and not clean after
+abbrev pub IsUnsaved : State → Stamped → Item → Type 0
+IsUnsaved state command item =
+    (owner state item ≡ None) ⊎ ((number : ℕ) × (owner state item ≡ Some number) × (is_clean_before_or_after state command number ≡ false))
+
+-- no item that is unsaved is found; so of an object that is dirty before the command and after it none is
+abbrev pub UnsavedItemsAreLost : Type 0
+UnsavedItemsAreLost = (from image : Image) (opened state : State) (commands : List Stamped) (steps : List TrailStep) (command : Stamped)
+    → CrashesIn from image opened state commands steps command → (row : Row) → IsUnsaved state command (item_of row) → Contains (found image) row → ⊥
+
+-- and of an object that the command makes none is: an object after it, where no object has that number before it
+abbrev pub NewEntriesAreLost : Type 0
+NewEntriesAreLost = (from image : Image) (opened state : State) (commands : List Stamped) (steps : List TrailStep) (command : Stamped)
+    → CrashesIn from image opened state commands steps command → IsValidState state → (row : Row) (number : ℕ)
+    → owner (state_then state command) (item_of row) ≡ Some number → object_at state number ≡ None → Contains (found image) row → ⊥
+
+-- an item has its row from a state among these rows
+abbrev pub HasItsRow : State → List Row → Item → Type 0
+HasItsRow state rows item = (row : Row) × (row_of state item ≡ Some row) × Contains rows row
+
+-- one of two elements is in a list, and the other is among those after it
+abbrev pub Precedes : {X : Type 0} → List X → X → X → Type 0
+Precedes [] one other = ⊥
+Precedes (x ∷ xs) one other = ((x ≡ one) × Contains xs other) ⊎ Precedes xs one other
+
+-- rows go by a list: they are of items in it, with an item of an object there are all those of that object in the list, and they have its order
+pub record GoBy (state : State) (list : List Item) (rows : List Row) : Type 0 where
+  pub listed : (row : Row) → Contains rows row → Contains list (item_of row)
+  pub together : (row : Row) (item : Item) → Contains rows row → owner state item ≡ owner state (item_of row) → Contains list item → HasItsRow state rows item
+  pub in_order : (one other : Row) → Contains rows one → Contains rows other → Precedes list (item_of one) (item_of other) → Precedes rows one other
+
+-- what is found goes by one list: the LRU list after so many of the command's steps on it
+abbrev pub FoundRowsGoByOneList : Type 0
+FoundRowsGoByOneList = (from image : Image) (opened state : State) (commands : List Stamped) (steps : List TrailStep) (command : Stamped)
+    → CrashesIn from image opened state commands steps command → (count : ℕ) × (count ≤ length (list_steps state command.moment command.request))
+    × GoBy state (list_after state command.moment command.request count) (found image)
+
+-- a command evicts an item alone: the item is a part, and one of the groups that the command evicts
+abbrev pub IsEvictedAlone : State → Stamped → Item → Type 0
+IsEvictedAlone state command (main key) = ⊥
+IsEvictedAlone state command (part key n) = Contains (outcome_in state command).groups (single key n)
+
+-- so an object is found whole or not at all: with one item of it each other is found, but for a part that the command evicts alone
+abbrev pub EntriesAreFoundWhole : Type 0
+EntriesAreFoundWhole = (from image : Image) (opened state : State) (commands : List Stamped) (steps : List TrailStep) (command : Stamped)
+    → CrashesIn from image opened state commands steps command → IsValidState state → (row : Row) (item : Item) → Contains (found image) row
+    → owner state item ≡ owner state (item_of row) → (IsEvictedAlone state command item → ⊥) → HasItsRow state (found image) item
+
+-- a command uses an item: one of its steps on the LRU list brings the item to the front
+abbrev pub IsUsedBy : State → Stamped → Item → Type 0
+IsUsedBy state command item = Contains (list_steps state command.moment command.request) (front item)
+
+-- and of two items that are found the one that comes first in the LRU list before the command is found first, unless the command uses the other
+abbrev pub UnusedItemsKeepTheirOrder : Type 0
+UnusedItemsKeepTheirOrder = (from image : Image) (opened state : State) (commands : List Stamped) (steps : List TrailStep) (command : Stamped)
+    → CrashesIn from image opened state commands steps command → (one other : Row) → Contains (found image) one → Contains (found image) other
+    → Precedes state.uses (item_of one) (item_of other) → (IsUsedBy state command (item_of other) → ⊥) → Precedes (found image) one other
+
+-- the state in which a run crashes is valid, once its folder is opened, where its steps leave what a crash may leave
+abbrev pub StatesOfRunsAreValid : Type 0
+StatesOfRunsAreValid = (from : Image) (opened : State) (commands : List Stamped) (steps prefix suffix : List TrailStep)
+    → AtEachPrefix (IsStopped from opened commands) from steps → steps ≡ prefix ++ suffix → has_opened prefix ≡ true
+    → IsValidState (state_at opened commands (notes_in prefix))
+
+-- Replies.
+
+-- a command is answered where a run broke off: more was printed than the texts of the iterations before it and its eviction lines, so a part of its reply
+pub record IsReplyOut (turns : List Turn) (state : State) (printed : List ℕ) (before : List Turn) (command : Stamped) : Type 0 where
+  pub turn : Turn
+  pub behind : List Turn
+  pub split : turns ≡ before ++ turn ∷ behind
+  pub is : turn.command ≡ Some command
+  pub out : length (text_of before ++ evictions_of (state_after state (commands_of before)) turn.command) < length printed
+
+-- a command that is answered, by what was printed where a run broke off, is among its noted commands
+abbrev pub AnsweredCommandsAreNoted : Type 0
+AnsweredCommandsAreNoted = (turns before : List Turn) (state : State) (noted : ℕ) (written printed : List ℕ) (command : Stamped) → PrintsNoMore turns state noted (Some written) (Some (written ++ printed))
+    → IsReplyOut turns state printed before command → length (commands_of before) + 1 ≤ noted
+
+-- a command that is answered is noted; so where the folder stops, the recovered contents have each entry that is clean there and that the command in progress
+-- leaves alone: what an answered Close made clean is kept
+abbrev pub AnsweredClosesAreKept : Type 0
+AnsweredClosesAreKept = (from : Image) (turns before : List Turn) (opened : State) (commands : List Stamped) (steps : List TrailStep) (image : Image) (written printed : List ℕ) (command : Stamped)
+    → PrintsNoMore turns opened (notes_in steps) (Some written) (Some (written ++ printed)) → IsReplyOut turns opened printed before command → IsStopped from opened commands steps image → has_opened steps ≡ true
+    → (length (commands_of before) + 1 ≤ notes_in steps)
+    × ((next : Stamped) (item : Item) (row : Row) → command_after commands (notes_in steps) ≡ Some next → IsLeftAlone (state_at opened commands (notes_in steps)) next item row → Contains (found image) row)

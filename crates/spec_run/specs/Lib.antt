@@ -6,4 +6,5 @@ pub mod Opening
 pub mod Moments
 pub mod Progress
 pub mod Playing
+pub mod Replies
 pub mod Laws

@@ -23,6 +23,16 @@ pub record Stops (from : Image) (opened : State) (commands : List Stamped) (old 
   pub notes : AreTrue 0 steps
   pub few : notes_in steps ≤ length commands
 
+-- a run that broke off as in `Stops`, with exactly so many notes among its steps
+pub record StopsAfter (from : Image) (opened : State) (commands : List Stamped) (noted : ℕ) (old new : Told) : Type 0 where
+  pub stops : Stops from opened commands old new
+  pub count : notes_in stops.steps ≡ noted
+
+-- a run that broke off as in `Stops`, with at least so many notes among its steps
+pub record StopsPast (from : Image) (opened : State) (commands : List Stamped) (noted : ℕ) (old new : Told) : Type 0 where
+  pub stops : Stops from opened commands old new
+  pub count : noted ≤ notes_in stops.steps
+
 -- a whole run: the folder was opened, each command has its note, and in the end the durable contents after them are recovered
 pub record IsWholeRun (from : Image) (opened : State) (commands : List Stamped) (old new : Told) : Type 0 where
   pub stops : Stops from opened commands old new

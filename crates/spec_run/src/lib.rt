@@ -4,7 +4,7 @@
 //! which a run composes, each the contract of a function with an empty body.
 #![tactic(auto)]
 
-ghost use Rattle.spec_run.specs.Laws.{AskedCommandsAreNext, BoundNamesAreFew, ClockIsReadForCommands, ClosesFreeTheirName, CommandsAreFew, CommandsArePlayed, ErrorsArePlayed, FixedScriptsTurnNoneAway, LeastNamesAreClosedFirst, LinesArePlayedInTurn, LinesGoOn, LinesTurnNoneAway, NoneIsClosedWhereNoneIsBound, NoteNumbersAreExact, NotedCommandsFollow, NothingIsPlayed, PlayedCommandsComeFirst, PlayedRunsAreCut, PlayedRunsAreWhole, PlayingGoesOn, RefusalsOutsideArePlayed, RestsAreFound, RunsBegin, RunsEnd, RunsGoOn, RunsGoOnInTurn, RunsMayStopBetween, RunsMayStopInACommand, RunsMayStopInTheOpening, SettledEntriesAreFound, TextsArePlayed, WholeLinesComeFirst};
+ghost use Rattle.spec_run.specs.Laws.{AnsweredClosesAreKept, AnsweredCommandsAreNoted, AskedCommandsAreNext, BoundNamesAreFew, ClockIsReadForCommands, ClosesFreeTheirName, CommandsAreFew, CommandsArePlayed, EntriesAreFoundWhole, ErrorsArePlayed, FixedScriptsTurnNoneAway, FoundRowsAreFromBefore, FoundRowsGoByOneList, LeastNamesAreClosedFirst, LinesArePlayedInTurn, LinesGoOn, LinesTurnNoneAway, NewEntriesAreLost, NoneIsClosedWhereNoneIsBound, NoteNumbersAreExact, NotedCommandsFollow, NothingIsPlayed, PlayedCommandsComeFirst, PlayedRunsAreCut, PlayedRunsAreWhole, PlayingGoesOn, RefusalsOutsideArePlayed, RestsAreFound, RunsBegin, RunsEnd, RunsGoOn, RunsGoOnInTurn, RunsMayStopBetween, RunsMayStopInACommand, RunsMayStopInTheOpening, SettledEntriesAreFound, StatesOfRunsAreValid, TextsArePlayed, UnsavedItemsAreLost, UnusedItemsKeepTheirOrder, WholeLinesComeFirst};
 
 /// A run begins with an opening. Where the opening failed a crash in any run may leave what it left.
 pub fn runs_begin()
@@ -67,4 +67,24 @@ pub fn least_names_are_closed_first()
 pub fn settled_entries_are_found()
     ensures settled { SettledEntriesAreFound }
     ensures rests { RestsAreFound }
+{}
+
+/// Wherever a run crashes in a command, any entry is found as it was before that command, whole but for parts that are evicted
+/// alone, or not at all, and what the command doesn't use is found in its old order. An entry that stays dirty, or that the
+/// command makes, isn't found.
+pub fn entries_are_found_whole_and_in_order()
+    ensures before { FoundRowsAreFromBefore }
+    ensures lost { UnsavedItemsAreLost }
+    ensures new { NewEntriesAreLost }
+    ensures list { FoundRowsGoByOneList }
+    ensures whole { EntriesAreFoundWhole }
+    ensures order { UnusedItemsKeepTheirOrder }
+    ensures valid { StatesOfRunsAreValid }
+{}
+
+/// A reply is printed once its command is noted. So where the folder stops, behind any step, each command that was answered
+/// is done: each entry that an answered Close made clean is found, unless a later command changes it.
+pub fn replies_follow_notes()
+    ensures noted { AnsweredCommandsAreNoted }
+    ensures kept { AnsweredClosesAreKept }
 {}

@@ -2,7 +2,7 @@ use Rattle.std.proofs.Common.{◌≡◌, Some, inl, sym, ap, subst, ◌∙◌}
 use Rattle.std.specs.Option.{ForSome}
 use Rattle.std.proofs.lemmas.Result.{IfOk-weaker, on_ok_weaker}
 use Rattle.spec_image.specs.Image.{Image}
-use Rattle.spec_image.specs.Told.{Stays, Told}
+use Rattle.spec_image.specs.Told.{Told}
 use Rattle.spec_image.proofs.Runs.{some_inj}
 use Rattle.spec_format.specs.BlockFiles.{first_damage, IsWellFormed}
 use Rattle.blk_io.specs.declared.fault.Damage.{Damage}
@@ -10,7 +10,7 @@ use Rattle.blk_io.specs.Faults.{damage_of}
 use Rattle.blk_index.specs.Start.{IsFinished}
 use Rattle.blk_repair.proofs.Endings.{either-stayed, either-weaker, ends-stayed, ends-weaker}
 use Rattle.blk_cache.specs.Opening.{IfOpenDamaged}
-use Rattle.blk_cache.proofs.CarriedFaults.{damaged-on, if-damaged, if-memory, open-damaged-weaker, open-damaged-where, open-memory-weaker}
+use Rattle.blk_cache.proofs.CarriedFaults.{damaged-on, if-memory, open-damaged-weaker, open-damaged-where, open-memory-weaker}
 use Rattle.blk_scan.proofs.FirstDamages.{formed-of}
 use Rattle.blk_cache.proofs.OpenRuns.{first-of_load, loading-as, mid-still, stayed-still, told-some}
 use Rattle.blk_cache.proofs.opening.open_finished.Given as given
@@ -29,7 +29,7 @@ returns-in_err-files-clause-first g c =
     damaged-on c.from_residual.result c.in_err-files.field-0.0 c.from_residual.ensures.1 _ (first-of_load c.in_err-files.field-0.0 (g.F.Folder.told c.args.folder.now).files c.in_err-files.ensures.loaded)
 
 pub returns-in_err-files-clause-unwritten : goal.returns-in_err-files-clause-unwritten
-returns-in_err-files-clause-unwritten g c = if-damaged c.from_residual.result _ (λ damage from there fin. c.in_err-files.ensures.reads.stays)
+returns-in_err-files-clause-unwritten g c from there fin bad = c.in_err-files.ensures.reads.stays
 
 pub returns-in_err-files-clause-memory : goal.returns-in_err-files-clause-memory
 returns-in_err-files-clause-memory g c = if-memory c.from_residual.result _ c.in_err-files.ensures.reads.stays
@@ -78,7 +78,7 @@ pub returns-clause-first : goal.returns-clause-first
 returns-clause-first g c = never g c (λ damage from. first_damage from ≡ Some (damage_of damage))
 
 pub returns-clause-unwritten : goal.returns-clause-unwritten
-returns-clause-unwritten g c = never g c (λ damage from. Stays (g.F.Folder.told c.args.folder.now) (g.F.Folder.told c.open_loaded.new.folder))
+returns-clause-unwritten g c from there fin bad = absurd (bad (formed g c from there fin))
 
 pub returns-clause-memory : goal.returns-clause-memory
 returns-clause-memory g c = open-memory-weaker c.open_loaded.result _ _ (λ same. same ∙ c.in_ok-files.ensures.reads.stays) c.open_loaded.ensures.memory

@@ -1,9 +1,9 @@
 use Rattle.std.proofs.Common.{inl, inr, sym, ap, ◌∙◌}
 use Rattle.std.proofs.lemmas.Result.{IfOk-weaker, on_ok_weaker}
-use Rattle.spec_image.specs.Told.{Told, Stays}
+use Rattle.spec_image.specs.Told.{Told}
 use Rattle.blk_repair.proofs.Endings.{either-stayed, ends-stayed}
 use Rattle.blk_cache.specs.Opened.{IsFirstDamage}
-use Rattle.blk_cache.proofs.CarriedFaults.{damaged-on, if-damaged, if-memory, no-memory, open-damaged-weaker, open-memory-weaker}
+use Rattle.blk_cache.proofs.CarriedFaults.{damaged-on, if-memory, no-memory, open-damaged-weaker, open-memory-weaker}
 use Rattle.blk_scan.proofs.FirstDamages.{length-checked, looked-as}
 use Rattle.blk_cache.proofs.OpenRuns.{first-of_look, looking-as, stayed-still, untold-says}
 use Rattle.blk_cache.proofs.opening.open_folder.Goals as goal
@@ -19,7 +19,7 @@ pub returns-in_err-look-clause-first : goal.returns-in_err-look-clause-first
 returns-in_err-look-clause-first g c = damaged-on c.from_residual.result c.in_err-look.field-0.0 c.from_residual.ensures.1 _ (first-of_look c.in_err-look.field-0.0 (g.F.Folder.told c.args.folder.now).files c.in_err-look.ensures.looked)
 
 pub returns-in_err-look-clause-unwritten : goal.returns-in_err-look-clause-unwritten
-returns-in_err-look-clause-unwritten g c = if-damaged c.from_residual.result _ (λ damage from there. c.in_err-look.ensures.reads.stays)
+returns-in_err-look-clause-unwritten g c from there bad = c.in_err-look.ensures.reads.stays
 
 pub returns-in_err-look-clause-memory : goal.returns-in_err-look-clause-memory
 returns-in_err-look-clause-memory g c = if-memory c.from_residual.result _ c.in_err-look.ensures.reads.stays
@@ -41,10 +41,10 @@ returns-in_err-open_new-in-Unfinished-clause-first g c =
     c.in_err-open_new-in-Unfinished.ensures.untold)
 
 pub returns-in_err-open_new-in-Unfinished-clause-unwritten : goal.returns-in_err-open_new-in-Unfinished-clause-unwritten
-returns-in_err-open_new-in-Unfinished-clause-unwritten g c =
-    damaged-on c.from_residual-in_err-open_new-in-Unfinished.result c.in_err-open_new-in-Unfinished.field-0.0 c.from_residual-in_err-open_new-in-Unfinished.ensures.1 _
-    (untold-says c.in_err-open_new-in-Unfinished.field-0.0 (g.F.Folder.told c.look.new.f) (g.F.Folder.told c.args.folder.now).files (λ damage from. Stays (g.F.Folder.told c.args.folder.now) (g.F.Folder.told c.open_new.new.folder)) (λ i there. ap (λ (t : Told). t.files) c.in_ok-look.ensures.reads.stays ∙ there)
-    c.in_err-open_new-in-Unfinished.ensures.untold)
+returns-in_err-open_new-in-Unfinished-clause-unwritten g c from there bad = absurd (bad (inl (looked-as _ _ from c.in-Unfinished.is (c.in_ok-look.ensures.looked from there))))
+
+pub returns-in_ok-open_new-in-Unfinished-clause-unwritten : goal.returns-in_ok-open_new-in-Unfinished-clause-unwritten
+returns-in_ok-open_new-in-Unfinished-clause-unwritten g c from there bad = absurd (bad (inl (looked-as _ _ from c.in-Unfinished.is (c.in_ok-look.ensures.looked from there))))
 
 pub returns-in_err-open_new-in-Unfinished-clause-memory : goal.returns-in_err-open_new-in-Unfinished-clause-memory
 returns-in_err-open_new-in-Unfinished-clause-memory g c = no-memory c.from_residual-in_err-open_new-in-Unfinished.result c.in_err-open_new-in-Unfinished.field-0.0 _ c.from_residual-in_err-open_new-in-Unfinished.ensures.1
@@ -96,9 +96,9 @@ returns-in-Finished-clause-first g c =
     record { finished = fin.finished; first = first from (ap (λ (t : Told). t.files) c.in_ok-look.ensures.reads.stays ∙ there) fin }) c.open_finished.ensures.first
 
 pub returns-in-Finished-clause-unwritten : goal.returns-in-Finished-clause-unwritten
-returns-in-Finished-clause-unwritten g c =
-    open-damaged-weaker c.open_finished.result _ _
-    (λ damage same from there. same from (ap (λ (t : Told). t.files) c.in_ok-look.ensures.reads.stays ∙ there) (looked-as _ _ from c.in-Finished.is (c.in_ok-look.ensures.looked from there)) ∙ c.in_ok-look.ensures.reads.stays) c.open_finished.ensures.unwritten
+returns-in-Finished-clause-unwritten g c from there bad =
+    let fin = looked-as _ _ from c.in-Finished.is (c.in_ok-look.ensures.looked from there) in
+    c.open_finished.ensures.unwritten from (ap (λ (t : Told). t.files) c.in_ok-look.ensures.reads.stays ∙ there) fin (λ well. bad (inr well)) ∙ c.in_ok-look.ensures.reads.stays
 
 pub returns-in-Finished-clause-memory : goal.returns-in-Finished-clause-memory
 returns-in-Finished-clause-memory g c = open-memory-weaker c.open_finished.result _ _ (λ same. same ∙ c.in_ok-look.ensures.reads.stays) c.open_finished.ensures.memory

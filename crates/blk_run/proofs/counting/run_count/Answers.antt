@@ -12,6 +12,7 @@ use Rattle.blk_run.proofs.Completeness.{complete_script}
 use Rattle.blk_run.proofs.HeadlineBridge.{failed_by_start}
 use Rattle.blk_run.proofs.ScriptCauses.{count_cause}
 use Rattle.blk_run.proofs.ScriptEnds.{script_of_runs}
+use Rattle.blk_run.proofs.Showing.{sound}
 use Rattle.blk_run.proofs.SessionEnds.{begins_at, device_cause, rises_since, sink_cause}
 use Rattle.blk_run.proofs.counting.run_count.Goals as goal
 
@@ -102,3 +103,8 @@ none_refused s (inr (inr is)) refused = absurd (clash (sym is ∙ refused))
 
 pub returns-in-Ok-clause-never : goal.returns-in-Ok-clause-never
 returns-in-Ok-clause-never g c = none_refused c.count.result c.count.ensures.answers
+
+pub returns-in-Err-Damaged-clause-unwritten : goal.returns-in-Err-Damaged-clause-unwritten
+returns-in-Err-Damaged-clause-unwritten g c is from there =
+    let damaged = returns-in-Err-Damaged-clause-answer g c from there in
+    c.start.ensures.unwritten from there (λ usable. sound damaged.damage from usable (record { finished = damaged.finished; first = damaged.first }))

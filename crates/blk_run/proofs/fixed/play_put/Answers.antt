@@ -4,8 +4,7 @@ use Rattle.spec_run.specs.Script.{put_script, until_refused}
 use Rattle.spec_run.specs.Run.{commands_of, turns}
 use Rattle.blk_model.specs.Request.{to_create}
 use Rattle.blk_cache.specs.declared.fault.StepFault.{StepFault}
-use Rattle.blk_run.specs.Playing.{PlaysPart, with_more}
-use Rattle.blk_run.proofs.Asking.{around}
+use Rattle.blk_run.specs.Playing.{PlaysPart, around, with_more}
 use Rattle.blk_run.proofs.FixedTurns.{fault_is, up_to_part}
 use Rattle.blk_run.proofs.Parts.{stands_fewer}
 use Rattle.blk_run.proofs.PutTurns.{put_fault, put_missing, put_opened, put_refused, put_unprinted, requests_of, sink_is}

@@ -4,9 +4,8 @@ use Rattle.blk_model.specs.Request.{Request, request_of}
 use Rattle.spec_run.specs.Script.{until_refused}
 use Rattle.spec_run.specs.Run.{turns}
 use Rattle.blk_cache.specs.declared.fault.StepFault.{StepFault}
-use Rattle.blk_run.specs.Playing.{PlaysPart, SoFar, state_now, with_more}
+use Rattle.blk_run.specs.Playing.{PlaysPart, SoFar, around, state_now, with_more}
 use Rattle.spec_run.specs.Run.{commands_of}
-use Rattle.blk_run.proofs.Asking.{around}
 use Rattle.blk_run.proofs.Parts.{stands_fewer}
 use Rattle.blk_run.proofs.FixedTurns.{asked_fault, asked_last, asked_on, fault_is, next_is, none_is, nothing_left, up_to_end, up_to_none, made_none}
 use Rattle.blk_io.proofs.GoingOn.{goes_on, stays_on}
@@ -20,6 +19,7 @@ loop-command-init g c = record {
   is_open = c.requires.is_open;
   later = omega arith;
   printed_later = stays_on;
+  handed = λ none. none;
 }
 
 pub returns-in_err-answer-clause-played : goal.returns-in_err-answer-clause-played
@@ -57,6 +57,7 @@ loop-command-preserved g c = record {
   is_open = c.in_ok-answer.ensures.is_open;
   later = let a = c.loop-command.invariant.later in let b = c.in_ok-answer.ensures.later in omega (arith, a, b);
   printed_later = goes_on c.loop-command.invariant.printed_later c.in_ok-answer.ensures.printed_later;
+  handed = λ none. c.in_ok-answer.ensures.handed;
 }
 
 pub returns-clause-played : goal.returns-clause-played

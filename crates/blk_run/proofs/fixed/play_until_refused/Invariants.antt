@@ -1,13 +1,12 @@
 use Rattle.blk_cache.specs.CacheKeeping.{KeepsState}
 use Rattle.blk_disk.specs.Open.{IsOpen}
-use Rattle.std.proofs.Common.{◌≡◌, ◌≤◌, ◌+◌, ◌-◌, ◌*◌, ℕ, length, drop, map}
+use Rattle.std.proofs.Common.{◌≡◌, ◌≤◌, ◌+◌, ◌-◌, ◌*◌, ℕ, length, drop, map, false}
 use Rattle.std.specs.Option.{ForSome}
 use Rattle.blk_model.specs.Request.{request_of}
 use Rattle.spec_run.specs.Script.{until_refused}
 use Rattle.spec_run.specs.Run.{turns}
 use Rattle.blk_run.specs.Fixed.{PlaysUpTo}
-use Rattle.blk_run.specs.Playing.{SoFar, StandsAt}
-use Rattle.blk_run.proofs.Asking.{around}
+use Rattle.blk_run.specs.Playing.{SoFar, StandsAt, around}
 use Rattle.blk_io.specs.Streams.{GoesOn}
 use Rattle.blk_run.proofs.fixed.play_until_refused.Given as goal
 
@@ -20,4 +19,5 @@ invariant-loop-command g l = record {
   is_open : ForSome (g.F.Folder.told l.folder).files (IsOpen l.cache.files);
   later : g.F.Folder.faults l.initial.folder ≤ g.F.Folder.faults l.folder;
   printed_later : GoesOn g.K.Sink.is g.K.Sink.faults l.initial.out l.out;
+  handed : g.K.Sink.waiting l.initial.out ≡ false → g.K.Sink.waiting l.out ≡ false;
 }

@@ -2,7 +2,7 @@ use Rattle.std.proofs.Common.{◌≡◌, ◌-◌, false, true, ℕ, length, refl
 use Rattle.std.proofs.lemmas.List.{length-take-le}
 use Rattle.spec_run.specs.Lines.{cut}
 use Rattle.blk_cache.specs.CacheKeeping.{KeepsState}
-use Rattle.blk_run.proofs.Asking.{around}
+use Rattle.blk_run.specs.Playing.{around}
 use Rattle.blk_run.proofs.InputPlayed.{all_but_one, all_used, input_ended, input_failed, input_handed, last_failed, last_played, no_input, none_taken, piece_failed, piece_played, piece_too_long, some_used, taken_up_to}
 use Rattle.blk_io.proofs.GoingOn.{goes_on, stays_on}
 use Rattle.blk_run.proofs.input.play_input.Goals as goal
@@ -18,6 +18,7 @@ loop-n-init g c = record {
   buffer = refl;
   later = omega arith;
   sink = stays_on;
+  handed = λ none. none;
   source = omega arith;
 }
 
@@ -78,6 +79,7 @@ loop-n-preserved g c =
       buffer = c.play_bytes.auto.buffer ∙ c.loop-n.invariant.buffer;
       later = let now = c.loop-n.invariant.later in let next = c.in_ok-play_bytes.ensures.later in omega (arith, now, next);
       sink = goes_on c.loop-n.invariant.sink c.in_ok-play_bytes.ensures.printed_later;
+      handed = λ none. c.in_ok-play_bytes.ensures.handed (c.loop-n.invariant.handed none);
       source = let now = c.loop-n.invariant.source in let next = c.in-Ok.ensures.later in omega (arith, now, next);
     }
 

@@ -1,10 +1,10 @@
-use Rattle.std.proofs.Common.{◌≤◌, ◌≡◌, ◌+◌, length}
+use Rattle.std.proofs.Common.{◌≤◌, ◌≡◌, ◌+◌, length, false}
 use Rattle.std.specs.Option.{ForSome}
 use Rattle.blk_disk.specs.Open.{IsOpen}
 use Rattle.blk_cache.specs.CacheKeeping.{KeepsState}
+use Rattle.blk_run.specs.Playing.{around}
 use Rattle.blk_run.specs.Pending.{pending}
 use Rattle.blk_run.proofs.InputPlayed.{IsInputPlayed}
-use Rattle.blk_run.proofs.Asking.{around}
 use Rattle.blk_io.specs.Streams.{GoesOn}
 use Rattle.blk_run.proofs.input.play_input.Given as goal
 
@@ -17,6 +17,7 @@ invariant-loop-n g l = record {
   buffer : length l.buffer ≡ length l.initial.buffer;
   later : g.F.Folder.faults l.initial.folder ≤ g.F.Folder.faults l.folder;
   sink : GoesOn g.K.Sink.is g.K.Sink.faults l.initial.out l.out;
+  handed : g.K.Sink.waiting l.initial.out ≡ false → g.K.Sink.waiting l.out ≡ false;
   source : g.S.Source.faults l.initial.input ≤ g.S.Source.faults l.input;
 }
 

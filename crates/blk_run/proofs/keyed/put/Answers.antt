@@ -30,6 +30,7 @@ returns-in-Ok-read_input-clause-performs g c =
       complete = λ from there usable readings clock no_device no_sink. c.run_script.ensures.complete from there usable readings clock (g.S.Source.left c.read_input.new.input) no_device no_sink;
       damage = λ from there damage is. c.run_script.ensures.damage from there damage is (g.S.Source.left c.read_input.new.input);
       cause = c.run_script.ensures.cause;
+      memory = λ is. let nothing = c.run_script.ensures.memory is in record { unwritten = nothing.0; unread = refl; unprinted = nothing.1 };
     })
 
 pub returns-clause-performs : goal.returns-clause-performs

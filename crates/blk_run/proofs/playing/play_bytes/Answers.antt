@@ -1,7 +1,7 @@
 use Rattle.std.proofs.Common.{◌++◌, take, refl, sym, ◌∙◌, arith}
 use Rattle.blk_cache.specs.CacheKeeping.{KeepsState}
+use Rattle.blk_run.specs.Playing.{around}
 use Rattle.blk_run.proofs.Parts.{part_handed}
-use Rattle.blk_run.proofs.Asking.{around}
 use Rattle.blk_run.proofs.BytesPlayed.{all_counted, all_played, line_failed, line_played_of, fewer_behind, none_played, rest_holds}
 use Rattle.blk_io.proofs.GoingOn.{goes_on, stays_on}
 use Rattle.blk_run.proofs.playing.play_bytes.Goals as goal
@@ -14,6 +14,7 @@ loop-end-init g c = record {
   buffer = refl;
   later = omega arith;
   sink = stays_on;
+  handed = λ none. none;
 }
 
 pub returns-in_err-play_line-clause-played : goal.returns-in_err-play_line-clause-played
@@ -41,6 +42,7 @@ loop-end-preserved g c = record {
   buffer = c.play_line.auto.buffer ∙ c.loop-end.invariant.buffer;
   later = let now = c.loop-end.invariant.later in let next = c.in_ok-play_line.ensures.later in omega (arith, now, next);
   sink = goes_on c.loop-end.invariant.sink c.in_ok-play_line.ensures.printed_later;
+  handed = λ none. c.in_ok-play_line.ensures.handed;
 }
 
 pub returns-clause-played : goal.returns-clause-played

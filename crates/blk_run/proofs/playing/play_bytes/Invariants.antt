@@ -1,10 +1,10 @@
-use Rattle.std.proofs.Common.{◌≤◌, ◌≡◌, ◌+◌, ℕ, List, length}
+use Rattle.std.proofs.Common.{◌≤◌, ◌≡◌, ◌+◌, ℕ, List, length, false}
 use Rattle.std.specs.Option.{ForSome}
 use Rattle.blk_disk.specs.Open.{IsOpen}
 use Rattle.blk_cache.specs.CacheKeeping.{KeepsState}
+use Rattle.blk_run.specs.Playing.{around}
 use Rattle.blk_run.specs.Pending.{HoldsLine, pending}
 use Rattle.blk_run.proofs.BytesPlayed.{ArePlayed}
-use Rattle.blk_run.proofs.Asking.{around}
 use Rattle.blk_io.specs.Streams.{GoesOn}
 use Rattle.blk_run.proofs.playing.play_bytes.Given as goal
 
@@ -18,6 +18,7 @@ invariant-loop-end g l = record {
   buffer : length l.buffer ≡ length l.initial.buffer;
   later : g.F.Folder.faults l.initial.folder ≤ g.F.Folder.faults l.folder;
   sink : GoesOn g.K.Sink.is g.K.Sink.faults l.initial.out l.out;
+  handed : g.K.Sink.waiting l.initial.out ≡ false → g.K.Sink.waiting l.out ≡ false;
 }
 
 abbrev pub decreases-loop-end : goal.decreases-loop-end

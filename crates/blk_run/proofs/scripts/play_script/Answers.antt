@@ -1,5 +1,5 @@
 use Rattle.blk_cache.specs.CacheKeeping.{KeepsState}
-use Rattle.std.proofs.Common.{◌*◌, [], Err, refl, sym, ◌∙◌, subst}
+use Rattle.std.proofs.Common.{◌≡◌, ◌*◌, false, [], Err, refl, sym, ◌∙◌, subst}
 use Rattle.std.specs.Option.{ForSome}
 use Rattle.spec_image.specs.Told.{Rises}
 use Rattle.blk_disk.specs.Open.{IsOpen}
@@ -15,6 +15,9 @@ use Rattle.blk_run.proofs.Failures.{fails_somewhere}
 use Rattle.blk_run.proofs.ScriptCauses.{done_open, script_cause, script_kept, script_undamaged_status}
 use Rattle.blk_run.proofs.ScriptEnds.{script_closed, script_stopped, script_unclosed, script_undamaged}
 use Rattle.blk_run.proofs.SessionEnds.{end_undamaged}
+use Rattle.blk_run.specs.Statuses.{IfWhole}
+use Rattle.blk_run.proofs.HandedOn.{script_whole}
+use Rattle.blk_run.proofs.OutOfMemory.{script_memory}
 use Rattle.blk_run.proofs.scripts.play_script.Goals as goal
 
 pub returns-then-not-closes_script-clause-runs : goal.returns-then-not-closes_script-clause-runs
@@ -57,3 +60,15 @@ pub end-requires : goal.end-requires
 end-requires g c = record {
   is_open = done_open c.play_turns-played.result (ForSome (g.F.Folder.told c.play_turns-played.new.folder).files (IsOpen c.play_turns-played.new.cache.files)) (sym c.closes_script.ensures ∙ c.if-not-closes_script.false) c.play_turns-played.ensures.is_open;
 }
+
+pub returns-then-not-closes_script-clause-memory : goal.returns-then-not-closes_script-clause-memory
+returns-then-not-closes_script-clause-memory g c is = script_memory c.play_turns-played.result c.play_turns-played.new.refused (sym c.script_status-status.ensures ∙ is)
+
+pub returns-in-Ok-clause-memory : goal.returns-in-Ok-clause-memory
+returns-in-Ok-clause-memory g c is = script_memory c.play_turns-played.result c.play_turns-played.new.refused (sym c.script_status-status.ensures ∙ is)
+
+pub returns-then-not-closes_script-clause-handed : goal.returns-then-not-closes_script-clause-handed
+returns-then-not-closes_script-clause-handed g c = subst (λ (s : Status). IfWhole s (g.K.Sink.waiting c.args.out.now ≡ false → g.K.Sink.waiting c.play_turns-played.new.out ≡ false)) (sym c.script_status-status.ensures) (script_whole (g.K.Sink.waiting c.args.out.now ≡ false → g.K.Sink.waiting c.play_turns-played.new.out ≡ false) c.play_turns-played.result c.play_turns-played.new.refused c.play_turns-played.ensures.handed)
+
+pub returns-in-Ok-clause-handed : goal.returns-in-Ok-clause-handed
+returns-in-Ok-clause-handed g c = subst (λ (s : Status). IfWhole s (g.K.Sink.waiting c.args.out.now ≡ false → g.K.Sink.waiting c.play_turns-played.new.out ≡ false)) (sym c.script_status-status.ensures) (script_whole (g.K.Sink.waiting c.args.out.now ≡ false → g.K.Sink.waiting c.play_turns-played.new.out ≡ false) c.play_turns-played.result c.play_turns-played.new.refused c.play_turns-played.ensures.handed)

@@ -1,15 +1,18 @@
-use Rattle.std.proofs.Common.{◌≡◌, ◌*◌, true, false, Result, Ok, Err, refl, sym, ◌∙◌}
+use Rattle.std.proofs.Common.{◌≡◌, ◌*◌, true, false, Result, Ok, Err, refl, sym, subst, ◌∙◌}
 use Rattle.std.specs.Option.{ForSome}
 use Rattle.blk_disk.specs.Open.{IsOpen}
 use Rattle.blk_cache.specs.declared.fault.StepFault.{StepFault}
 use Rattle.blk_cache.specs.declared.fault.StepFault.TheVariants as step_fault
 use Rattle.blk_cache.specs.Stepping.{IfDone}
+use Rattle.blk_run.specs.declared.ending.Status.{Status}
 use Rattle.blk_run.specs.declared.input.InputEnd.{InputEnd}
 use Rattle.blk_model.specs.Sizes.{handle_names}
-use Rattle.blk_run.specs.Statuses.{may_close, status_after}
+use Rattle.blk_run.specs.Statuses.{IfWhole, may_close, status_after}
 use Rattle.blk_cache.specs.CacheKeeping.{KeepsState}
 use Rattle.blk_run.proofs.SessionEnds.{closed_runs, end_failed, end_undamaged, input_cause, input_told, input_undamaged, kept_after, runs_as, stopped_runs, unclosed_runs}
 use Rattle.blk_run.proofs.Failures.{fails_somewhere}
+use Rattle.blk_run.proofs.HandedOn.{session_whole}
+use Rattle.blk_run.proofs.OutOfMemory.{session_memory}
 use Rattle.blk_run.proofs.sessions.play.Goals as goal
 
 -- where what is open may be closed, what was played was done
@@ -66,3 +69,15 @@ pub returns-then-not-closes_after-clause-cause : goal.returns-then-not-closes_af
 returns-then-not-closes_after-clause-cause g c =
     input_cause c.status_of-status.result c.play_input-ended.result c.play_input-ended.new.played.refused _ _ _ _ _ c.status_of-status.ensures
     (fails_somewhere c.play_input-ended.result c.play_input-ended.new.cache.files (g.F.Folder.told c.play_input-ended.new.folder) c.play_input-ended.ensures.damaged) c.play_input-ended.ensures.device c.play_input-ended.ensures.source c.play_input-ended.ensures.sink c.play_input-ended.ensures.too_long
+
+pub returns-then-not-closes_after-clause-memory : goal.returns-then-not-closes_after-clause-memory
+returns-then-not-closes_after-clause-memory g c is = session_memory c.play_input-ended.result c.play_input-ended.new.played.refused (sym c.status_of-status.ensures ∙ is)
+
+pub returns-in-Ok-clause-memory : goal.returns-in-Ok-clause-memory
+returns-in-Ok-clause-memory g c is = session_memory c.play_input-ended.result c.play_input-ended.new.played.refused (sym c.status_of-status.ensures ∙ is)
+
+pub returns-then-not-closes_after-clause-handed : goal.returns-then-not-closes_after-clause-handed
+returns-then-not-closes_after-clause-handed g c = subst (λ (s : Status). IfWhole s (g.K.Sink.waiting c.args.out.now ≡ false → g.K.Sink.waiting c.play_input-ended.new.out ≡ false)) (sym c.status_of-status.ensures) (session_whole (g.K.Sink.waiting c.args.out.now ≡ false → g.K.Sink.waiting c.play_input-ended.new.out ≡ false) c.play_input-ended.result c.play_input-ended.new.played.refused c.play_input-ended.ensures.handed)
+
+pub returns-in-Ok-clause-handed : goal.returns-in-Ok-clause-handed
+returns-in-Ok-clause-handed g c = subst (λ (s : Status). IfWhole s (g.K.Sink.waiting c.args.out.now ≡ false → g.K.Sink.waiting c.play_input-ended.new.out ≡ false)) (sym c.status_of-status.ensures) (session_whole (g.K.Sink.waiting c.args.out.now ≡ false → g.K.Sink.waiting c.play_input-ended.new.out ≡ false) c.play_input-ended.result c.play_input-ended.new.played.refused c.play_input-ended.ensures.handed)

@@ -16,7 +16,6 @@ returns-in-Count-clause-counts g c is = record {
   ended = c.run_count.ensures.ended;
   made = c.run_count.ensures.made;
   stops = c.run_count.ensures.stops;
-  stays = c.run_count.ensures.stays;
   unwritten = c.run_count.ensures.unwritten;
   silent = c.run_count.ensures.silent;
   clock = c.run_count.ensures.clock;

@@ -1,9 +1,23 @@
-use Rattle.std.proofs.Common.{◌≡◌, ℕ, ◌+◌, ◌*◌, ◌≤◌, ⊎_elim, ap, ◌∙◌, arith}
+use Rattle.std.proofs.Common.{◌≡◌, ℕ, ◌+◌, ◌*◌, ◌≤◌, ⊎_elim, ap, sym, subst, ◌∙◌, arith}
 use Rattle.spec_image.specs.Bytes.{range_at}
 use Rattle.spec_image.specs.Image.{Block, byte, length_of}
+use Rattle.spec_image.specs.Told.{Told}
 use Rattle.blk_io.specs.declared.folder.FileId.TheVariants as names
+use Rattle.blk_io.specs.declared.fault.Damage.{Damage}
+use Rattle.blk_io.specs.Faults.{IsShort}
+use Rattle.blk_io.proofs.Carried.{if_damaged_weaker}
+use Rattle.blk_audit.specs.Faults.{IsRecordsDamage}
 use Rattle.blk_audit.proofs.Carrying.{converted, untold_piece}
 use Rattle.blk_audit.proofs.record_files.Records.read_piece.Goals as goal
+
+pub returns-in_err-read_exact-clause-damaged : goal.returns-in_err-read_exact-clause-damaged
+returns-in_err-read_exact-clause-damaged g c =
+    let now = g.F.Folder.told c.read_exact.new.folder in
+    let short_of : Damage → Type 0 = IsShort (g.F.Folder.told c.args.folder.now) (names.Block c.args.file) (8192 + c.from.result * 256) 32768 in
+    converted c.read_exact.result c.from_residual.result c.in_err-read_exact.field-0.0 (IsRecordsDamage now) c.in_err-read_exact.was c.from_residual.ensures.1
+    (if_damaged_weaker c.read_exact.result short_of (IsRecordsDamage now)
+    (λ damage short. record { file = c.args.file; first = c.from.result; short = subst (λ (t : Told). IsShort t (names.Block c.args.file) (8192 + c.from.result * 256) 32768 damage) (sym c.read_exact.ensures.reads.stays) short })
+    c.read_exact.ensures.short)
 
 pub returns-in_err-read_exact-clause-untold : goal.returns-in_err-read_exact-clause-untold
 returns-in_err-read_exact-clause-untold g c inside =

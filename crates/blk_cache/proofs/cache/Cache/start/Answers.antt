@@ -13,9 +13,6 @@ returns-in_err-names-clause-damaged g c = of-memory c.from_residual.result c.fro
 pub returns-in_err-names-clause-first : goal.returns-in_err-names-clause-first
 returns-in_err-names-clause-first g c = of-memory c.from_residual.result c.from_residual.ensures.1 _
 
-pub returns-in_err-names-clause-unwritten : goal.returns-in_err-names-clause-unwritten
-returns-in_err-names-clause-unwritten g c = of-memory c.from_residual.result c.from_residual.ensures.1 _
-
 pub returns-in_err-names-clause-memory : goal.returns-in_err-names-clause-memory
 returns-in_err-names-clause-memory g c = if-memory c.from_residual.result _ refl
 
@@ -24,9 +21,6 @@ returns-in_err-opened-clause-damaged g c = open-damaged-on c.from_residual-in_er
 
 pub returns-in_err-opened-clause-first : goal.returns-in_err-opened-clause-first
 returns-in_err-opened-clause-first g c = open-damaged-on c.from_residual-in_err-opened.result c.in_err-opened.field-0.0 c.from_residual-in_err-opened.ensures.1 _ c.in_err-opened.ensures.first
-
-pub returns-in_err-opened-clause-unwritten : goal.returns-in_err-opened-clause-unwritten
-returns-in_err-opened-clause-unwritten g c = open-damaged-on c.from_residual-in_err-opened.result c.in_err-opened.field-0.0 c.from_residual-in_err-opened.ensures.1 _ c.in_err-opened.ensures.unwritten
 
 pub returns-in_err-opened-clause-memory : goal.returns-in_err-opened-clause-memory
 returns-in_err-opened-clause-memory g c = open-memory-on c.from_residual-in_err-opened.result c.in_err-opened.field-0.0 c.from_residual-in_err-opened.ensures.1 _ c.in_err-opened.ensures.memory

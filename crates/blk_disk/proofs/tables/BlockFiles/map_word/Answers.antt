@@ -1,4 +1,4 @@
-use Rattle.std.proofs.Common.{◌≡◌, ℕ, ◌+◌, ◌*◌, ◌∙◌, ap}
+use Rattle.std.proofs.Common.{◌≡◌, ℕ, ◌+◌, ◌*◌, ◌∙◌, ap, arith}
 use Rattle.spec_image.specs.Bytes.{range_at}
 use Rattle.spec_image.specs.Image.{Block, byte}
 use Rattle.blk_io.proofs.Carried.{carried}

@@ -1,0 +1,44 @@
+-- What was printed where a run broke off, by how many of its commands are noted.
+use Rattle.std.specs.Prelude.{ℕ, ◌≡◌, ◌≤◌, ◌+◌, ◌⊎◌, List, [], ◌∷◌, ◌++◌, length}
+use Rattle.std.specs.Option.{option_map}
+use Rattle.std.specs.declared.option.Option.{Option}
+use Rattle.std.specs.declared.option.Option.TheVariants.{None, Some}
+use Rattle.blk_model.specs.State.{State}
+use Rattle.blk_io.specs.Streams.{Appends}
+use Rattle.blk_script.specs.Reply.{evicted_text}
+use Rattle.spec_run.specs.Run.{Stamped, Turn, commands_of, outcome_in, state_after, text_of}
+
+-- these bytes are a prefix of a text
+abbrev pub Begins : (front text : List ℕ) → Type 0
+Begins front text = (rest : List ℕ) × (text ≡ front ++ rest)
+
+-- the lines of what a command evicts in a state, and none where there is no command
+abbrev pub evictions_of : State → Option Stamped → List ℕ
+evictions_of state None = []
+evictions_of state (Some command) = evicted_text (outcome_in state command).groups
+
+-- these bytes are a prefix of the eviction lines of the next iteration, as far as it prints them
+abbrev pub IsEvictedNext : State → List Turn → (front : List ℕ) → Type 0
+IsEvictedNext state [] front = front ≡ []
+IsEvictedNext state (turn ∷ turns) front = Begins front turn.text × Begins front (evictions_of state turn.command)
+
+-- where a run broke off with so many commands noted, no more was printed than this: the texts of the first iterations, each of whose commands is noted, and
+-- eviction lines of the iteration behind them
+pub record PrintsNoMore (turns : List Turn) (state : State) (noted : ℕ) (old new : Option (List ℕ)) : Type 0 where
+  pub shown : List Turn
+  pub behind : List Turn
+  pub split : turns ≡ shown ++ behind
+  pub are_noted : length (commands_of shown) ≤ noted
+  pub front : List ℕ
+  pub evicted : IsEvictedNext (state_after state (commands_of shown)) behind front
+  pub printed : Appends old new (text_of shown ++ front)
+
+-- where a run broke off with so many commands noted, no less was printed than this: the texts of all iterations before that of the last noted command, and all
+-- texts where that is a closing
+pub record PrintsNoLess (turns : List Turn) (noted : ℕ) (old new : Option (List ℕ)) : Type 0 where
+  pub shown : List Turn
+  pub behind : List Turn
+  pub split : turns ≡ shown ++ behind
+  pub enough : (noted ≤ length (commands_of shown) + 1) ⊎ (behind ≡ [])
+  pub more : List ℕ
+  pub printed : new ≡ option_map (λ (w : List ℕ). w ++ (text_of shown ++ more)) old
