@@ -115,7 +115,7 @@ module _ (far : SoFar) (moment : ℕ) (request : Request) (keeps_old keeps : Sta
         stops = λ more. stopped_noted far.from far.opened far.done more far.start old new command at.began at.progress (subst (λ (n : ℕ). IsNoted old new moment request n (state_now far)) number made);
         printed = text_part;
         no_more = no_more_whole (turn ∷ []) (state_now far) 1 w_old w_new (omega arith) text_part;
-        no_less = no_less_one turn 1 w_old w_new (text_of (turn ∷ [])) (omega arith) text_part;
+        no_less = no_less_one turn command 1 w_old w_new (text_of (turn ∷ [])) refl (omega arith) text_part;
       }
 
       -- it isn't, and nothing but lines of what it evicts was printed
@@ -127,7 +127,7 @@ module _ (far : SoFar) (moment : ℕ) (request : Request) (keeps_old keeps : Sta
         printed = text_part;
         no_more = no_more_evicted turn (state_now far) 0 w_old w_new says.front
             ((says.rest ++ reply_text (step (state_now far) moment request).reply, ap (λ (l : List ℕ). l ++ reply_text (step (state_now far) moment request).reply) says.split ∙ append_assoc says.front says.rest (reply_text (step (state_now far) moment request).reply)), (says.rest, says.split)) says.written;
-        no_less = no_less_one turn 0 w_old w_new (text_of (turn ∷ [])) (omega arith) text_part;
+        no_less = no_less_one turn command 0 w_old w_new (text_of (turn ∷ [])) refl (omega arith) text_part;
       }
         where
           none_more : length far.done ≡ length far.done + 0

@@ -19,12 +19,12 @@ use Rattle.spec_run.specs.Inputs.{by_lines}
 use Rattle.spec_run.specs.Lines.{lines, whole_lines}
 use Rattle.spec_run.specs.Opening.{FailsToOpen, HoldsStill, IsUsable, Opens, open_mark}
 use Rattle.spec_run.specs.Progress.{IsWholeRun, Stops, StopsAfter, StopsPast}
-use Rattle.spec_run.specs.Replies.{PrintsNoLess, PrintsNoMore}
+use Rattle.spec_run.specs.Replies.{PrintsBeforeLast, PrintsNoMore}
 use Rattle.spec_run.specs.Run.{Run, Stamped, Turn, bound_names, clock_after, closings, commands, commands_of, cut_after, readings_in, readings_of, refuse, run_of, state_after, text_of, turns}
 use Rattle.spec_run.specs.Script.{Script, session_script}
 use Rattle.spec_run.proofs.Composing.{ended, some_after}
 use Rattle.spec_run.proofs.Openings.{begun, failed}
-use Rattle.spec_run.proofs.Replies.{no_less_longer, no_less_whole, no_more_longer, no_more_whole}
+use Rattle.spec_run.proofs.Replies.{no_less_longer, no_more_longer, no_more_whole}
 use Rattle.spec_run.proofs.Turns.{clock_after-more, commands_of-append, more_turns, text_of-append}
 use Rattle.blk_cache.specs.Opening.{EndsSession}
 use Rattle.blk_run.specs.declared.ending.Status.TheVariants as status
@@ -221,7 +221,7 @@ module _ (from : Image) (limits : Bounds) (readings : Readings) (old : Outside) 
     stops_printed all sink new printed past = record {
       stops = past.stops;
       no_more = no_more_whole all opened (notes_in past.stops.steps) old.written new.written past.count (appends_whole old.written new.written (text_of all) printed);
-      no_less = λ level. no_less_whole all (notes_in past.stops.steps) old.written new.written printed;
+      no_less = λ level. inr printed;
     }
 
     -- and behind those up to one whose text was printed in part, where the sink failed
@@ -244,13 +244,13 @@ module _ (from : Image) (limits : Bounds) (readings : Readings) (old : Outside) 
         let stops : StopsAfter from opened (commands (run_with all)) stopped.noted old.folder new.folder =
         subst (λ (l : List Stamped). StopsAfter from opened l stopped.noted old.folder new.folder) (sym more.1) (subst (λ (t : Told). StopsAfter from opened (commands_of made ++ more.0) stopped.noted old.folder t) same here) in
         let no_more : PrintsNoMore made opened stopped.noted old.written new.written = subst (PrintsNoMore made opened stopped.noted old.written) (sym since) stopped.no_more in
-        let no_less : PrintsNoLess made stopped.noted old.written new.written = subst (PrintsNoLess made stopped.noted old.written) (sym since) stopped.no_less in
+        let no_less : PrintsBeforeLast made stopped.noted old.written new.written = subst (PrintsBeforeLast made stopped.noted old.written) (sym since) stopped.no_less in
         record {
           stops = stops.stops;
           no_more = subst (λ (n : ℕ). PrintsNoMore all opened n old.written new.written) (sym stops.count)
               (subst (λ (l : List Turn). PrintsNoMore l opened stopped.noted old.written new.written) (sym begin) (no_more_longer made later opened stopped.noted old.written new.written no_more));
-          no_less = λ level. subst (λ (n : ℕ). PrintsNoLess all n old.written new.written) (sym stops.count)
-              (subst (λ (l : List Turn). PrintsNoLess l stopped.noted old.written new.written) (sym begin) (no_less_longer made later stopped.noted old.written new.written stopped.few no_less));
+          no_less = λ level. inl (subst (λ (n : ℕ). PrintsBeforeLast all n old.written new.written) (sym stops.count)
+              (subst (λ (l : List Turn). PrintsBeforeLast l stopped.noted old.written new.written) (sym begin) (no_less_longer made later stopped.noted old.written new.written no_less)));
         }
 
     -- The exits of a session.

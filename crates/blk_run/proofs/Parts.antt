@@ -119,7 +119,7 @@ module _ (far : SoFar) (first second : List Turn) (old new : Around) (keeps : St
         (sym (append_assoc (commands_of first) (commands_of second) more) ∙ ap (λ (l : List Stamped). l ++ more) (sym (commands_of-append first second))) (stopped.stops (commands_of second ++ more));
     printed = subst (Appends old.written new.written) (sym (text_of-append first second)) (part_of (text_of first) (text_of second) old.written new.written stopped.printed);
     no_more = no_more_longer first second (state_now far) stopped.noted old.written new.written stopped.no_more;
-    no_less = no_less_longer first second stopped.noted old.written new.written stopped.few stopped.no_less;
+    no_less = no_less_longer first second stopped.noted old.written new.written stopped.no_less;
   }
     where
       commands_more : length (commands_of (first ++ second)) ≡ length (commands_of first) + length (commands_of second)

@@ -14,7 +14,7 @@ use Rattle.blk_model.specs.State.{State}
 use Rattle.spec_run.specs.Run.{Stamped, Turn, command_turn, outcome_in, commands_of, readings_of, text_of, refuse, state_after, clock_after}
 use Rattle.spec_run.specs.Lines.{Cut, with_bytes}
 use Rattle.spec_run.specs.Progress.{Progress, StopsAfter}
-use Rattle.spec_run.specs.Replies.{PrintsNoLess, PrintsNoMore}
+use Rattle.spec_run.specs.Replies.{PrintsBeforeLast, PrintsNoMore}
 use Rattle.blk_cache.specs.declared.fault.StepFault.{StepFault}
 use Rattle.blk_cache.specs.declared.fault.StepFault.TheVariants as fault
 
@@ -83,7 +83,7 @@ pub record AreStopped (made : List Turn) (far : SoFar) (old new : Around) : Type
   pub stops : (more : List Stamped) → StopsAfter far.from far.opened (far.done ++ (commands_of made ++ more)) (length far.done + noted) far.start new.folder
   pub printed : Appends old.written new.written (text_of made)
   pub no_more : PrintsNoMore made (state_now far) noted old.written new.written
-  pub no_less : PrintsNoLess made noted old.written new.written
+  pub no_less : PrintsBeforeLast made noted old.written new.written
 
 -- the outcome of iterations by the answer: all, up to a text that wasn't printed, or up to an I/O error; an observable folder reports no failed check
 abbrev pub Plays : {A : Type 0} → Result A StepFault → List Turn → SoFar → (State → Image → Type 0) → (notes left : ℕ) → (old new : Around) → Type 0

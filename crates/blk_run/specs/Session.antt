@@ -94,8 +94,8 @@ pub record IsEnded (run : Run) (old new : Outside) : Type 0 where
   pub ends : ForSome new.folder.files EndsSession
   pub read : new.clock ≡ option_map (λ r. clock_after (later_of r) (readings_in run)) old.clock
 
--- a run that the folder failed, by its notes: the folder is as a crash during the run may leave it; no reply was printed but of a noted command; and unless the
--- output failed, which `sink` says, the replies of all noted commands were printed but that of the last
+-- a run in which the folder failed, by its notes: the folder is as a crash during the run may leave it; no reply was printed but of a noted command; and unless
+-- the output failed, which `sink` says, all texts before that of the last noted command were printed
 pub record StopsByNotes (from : Image) (run : Run) (sink : Type 0) (old new : Outside) : Type 0 where
   pub stops : Stops from run.opened (commands run) old.folder new.folder
   pub no_more : PrintsNoMore run.turns run.opened (notes_in stops.steps) old.written new.written

@@ -16,7 +16,7 @@ status_after (Err fault.Sink) refused = status.Sink
 status_after (Err fault.Device) refused = status.Device
 status_after (Err (fault.Damaged damage)) refused = status.Damaged
 
--- after this end of an input the handles and the folder are closed: unless the folder failed
+-- after this end of an input the handles and the folder are closed: unless the folder failed, or a check of it
 abbrev pub may_close : Result InputEnd StepFault → Bool
 may_close (Ok ended) = true
 may_close (Err fault.Sink) = true

@@ -24,7 +24,7 @@ use Rattle.blk_run.specs.Shown.{IsCompleteText, ShowsText}
 use Rattle.blk_run.specs.Statuses.{CauseOf}
 use Rattle.blk_run.specs.WholeInputs.{longest_input}
 
--- the input limit: how many bytes of its input a session reads at most
+-- the input limit: how many bytes of its input a session uses at most; it reads one more, to see whether there is one
 abbrev pub budget : ℕ
 budget = 2 ^ 40
 

@@ -54,7 +54,7 @@ pub(crate) fn run_count<F: Folder, K: Sink, C: Clock>(
     ensures later { (F.faults folder.old ≤ F.faults folder.new) × GoesOn K.is K.faults out.old out.new }
     ensures handed { IfWhole result (K.waiting out.old ≡ false → K.waiting out.new ≡ false) }
 
-    // Out of memory nothing is done, on every folder.
+    // Out of memory nothing is done, whatever of folder, output and clock is told.
     ensures memory { result ≡ Status.Memory → Stays (F.told folder.old) (F.told folder.new) × (K.written out.new ≡ K.written out.old) }
 
     // The folder decides the status, but for failures and out of memory.

@@ -145,7 +145,7 @@ pub(crate) fn run_script<F: Folder, K: Sink, C: Clock>(
     // On a finished folder of which a check fails that is printed, and no more is done.
     ensures damage { ForSome (F.told folder.old).files (λ from. (damage : check_damage) → IsDamagedBy damage from → (left : Option (List ℕ)) → OnDamage result damage (K.faults out.old) (K.faults out.new) (outside (F.told folder.old) (K.written out.old) left (C.readings clock.old)) (outside (F.told folder.new) (K.written out.new) left (C.readings clock.new))) }
 
-    // Out of memory nothing is done, on every folder.
+    // Out of memory nothing is done, whatever of folder, output and clock is told.
     ensures memory { result ≡ Status.Memory → Stays (F.told folder.old) (F.told folder.new) × (K.written out.new ≡ K.written out.old) }
 
     // The cause of each status, on every folder.

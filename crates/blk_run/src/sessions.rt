@@ -59,7 +59,7 @@ pub fn session<F: Folder, S: Source, K: Sink, C: Clock>(
     // On a finished folder of which a check fails that is printed, and no more is done.
     ensures damage { ForSome (F.told folder.old).files (λ from. (damage : check_damage) → IsDamagedBy damage from → OnDamage result damage (K.faults out.old) (K.faults out.new) (outside (F.told folder.old) (K.written out.old) (S.left input.old) (C.readings clock.old)) (outside (F.told folder.new) (K.written out.new) (S.left input.new) (C.readings clock.new))) }
 
-    // Out of memory nothing is done, on every folder.
+    // Out of memory nothing is done, whatever of folder, output and clock is told.
     ensures memory { result ≡ Status.Memory → Stays (F.told folder.old) (F.told folder.new) × (K.written out.new ≡ K.written out.old) }
     ensures untaken { result ≡ Status.Memory → S.left input.new ≡ S.left input.old }
 

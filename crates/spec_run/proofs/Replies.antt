@@ -5,11 +5,10 @@ use Rattle.std.specs.Option.{option_map}
 use Rattle.std.proofs.lemmas.List.{append-nil, length-append}
 use Rattle.blk_io.specs.Streams.{Appends}
 use Rattle.blk_model.specs.State.{State}
-use Rattle.spec_run.specs.Laws.{AnsweredClosesAreKept, AnsweredCommandsAreNoted, IsReplyOut}
-use Rattle.spec_run.specs.Replies.{Begins, IsEvictedNext, PrintsNoLess, PrintsNoMore, evictions_of}
+use Rattle.spec_run.specs.Laws.{AnsweredCommandsAreDone, AnsweredCommandsAreNoted, IsReplyOut}
+use Rattle.spec_run.specs.Replies.{Begins, IsEvictedNext, PrintsBeforeLast, PrintsNoMore, evictions_of}
 use Rattle.spec_run.specs.Run.{Stamped, Turn, commands_of, state_after, text_of}
 use Rattle.spec_run.proofs.CommandStates.{state_after-append}
-use Rattle.spec_run.proofs.SettledEntries.{settled_found}
 use Rattle.spec_run.proofs.Turns.{commands_of-append, text_of-append}
 
 -- Texts.
@@ -49,23 +48,18 @@ no_more_longer turns more state noted old new prints = record {
   printed = prints.printed;
 }
 
--- where a command of those that were made isn't the last that is noted
-pub no_less_longer : (turns more : List Turn) (noted : ℕ) (old new : Option (List ℕ)) → noted ≤ length (commands_of turns) → PrintsNoLess turns noted old new → PrintsNoLess (turns ++ more) noted old new
-no_less_longer turns more noted old new few prints = record {
+pub no_less_longer : (turns more : List Turn) (noted : ℕ) (old new : Option (List ℕ)) → PrintsBeforeLast turns noted old new → PrintsBeforeLast (turns ++ more) noted old new
+no_less_longer turns more noted old new prints = record {
   shown = prints.shown;
+  turn = prints.turn;
   behind = prints.behind ++ more;
-  split = ap (λ (l : List Turn). l ++ more) prints.split ∙ append_assoc prints.shown prints.behind more;
-  enough = by_end prints.enough;
+  command = prints.command;
+  split = ap (λ (l : List Turn). l ++ more) prints.split ∙ append_assoc prints.shown (prints.turn ∷ prints.behind) more;
+  is = prints.is;
+  last = prints.last;
   more = prints.more;
   printed = prints.printed;
 }
-  where
-    by_end : (noted ≤ length (commands_of prints.shown) + 1) ⊎ (prints.behind ≡ []) → (noted ≤ length (commands_of prints.shown) + 1) ⊎ (prints.behind ++ more ≡ [])
-    by_end (inl enough) = inl enough
-    by_end (inr none) =
-        let all : turns ≡ prints.shown = prints.split ∙ ap (λ (l : List Turn). prints.shown ++ l) none ∙ append-nil prints.shown in
-        let count : length (commands_of turns) ≡ length (commands_of prints.shown) = ap (λ (l : List Turn). length (commands_of l)) all in
-        inl (omega (arith, few, count))
 
 -- Iterations that were made before.
 
@@ -86,21 +80,20 @@ module _ (first second : List Turn) (state : State) (noted : ℕ) (old mid new :
         (appends_after (text_of first) (text_of prints.shown ++ prints.front) old mid new before prints.printed);
   }
 
-  pub no_less_then : PrintsNoLess second noted mid new → PrintsNoLess (first ++ second) (length (commands_of first) + noted) old new
+  pub no_less_then : PrintsBeforeLast second noted mid new → PrintsBeforeLast (first ++ second) (length (commands_of first) + noted) old new
   no_less_then prints = record {
     shown = first ++ prints.shown;
+    turn = prints.turn;
     behind = prints.behind;
-    split = ap (λ (l : List Turn). first ++ l) prints.split ∙ sym (append_assoc first prints.shown prints.behind);
-    enough = by_end prints.enough;
+    command = prints.command;
+    split = ap (λ (l : List Turn). first ++ l) prints.split ∙ sym (append_assoc first prints.shown (prints.turn ∷ prints.behind));
+    is = prints.is;
+    last = let few = prints.last in let more = commands_more prints.shown in omega (arith, few, more);
     more = prints.more;
     printed = printed_after old mid new before prints.printed ∙ ap (λ (t : List ℕ). option_map (λ (w : List ℕ). w ++ t) old)
         (sym (append_assoc (text_of first) (text_of prints.shown) prints.more) ∙ ap (λ (l : List ℕ). l ++ prints.more) (sym (text_of-append first prints.shown)));
   }
     where
-      by_end : (noted ≤ length (commands_of prints.shown) + 1) ⊎ (prints.behind ≡ []) → (length (commands_of first) + noted ≤ length (commands_of (first ++ prints.shown)) + 1) ⊎ (prints.behind ≡ [])
-      by_end (inl enough) = let more = commands_more prints.shown in inl (omega (arith, enough, more))
-      by_end (inr none) = inr none
-
       printed_after : (w0 w1 w2 : Option (List ℕ)) → w1 ≡ option_map (λ (w : List ℕ). w ++ text_of first) w0 → w2 ≡ option_map (λ (w : List ℕ). w ++ (text_of prints.shown ++ prints.more)) w1
           → w2 ≡ option_map (λ (w : List ℕ). w ++ (text_of first ++ (text_of prints.shown ++ prints.more))) w0
       printed_after None w1 w2 one two = two ∙ ap (option_map (λ (w : List ℕ). w ++ (text_of prints.shown ++ prints.more))) one
@@ -120,17 +113,6 @@ no_more_whole turns state noted old new few printed = record {
   printed = subst (Appends old new) (sym (append-nil (text_of turns))) printed;
 }
 
--- their texts were printed
-pub no_less_whole : (turns : List Turn) (noted : ℕ) (old new : Option (List ℕ)) → new ≡ option_map (λ (w : List ℕ). w ++ text_of turns) old → PrintsNoLess turns noted old new
-no_less_whole turns noted old new printed = record {
-  shown = turns;
-  behind = [];
-  split = sym (append-nil turns);
-  enough = inr refl;
-  more = [];
-  printed = printed ∙ ap (λ (t : List ℕ). option_map (λ (w : List ℕ). w ++ t) old) (sym (append-nil (text_of turns)));
-}
-
 -- One iteration.
 
 -- nothing but a prefix of its eviction lines was printed
@@ -147,13 +129,16 @@ no_more_evicted turn state noted old new front evicted printed = record {
   printed = record { front = front; rest = []; split = sym (append-nil front); written = printed };
 }
 
--- with one command at most noted, nothing has to be printed
-pub no_less_one : (turn : Turn) (noted : ℕ) (old new : Option (List ℕ)) (text : List ℕ) → noted ≤ 1 → Appends old new text → PrintsNoLess (turn ∷ []) noted old new
-no_less_one turn noted old new text few printed = record {
+-- with it at most noted, nothing has to be printed
+pub no_less_one : (turn : Turn) (command : Stamped) (noted : ℕ) (old new : Option (List ℕ)) (text : List ℕ) → turn.command ≡ Some command → noted ≤ 1 → Appends old new text → PrintsBeforeLast (turn ∷ []) noted old new
+no_less_one turn command noted old new text is few printed = record {
   shown = [];
-  behind = turn ∷ [];
+  turn = turn;
+  behind = [];
+  command = command;
   split = refl;
-  enough = inl (omega (arith, few));
+  is = is;
+  last = omega (arith, few);
   more = printed.front;
   printed = printed.written;
 }
@@ -263,6 +248,6 @@ answered_noted turns before state noted written printed command prints answered 
         let few = prints.are_noted in
         omega (arith, more, all, few)
 
-pub answered_kept : AnsweredClosesAreKept
-answered_kept from turns before opened commands steps image written printed command prints answered stopped marked =
-    (answered_noted turns before opened _ written printed command prints answered, λ next item row is alone. settled_found from opened commands steps image next item row stopped marked is alone)
+pub answered_done : AnsweredCommandsAreDone
+answered_done from turns before opened more steps image written printed command prints answered stopped marked =
+    (answered_noted turns before opened _ written printed command prints answered, stopped.left.later marked)

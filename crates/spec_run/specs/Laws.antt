@@ -21,7 +21,7 @@ use Rattle.spec_folder.specs.Found.{found}
 use Rattle.spec_run.specs.Lines.{Cut, with_bytes, lines, whole_lines}
 use Rattle.spec_run.specs.Script.{Script, Shown, TurnsNoneAway, ended, errs, says, turns_away, asks, count_script, put_script, session_script, until_refused}
 use Rattle.spec_run.specs.Run.{Stamped, Turn, error_turn, text_turn, away_turn, command_turn, stamped_by, outcome_in, state_then, state_after, clock_after, turns, commands_of, readings_of, text_of, bound_names, closings, run_of, cut_after, commands, command_after, state_at}
-use Rattle.spec_run.specs.Moments.{IsStopped}
+use Rattle.spec_run.specs.Moments.{IsLeftAt, IsStopped}
 use Rattle.spec_run.specs.Opening.{IsUsable, HoldsStill, Opens, FailsToOpen, has_opened}
 use Rattle.spec_run.specs.Progress.{Progress, Stops, IsWholeRun, AreNoted}
 use Rattle.spec_run.specs.Playing.{IsPlayed}
@@ -316,10 +316,10 @@ abbrev pub AnsweredCommandsAreNoted : Type 0
 AnsweredCommandsAreNoted = (turns before : List Turn) (state : State) (noted : ℕ) (written printed : List ℕ) (command : Stamped) → PrintsNoMore turns state noted (Some written) (Some (written ++ printed))
     → IsReplyOut turns state printed before command → length (commands_of before) + 1 ≤ noted
 
--- a command that is answered is noted; so where the folder stops, the recovered contents have each entry that is clean there and that the command in progress
--- leaves alone: what an answered Close made clean is kept
-abbrev pub AnsweredClosesAreKept : Type 0
-AnsweredClosesAreKept = (from : Image) (turns before : List Turn) (opened : State) (commands : List Stamped) (steps : List TrailStep) (image : Image) (written printed : List ℕ) (command : Stamped)
-    → PrintsNoMore turns opened (notes_in steps) (Some written) (Some (written ++ printed)) → IsReplyOut turns opened printed before command → IsStopped from opened commands steps image → has_opened steps ≡ true
+-- where a run breaks off behind an answered command, what is recovered is what a crash in a later command leaves, or the durable contents behind all commands
+abbrev pub AnsweredCommandsAreDone : Type 0
+AnsweredCommandsAreDone = (from : Image) (turns before : List Turn) (opened : State) (more : List Stamped) (steps : List TrailStep) (image : Image) (written printed : List ℕ) (command : Stamped)
+    → PrintsNoMore turns opened (notes_in steps) (Some written) (Some (written ++ printed)) → IsReplyOut turns opened printed before command
+    → IsStopped from opened (commands_of turns ++ more) steps image → has_opened steps ≡ true
     → (length (commands_of before) + 1 ≤ notes_in steps)
-    × ((next : Stamped) (item : Item) (row : Row) → command_after commands (notes_in steps) ≡ Some next → IsLeftAlone (state_at opened commands (notes_in steps)) next item row → Contains (found image) row)
+    × IsLeftAt opened (commands_of turns ++ more) (notes_in steps) (command_after (commands_of turns ++ more) (notes_in steps)) (found image)

@@ -33,12 +33,19 @@ pub record PrintsNoMore (turns : List Turn) (state : State) (noted : ℕ) (old n
   pub evicted : IsEvictedNext (state_after state (commands_of shown)) behind front
   pub printed : Appends old new (text_of shown ++ front)
 
--- where a run broke off with so many commands noted, no less was printed than this: the texts of all iterations before that of the last noted command, and all
--- texts where that is a closing
-pub record PrintsNoLess (turns : List Turn) (noted : ℕ) (old new : Option (List ℕ)) : Type 0 where
+-- where a run broke off with so many commands noted: all texts of the iterations before that of the last noted command were printed
+pub record PrintsBeforeLast (turns : List Turn) (noted : ℕ) (old new : Option (List ℕ)) : Type 0 where
   pub shown : List Turn
+  pub turn : Turn
   pub behind : List Turn
-  pub split : turns ≡ shown ++ behind
-  pub enough : (noted ≤ length (commands_of shown) + 1) ⊎ (behind ≡ [])
+  pub command : Stamped
+  pub split : turns ≡ shown ++ turn ∷ behind
+  pub is : turn.command ≡ Some command
+  pub last : noted ≤ length (commands_of shown) + 1
   pub more : List ℕ
   pub printed : new ≡ option_map (λ (w : List ℕ). w ++ (text_of shown ++ more)) old
+
+-- where a run broke off with so many commands noted, no less was printed than the texts of all iterations before that of the last noted command, and all texts
+-- where that is a closing
+abbrev pub PrintsNoLess : List Turn → (noted : ℕ) → (old new : Option (List ℕ)) → Type 0
+PrintsNoLess turns noted old new = PrintsBeforeLast turns noted old new ⊎ (new ≡ option_map (λ (w : List ℕ). w ++ text_of turns) old)

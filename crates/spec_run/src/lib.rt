@@ -4,7 +4,7 @@
 //! which a run composes, each the contract of a function with an empty body.
 #![tactic(auto)]
 
-ghost use Rattle.spec_run.specs.Laws.{AnsweredClosesAreKept, AnsweredCommandsAreNoted, AskedCommandsAreNext, BoundNamesAreFew, ClockIsReadForCommands, ClosesFreeTheirName, CommandsAreFew, CommandsArePlayed, EntriesAreFoundWhole, ErrorsArePlayed, FixedScriptsTurnNoneAway, FoundRowsAreFromBefore, FoundRowsGoByOneList, LeastNamesAreClosedFirst, LinesArePlayedInTurn, LinesGoOn, LinesTurnNoneAway, NewEntriesAreLost, NoneIsClosedWhereNoneIsBound, NoteNumbersAreExact, NotedCommandsFollow, NothingIsPlayed, PlayedCommandsComeFirst, PlayedRunsAreCut, PlayedRunsAreWhole, PlayingGoesOn, RefusalsOutsideArePlayed, RestsAreFound, RunsBegin, RunsEnd, RunsGoOn, RunsGoOnInTurn, RunsMayStopBetween, RunsMayStopInACommand, RunsMayStopInTheOpening, SettledEntriesAreFound, StatesOfRunsAreValid, TextsArePlayed, UnsavedItemsAreLost, UnusedItemsKeepTheirOrder, WholeLinesComeFirst};
+ghost use Rattle.spec_run.specs.Laws.{AnsweredCommandsAreDone, AnsweredCommandsAreNoted, AskedCommandsAreNext, BoundNamesAreFew, ClockIsReadForCommands, ClosesFreeTheirName, CommandsAreFew, CommandsArePlayed, EntriesAreFoundWhole, ErrorsArePlayed, FixedScriptsTurnNoneAway, FoundRowsAreFromBefore, FoundRowsGoByOneList, LeastNamesAreClosedFirst, LinesArePlayedInTurn, LinesGoOn, LinesTurnNoneAway, NewEntriesAreLost, NoneIsClosedWhereNoneIsBound, NoteNumbersAreExact, NotedCommandsFollow, NothingIsPlayed, PlayedCommandsComeFirst, PlayedRunsAreCut, PlayedRunsAreWhole, PlayingGoesOn, RefusalsOutsideArePlayed, RestsAreFound, RunsBegin, RunsEnd, RunsGoOn, RunsGoOnInTurn, RunsMayStopBetween, RunsMayStopInACommand, RunsMayStopInTheOpening, SettledEntriesAreFound, StatesOfRunsAreValid, TextsArePlayed, UnsavedItemsAreLost, UnusedItemsKeepTheirOrder, WholeLinesComeFirst};
 
 /// A run begins with an opening. Where the opening failed a crash in any run may leave what it left.
 pub fn runs_begin()
@@ -83,8 +83,8 @@ pub fn entries_are_found_whole_and_in_order()
 {}
 
 /// A reply is printed once its command is noted. So where the folder stops, behind any step, each command that was answered
-/// is done: each entry that an answered Close made clean is found, unless a later command changes it.
+/// is done, and what is recovered is what a crash in a later command leaves.
 pub fn replies_follow_notes()
     ensures noted { AnsweredCommandsAreNoted }
-    ensures kept { AnsweredClosesAreKept }
+    ensures done { AnsweredCommandsAreDone }
 {}

@@ -1,5 +1,5 @@
-use Rattle.spec_run.proofs.Replies.{answered_kept, answered_noted}
+use Rattle.spec_run.proofs.Replies.{answered_done, answered_noted}
 use Rattle.spec_run.proofs.replies_follow_notes.Goals as goal
 
 pub returns : goal.returns
-returns c = record { noted = answered_noted; kept = answered_kept }
+returns c = record { noted = answered_noted; done = answered_done }
