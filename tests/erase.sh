@@ -556,6 +556,7 @@ planted() {
     # (no command has so many places, so that of no kill alone is opened)
     replay 9999999/9999999 "${@:2}"
     [[ $wrong != *' before it is blank'* ]] || by='at its word'
+    [[ $wrong != *'did not come to its end'* ]] || by='by a replay that broke off'
     for ((number = 1; number <= folders; number++)); do
         folder=$scratch/out/left/$number
         [ "$(left_in "$folder") $(blocks_left_in "$folder") $(behind_ends_in "$folder")" = '0 0 0' ] || left=' by what is left'
@@ -612,7 +613,7 @@ kills() {
 }
 stay=("$second" "$third" sparse)
 kills 'doom of blocks' '' doom "$first"
-kills 'put in the same blocks' "$new" put "$first" 1
+kills 'put in fewer blocks' "$new" put "$first" 1
 kills 'cuts' "open 0 $first\ncut 0 0 64 -\ncut 0 1 1040 -\ncut 0 2 4096 -\ncut 0 2 512 -\nclose 0\n" session
 stay=("$first" "$third" sparse)
 kills 'doom of a file' '' doom "$second"
