@@ -1,16 +1,13 @@
 -- Faults that `?` hands on, and reads that can't give too few bytes.
-use Rattle.std.proofs.Common.{◌≡◌, ℕ, ◌+◌, ◌≤◌, None, Result, Ok, Err, ap, sym, subst, ◌∙◌}
+use Rattle.std.proofs.Common.{◌≡◌, ◌+◌, ◌≤◌, None, Result, Ok, Err, ap, sym, subst, ◌∙◌}
 use Rattle.std.specs.Prelude.{IsErrAnd}
 use Rattle.std.specs.Option.{ForSome}
-use Rattle.spec_image.specs.Image.{Image, length_of}
+use Rattle.spec_image.specs.Image.{Image}
 use Rattle.spec_image.specs.Told.{Told}
-use Rattle.blk_io.specs.declared.folder.FileId.{FileId}
 use Rattle.blk_io.specs.declared.fault.Damage.{Damage}
 use Rattle.blk_io.specs.declared.fault.Fault.{Fault}
 use Rattle.blk_io.specs.declared.fault.Fault.TheVariants as fault
-use Rattle.blk_io.specs.FileNames.{file_of}
-use Rattle.blk_io.specs.Faults.{IfDamaged, IsShort}
-use Rattle.blk_io.proofs.Shorts.{untold_if}
+use Rattle.blk_io.specs.Faults.{IfDamaged}
 use Rattle.blk_lru.proofs.Conditions as conditions
 use Rattle.blk_audit.specs.declared.fault.ScanFault.{ScanFault}
 use Rattle.blk_audit.specs.declared.fault.ScanFault.TheVariants.{Device, Damaged, Memory}
@@ -45,10 +42,6 @@ weaker {A} (Ok a) P Q by holds = tt
 weaker {A} (Err Device) P Q by holds = tt
 weaker {A} (Err (Damaged damage)) P Q by holds = by damage holds
 weaker {A} (Err Memory) P Q by holds = tt
-
--- where the file has what was asked, only an opaque folder gives too few bytes
-pub untold_piece : {A : Type 0} (r : Result A Fault) (old new : Told) (file : FileId) (place count : ℕ) → new ≡ old → IfDamaged r (IsShort old file place count) → ForSome new.files (λ image. place + count ≤ length_of image (file_of file)) → IfDamaged r (λ _. new.files ≡ None)
-untold_piece r old new file place count stays short inside = untold_if r new file place count (subst (λ (t : Told). IfDamaged r (IsShort t file place count)) (sym stays) short) inside
 
 -- what a call gives only on an opaque folder, after calls that changed nothing: under its own premise, and under one that implies it
 pub untold_last : {A : Type 0} (r : Result A ScanFault) {a m : Told} (P Q : Image → Type 0) → ((image : Image) → P image → Q image) → m ≡ a → (ForSome m.files Q → IfScanDamaged r (λ _. m.files ≡ None)) → ForSome a.files P → IfScanDamaged r (λ _. a.files ≡ None)

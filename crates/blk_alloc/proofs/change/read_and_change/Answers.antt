@@ -7,7 +7,7 @@ use Rattle.spec_image.specs.Told.{Stays, Told}
 use Rattle.spec_image.proofs.Runs.{passes_none, passes_stayed, passes_to, some_inj}
 use Rattle.blk_io.specs.declared.folder.FileId.TheVariants as names
 use Rattle.blk_io.specs.Faults.{IfDamaged, IsShort}
-use Rattle.blk_io.proofs.Carried.{carried, if_damaged, if_damaged_weaker}
+use Rattle.blk_io.proofs.Carried.{carried, if_damaged_weaker}
 use Rattle.blk_alloc.specs.Changes.{CanChangeMarks, IsChanged, IsMapInProgress}
 use Rattle.blk_alloc.specs.Owning.{IsCause}
 use Rattle.blk_alloc.proofs.Changing.{midst_begin}
@@ -34,13 +34,6 @@ returns-in_err-read_exact-clause-cause g c =
     carried c.read_exact.result c.from_residual.result c.in_err-read_exact.field-0.0 _ c.in_err-read_exact.was c.from_residual.ensures.1
     (if_damaged_weaker c.read_exact.result (IsShort (g.F.Folder.told c.args.folder.now) (names.Block c.args.file) (80 + 4 * c.from.result) 4) (IsCause (g.F.Folder.told c.args.folder.now) c.args.file c.args.start c.args.count c.args.used)
     (λ damage short. inl (record { place = 80 + 4 * c.from.result; count = 4; read = inr (ap (λ (k : ℕ). 80 + 4 * k) c.from.ensures, refl); short = short })) c.read_exact.ensures.short)
-
-pub returns-in_err-read_exact-clause-untold : goal.returns-in_err-read_exact-clause-untold
-returns-in_err-read_exact-clause-untold g c =
-    carried c.read_exact.result c.from_residual.result c.in_err-read_exact.field-0.0 _ c.in_err-read_exact.was c.from_residual.ensures.1
-    (if_damaged c.read_exact.result (ForSome (g.F.Folder.told c.args.folder.now).files (λ image. CanChangeMarks image c.args.file c.args.start c.args.count c.args.used)) (λ _. (g.F.Folder.told c.args.folder.now).files ≡ None)
-    (λ ready. c.read_exact.ensures.untold
-    (λ image there. let is = ready image there in let long = is.header in let below = is.below in let most = is.most in let place = c.from.ensures in omega (arith, long, place, below, most, c.requires.some))))
 
 pub returns-clause-changed : goal.returns-clause-changed
 returns-clause-changed g c =

@@ -1,10 +1,9 @@
-use Rattle.std.proofs.Common.{◌≡◌, ℕ, List, None, sym, ◌∙◌, ap, subst, arith}
+use Rattle.std.proofs.Common.{◌≡◌, ℕ, List, sym, ◌∙◌, ap, subst}
 use Rattle.std.specs.Option.{ForSome}
 use Rattle.spec_image.specs.Bytes.{range_at}
 use Rattle.spec_image.specs.Image.{Block, byte}
 use Rattle.spec_image.specs.Told.{Told}
 use Rattle.spec_image.proofs.Runs.{some_inj}
-use Rattle.blk_io.proofs.Carried.{carried, if_damaged_weaker}
 use Rattle.blk_alloc.specs.Mending.{PassesNeeded}
 use Rattle.blk_alloc.specs.Rebuilding.{AreHeaderBytes, RemakesInProgress}
 use Rattle.blk_alloc.proofs.Mended.{remakes_begin}
@@ -16,24 +15,10 @@ returns-in_err-read_exact-clause-stops g c from there groups =
     let P = RemakesInProgress c.args.claims.now c.args.file from in
     needed_none P c.in_err-read_exact.ensures.reads.stays (λ image is. subst P (some_inj (sym there ∙ is)) (remakes_begin c.args.claims.now c.args.file from))
 
-pub returns-in_err-read_exact-clause-untold : goal.returns-in_err-read_exact-clause-untold
-returns-in_err-read_exact-clause-untold g c =
-    carried c.read_exact.result c.from_residual.result c.in_err-read_exact.field-0.0 _ c.in_err-read_exact.was c.from_residual.ensures.1
-    (c.read_exact.ensures.untold (λ image there. let long = c.requires.header image there in omega (arith, long)))
-
 pub returns-in_err-read_exact-2-clause-stops : goal.returns-in_err-read_exact-2-clause-stops
 returns-in_err-read_exact-2-clause-stops g c from there groups =
     let P = RemakesInProgress c.args.claims.now c.args.file from in
     needed_none P (c.in_err-read_exact-2.ensures.reads.stays ∙ c.in_ok-read_exact.ensures.reads.stays) (λ image is. subst P (some_inj (sym there ∙ is)) (remakes_begin c.args.claims.now c.args.file from))
-
-pub returns-in_err-read_exact-2-clause-untold : goal.returns-in_err-read_exact-2-clause-untold
-returns-in_err-read_exact-2-clause-untold g c =
-    let told = g.F.Folder.told c.args.folder.now in
-    let mid = g.F.Folder.told c.read_exact.new.folder in
-    let same = ap (λ (t : Told). t.files) (sym c.in_ok-read_exact.ensures.reads.stays) in
-    carried c.read_exact-2.result c.from_residual-in_err-read_exact-2.result c.in_err-read_exact-2.field-0.0 _ c.in_err-read_exact-2.was c.from_residual-in_err-read_exact-2.ensures.1
-    (if_damaged_weaker c.read_exact-2.result (λ _. mid.files ≡ None) (λ _. told.files ≡ None) (λ damage none. same ∙ none)
-    (c.read_exact-2.ensures.untold (λ image there. let long = c.requires.header image (same ∙ there) in omega (arith, long))))
 
 -- the header that was read by two calls
 header_read : (n : ℕ) (map fields : List ℕ) {a b : Told} → b ≡ a → ForSome a.files (λ image. map ≡ range_at (byte image (Block n)) 80 8112) → ForSome b.files (λ image. fields ≡ range_at (byte image (Block n)) 0 80) → ForSome a.files (λ image. AreHeaderBytes image n map fields)

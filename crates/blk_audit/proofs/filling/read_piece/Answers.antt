@@ -2,15 +2,8 @@ use Rattle.std.proofs.Common.{◌≡◌, ℕ, ◌+◌, ◌*◌, ◌++◌, ◌≤
 use Rattle.spec_image.specs.Image.{Block, byte, length_of}
 use Rattle.blk_io.specs.declared.folder.FileId.TheVariants as names
 use Rattle.blk_audit.specs.declared.nodes.Node.{Node}
-use Rattle.blk_audit.proofs.Carrying.{converted, untold_piece}
 use Rattle.blk_audit.proofs.Pieces.{are_read}
 use Rattle.blk_audit.proofs.filling.read_piece.Goals as goal
-
-pub returns-in_err-read_exact-clause-untold : goal.returns-in_err-read_exact-clause-untold
-returns-in_err-read_exact-clause-untold g c inside =
-    converted c.read_exact.result c.from_residual.result c.in_err-read_exact.field-0.0 _ c.in_err-read_exact.was c.from_residual.ensures.1
-    (untold_piece c.read_exact.result (g.F.Folder.told c.args.folder.now) (g.F.Folder.told c.read_exact.new.folder) (names.Block c.args.file) _ _ c.read_exact.ensures.reads.stays c.read_exact.ensures.short
-    (λ image there. let h = inside image there in omega (arith, h, c.from.ensures, c.requires.size)))
 
 pub returns-clause-nodes : goal.returns-clause-nodes
 returns-clause-nodes g c image there =

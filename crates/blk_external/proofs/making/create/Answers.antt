@@ -6,7 +6,7 @@ use Rattle.spec_image.proofs.Runs.{told_whole, part_whole}
 use Rattle.spec_format.specs.Headers.{index_length}
 use Rattle.blk_external.specs.Numbers.{IsSearched}
 use Rattle.blk_external.specs.Making.{Creates}
-use Rattle.blk_io.proofs.Carried.{carried, untold_where}
+use Rattle.blk_io.proofs.Carried.{untold_where}
 use Rattle.blk_external.proofs.Makings.{passes_free, passes_making, makes_none, makes_part, made_is, size_kept}
 use Rattle.blk_external.proofs.Searches.{not_all_taken}
 use Rattle.blk_external.proofs.making.create.Goals as goal
@@ -16,12 +16,6 @@ returns-in_err-last-clause-prefix g c free = makes_none c.in_err-last.ensures.re
 
 pub returns-in_err-last-clause-stops : goal.returns-in_err-last-clause-stops
 returns-in_err-last-clause-stops g c = passes_free (makes_none c.in_err-last.ensures.reads.stays)
-
-pub returns-in_err-last-clause-untold : goal.returns-in_err-last-clause-untold
-returns-in_err-last-clause-untold g c free =
-    carried c.read_word.result c.from_residual.result c.in_err-last.field-0.0 _ c.in_err-last.was c.from_residual.ensures.1
-    (c.read_word.ensures.untold
-    (λ image there. let size = c.requires.complete image there in omega (arith, size)))
 
 pub returns-in_err-number-clause-prefix : goal.returns-in_err-number-clause-prefix
 returns-in_err-number-clause-prefix g c free = makes_none (c.in_err-number.ensures.reads.stays ∙ c.in_ok-last.ensures.reads.stays) free

@@ -1,4 +1,4 @@
-use Rattle.std.proofs.Common.{List, ℕ, inl, sym, ap, subst, ◌∙◌, arith}
+use Rattle.std.proofs.Common.{List, ℕ, inl, sym, ap, subst, ◌∙◌}
 use Rattle.std.proofs.lemmas.List.Folds.{flat_map-map}
 use Rattle.spec_image.specs.Bytes.{content}
 use Rattle.spec_image.specs.Image.{Index, byte}
@@ -22,8 +22,3 @@ pub returns-in_err-read_exact-clause-damaged : goal.returns-in_err-read_exact-cl
 returns-in_err-read_exact-clause-damaged g c =
     converted c.read_exact.result c.from_residual.result c.in_err-read_exact.field-0.0 _ c.in_err-read_exact.was c.from_residual.ensures.1
     (if_damaged_weaker c.read_exact.result _ _ (λ damage short. inl (subst (λ (t : Told). IsShort t names.Index 0 368 damage) (sym c.read_exact.ensures.reads.stays) short)) c.read_exact.ensures.short)
-
-pub returns-in_err-read_exact-clause-untold : goal.returns-in_err-read_exact-clause-untold
-returns-in_err-read_exact-clause-untold g c whole =
-    converted c.read_exact.result c.from_residual.result c.in_err-read_exact.field-0.0 _ c.in_err-read_exact.was c.from_residual.ensures.1
-    (c.read_exact.ensures.untold (λ image there. let e = whole image there in omega (arith, e)))

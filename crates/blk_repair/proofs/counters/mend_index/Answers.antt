@@ -1,20 +1,14 @@
-use Rattle.std.proofs.Common.{◌≡◌, ℕ, List, [], None, ap, refl, subst, ◌∙◌, arith}
+use Rattle.std.proofs.Common.{◌≡◌, ℕ, List, [], None, ap, refl, subst, ◌∙◌}
 use Rattle.std.specs.Option.{ForSome}
 use Rattle.spec_image.specs.Image.{Image, Index}
 use Rattle.spec_image.specs.Steps.{TrailStep, word_step}
 use Rattle.spec_image.specs.Told.{Told, Applies, MakesPartOf}
 use Rattle.spec_image.proofs.Runs.{grows_none, part_only, part_whole}
-use Rattle.blk_io.proofs.Carried.{carried, silent_part}
+use Rattle.blk_io.proofs.Carried.{silent_part}
 use Rattle.blk_repair.specs.Counters.{HasIndexWords, counted_words, crash_place, index_steps, index_words_steps}
 use Rattle.blk_repair.proofs.CounterRuns.{counted, crash-leads, index-done, index-leads, index-passes}
 use Rattle.blk_repair.proofs.Progress.{Progress, begun, ended, now_has, stopped, went_on}
 use Rattle.blk_repair.proofs.counters.mend_index.Goals as goal
-
-pub returns-in_err-read_exact-clause-untold : goal.returns-in_err-read_exact-clause-untold
-returns-in_err-read_exact-clause-untold g c =
-    carried c.read_exact.result c.from_residual.result c.in_err-read_exact.field-0.0 (λ _. (g.F.Folder.told c.args.folder.now).files ≡ None) c.in_err-read_exact.was c.from_residual.ensures.1
-    (c.read_exact.ensures.untold
-    (λ image there. let size = c.requires.complete image there in omega (arith, size)))
 
 pub returns-in_err-read_exact-clause-prefix : goal.returns-in_err-read_exact-clause-prefix
 returns-in_err-read_exact-clause-prefix g c = record {

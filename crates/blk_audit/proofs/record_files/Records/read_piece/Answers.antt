@@ -7,7 +7,7 @@ use Rattle.blk_io.specs.declared.fault.Damage.{Damage}
 use Rattle.blk_io.specs.Faults.{IsShort}
 use Rattle.blk_io.proofs.Carried.{if_damaged_weaker}
 use Rattle.blk_audit.specs.Faults.{IsRecordsDamage}
-use Rattle.blk_audit.proofs.Carrying.{converted, untold_piece}
+use Rattle.blk_audit.proofs.Carrying.{converted}
 use Rattle.blk_audit.proofs.record_files.Records.read_piece.Goals as goal
 
 pub returns-in_err-read_exact-clause-damaged : goal.returns-in_err-read_exact-clause-damaged
@@ -18,12 +18,6 @@ returns-in_err-read_exact-clause-damaged g c =
     (if_damaged_weaker c.read_exact.result short_of (IsRecordsDamage now)
     (λ damage short. record { file = c.args.file; first = c.from.result; short = subst (λ (t : Told). IsShort t (names.Block c.args.file) (8192 + c.from.result * 256) 32768 damage) (sym c.read_exact.ensures.reads.stays) short })
     c.read_exact.ensures.short)
-
-pub returns-in_err-read_exact-clause-untold : goal.returns-in_err-read_exact-clause-untold
-returns-in_err-read_exact-clause-untold g c inside =
-    converted c.read_exact.result c.from_residual.result c.in_err-read_exact.field-0.0 _ c.in_err-read_exact.was c.from_residual.ensures.1
-    (untold_piece c.read_exact.result (g.F.Folder.told c.args.folder.now) (g.F.Folder.told c.read_exact.new.folder) (names.Block c.args.file) _ _ c.read_exact.ensures.reads.stays c.read_exact.ensures.short
-    (λ image there. let h = inside image there in omega (arith, h, c.from.ensures)))
 
 pub returns-clause-records : goal.returns-clause-records
 returns-clause-records g c image there are =
