@@ -18,7 +18,7 @@ use blk_io::{Failed, Folder};
 use blk_record::IndexHead;
 
 impl Cache {
-    /// The number of items, and the bytes that they are charged. Doomed open objects count too.
+    /// The number of items, and the sum of their costs in bytes. Doomed open objects count too.
     pub fn totals(&self) -> (u64, u64)
         ensures kept { (result.0 ≡ self.now.items) × (result.1 ≡ self.now.bytes) }
         ensures totals { (state : State) (image : Image) → KeepsState self.now state image → (result.0 ≡ items_of state) × (result.1 ≡ total state) }

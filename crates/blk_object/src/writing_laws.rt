@@ -1,4 +1,4 @@
-// What a stream that is written is charged: laws, each the contract of a function with an empty body.
+// By how much the sum of the costs changes when a stream is written: laws, each the contract of a function with an empty body.
 ghost use Rattle.blk_object.specs.Counters.{MoreIsCounted};
 ghost use Rattle.blk_object.specs.Writing.{RisesAreCounted, UsesLeaveTheRise};
 

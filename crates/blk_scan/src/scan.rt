@@ -96,7 +96,7 @@ impl Scan {
         self.kept.len() as u64
     }
 
-    /// What the kept nodes are charged: the bytes of their keys and of their streams, indexes included.
+    /// The sum of the costs of the kept nodes: the bytes of their keys and of their streams, indexes included.
     pub fn bytes(&self) -> u64
         ensures { result ≡ self.now.bytes }
     {

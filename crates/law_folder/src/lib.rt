@@ -295,7 +295,8 @@ pub fn growth_keeps_states()
     ensures gone { UnlinkedFilesMayGo }
 {}
 
-/// The name of a part in the model is its name in the formats; what is listed is charged what its rows are, which is, with the doomed objects, the totals of the state.
+/// The cost of a listed record is the cost of its row in the model; these costs and those of the doomed objects sum to the total of the state. The model and
+/// the formats give a part the same name.
 pub fn charges_are_the_totals()
     ensures names { PartNamesAreNames }
     ensures items { ItemsAreChargedAsRows }

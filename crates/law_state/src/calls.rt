@@ -49,7 +49,7 @@ pub fn doomed_objects_are_marked()
     ensures counted { DoomedMarkingKeepsTheCounters }
 {}
 
-/// Each counter of the index may be written, and once all are, the state is counted; the sum of the charges is a number of eight bytes.
+/// Each counter of the index may be written, and once all are, the state is counted; the sum of the costs is a number of eight bytes.
 pub fn counters_are_written()
     ensures each { CountersMayBeWritten }
     ensures small { ChargesAreSmall }

@@ -221,7 +221,8 @@ pub fn parts_may_be_stopped_between()
     ensures groups { PartlyOutGroupsMayStop }
 {}
 
-/// Items that are gone, as a group and as a doomed object with its parts, are less to be counted, with their charges; so is each that goes out in turn. A part that is made is one more.
+/// The number of items and the sum of their costs fall by what is evicted, by a doomed object with its parts, and by each of their items that goes out in
+/// turn; they rise by a part that is made.
 pub fn parts_are_counted()
     ensures gone { GoneItemsAreLess }
     ensures doomed { DoomedItemsAreLess }

@@ -8,7 +8,7 @@ ghost use Rattle.spec_format.specs.BlockFiles.{WellFormedIsFinished, WellFormedH
 ghost use Rattle.spec_format.specs.Names.{ReadsNames};
 ghost use Rattle.spec_format.specs.Sealed.{WholeUpdatesAreMade};
 
-/// The test for an unfinished index agrees with what it tests.
+/// The test for an uninitialized index agrees with what it tests.
 pub fn unfinished_agrees()
     ensures { UnfinishedAgrees }
 {}
@@ -18,7 +18,7 @@ pub fn reads_names()
     ensures { ReadsNames }
 {}
 
-/// A well-formed folder is finished, and its index has its whole length.
+/// A well-formed folder is initialized, and its index has its whole length.
 pub fn well_formed_is_finished()
     ensures finished { WellFormedIsFinished }
     ensures whole { WellFormedHasWholeIndex }
