@@ -29,9 +29,9 @@ impl Cache {
     ///
     /// # Errors
     ///
-    /// `Damaged` with the first check of the index and of the block files that fails; where the folder is observable
-    /// nothing was written then, nor where it failed before these checks were through. `Memory` when out of memory, before anything was written: a session takes no more
-    /// later. `Device` where the folder failed in this call.
+    /// `Damaged` with the first check of the index and of the block files that fails. An observable folder that is neither
+    /// uninitialized nor well formed, as with `Damaged`, is left as it is, whatever is answered. `Memory` when out of memory,
+    /// before anything was written: a session takes no memory later. `Device` where the folder failed in this call.
     pub fn start<F: Folder>(
         alloc: Global,
         f: &mut F,

@@ -8,12 +8,12 @@ ghost use Rattle.spec_format.specs.BlockFiles.{WellFormedIsFinished, WellFormedH
 ghost use Rattle.spec_format.specs.Names.{ReadsNames};
 ghost use Rattle.spec_format.specs.Sealed.{WholeUpdatesAreMade};
 
-/// The test for an uninitialized index agrees with what it tests.
+/// The test `unfinished` is true of an image exactly where its index is uninitialized.
 pub fn unfinished_agrees()
     ensures { UnfinishedAgrees }
 {}
 
-/// Bytes are read as the name of a part exactly where they are one.
+/// `read_name` gives a part's name for some bytes exactly where they are that name.
 pub fn reads_names()
     ensures { ReadsNames }
 {}
@@ -24,7 +24,7 @@ pub fn well_formed_is_finished()
     ensures whole { WellFormedHasWholeIndex }
 {}
 
-/// A whole sealed update is one with all its changes made.
+/// Once a record is the updated one, and all else is as before, the image is one of its sealed update, with all changes made.
 pub fn whole_updates_are_made()
     ensures { WholeUpdatesAreMade }
 {}
