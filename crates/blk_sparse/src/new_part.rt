@@ -343,7 +343,8 @@ pub(crate) fn make_part<F: Folder>(
     requires most { place + length piece.now ≤ part_size }
     requires is_open { ForSome (F.told folder.old).files (IsOpen files.old) }
 
-    // For each dirty object that has this parent and lacks this part: in the end the folder keeps the state with the piece written, but for the counters, which come later.
+    // For each dirty object that has this parent and lacks this part: in the end the folder keeps the state with the piece written, but for the counters, which
+    // come later.
     ensures written { OnOk result (ForSome (F.told folder.old).files (λ from. ForEachLacking parent name.entry.child name.entry.bytes.now from (λ state layout unlinked number object node. ForSome (F.told folder.new).files (KeepsParentThen (with_piece_written state number object name.entry.child.part place piece.now) layout unlinked number (with_piece object name.entry.child.part place piece.now) node parent (cast_unsigned w64 name.entry.child.signature) from)))) }
 
     // At each word the old durable contents are recovered: a dirty object isn't durable.

@@ -1,6 +1,7 @@
 //! The laws of what a cache folder holds, each the contract of a function with an empty body.
 //!
-//! They say that the definitions of `spec_folder` fit together: what is kept, what represents a state, what changes leave, and what a folder shows at each word of a write.
+//! They say that the definitions of `spec_folder` fit together: what is kept, what represents a state, what changes leave, and what a folder shows at each word
+//! of a write.
 #![tactic(auto)]
 
 ghost use Rattle.law_folder.specs.AllocationLaws.{SoundFilesAreAllocated, StoodForFilesAreAllocated};

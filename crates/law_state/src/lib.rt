@@ -1,4 +1,5 @@
-//! What a folder keeps between two calls of a command, and what the calls do to it: definitions, and laws that are the contracts of functions with empty bodies.
+//! What a folder keeps between two calls of a command, and what the calls do to it: definitions, and laws that are the contracts of functions with empty
+//! bodies.
 #![tactic(auto)]
 
 ghost use Rattle.law_state.specs.Keeping.{KeepsSome};
