@@ -117,7 +117,7 @@ impl Scan {
         &self.walked
     }
 
-    /// The kept ones of them, in the same order.
+    /// The walked nodes that are kept, in the order of the LRU list.
     pub fn kept_nodes(&self) -> &[Addr]
         ensures { result.now ≡ self.now.kept_nodes.items }
     {
