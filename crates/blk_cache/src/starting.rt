@@ -47,8 +47,9 @@ impl Cache {
         // A folder that was uninitialized has the moment as the time of its making.
         ensures made { OnOk result (ForSome (F.told f.old).files (λ from. IsUnfinished from → ForSome (F.told f.new).files (WasMadeAt moment))) }
 
-        // At each word the same is found, and the folder is uninitialized or well formed where it was. The step that marks the
-        // session as open is the last, and where it was made the folder stands for what was found, opened, whatever is answered.
+        // At each word recovery gives what it gave before, and the folder is uninitialized or well formed where it was. The step that
+        // marks the session as open is the last, and where it was made the folder represents the state opened on that, whatever is
+        // answered.
         ensures stops { ForSome (F.told f.old).files (λ from. OpensOrBreaksOff from (F.told f.old) (F.told f.new)) }
         ensures last { OnOk result (ForSome (F.told f.old).files (λ from. OpensFolder from (F.told f.old) (F.told f.new))) }
 

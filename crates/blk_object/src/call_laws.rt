@@ -41,7 +41,7 @@ pub fn external_files_are_gone()
 {}
 
 /// A folder that keeps a state meets the preconditions of `insert_front` for a new entry's node, and of `remove` and `touch` for that of a listed item. In an
-/// insert, a removal and a touch a prefix of the writes is made, and after all steps it is done.
+/// insert, a removal and an access a prefix of the writes is made, and after all steps it is done.
 pub fn nodes_are_listed()
     ensures new { NewNodesCanBeInserted }
     ensures listed { ListedNodesAreInTheList }

@@ -1,5 +1,5 @@
-//! The laws of repair, each the contract of a function with an empty body: at each word of the repair the same is kept and found, and in the end the folder
-//! stands for what it holds.
+//! The laws of repair, each the contract of a function with an empty body: at each word of the repair the kept records and the recovered contents stay the
+//! same, and in the end the folder represents the state that is opened on these.
 #![tactic(auto)]
 
 ghost use Rattle.law_recovery.specs.RecordSeals.{SealsAreMade, SealsStand, GrowthLeavesSeals, UnlinkedFilesLeaveSeals, ExternalFilesLeaveSeals, RecordsAreBehindHeaders, IndexWordsAreBehindHeaders};
