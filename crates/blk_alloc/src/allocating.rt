@@ -245,7 +245,7 @@ fn allocate_from<F: Folder, L: Ledger>(
     // until the last word, with which the allocation is done; files have grown at most, and a well-formed folder is well formed.
     ensures stops { ForSome (F.told folder.old).files (λ from. AreCounted files.old (kind_number kind) from → PassesTo (F.told folder.old) (F.told folder.new) (AllocatesInProgress files.old (kind_number kind) blocks from) (AllocatesOrStops files.old (kind_number kind) blocks from)) }
 
-    // Of a failed check of a file that was there, by its counters and hints, and of full files nothing is written.
+    // Nothing is written where a check of the counters or hints of an existing file fails, or where all files are full.
     ensures cause { IfDamaged result (IsRefusal files.old files.new (kind_number kind) blocks (F.told folder.old) (F.told folder.new)) }
     ensures untold { ForSome (F.told folder.old).files (AreCounted files.old (kind_number kind)) → IfDamaged result (λ _. (F.told folder.old).files ≡ None) }
     ensures writes { MayWrite F.told F.faults folder.old folder.new (IfDevice result) }
@@ -290,7 +290,7 @@ pub fn allocate<F: Folder>(
     // until the last word, with which the allocation is done; files have grown at most, and a well-formed folder is well formed.
     ensures stops { ForSome (F.told f.old).files (λ from. AreCounted files.old (kind_number kind) from → PassesTo (F.told f.old) (F.told f.new) (AllocatesInProgress files.old (kind_number kind) blocks from) (AllocatesOrStops files.old (kind_number kind) blocks from)) }
 
-    // Of a failed check of a file that was there, by its counters and hints, and of full files nothing is written.
+    // Nothing is written where a check of the counters or hints of an existing file fails, or where all files are full.
     ensures cause { IfDamaged result (IsRefusal files.old files.new (kind_number kind) blocks (F.told f.old) (F.told f.new)) }
     ensures untold { ForSome (F.told f.old).files (AreCounted files.old (kind_number kind)) → IfDamaged result (λ _. (F.told f.old).files ≡ None) }
     ensures writes { MayWrite F.told F.faults f.old f.new (IfDevice result) }

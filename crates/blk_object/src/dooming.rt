@@ -35,10 +35,11 @@ pub fn doom_record<F: Folder>(folder: &mut F, files: &BlockFiles, entry: Addr) -
     requires stands { IsTrue (stands_among files.now entry) }
     requires is_open { ForSome (F.told folder.old).files (IsOpen files.now) }
 
-    // Where it loads yet, by itself, it loads as a doomed object in the end: so the state with it doomed is kept, with its words in it.
+    // Where the record of a main item that is out loads by itself, it loads as a doomed object in the end: so the state with it doomed is kept, with its words
+    // in use.
     ensures doomed { OnOk result (ForSome (F.told folder.old).files (λ from. ForEachOut entry from (λ state layout number object loaded chains unlinked. ForSome (F.told folder.new).files (IsDoomedOut state layout number object loaded chains unlinked from)))) }
 
-    // At each word the durable contents with it doomed are recovered.
+    // At each word the durable contents with the object doomed are recovered.
     ensures stops { ForSome (F.told folder.old).files (λ from. ForEachOut entry from (λ state layout number object loaded chains unlinked. Passes (F.told folder.old) (F.told folder.new) (Finds (rest (doomed number state (Some object)))))) }
 
     ensures is_open { ForSome (F.told folder.new).files (IsOpen files.now) }

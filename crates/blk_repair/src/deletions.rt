@@ -69,7 +69,7 @@ pub fn delete_unclaimed<F: Folder>(folder: &mut F, claims: &Claims) -> Result<()
 
     ensures is_open { (files : BlockFiles) → ForSome (F.told folder.old).files (IsOpen files) → ForSome (F.told folder.new).files (IsOpen files) }
 
-    // Where only those are there already, no step is made.
+    // Where only external files that what is kept uses are there already, no step is made.
     ensures clean { ForSome (F.told folder.old).files (λ from. (entry : Image) → IsNextRebuilt entry claims.now from → OnlyClaimed from (claims_of_loaded (kept from)) → Stays (F.told folder.old) (F.told folder.new)) }
 
     ensures later { F.faults folder.old ≤ F.faults folder.new }

@@ -33,7 +33,7 @@ pub fn seal_records<F: Folder>(
 
     ensures is_open { ForSome (F.told folder.new).files (IsOpen files.now) }
 
-    // An observable folder reports corruption only where not all of them are kept.
+    // An observable folder reports corruption only where not all of these nodes and records are kept.
     ensures damaged { IfDamaged result (IsWrongSealed files.now (F.told folder.new)) }
     ensures untold { ForSome (F.told folder.old).files (λ from. (entry : Image) × IsNextSealed entry records.now from) → IfDamaged result (λ _. (F.told folder.old).files ≡ None) }
 
