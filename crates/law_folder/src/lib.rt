@@ -79,7 +79,7 @@ pub fn chains_are_linked()
 {}
 
 /// The kept records of a walk load, share no block, no external number and no name, and have their parents, so a walk of the kept nodes alone keeps the same.
-/// Any records of which that is so (`IsShown`) are the kept ones, and where each node of the walk has one, none is dropped.
+/// Records that are given for a walk's nodes as `IsShown` says are those that it keeps, and where each node has one, none is dropped.
 pub fn given_nodes_are_kept()
     ensures kept { KeptAreTheGiven }
     ensures dropped { NoneOfTheGivenIsDropped }

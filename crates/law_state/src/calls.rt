@@ -151,8 +151,8 @@ pub fn doomed_objects_are_kept()
     ensures one_less { DoomedObjectsAreOneLess }
 {}
 
-/// The write of a word of the table, or of a record's chain link, changes nothing that is shown but links of chains. It leaves seals as they are; that of the
-/// table also headers, lengths and the session.
+/// The write of a word of the table, or of a record's chain link, changes nothing that is shown but links of chains. That of the table leaves checksums,
+/// headers, lengths and the session as they are; that of a link leaves the checksums where its record is sealed after it.
 pub fn links_leave_the_rest()
     ensures table_links { TableWordsChangeLinks }
     ensures table_files { TableWordsLeaveFiles }

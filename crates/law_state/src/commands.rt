@@ -165,8 +165,8 @@ pub fn commands_keep_the_next_state()
     ensures trims { TrimsKeepNext }
 {}
 
-/// An Open, a Read, a Close of a last handle and a Flush may crash at each word of their one call, and the state after them is kept once that is done. A
-/// request may also crash while the dirty flag of the object that it makes dirty becomes its mark.
+/// A Read, a Close of a last handle and a Flush may crash at each word of their one call; once that is done the state after them is kept, and so is that after
+/// an Open. A request may also crash while the dirty flag of the object that it makes dirty becomes its mark.
 pub fn commands_of_one_call()
     ensures opens_end { OpensEndByTouch }
     ensures reads_stop { ReadsMayStop }
