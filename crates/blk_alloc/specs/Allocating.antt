@@ -179,7 +179,7 @@ pub record AllocatesAtLast (files : BlockFiles) (kind count : ℕ) (from image :
   pub choice : AllocatesByChoice files kind count from image
   pub stays : StaysWhole from image
 
--- an allocation is done, or it stopped at some write before its last
+-- an allocation is done, or it broke off at some write before its last
 abbrev pub AllocatesOrStops : BlockFiles → ℕ → ℕ → Image → Image → Type 0
 AllocatesOrStops files kind count from image = AllocatesInProgress files kind count from image ⊎ AllocatesAtLast files kind count from image
 

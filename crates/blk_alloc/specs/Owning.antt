@@ -61,7 +61,7 @@ pub record FreesAtLast (w : ℕ) (from image : Image) : Type 0 where
   pub freed : IsFreed from w image
   pub stays : StaysWhole from image
 
--- a free is done, or it stopped at some write before its last
+-- a free is done, or it broke off at some write before its last
 abbrev pub FreesOrStops : ℕ → Image → Image → Type 0
 FreesOrStops w from image = FreesInProgress w from image ⊎ FreesAtLast w from image
 

@@ -176,8 +176,8 @@ pub fn allocate_counted<F: Folder, L: Ledger>(
     ensures keeps { KeepsStanding files.old files.new }
     ensures links { IfOk result (λ addr. KeepsLinks files.old files.new (file_selector addr)) }
 
-    // The blocks to which counters and hints lead, in the first file with space, or where no file of the kind has space, in one that grows, or in a new one only where none may
-    // grow.
+    // The blocks to which counters and hints lead, in the first file with space, or where no file of the kind has space, in one that grows, or in a new one
+    // only where none may grow.
     ensures chosen { IfOk result (λ addr. ForSome (F.told f.old).files (λ from. IsChosen files.old from (kind_number kind) blocks addr)) }
     ensures hints { IfOk result (λ addr. ForSome (F.told f.old).files (λ from. ForSome (F.told f.new).files (SetsHint files.old (kind_number kind) blocks from addr))) }
     ensures counted { IfOk result (λ addr. ForSome (F.told f.old).files (λ from. ForSome (F.told f.new).files (IsCountedOnce files.old from addr))) }
@@ -185,11 +185,12 @@ pub fn allocate_counted<F: Folder, L: Ledger>(
     ensures within { IfOk result (λ addr. ForSome (F.told f.old).files (λ from. AreCounted files.old (kind_number kind) from → ForSome (F.told f.new).files (AllocatesIn files.old (kind_number kind) from (file_selector addr)))) }
     ensures agrees { OnOk result (ForSome (F.told f.new).files (Agrees files.new)) }
 
-    // At each word only one file of the kind differs, in its length, map, counters and hints, and where it grows or is added in what these touch; updating is 1 until the last word, with which the allocation is done; files have grown at most, and a well-formed folder is well formed.
+    // At each word only one file of the kind differs, in its length, map, counters and hints, and where it grows or is added in what these touch; updating is 1
+    // until the last word, with which the allocation is done; files have grown at most, and a well-formed folder is well formed.
     ensures stops { ForSome (F.told f.old).files (λ from. AreCounted files.old (kind_number kind) from → PassesTo (F.told f.old) (F.told f.new) (AllocatesInProgress files.old (kind_number kind) blocks from) (AllocatesOrStops files.old (kind_number kind) blocks from)) }
 
-    // At most each word of the map of the file that gives the blocks is read, and one of them again; and exactly one where the group at the hint is taken. Of a file without space none is
-    // read.
+    // At most each word of the map of the file that gives the blocks is read, and one of them again; and exactly one where the group at the hint is taken. Of a
+    // file without space none is read.
     ensures most { IfOk result (λ addr. steps.new ≤ steps.old + most_words files.new (file_selector addr)) }
     ensures once { IfOk result (λ addr. ForSome (F.told f.old).files (λ from. LiesAtHint files.old files.new (kind_number kind) blocks from addr → steps.new ≡ steps.old + 1)) }
 
@@ -231,8 +232,8 @@ fn allocate_from<F: Folder, L: Ledger>(
     ensures keeps { KeepsStanding files.old files.new }
     ensures links { IfOk result (λ addr. KeepsLinks files.old files.new (file_selector addr)) }
 
-    // The blocks to which counters and hints lead, in the first file with space, or where no file of the kind has space, in one that grows, or in a new one only where none may
-    // grow.
+    // The blocks to which counters and hints lead, in the first file with space, or where no file of the kind has space, in one that grows, or in a new one
+    // only where none may grow.
     ensures chosen { IfOk result (λ addr. ForSome (F.told folder.old).files (λ from. IsChosen files.old from (kind_number kind) blocks addr)) }
     ensures hints { IfOk result (λ addr. ForSome (F.told folder.old).files (λ from. ForSome (F.told folder.new).files (SetsHint files.old (kind_number kind) blocks from addr))) }
     ensures counted { IfOk result (λ addr. ForSome (F.told folder.old).files (λ from. ForSome (F.told folder.new).files (IsCountedOnce files.old from addr))) }
@@ -240,10 +241,11 @@ fn allocate_from<F: Folder, L: Ledger>(
     ensures within { IfOk result (λ addr. ForSome (F.told folder.old).files (λ from. AreCounted files.old (kind_number kind) from → ForSome (F.told folder.new).files (AllocatesIn files.old (kind_number kind) from (file_selector addr)))) }
     ensures agrees { OnOk result (ForSome (F.told folder.new).files (Agrees files.new)) }
 
-    // At each word only one file of the kind differs, in its length, map, counters and hints, and where it grows or is added in what these touch; updating is 1 until the last word, with which the allocation is done; files have grown at most, and a well-formed folder is well formed.
+    // At each word only one file of the kind differs, in its length, map, counters and hints, and where it grows or is added in what these touch; updating is 1
+    // until the last word, with which the allocation is done; files have grown at most, and a well-formed folder is well formed.
     ensures stops { ForSome (F.told folder.old).files (λ from. AreCounted files.old (kind_number kind) from → PassesTo (F.told folder.old) (F.told folder.new) (AllocatesInProgress files.old (kind_number kind) blocks from) (AllocatesOrStops files.old (kind_number kind) blocks from)) }
 
-    // Of a failed check of a file that was there, by its counters and hints, and of full files nothing is written.
+    // Nothing is written where a check of the counters or hints of an existing file fails, or where all files are full.
     ensures cause { IfDamaged result (IsRefusal files.old files.new (kind_number kind) blocks (F.told folder.old) (F.told folder.new)) }
     ensures untold { ForSome (F.told folder.old).files (AreCounted files.old (kind_number kind)) → IfDamaged result (λ _. (F.told folder.old).files ≡ None) }
     ensures writes { MayWrite F.told F.faults folder.old folder.new (IfDevice result) }
@@ -275,8 +277,8 @@ pub fn allocate<F: Folder>(
     ensures keeps { KeepsStanding files.old files.new }
     ensures links { IfOk result (λ addr. KeepsLinks files.old files.new (file_selector addr)) }
 
-    // The blocks to which counters and hints lead, in the first file with space, or where no file of the kind has space, in one that grows, or in a new one only where none may
-    // grow.
+    // The blocks to which counters and hints lead, in the first file with space, or where no file of the kind has space, in one that grows, or in a new one
+    // only where none may grow.
     ensures chosen { IfOk result (λ addr. ForSome (F.told f.old).files (λ from. IsChosen files.old from (kind_number kind) blocks addr)) }
     ensures hints { IfOk result (λ addr. ForSome (F.told f.old).files (λ from. ForSome (F.told f.new).files (SetsHint files.old (kind_number kind) blocks from addr))) }
     ensures counted { IfOk result (λ addr. ForSome (F.told f.old).files (λ from. ForSome (F.told f.new).files (IsCountedOnce files.old from addr))) }
@@ -284,10 +286,11 @@ pub fn allocate<F: Folder>(
     ensures within { IfOk result (λ addr. ForSome (F.told f.old).files (λ from. AreCounted files.old (kind_number kind) from → ForSome (F.told f.new).files (AllocatesIn files.old (kind_number kind) from (file_selector addr)))) }
     ensures agrees { OnOk result (ForSome (F.told f.new).files (Agrees files.new)) }
 
-    // At each word only one file of the kind differs, in its length, map, counters and hints, and where it grows or is added in what these touch; updating is 1 until the last word, with which the allocation is done; files have grown at most, and a well-formed folder is well formed.
+    // At each word only one file of the kind differs, in its length, map, counters and hints, and where it grows or is added in what these touch; updating is 1
+    // until the last word, with which the allocation is done; files have grown at most, and a well-formed folder is well formed.
     ensures stops { ForSome (F.told f.old).files (λ from. AreCounted files.old (kind_number kind) from → PassesTo (F.told f.old) (F.told f.new) (AllocatesInProgress files.old (kind_number kind) blocks from) (AllocatesOrStops files.old (kind_number kind) blocks from)) }
 
-    // Of a failed check of a file that was there, by its counters and hints, and of full files nothing is written.
+    // Nothing is written where a check of the counters or hints of an existing file fails, or where all files are full.
     ensures cause { IfDamaged result (IsRefusal files.old files.new (kind_number kind) blocks (F.told f.old) (F.told f.new)) }
     ensures untold { ForSome (F.told f.old).files (AreCounted files.old (kind_number kind)) → IfDamaged result (λ _. (F.told f.old).files ≡ None) }
     ensures writes { MayWrite F.told F.faults f.old f.new (IfDevice result) }

@@ -2,7 +2,7 @@
 
 ghost use Rattle.blk_alloc.specs.Laws.{AllocatedMayBeFreed, CountedFilesStay, MayBeFreedStill, NewFilesAreCounted};
 
-/// The preconditions of `allocate` and `free` come about: the allocations in the files of a new folder are counted, and an address that was allocated may be
+/// The preconditions of `allocate` and `free` can be met: the allocations in the files of a new folder are counted, and an address that was allocated may be
 /// freed.
 pub fn counted_files()
     ensures made { NewFilesAreCounted }

@@ -44,7 +44,8 @@ pub(crate) fn mark<F: Folder>(
     ensures blocks { OnOk result (KeepsBlockCounts files.old files.new) }
     ensures long { OnOk result (HasItsBlocks files.new place.file) }
 
-    // At each word only the length, the map and the counters of the file have changed, it is no shorter, and updating is 1 until the map and the counters are done.
+    // At each word only the length, the map and the counters of the file have changed, it is no shorter, and updating is 1 until the map and the counters are
+    // done.
     ensures stops { ForSome (F.told folder.old).files (λ from. CanBeMarked from place → PassesTo (F.told folder.old) (F.told folder.new) (MarksUsedInProgress place.file from) (λ image. MarksUsedInProgress place.file from image ⊎ (MarksUsed files.old from (address.block_word (kind_number kind) place.file place.start place.count) image × KeepsHints from image))) }
     ensures writes { MayWrite F.told F.faults folder.old folder.new (IfDevice result) }
     ensures place { IsPlace files.new (kind_number kind) place.count place }

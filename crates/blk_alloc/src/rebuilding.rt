@@ -181,8 +181,9 @@ pub fn rebuild<F: Folder>(f: &mut F, files: &mut BlockFiles, claims: &Claims) ->
     ensures fitted { OnOk result (AreFitted files.old files.new) }
     ensures agrees { ForSome (F.told f.new).files (Agrees files.new) }
 
-    // Each step is needed: it writes bytes that aren't there already, or lengthens a file. At each word only lengths, maps, counters and updating differ, each mark and each counter is as it was or as the used blocks have it, and in each file updating is 1 until map and counters are done; a file whose map and counters were right has each byte as before; files have grown at most, and a well-formed folder is
-    // well formed.
+    // Each step is needed: it writes bytes that aren't there already, or lengthens a file. At each word only lengths, maps, counters and updating differ, each
+    // mark and each counter is as it was or as the used blocks have it, and in each file updating is 1 until map and counters are done; a file whose map and
+    // counters were right has each byte as before; files have grown at most, and a well-formed folder is well formed.
     ensures stops { ForSome (F.told f.old).files (λ from. PassesNeeded (F.told f.old) (F.told f.new) (IsRebuilding claims.now (all_files files.old) from)) }
 
     // Where each file has all its blocks, and its map and its counters are right, no step is made.

@@ -45,7 +45,8 @@ pub(crate) fn take<F: Folder>(
     ensures blocks { OnOk result (KeepsBlockCounts files.old files.new) }
     ensures long { OnOk result (HasItsBlocks files.new found.place.file) }
 
-    // At each word only the length, the hint, the map and the counters of the file have changed, it is no shorter, and updating is 1 until the map and the counters are done.
+    // At each word only the length, the hint, the map and the counters of the file have changed, it is no shorter, and updating is 1 until the map and the
+    // counters are done.
     ensures stops { ForSome (F.told folder.old).files (λ from. CanBeMarked from found.place → PassesTo (F.told folder.old) (F.told folder.new) (MarksUsedInProgress found.place.file from) (λ image. MarksUsedInProgress found.place.file from image ⊎ (MarksUsed files.old from (address.block_word (kind_number kind) found.place.file found.place.start found.place.count) image × HasHintAmong found.place.file found.i (found.place.start / group_size) from image))) }
     ensures writes { MayWrite F.told F.faults folder.old folder.new (IfDevice result) }
     ensures place { IsPlace files.new (kind_number kind) found.place.count found.place }

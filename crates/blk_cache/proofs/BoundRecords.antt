@@ -111,7 +111,7 @@ no-main key n value other shape streams e = cc
 
 -- ---- what the record says
 
--- the record of an object says whether it is sparse, how long its streams are, and what it is charged
+-- the record of an object says whether it is sparse, how long its streams are, and its cost
 pub record SaysObject (image : Image) (entry : ℕ) (object : Object) : Type 0 where
   pub sparse : ((entry_at image entry).flags == 1) ≡ is_sparse object.shape
   pub sizes : (i : ℕ) → i < 3 → (is_sparse object.shape && nat_lt 0 i) ≡ false → slice_index (entry_at image entry).data_size i ≡ length (stream_in object.streams i)

@@ -42,7 +42,7 @@ sum-changed f (y ∷ xs) (suc i) o p here =
     let was = sum_by-cons (of_slot f) y xs in
     omega (arith, more, now, was)
 
--- as many objects are named, and one of them is charged otherwise
+-- as many objects are named, and one of them has another cost
 pub record IsOneChanged (o p : Object) (old new : List Object) : Type 0 where
   pub count : length new ≡ length old
   pub charged : sum_by own_charge new + own_charge o ≡ sum_by own_charge old + own_charge p

@@ -55,14 +55,14 @@ sum-out f (y ∷ xs) (suc i) o here =
     let now = sum_by-cons (of_slot f) y (set xs i None) in
     omega (arith, more, first, now)
 
--- an object without parts is charged as a main item
+-- the cost of an object without parts is that of its main item
 bare-charge : (o : Object) → o.parts ≡ [] → charge o ≡ own_charge o
 unfolding charge
 bare-charge o none =
     let e : sum_by (λ p. part_charge o.key (signature_of o.shape) p.0 p.1) o.parts ≡ 0 = ap (λ ps. sum_by (λ (p : ℕ × PartValue). part_charge o.key (signature_of o.shape) p.0 p.1) ps) none in
     omega (arith, e)
 
--- an object is counted as open no longer, nor as an item, with this charge
+-- an object of this cost is counted as open no longer, nor as an item
 pub record CountsGone (old new : Cache) (charged : ℕ) : Type 0 where
   pub open_bytes : new.open_bytes ≡ old.open_bytes - charged
   pub items : new.items ≡ old.items - 1
@@ -278,7 +278,7 @@ module _ (cache : Cache) (state : State) (from : Image) (k : KeepsState cache st
     gone-names name None (Some d) e n = absurd n
     gone-names name (Some m) None e n = absurd n
 
-    -- it has no parts, so it is one item, charged as a main item
+    -- it has no parts, so it is one item, with the cost of a main item
     no-parts : is.object.parts ≡ []
     no-parts = let object : IsObject is.object = subst (λ (o : Option Object). IfSome o IsObject) is.here (kept.valid.objects number) in object.doomed_has_no_parts dead
 

@@ -68,7 +68,7 @@ module _ (state : State) (number : ℕ) (object : Object) (valid : IsValidState 
       ∙ ap (λ (n : ℕ). n + sum_by w (map (part object.key) (parts_among object.key state.uses))) (alone-once w (main object.key) state.uses once)
       ∙ sym (sum_by-cons w (main object.key) (map (part object.key) (parts_among object.key state.uses))))
 
-  -- ---- items of other keys have the same rows, and are charged the same
+  -- ---- items of other keys have the same rows and the same costs
 
   row-same : (item : Item) → is_of_another object.key item ≡ true → row_of after item ≡ row_of state item
   unfolding row_of doomed
@@ -161,7 +161,7 @@ module _ (state : State) (number : ℕ) (object : Object) (valid : IsValidState 
       let f = doomed-counted in
       omega (arith, all, some, a, b, c, e, f, g)
 
-  -- its main item is charged as it is
+  -- the cost of its main item is its own
   pub main-charge : item_charge state (main object.key) ≡ own_charge object
   unfolding row_of
   main-charge =

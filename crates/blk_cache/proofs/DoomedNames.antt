@@ -39,7 +39,7 @@ open-same entry bindings = ap distinct_count (entries-same entry bindings)
 
 -- ---- named objects
 
--- as many objects, charged as much
+-- as many objects, with the same sum of costs
 abbrev pub CountTheSame : List Object → List Object → Type 0
 CountTheSame objects others = (length objects ≡ length others) × (sum_by own_charge objects ≡ sum_by own_charge others)
 
@@ -50,7 +50,7 @@ same-in-front object other true objects others own same = (
   sum_by-cons own_charge object objects ∙ ap₂ (λ (m n : ℕ). m + n) own same.1 ∙ sym (sum_by-cons own_charge other others),
 )
 
--- where an object of slots becomes another, charged the same
+-- where an object of slots becomes another with the same cost
 named-becomes : (s : State) (object other : Object) → own_charge other ≡ own_charge object → (base i : ℕ) (slots : List (Option Object)) → get_or slots i None ≡ Some object → CountTheSame (named_from s base (set slots i (Some other))) (named_from s base slots)
 named-becomes s object other own base i [] here = absurd (let c : ◌≡◌ {A = Option Object} None (Some object) = here in cc)
 named-becomes s object other own base zero (None ∷ slots) here = absurd (let c : ◌≡◌ {A = Option Object} None (Some object) = here in cc)
@@ -80,7 +80,7 @@ module _ (state : State) (number : ℕ) (object : Object) (here : object_at stat
   unfolding doomed
   after-names name = refl
 
-  -- as many objects are named, charged as much
+  -- as many objects are named, with the same sum of costs
   pub named-after : CountTheSame (named_objects after) (named_objects state)
   named-after = subst (λ (slots : List (Option Object)). CountTheSame (named_from after 0 slots) (named_objects state)) (sym after-objects)
       (subst (λ (os : List Object). CountTheSame os (named_objects state)) (sym (named-same state after names-same 0 (set state.objects number (doomed_slot (is_named state number) object)))) (go (is_named state number) refl))

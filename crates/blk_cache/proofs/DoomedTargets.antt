@@ -112,7 +112,7 @@ module _ {held : Bool} (state : State) (layout : Layout) (image : Image) (number
   pub parent-kind : has_index target.kind ≡ true → kind_of_role was.role ≡ kinds.Parent
   parent-kind some = index-kind was.role (ap has_index t.kind ∙ some)
 
-  -- what its items are charged
+  -- the costs of its items
   items-listed : AllByRecursion (λ item. is_listed state item ≡ true) (main object.key ∷ map (part object.key) (parts_among object.key state.uses))
   items-listed = (main-listed, parts-listed object.key state.uses state.uses (λ item there. there))
 
@@ -202,7 +202,7 @@ module _ {held : Bool} (state : State) (layout : Layout) (image : Image) (number
   as-parent kind key same = subst (λ (x : List ℕ). LiesAsParent held state layout [] number object x target.node target.found.entry target.found.before image) same
       (record { kept = k; here = t.here; of_key = refl; live = t.live; named = t.named; lies = t.lies; index = (parent-role was.role kind).0; role = (parent-role was.role kind).1 })
 
-  -- its charge, whatever lies there
+  -- its cost, whatever lies there
   pub parent-charge : (key : List ℕ) → object.key ≡ key → (lies : LiesAsFound state layout key target.node target.found.entry target.found.before) → target.charge ≡ charge_of lies.was
   parent-charge key same lies =
       let here : layout.at (layout.place (main key)) ≡ Some lies.was = lies.lies.here in

@@ -1,4 +1,4 @@
--- How the making of a folder breaks off: the folder is unfinished up to the last step, with which it is made.
+-- How the making of a folder breaks off: the folder is uninitialized up to the last step, with which it is made.
 use Rattle.std.proofs.Common.{◌≡◌, ◌⊎◌, inl, inr, ℕ, zero, suc, ◌<◌, List, [], ◌∷◌, ◌++◌, None, Some, ⊎_elim, false, refl, sym, ◌∙◌, ap, subst, arith, append_assoc, lit≤}
 use Rattle.std.specs.Prelude.{All}
 use Rattle.std.specs.Option.{ForSome, option_map}

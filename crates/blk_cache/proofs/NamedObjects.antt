@@ -133,7 +133,7 @@ total-with o true more slots a =
     let c = sum_by-cons own_charge o more in
     omega (arith, a, b, c)
 
--- the named objects are charged no more than all
+-- the costs of the named objects sum to at most those of all
 pub named-total : (t : State) (base : ℕ) (slots : List (Option Object)) → sum_by own_charge (named_from t base slots) ≤ total_of slots
 named-total t base [] = omega arith
 named-total t base (None ∷ slots) =

@@ -49,7 +49,7 @@ use Rattle.blk_cache.proofs.OpenedFolders.{made-repairable, repaired-kept, told-
 
 -- ---- what is found
 
--- an unfinished folder holds nothing
+-- an uninitialized folder holds nothing
 pub unfinished-found : (image : Image) → IsUnfinished image → found image ≡ []
 unfolding found
 unfinished-found image un = rw (is-true (unfinished image) ((unfinished_agrees image).1 un)) refl where
@@ -94,7 +94,7 @@ opened-as scan entry image opened can r are agrees items_told bytes_told mark = 
 
 -- ---- a made folder
 
--- what was opened of a made folder was opened of the unfinished one before it
+-- what was opened of a made folder was opened of the uninitialized one before it
 pub made-opened : (entry made image : Image) (opened : Opened) → IsUnfinished entry → IsJustMade made → IsOpenedAs made opened image → IsOpenedAs entry opened image
 made-opened entry made image opened un is left =
     let same : found made ≡ found entry = made-found made is ∙ sym (unfinished-found entry un) in
@@ -127,7 +127,7 @@ mid-still entry image mid = record { usable = λ _. inr mid.well_formed; formed 
 pub made-still : (entry made image : Image) → IsUnfinished entry → IsJustMade made → IsMidRepair made image → HoldsStill entry image
 made-still entry made image un is mid = record { usable = λ _. inr mid.well_formed; formed = λ _. mid.well_formed; found_same = mid.found_same ∙ made-found made is ∙ sym (unfinished-found entry un) }
 
--- one that is unfinished still
+-- one that is uninitialized still
 pub unfinished-still : (entry image : Image) → IsUnfinished entry → IsUnfinished image → HoldsStill entry image
 unfinished-still entry image un now = record { usable = λ _. inl now; formed = λ well. absurd (let whole = finished_whole entry well in whole.finished un); found_same = unfinished-found image now ∙ sym (unfinished-found entry un) }
 
@@ -156,7 +156,7 @@ repaired-opens from ends = ends-weaker ends (λ i mid. mid) (λ i repaired. repa
 pub repaired-either : {a b : Told} (from : Image) → EndsOrBreaksOff a b (IsMidRepair from) (IsRepaired from) → EndsOrBreaksOff a b (IsMidRepair from) (StandsOpened from)
 repaired-either from either = either-weaker either (λ i mid. mid) (λ i repaired. repaired.stands_for)
 
--- what stands for what a made folder holds stands for what was found in the unfinished one before it
+-- what stands for what a made folder holds stands for what was found in the uninitialized one before it
 pub made-stands : (entry made image : Image) → IsUnfinished entry → IsJustMade made → StandsOpened made image → StandsOpened entry image
 made-stands entry made image un is stands limits = subst (λ (rows : List Row). StandsFor image (open_state rows limits)) (made-found made is ∙ sym (unfinished-found entry un)) (stands limits)
 
@@ -185,7 +185,7 @@ load-untold (fault.Damaged damage) a well loaded = untold_where a.files (λ i th
   no : (d : Damage) → ◌≡◌ {A = Option Damage} (Some d) None → ⊥
   no d e = cc
 
--- the first failed check of a folder with a finished index, and of any
+-- the first failed check of a folder with an initialized index, and of any
 pub first-of_load : (e : Fault) (files : Option Image) → ForSome files (LoadsAs (Err e)) → IfDamaged {A = Told} (Err e) (λ damage. ForSome files (λ from. IsFinished from → first_damage from ≡ Some (damage_of damage)))
 first-of_load fault.Device files loaded = tt
 first-of_load (fault.Damaged damage) files loaded = λ image there (fin : IsFinished image). first-behind image fin.undamaged ∙ loaded image there

@@ -122,7 +122,7 @@ module _ (cache : Cache) (state : State) (from : Image) (k : KeepsState cache st
       next-names None (Some b) n = absurd n
       next-names (Some number) None n = absurd n
 
-      -- the open objects, and what they are charged
+      -- the open objects, and the sum of their costs
       abbrev now : Bindings
       now = set cache.handles handle (Some (binding_for cache.handles found.entry node false))
 

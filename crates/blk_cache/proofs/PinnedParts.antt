@@ -190,7 +190,7 @@ module _ (state : State) (valid : IsValidState state) (number : ℕ) (object : O
   own-test : (n m : ℕ) → same_item (part object.key n) (part object.key m) ≡ (n == m)
   own-test n m = ap (λ (b : Bool). b && n == m) (bytes_eq_self object.key)
 
-  -- the charge and the count of what is pinned of it
+  -- the cost and the count of what is pinned of it
   abbrev Kept : List Item → Object
   Kept covered = record object { parts = Pinned covered object }
 

@@ -25,7 +25,7 @@ use Rattle.blk_cache.proofs.ChangedObjects.{its-named}
 use Rattle.blk_cache.proofs.CreateRoom.{main-pinned}
 use Rattle.blk_cache.proofs.PinnedParts.{AreMore, node-of-part, one-pinned, one_there, two-pinned}
 
--- a plain object has no part that is charged
+-- a plain object has no part, so none has a cost
 there-same : (object : Object) (target : Target) → IsObject object → IsTargetOf object target → (n : ℕ) → charge_there object (signature_to target) n ≡ charge_there object (signature_of object.shape) n
 there-same object target valid is n = by target.plain refl where
   by : (t : Bool) → target.plain ≡ t → charge_there object (signature_to target) n ≡ charge_there object (signature_of object.shape) n

@@ -32,7 +32,7 @@ no-parts : (object : Object) → object.parts ≡ [] → charge object ≡ own_c
 unfolding charge
 no-parts object none = let sum : sum_by (λ p. part_charge object.key (signature_of object.shape) p.0 p.1) object.parts ≡ 0 = ap (sum_by (λ p. part_charge object.key (signature_of object.shape) p.0 p.1)) none in omega (arith, sum)
 
--- it is charged the index of its parts more
+-- its cost rises by the index of its parts
 pub begun-charge : (object : Object) (target : Target) → IsObject object → IsTargetOf object target → charge (with_signature object (signature_to target)) ≡ charge object + index_charge target
 begun-charge object target valid is = by target.plain refl where
   by : (t : Bool) → target.plain ≡ t → charge (with_signature object (signature_to target)) ≡ charge object + (if t then 8256 else 0)
@@ -51,7 +51,7 @@ begun-charge object target valid is = by target.plain refl where
 
 -- ---- the rise
 
--- an object with the bytes is charged so much more, and is so many items more
+-- with the bytes the cost of an object is so much more, and it is so many items more
 pub record Raises (object : Object) (target : Target) (offset : ℕ) (bytes : List ℕ) (more_bytes more_items : ℕ) : Type 0 where
   pub charged : charge (object_written object (signature_to target) offset bytes) ≡ charge object + more_bytes
   pub counted : item_count (object_written object (signature_to target) offset bytes) ≡ item_count object + more_items

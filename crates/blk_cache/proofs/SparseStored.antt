@@ -41,7 +41,7 @@ use Rattle.blk_cache.proofs.ChangedObjects.{IsOneChanged, bound-to, its-named, i
 use Rattle.blk_cache.proofs.CreateWhole.{untold-by}
 use Rattle.blk_cache.proofs.NamedObjects.{named-same, named-total}
 
--- how much more an object is charged as a main item
+-- by how much the cost of an object as a main item rises
 pub own-more : (object : Object) (target : Target) (offset : ℕ) (bytes : List ℕ) → IsTargetOf object target → own_charge (object_written object (signature_to target) offset bytes) ≡ own_charge object + index_charge target
 own-more object target offset bytes is = by target.plain refl where
   by : (t : Bool) → target.plain ≡ t → own_charge (with_signature object (signature_to target)) ≡ own_charge object + (if t then 8256 else 0)

@@ -53,9 +53,9 @@ long-over old new place =
     let c = length-drop (place + length new) old in
     omega (arith, a, b, c)
 
--- ---- charges
+-- ---- costs
 
--- what an object is charged for its stream
+-- how the cost of an object changes with one of its streams
 own-changed : (o : Object) (shape : Shape) (stream : ℕ) (bytes : List ℕ) → o.shape ≡ shape → (is_sparse shape && nat_lt 0 stream) ≡ false → own_charge (record o { streams = streams_with o.streams stream bytes; settled = false }) + length (stream_in o.streams stream) ≡ own_charge o + length bytes
 own-changed o plain zero bytes is apart = let e : main_charge o.key o.shape (streams_with o.streams zero bytes) ≡ main_charge o.key plain (streams_with o.streams zero bytes) = ap (λ (s : Shape). main_charge o.key s (streams_with o.streams zero bytes)) is in let f : own_charge o ≡ main_charge o.key plain o.streams = ap (λ (s : Shape). main_charge o.key s o.streams) is in omega (arith, e, f)
 own-changed o plain (suc zero) bytes is apart = let e : main_charge o.key o.shape (streams_with o.streams 1 bytes) ≡ main_charge o.key plain (streams_with o.streams 1 bytes) = ap (λ (s : Shape). main_charge o.key s (streams_with o.streams 1 bytes)) is in let f : own_charge o ≡ main_charge o.key plain o.streams = ap (λ (s : Shape). main_charge o.key s o.streams) is in omega (arith, e, f)

@@ -49,13 +49,13 @@ same-items : (o : Object) (stream offset : ℕ) (cut : Bool) (bytes : List ℕ) 
 same-items o stream offset cut bytes (main key) = refl
 same-items o stream offset cut bytes (part key n) = refl
 
--- ---- charges
+-- ---- costs
 
 nothing-charged : charge (new_object []) ≡ 0
 unfolding charge
 nothing-charged = refl
 
--- an object is charged no more than all
+-- the cost of an object is at most that of all
 in-total : (state : State) (number : ℕ) (o : Object) → object_at state number ≡ Some o → charge o ≤ total state
 in-total state number o here =
     let e = sum-changed charge state.objects number o (new_object []) here in

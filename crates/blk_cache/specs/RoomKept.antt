@@ -15,7 +15,7 @@ use Rattle.blk_cache.specs.declared.cache.Cache.{Cache}
 use Rattle.blk_cache.specs.CacheKeeping.{KeepsState}
 use Rattle.blk_evict.specs.RoomLaws.{MayGo, NamedObjectsStay, group_for, item_charge}
 
--- the cache has `item_count` items and `charged` bytes of cost less; its handles, its limits and its session's number are unchanged
+-- the cache counts `item_count` items less, and `charged` bytes less; its handles, its limits and its session's number are unchanged
 pub record HasFewer (old new : Cache) (item_count charged : ℕ) : Type 0 where
   pub items_less : old.items ≡ new.items + item_count
   pub bytes_less : old.bytes ≡ new.bytes + charged

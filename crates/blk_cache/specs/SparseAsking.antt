@@ -73,7 +73,7 @@ IsAskedSparse state layout handle offset count (asked.Parent parent) = IsParentN
 
 -- Clauses that hold of an opaque folder too.
 
--- what was found are a valid node and a valid record by the table of block files, and a generation that sparse entries may have
+-- the object that was found has a valid node and a valid record by the table of block files; a sparse one also has a generation that sparse entries may have
 abbrev pub IsAmongFiles : BlockFiles → AskedSparse → Type 0
 IsAmongFiles files (asked.Refused why) = Unit {0}
 IsAmongFiles files (asked.Plain found) = (is_node_among files found.node ≡ true) × (is_record_among files found.entry ≡ true)

@@ -16,7 +16,7 @@ pub struct Cache {
     // The items and the bytes that count against the limits.
     pub(crate) items: u64,
     pub(crate) bytes: u64,
-    // What the open objects are charged, each as a main item.
+    // The sum of the costs of the open objects, each as a main item.
     pub(crate) open_bytes: u64,
     pub(crate) handles: Handles,
     pub(crate) files: BlockFiles,

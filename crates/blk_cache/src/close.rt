@@ -25,7 +25,7 @@ use blk_model::{Answer, Refusal};
 use blk_object::end_object;
 
 impl Cache {
-    /// Frees a handle name. Where it was the last name of its object, the object is charged no longer as an open one: of
+    /// Frees a handle name. Where it was the last name of its object, the object counts as an open one no longer: of
     /// a doomed object all that it has is freed, and it is no item any more; of another that is dirty the dirty word
     /// becomes 0. Else nothing is written.
     ///
@@ -81,7 +81,7 @@ impl Cache {
         self.handles.release(handle)
     }
 
-    // Ends an object whose last name was freed, and counts it with its charge as closed.
+    // Ends an object whose last name was freed, and counts it with its cost as closed.
     //
     // Of one that isn't doomed nothing but its node's seal is written after the dirty word: once that is 0 the object
     // is clean as it lies there.

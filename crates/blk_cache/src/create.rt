@@ -60,7 +60,7 @@ impl Cache {
         ensures front { SaysPrefix self.old (F.told folder.old) moment (to_create handle key.now) (K.written out.old) (K.written out.new) }
         ensures fails { FailsWhereItRose failed.old failed.new (K.faults out.old) (K.faults out.new) }
 
-        // What the names and the key tell is refused on every folder, and a refusal does nothing.
+        // A refusal that the handles and the key alone decide is given on every folder, and a refusal does nothing.
         ensures refuses { IfSome (open_refusal self.old.handles handle key.now) (λ why. result ≡ Ok (answer.Refused why)) }
         ensures quiet { IfOk result (λ answer. IsRefused answer → Stays (F.told folder.old) (F.told folder.new)) }
         ensures unchanged { IfOk result (λ answer. IsRefused answer → self.new ≡ self.old) }
@@ -167,7 +167,7 @@ impl Cache {
         ensures front { IsNotRefused self.old (F.told folder.old) moment handle key.now → SaysPrefix self.old (F.told folder.old) moment (to_create handle key.now) (K.written out.old) (K.written out.new) }
         ensures fails { FailsWhereItRose failed.old failed.new (K.faults out.old) (K.faults out.new) }
 
-        // No refusal is left, and so none does anything.
+        // A refusal does nothing: none is left.
         ensures quiet { IfOk result (λ answer. IsRefused answer → Stays (F.told folder.old) (F.told folder.new)) }
         ensures unchanged { IfOk result (λ answer. IsRefused answer → self.new ≡ self.old) }
 
@@ -269,7 +269,7 @@ impl Cache {
     ) -> Result<Option<Refusal>, Fault>
         ensures refused { IfOk result (λ early. ForSome (F.told folder.old).files (λ image. (state : State) (moment : ℕ) → KeepsState self.now state image → refused moment (to_create handle key.now) state ≡ create_refusal early (no_room moment (to_create handle key.now) state))) }
 
-        // What the names and the key tell is refused on every folder, and where it goes on they tell nothing.
+        // A refusal that the handles and the key alone decide is given on every folder; where none is given they decide none.
         ensures refuses { IfSome (open_refusal self.now.handles handle key.now) (λ why. result ≡ Ok (Some why)) }
         ensures goes_on { IfOk result (λ early. early ≡ None → open_refusal self.now.handles handle key.now ≡ None) }
         ensures reads { ReadsOnly F.told F.faults folder.old folder.new (IfDevice result) }

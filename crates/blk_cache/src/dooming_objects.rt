@@ -31,7 +31,7 @@ use blk_record::EntryView;
 use blk_sparse::{Gone, doom_parent, remove_parent_with};
 
 /// A live object that is to be doomed: its record and the one before it in its chain, its node, what kind of entry it
-/// has, and what it is charged as a main item.
+/// has, and its cost as a main item.
 #[derive(Clone, Copy, Debug)]
 pub struct Target {
     pub found: Found,

@@ -18,7 +18,7 @@ use blk_io::{Failed, Folder};
 use blk_record::IndexHead;
 
 impl Cache {
-    /// The number of items, and the bytes that they are charged. Doomed open objects count too.
+    /// The number of items, and the sum of their costs in bytes. Doomed open objects count too.
     pub fn totals(&self) -> (u64, u64)
         ensures kept { (result.0 ≡ self.now.items) × (result.1 ≡ self.now.bytes) }
         ensures totals { (state : State) (image : Image) → KeepsState self.now state image → (result.0 ≡ items_of state) × (result.1 ≡ total state) }
@@ -33,7 +33,7 @@ impl Cache {
         requires free { AreAllFree self.handles }
         requires is_open { ForSome (F.told f.old).files (IsOpen self.files) }
 
-        // In the end the folder is sound, no session is open, and the index has the version that is made now.
+        // In the end the folder is consistent, no session is open, and the index has the version that is made now.
         ensures ended { OnOk result (ForSome (F.told f.old).files (λ from. (state : State) → KeepsState self state from → ForSome (F.told f.new).files EndsSession)) }
         ensures steps { OnOk result (Applies (F.told f.old) (F.told f.new) (word_step index crash_place 0)) }
         ensures prefix { AppliesPrefix (F.told f.old) (F.told f.new) (word_step index crash_place 0) }

@@ -42,7 +42,7 @@ impl Cache {
         ensures counts { IfOk result (λ count. ForCovered self.old parts.now (F.told folder.old) (λ state covered. count ≡ count_of_groups (evicted_until (is_met goal.now) state covered))) }
         ensures prints { OnOk result (ForCovered self.old parts.now (F.told folder.old) (λ state covered. PrintsUnlessFailed failed.old failed.new (K.written out.old) (K.written out.new) (evicted_text (evicted_until (is_met goal.now) state covered)))) }
 
-        // At each word the first of them are out; on any answer a prefix of their text was printed.
+        // At each word a prefix of the evicted groups is out; on any answer a prefix of their text was printed.
         ensures stops { ForCovered self.old parts.now (F.told folder.old) (λ state covered. Passes (F.told folder.old) (F.told folder.new) (IsEvicting (evicted_until (is_met goal.now) state covered) state)) }
         ensures front { ForCovered self.old parts.now (F.told folder.old) (λ state covered. Appends (K.written out.old) (K.written out.new) (evicted_text (evicted_until (is_met goal.now) state covered))) }
 

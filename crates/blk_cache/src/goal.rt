@@ -10,7 +10,7 @@ use crate::cache::Cache;
 /// How far a cache evicts.
 #[derive(Clone, Copy)]
 pub(crate) enum Goal {
-    /// Until so many more bytes and items fit below the low-water mark.
+    /// Until so many more bytes and items fit below the low watermark.
     Room { bytes: u64, items: u64 },
     /// Until no more than so many bytes are left.
     Bytes(u64),

@@ -58,7 +58,7 @@ impl Cache {
         ensures made { OnOk result (ForKept (KeepsState self.old) (F.told folder.old) (λ state. ForSome (F.told folder.new).files (KeepsState self.new (without (evicted_for (room state [] bytes items)) state)))) }
         ensures prints { OnOk result (ForKept (KeepsState self.old) (F.told folder.old) (λ state. PrintsUnlessFailed failed.old failed.new (K.written out.old) (K.written out.new) (evicted_text (evicted_for (room state [] bytes items))))) }
 
-        // At each word the first of that are out; on any answer a prefix of its text was printed.
+        // At each word a prefix of what is evicted is out; on any answer a prefix of its text was printed.
         ensures stops { ForKept (KeepsState self.old) (F.told folder.old) (λ state. Passes (F.told folder.old) (F.told folder.new) (IsEvicting (evicted_for (room state [] bytes items)) state)) }
         ensures front { ForKept (KeepsState self.old) (F.told folder.old) (λ state. Appends (K.written out.old) (K.written out.new) (evicted_text (evicted_for (room state [] bytes items)))) }
 
@@ -107,7 +107,7 @@ impl Cache {
         ensures made { OnOk result (ForCovered self.old parts.now (F.told folder.old) (λ state covered. ForSome (F.told folder.new).files (KeepsState self.new (without (evicted_for (room state covered bytes items)) state)))) }
         ensures prints { OnOk result (ForCovered self.old parts.now (F.told folder.old) (λ state covered. PrintsUnlessFailed failed.old failed.new (K.written out.old) (K.written out.new) (evicted_text (evicted_for (room state covered bytes items))))) }
 
-        // At each word the first of that are out; on any answer a prefix of its text was printed.
+        // At each word a prefix of what is evicted is out; on any answer a prefix of its text was printed.
         ensures stops { ForCovered self.old parts.now (F.told folder.old) (λ state covered. Passes (F.told folder.old) (F.told folder.new) (IsEvicting (evicted_for (room state covered bytes items)) state)) }
         ensures front { ForCovered self.old parts.now (F.told folder.old) (λ state covered. Appends (K.written out.old) (K.written out.new) (evicted_text (evicted_for (room state covered bytes items)))) }
 
@@ -154,7 +154,7 @@ impl Cache {
         ensures evicted { OnOk result (ForRoom self.old parts.now (F.told folder.old) bytes items (λ state groups. ForSome (F.told folder.new).files (KeepsState self.new (without groups state)))) }
         ensures prints { OnOk result (ForRoom self.old parts.now (F.told folder.old) bytes items (λ state groups. PrintsUnlessFailed failed.old failed.new (K.written out.old) (K.written out.new) (evicted_text groups))) }
 
-        // At each word the first of that are out; on any answer a prefix of its text was printed.
+        // At each word a prefix of what is evicted is out; on any answer a prefix of its text was printed.
         ensures stops { ForRoom self.old parts.now (F.told folder.old) bytes items (λ state groups. Passes (F.told folder.old) (F.told folder.new) (IsEvicting groups state)) }
         ensures front { ForRoom self.old parts.now (F.told folder.old) bytes items (λ state groups. Appends (K.written out.old) (K.written out.new) (evicted_text groups)) }
 

@@ -36,7 +36,7 @@ impl Cache {
         // At each word the old durable contents are recovered, or the new ones.
         ensures stops { ForSome (F.told folder.old).files (λ from. ForEachNamed self.old handle from (λ state number object. Passes (F.told folder.old) (F.told folder.new) (FindsEither state (marked state number object (not dirty))))) }
 
-        // Where it is so no call is made.
+        // Where the object is dirty or clean as asked already, no call is made.
         ensures idle { IfSome (binding_of self.old.handles handle) (λ binding. binding.dirty ≡ dirty → Stays (F.told folder.old) (F.told folder.new)) }
 
         ensures stays_bound { IsSome (binding_of self.new.handles handle) }

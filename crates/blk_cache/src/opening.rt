@@ -34,7 +34,7 @@ pub(crate) struct Opened {
     pub(crate) mark: u32,
 }
 
-// Opens a folder, which is made where it is unfinished.
+// Opens a folder, which is made where it is uninitialized.
 pub(crate) fn open_folder<F: Folder>(
     alloc: Global,
     folder: &mut F,
@@ -87,7 +87,7 @@ fn open_made<F: Folder>(alloc: Global, folder: &mut F) -> Result<Opened, Fault>
     mend(folder, files, &Scan::empty(alloc))
 }
 
-// Opens a folder whose index is finished.
+// Opens a folder whose index is initialized.
 fn open_finished<F: Folder>(alloc: Global, folder: &mut F) -> Result<Opened, OpenFault>
     requires complete { ForSome (F.told folder.old).files HasWholeIndex }
     ensures opened { IfOk result (λ opened. ForSome (F.told folder.old).files (λ from. IsFinished from → ForSome (F.told folder.new).files (IsOpenedAs from opened))) }

@@ -43,7 +43,7 @@ impl Cache {
         ensures does { IfOk result (λ answer. Does (KeepsState self.now) (KeepsState self.now) (F.told folder.old) (F.told folder.new) moment (to_read handle stream offset count) answer) }
         ensures stops { MayStopAtEach (KeepsState self.now) (F.told folder.old) (F.told folder.new) moment (to_read handle stream offset count) }
 
-        // What the names and the stream tell is refused on every folder, and a refusal does nothing.
+        // A refusal that the handles and the stream alone decide is given on every folder, and a refusal does nothing.
         ensures refuses { IfSome (early_stream_refusal self.now.handles handle stream) (λ why. result ≡ Ok (answer.Refused why)) }
         ensures quiet { IfOk result (λ answer. IsRefused answer → Stays (F.told folder.old) (F.told folder.new)) }
 

@@ -30,7 +30,7 @@ impl Cache {
         ensures does { (moment : ℕ) → IfOk result (λ answer. Does (KeepsState self.now) (KeepsState self.now) (F.told folder.old) (F.told folder.new) moment (to_size handle stream) answer) }
         ensures reads { ReadsOnly F.told F.faults folder.old folder.new (IfDevice result) }
 
-        // What the names and the stream tell is refused on every folder.
+        // A refusal that the handles and the stream alone decide is given on every folder.
         ensures refuses { IfSome (early_stream_refusal self.now.handles handle stream) (λ why. result ≡ Ok (answer.Refused why)) }
 
         // An observable folder reports no corruption where the cache keeps a state.

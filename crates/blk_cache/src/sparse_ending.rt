@@ -23,7 +23,7 @@ use blk_io::{Fault, Folder};
 use blk_model::Answer;
 use blk_sparse::{Parent, Target, store_sparse};
 
-/// What a sparse object is charged for the index of its parts.
+/// The cost of the index of the parts of a sparse object, in bytes.
 pub(crate) const PARTS_INDEX: u64 = 8256;
 
 impl Cache {

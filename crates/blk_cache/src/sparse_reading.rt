@@ -49,7 +49,7 @@ impl Cache {
         ensures does { IfOk result (λ answer. Does (KeepsState self.old) (KeepsState self.new) (F.told folder.old) (F.told folder.new) moment (to_use_sparse wanted handle offset count) answer) }
         ensures stops { MayStopAtEach (KeepsState self.old) (F.told folder.old) (F.told folder.new) moment (to_use_sparse wanted handle offset count) }
 
-        // What the names and the range tell is refused on every folder, and a refusal does nothing.
+        // A refusal that the handles and the range alone decide is given on every folder, and a refusal does nothing.
         ensures refuses { IfSome (early_sparse_refusal self.old.handles handle offset count) (λ why. result ≡ Ok (answer.Refused why)) }
         ensures quiet { IfOk result (λ answer. IsRefused answer → Stays (F.told folder.old) (F.told folder.new)) }
         ensures unchanged { IfOk result (λ answer. IsRefused answer → self.new ≡ self.old) }

@@ -59,7 +59,7 @@ impl Cache {
         ensures front { SaysPrefix self.old (F.told folder.old) moment (to_sparse_write handle offset bytes.now) (K.written out.old) (K.written out.new) }
         ensures fails { FailsWhereItRose failed.old failed.new (K.faults out.old) (K.faults out.new) }
 
-        // What the names and the range tell is refused on every folder, and a refusal does nothing, but to the buffers for
+        // A refusal that the handles and the range alone decide is given on every folder, and a refusal does nothing, but to the buffers for
         // names.
         ensures refuses { IfSome (early_sparse_refusal self.old.handles handle offset (length bytes.now)) (λ why. result ≡ Ok (answer.Refused why)) }
         ensures quiet { IfOk result (λ answer. IsRefused answer → Stays (F.told folder.old) (F.told folder.new)) }

@@ -21,7 +21,7 @@ use blk_model::Limits;
 use std::alloc::Global;
 
 impl Cache {
-    /// Opens the folder for a session. An unfinished one is made, and the moment, in microseconds since 1970 UTC, is kept
+    /// Opens the folder for a session. An uninitialized one is made, and the moment, in microseconds since 1970 UTC, is kept
     /// in it; any other is checked and repaired, so that it keeps what was found in it. No handle name is bound.
     ///
     /// The last step makes the crash word 1, in a session with the next number; the first where the folder was made. It
@@ -29,9 +29,9 @@ impl Cache {
     ///
     /// # Errors
     ///
-    /// `Damaged` with the first check of the index and of the block files that fails; where the folder is observable
-    /// nothing was written then, nor where it failed before these checks were through. `Memory` when out of memory, before anything was written: a session takes no more
-    /// later. `Device` where the folder failed in this call.
+    /// `Damaged` with the first check of the index and of the block files that fails. An observable folder that is neither
+    /// uninitialized nor well formed, as with `Damaged`, is left as it is, whatever is answered. `Memory` when out of memory,
+    /// before anything was written: a session takes no memory later. `Device` where the folder failed in this call.
     pub fn start<F: Folder>(
         alloc: Global,
         f: &mut F,
@@ -44,11 +44,12 @@ impl Cache {
         ensures checked { OnOk result (ForSome (F.told f.old).files IsUsable) }
         ensures session { OnOk result (ForSome (F.told f.old).files (λ from. ForSome (F.told f.new).files (λ image. this_id_of (byte image index) ≡ opened_id from))) }
 
-        // A folder that was unfinished has the moment as the time of its making.
+        // A folder that was uninitialized has the moment as the time of its making.
         ensures made { OnOk result (ForSome (F.told f.old).files (λ from. IsUnfinished from → ForSome (F.told f.new).files (WasMadeAt moment))) }
 
-        // At each word the same is found, and the folder is unfinished or well formed where it was. The step that marks the
-        // session as open is the last, and where it was made the folder stands for what was found, opened, whatever is answered.
+        // At each word recovery gives what it gave before, and the folder is uninitialized or well formed where it was. The step that
+        // marks the session as open is the last, and where it was made the folder represents the state opened on that, whatever is
+        // answered.
         ensures stops { ForSome (F.told f.old).files (λ from. OpensOrBreaksOff from (F.told f.old) (F.told f.new)) }
         ensures last { OnOk result (ForSome (F.told f.old).files (λ from. OpensFolder from (F.told f.old) (F.told f.new))) }
 
@@ -56,7 +57,7 @@ impl Cache {
         ensures damaged { IfOpenDamaged result (IsOpeningDamage (F.told f.new)) }
         ensures first { IfOpenDamaged result (λ damage. ForSome (F.told f.old).files (IsFirstDamage damage)) }
 
-        // A folder that is neither unfinished nor well formed is left as it is, whatever is answered.
+        // A folder that is neither uninitialized nor well formed is left as it is, whatever is answered.
         ensures unwritten { ForSome (F.told f.old).files (λ from. (IsUsable from → ⊥) → Stays (F.told f.old) (F.told f.new)) }
         ensures memory { IfOpenMemory result (Stays (F.told f.old) (F.told f.new)) }
 

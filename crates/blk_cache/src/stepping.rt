@@ -43,11 +43,11 @@ impl Cache {
     ) -> Result<Answer, StepFault>
         requires is_open { ForSome (F.told f.old).files (IsOpen self.old.files) }
 
-        // The answer is the map's, and the state after it is kept, also where only the sink failed.
+        // The answer is the model's, and the state after the command is kept, also where only the sink failed.
         ensures answered { IfOk result (λ answer. ForKept (KeepsState self.old) (F.told f.old) (λ state. answer ≡ answer_of (step state moment (request_of command.now)).reply)) }
         ensures kept { IfDone result (ForKept (KeepsState self.old) (F.told f.old) (λ state. ForSome (F.told f.new).files (KeepsState self.new (step state moment (request_of command.now)).state))) }
 
-        // It is made in part with no note, or it is done and the note is last; the second where it is done.
+        // The command is made in part with no note, or it is done and its note is the last step; the second is so where it is done.
         ensures stepped { ForKept (KeepsState self.old) (F.told f.old) (IsStepped (F.told f.old) (F.told f.new) moment (request_of command.now) (note_number (self.old.notes + 1))) }
         ensures noted { IfDone result (ForKept (KeepsState self.old) (F.told f.old) (IsNoted (F.told f.old) (F.told f.new) moment (request_of command.now) (note_number (self.old.notes + 1)))) }
         ensures counts { IfDone result (self.new.notes ≡ note_number (self.old.notes + 1)) }
@@ -55,16 +55,17 @@ impl Cache {
         // The session has its number still.
         ensures session { IfDone result (self.new.mark ≡ self.old.mark) }
 
-        // A refused one makes its note alone.
+        // A command that is refused makes its note alone.
         ensures alone { IfOk result (λ answer. IsRefused answer → Applies (F.told f.old) (F.told f.new) (Note (note_number (self.old.notes + 1)) ∷ [])) }
 
-        // So does one that the map refuses, also where only the sink failed.
+        // A command that the model refuses makes its note alone, also where only the sink failed.
         ensures refused { IfDone result (ForKept (KeepsState self.old) (F.told f.old) (λ state. IsRefused (answer_of (step state moment (request_of command.now)).reply) → Applies (F.told f.old) (F.told f.new) (Note (note_number (self.old.notes + 1)) ∷ []))) }
 
-        // So does a Flush of a clean object.
+        // A Flush of a clean object makes its note alone.
         ensures idle { IfDone result (ForKept (KeepsState self.old) (F.told f.old) (λ state. FlushesClean state (request_of command.now) → Applies (F.told f.old) (F.told f.new) (Note (note_number (self.old.notes + 1)) ∷ []))) }
 
-        // What it evicts is printed, and then the reply; where there is no answer, a prefix of it; where the folder failed nothing of the reply, or it failed in the reply, after the note.
+        // What the command evicts is printed, and then the reply; where there is no answer, a prefix of it; where the folder failed nothing of the reply, or it
+        // failed in the reply, after the note.
         ensures printed { OnOk result (ForKept (KeepsState self.old) (F.told f.old) (λ state. K.written out.new ≡ option_map (λ w. w ++ outcome_text (step state moment (request_of command.now))) (K.written out.old))) }
         ensures front { ForKept (KeepsState self.old) (F.told f.old) (λ state. Appends (K.written out.old) (K.written out.new) (outcome_text (step state moment (request_of command.now)))) }
         ensures unanswered { IfStepDevice result (SaysPrefix self.old (F.told f.old) moment (request_of command.now) (K.written out.old) (K.written out.new) ⊎ ForKept (KeepsState self.old) (F.told f.old) (IsNoted (F.told f.old) (F.told f.new) moment (request_of command.now) (note_number (self.old.notes + 1)))) }
@@ -104,12 +105,12 @@ impl Cache {
         ensures noted { OnOk result (IfSome (position is_some self.old.handles) (λ handle. ForKept (KeepsState self.old) (F.told f.old) (IsNoted (F.told f.old) (F.told f.new) moment (to_close handle) (note_number (self.old.notes + 1))))) }
         ensures counts { OnOk result (IfSome (position is_some self.old.handles) (λ _. self.new.notes ≡ note_number (self.old.notes + 1))) }
 
-        // Its name is free then, and the other names are bound as before.
+        // The name that was closed is free then, and the other names are bound as before.
         ensures frees { OnOk result (IfSome (position is_some self.old.handles) (λ handle. self.new.handles ≡ slice_set self.old.handles handle None)) }
 
         ensures session { OnOk result (self.new.mark ≡ self.old.mark) }
 
-        // Where none is, nothing is done.
+        // Where no name is bound, nothing is done.
         ensures nothing { position is_some self.old.handles ≡ None → Stays (F.told f.old) (F.told f.new) }
         ensures unchanged { position is_some self.old.handles ≡ None → self.new ≡ self.old }
 

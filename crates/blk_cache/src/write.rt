@@ -69,7 +69,7 @@ impl Cache {
         ensures front { SaysPrefix self.old (F.told folder.old) moment (to_write handle stream offset cut bytes.now) (K.written out.old) (K.written out.new) }
         ensures fails { FailsWhereItRose failed.old failed.new (K.faults out.old) (K.faults out.new) }
 
-        // What the names, the stream and the length tell is refused on every folder, and a refusal does nothing.
+        // A refusal that the handles, the limits, the stream and the length alone decide is given on every folder, and a refusal does nothing.
         ensures refuses { IfSome (early_write_refusal self.old handle stream offset (length bytes.now)) (λ why. result ≡ Ok (answer.Refused why)) }
         ensures quiet { IfOk result (λ answer. IsRefused answer → Stays (F.told folder.old) (F.told folder.new)) }
         ensures unchanged { IfOk result (λ answer. IsRefused answer → self.new ≡ self.old) }
@@ -197,7 +197,7 @@ impl Cache {
     ) -> Result<Asked, Fault>
         ensures asked { IfOk result (λ answer. ForSome (F.told folder.old).files (λ image. (state : State) (moment : ℕ) (cut : Bool) → (k : KeepsState self.now state image) → IsAskedToWrite state k.layout moment handle stream offset cut bytes.now answer)) }
 
-        // What the names, the stream and the length tell is refused on every folder, and where a stream is found they tell nothing.
+        // A refusal that the handles, the limits, the stream and the length alone decide is given on every folder; where a stream is found they decide none.
         ensures refuses { IfSome (early_write_refusal self.now handle stream offset (length bytes.now)) (λ why. result ≡ Ok (asked.Refused why)) }
         ensures goes_on { IfOk result (IsNotRefusedEarly (early_write_refusal self.now handle stream offset (length bytes.now))) }
         ensures reads { ReadsOnly F.told F.faults folder.old folder.new (IfDevice result) }

@@ -56,7 +56,8 @@ impl BlockFiles {
         // changed.
         ensures stops { ForSome (F.told f.old).files (λ from. RecordChecks addr from → Passes (F.told f.old) (F.told f.new) (IsMidUpdate from addr changes.now)) }
 
-        // A failed check is a short read or a record that doesn't check, and nothing was written. An observable folder gives one only for a record that doesn't check.
+        // A failed check is a short read or a record that doesn't check, and nothing was written. An observable folder gives one only for a record that doesn't
+        // check.
         ensures damaged { IfDamaged result (IsFailedRecord (F.told f.old) addr (record_size addr)) }
         ensures unwritten { IfDamaged result (λ _. Stays (F.told f.old) (F.told f.new)) }
         ensures untold { ForSome (F.told f.old).files (RecordChecks addr) → IfDamaged result (λ _. (F.told f.old).files ≡ None) }

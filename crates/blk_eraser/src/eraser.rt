@@ -11,9 +11,12 @@ use crate::freeing::write_over;
 use crate::zeros::{cut, remove};
 use blk_io::{Failed, FileId, Folder};
 
-/// A folder over another, which overwrites by zeros what goes out of use: the blocks that a write to a map frees, what a new length cuts off, and the bytes of a file that is deleted.
+/// A folder over another, which overwrites by zeros what goes out of use: the blocks that a write to a map frees, what a new length cuts off, and the bytes of
+/// a file that is deleted.
 ///
-/// The zeros come before the call's own steps, and where they fail these aren't made. It is opaque, since the zeros are steps that no caller knows of. So a write asks the folder inside for the length of the file first, and fails where the file hasn't the range; one that touches a map fails too where the file is shorter than a header.
+/// The zeros come before the call's own steps, and where they fail these aren't made. It is opaque, since the zeros are steps that no caller knows of. So a
+/// write asks the folder inside for the length of the file first, and fails where the file hasn't the range; one that touches a map fails too where the file is
+/// shorter than a header.
 #[derive(Drop)]
 pub struct Eraser<F> {
     inner: F,

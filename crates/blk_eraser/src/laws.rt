@@ -32,7 +32,7 @@ pub fn unowned_blocks_may_be_erased()
 {}
 
 /// Where a write to a map frees only blocks of unlinked addresses, the zeros before it keep each state that the folder keeps and the counters of the index. A
-/// call that frees sets `updating` before it writes the map, and then no state is kept; but recovery gives the durable contents from the begin of the call at
+/// call that frees sets `updating` before it writes the map, and then no state is kept; but recovery gives the durable contents from the start of the call at
 /// each of the zeros.
 pub fn unlinked_blocks_may_be_erased()
     ensures kept { UnlinkedBlocksMayBeErased }
@@ -46,7 +46,7 @@ pub fn unlinked_files_may_be_erased()
 {}
 
 /// A call with the contract of `free` of `blk_alloc`, for an unlinked address, frees only blocks of unlinked addresses by its write to the map, so recovery
-/// gives the durable contents from the call's begin at each of the zeros before that write.
+/// gives the durable contents from the start of the call at each of the zeros before that write.
 pub fn promised_frees_may_erase()
     ensures { PromisedFreesMayErase }
 {}

@@ -158,7 +158,7 @@ module _ (state : State) (layout : Layout) (unlinked : List ℕ) (image : Image)
       let all = k.valid.listed item in
       has_owner state item (omega (arith, some, all))
 
-  -- what it is charged
+  -- its cost
   pub charged-is : item_charge state item ≡ charge_of loaded
   charged-is =
       let laid : IsPlacedAt state layout item = k.represents.holds.lies.laid item listed in

@@ -51,7 +51,7 @@ chained words entry (Some b) prefix suffix s = subst (λ (ws : List ℕ). is_amo
 pub chained-there : (image : Image) (key : List ℕ) (entry : ℕ) (before : Option ℕ) → IsFound key false entry before image → is_among (chained_for (store_of image) key) entry ≡ true
 chained-there image key entry before found = chained (chained_for (store_of image) key) entry before found.prefix found.suffix found.stands
 
--- the record of what loads says what that is charged
+-- the record of what loads says the cost of that
 pub loaded-charge : (image : Image) (entry : ℕ) (loaded : Loaded) → LoadsWith entry loaded image → charge_at image entry ≡ charge_of loaded
 loaded-charge image entry loaded w = record-charge image entry loaded w
 
@@ -65,7 +65,7 @@ module _ (state : State) (layout : Layout) (unlinked : List ℕ) (image : Image)
       let s : IsSearchable (view_of image) key = searchable (view_of image) state layout k.represents key in
       record { whole = s.whole; few = s.few; keys = λ w there. readable image w (s.keys w there) }
 
-  -- what lies at the node of a live object is charged as the object
+  -- the cost of what lies at the node of a live object is that of the object as a main item
   pub live-charge : (key : List ℕ) (number : ℕ) (object : Object) (loaded : Loaded) → live_with state key ≡ Some number → object_at state number ≡ Some object → layout.at (layout.place (main key)) ≡ Some loaded → charge_of loaded ≡ own_charge object
   unfolding model.row_of
   live-charge key number object loaded is here at =

@@ -212,7 +212,7 @@ module _ (group : Group) where
           ∙ row-left item o.object stays o.has
           ∙ ap (option_and_then (λ object. row_in object item)) (sym o.here)
 
-    -- and its charge
+    -- and its cost
     main-stays : (b : Bool) (key : List ℕ) (n : ℕ) → is_out (group ∷ []) (main key) ≡ b → is_out (group ∷ []) (part key n) ≡ false → is_out (group ∷ []) (main key) ≡ false
     main-stays true key n is stays = absurd (let z : true ≡ false = sym (out_with_main (group ∷ []) key n is) ∙ stays in cc)
     main-stays false key n is stays = is

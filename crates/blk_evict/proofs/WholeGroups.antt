@@ -38,7 +38,7 @@ use Rattle.blk_sparse.specs.Parents.{IsGoneWhole, IsGroupTold, MayGoWhole}
 use Rattle.blk_evict.proofs.GroupsOut.{charged-is, last-listed, main-is, owner-is, owner-unnamed}
 use Rattle.blk_evict.proofs.RoomApart.{key-apart}
 
--- ---- what the items of a group are charged
+-- ---- the costs of the items of a group
 
 module _ (state : State) (layout : Layout) (unlinked : List ℕ) (image : Image) (k : KeepsUncounted state layout unlinked image) where
   pub charges-are : (items : List Item) → AllByRecursion (λ item. is_listed state item ≡ true) items → charges_at layout (nodes_of layout items) ≡ sum_by (item_charge state) items

@@ -21,7 +21,7 @@ pub fn prints_go_on()
     ensures faults { FaultsGoOn }
 {}
 
-/// Without the eviction unit of an item that may be evicted, a state has so many items less as the unit has, and so much less cost.
+/// Without the eviction unit of an item that may be evicted, a state has as many items less as the unit has, and the sum of its costs is less by theirs.
 pub fn groups_are_counted_less()
     ensures { GroupsAreCountedLess }
 {}

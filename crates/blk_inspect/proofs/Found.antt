@@ -36,12 +36,12 @@ is_false : (b : Bool) → (b ≡ true → ⊥) → (x y : List ℕ) → y ≡ (i
 is_false true never x y = absurd (never refl)
 is_false false never x y = refl
 
--- an unfinished folder
+-- an uninitialized folder
 pub unfinished_shown : (asked : Question) (image : Image) → IsUnfinished image → findings_text findings.Unfinished ≡ question_text asked image
 unfolding findings_text
 unfinished_shown asked image un = is_true (unfinished image) ((unfinished_agrees image).1 un) unfinished_line (finished_text asked image)
 
--- a finished one
+-- an initialized one
 pub finished_shown : (found : Findings) (asked : Question) (image : Image) → (IsUnfinished image → ⊥) → findings_text found ≡ finished_text asked image → findings_text found ≡ question_text asked image
 finished_shown found asked image finished is = is ∙ is_false (unfinished image) (λ e. finished ((unfinished_agrees image).0 e)) unfinished_line (finished_text asked image)
 

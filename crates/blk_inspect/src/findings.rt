@@ -17,7 +17,7 @@ use blk_script::print_fields;
 /// What was read of a folder, to be printed.
 #[derive(Drop)]
 pub(crate) enum Findings {
-    // Its index is unfinished.
+    // Its index is uninitialized.
     Unfinished,
     // What was asked for isn't there.
     Nothing,

@@ -60,7 +60,7 @@ pub(crate) fn find<F: Folder>(
     }
 }
 
-// Checks the block files of a folder whose index is finished, and reads what is asked of it.
+// Checks the block files of a folder whose index is initialized, and reads what is asked of it.
 fn find_finished<F: Folder>(
     alloc: Global,
     folder: &mut F,

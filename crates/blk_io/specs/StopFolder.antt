@@ -34,8 +34,8 @@ pub record IsFolderStopped (old new : StopFolder) (failed : Bool) : Type 0 where
   pub counts : stop_counts new ≡ stop_counts old
   pub left : steps_left new ≡ steps_left old
 
--- with no step left the call fails and changes nothing; otherwise the folder inside counts it, and it fails there exactly for this cause (or for want of
--- memory)
+-- with no step left the call fails and changes nothing; otherwise the folder inside counts it, and it fails there exactly for this cause, or since it is out of
+-- memory
 pub record PassesOn (old new : StopFolder) (failed cause : Bool) : Type 0 where
   pub stopped : steps_left old ≡ 0 → IsFolderStopped old new failed
   pub passed : 0 < steps_left old → CountsCall (stop_counts old) (stop_counts new) failed cause

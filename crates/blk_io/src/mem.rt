@@ -246,7 +246,7 @@ impl Folder for MemFolder {
         ensures failed { OnErr result (Rises (mem_counts self.old).faults (mem_counts self.new).faults) }
         ensures counted { CountsCall (mem_counts self.old) (mem_counts self.new) (is_err result) (fails_next (mem_counts self.old)) }
 
-        // It fails exactly where it is listed, since it takes no memory.
+        // The call fails exactly where it is listed, since it takes no memory.
         ensures exact { is_err result ≡ fails_next (mem_counts self.old) }
     {
         self.calls.pass()?;
@@ -261,7 +261,7 @@ impl Folder for MemFolder {
         ensures failed { OnErr result (Rises (mem_counts self.old).faults (mem_counts self.new).faults) }
         ensures counted { CountsCall (mem_counts self.old) (mem_counts self.new) (is_err result) (fails_next (mem_counts self.old)) }
 
-        // It fails exactly where it is listed, since it takes no memory, and then leaves `out` as it was.
+        // The call fails exactly where it is listed, since it takes no memory, and then leaves `out` as it was.
         ensures exact { is_err result ≡ fails_next (mem_counts self.old) }
         ensures unfilled { OnErr result (out.new ≡ out.old) }
     {
@@ -321,7 +321,7 @@ impl Folder for MemFolder {
         ensures failed { OnErr result (Rises (mem_counts self.old).faults (mem_counts self.new).faults) }
         ensures counted { CountsCall (mem_counts self.old) (mem_counts self.new) (is_err result) (fails_next (mem_counts self.old)) }
 
-        // It fails exactly where it is listed, since it takes no memory.
+        // The call fails exactly where it is listed, since it takes no memory.
         ensures exact { is_err result ≡ fails_next (mem_counts self.old) }
     {
         self.calls.pass()?;

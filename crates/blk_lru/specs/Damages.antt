@@ -42,7 +42,7 @@ IsNeighbourDamage node files old new damage = (IsNodeLinkDamage node NodeView.NE
 abbrev pub IsRemovalDamage : (node : ℕ) → BlockFiles → (old new : Told) → Damage → Type 0
 IsRemovalDamage node files old new damage = IsNeighbourDamage node files old new damage ⊎ IsWrongNode files new damage
 
--- why a touch fails: the head can't be used, and nothing was written; or for a reason for which a removal fails
+-- why an access fails: the head can't be used, and nothing was written; or for a reason for which a removal fails
 abbrev pub IsTouchDamage : (node : ℕ) → BlockFiles → (old new : Told) → Damage → Type 0
 IsTouchDamage node files old new damage = (IsListHeadDamage files old damage × Stays old new) ⊎ IsRemovalDamage node files old new damage
 

@@ -22,7 +22,7 @@ pub record HasGoodLinks (list : ListView) (node : ℕ) : Type 0 where
   pub next_good : list.checks (list.next node) ≡ true
   pub prev_good : list.checks (list.prev node) ≡ true
 
--- precondition of a touch: its writes can be made, the node passes its check, and unless it is the head its next and its prev do
+-- precondition of `touch`: its writes can be made, the node passes its check, and unless it is the head its next and its prev do
 pub record CanBeTouched (image : Image) (node : ℕ) : Type 0 where
   pub writes : CanBeMade image (touch_writes node (list_of image))
   pub good : (list_of image).checks node ≡ true

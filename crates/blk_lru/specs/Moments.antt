@@ -16,8 +16,8 @@ pub record IsMidOperation (files : BlockFiles) (writes : List ListWrite) (old ne
   pub completes : CompletesTo (if nat_lt partly.made 2 then old else new) image
   pub is_open : IsOpen files image
 
--- in a touch of the node a prefix of its writes is made, and the bytes of this node may change; the redo gives the old list until two writes are made, and the
--- new one from then on
+-- in an access of the node a prefix of its writes is made, and the bytes of this node may change: the redo gives the old list until two writes are made, and
+-- the new one from then on
 pub record IsMidTouch (files : BlockFiles) (node : ℕ) (writes : List ListWrite) (old new : List ℕ) (from image : Image) : Type 0 where
   pub partly : IsTouched from node writes image
   pub completes : CompletesTo (if nat_lt partly.made 2 then old else new) image

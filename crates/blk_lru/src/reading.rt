@@ -31,7 +31,7 @@ pub(crate) const HEAD: u64 = IndexHead::HEADS;
 
 pub(crate) const TAIL: u64 = IndexHead::TAILS;
 
-/// The node that was used last, or `None` where the list is empty, by one folder call.
+/// The node that was used most recently, the first of the list, or `None` where the list is empty, by one folder call.
 ///
 /// A word that is neither 0 nor the address of a node that is there is corruption.
 pub fn first<F: Folder>(f: &mut F, files: &BlockFiles) -> Result<Option<Addr>, Fault>
@@ -48,7 +48,7 @@ pub fn first<F: Folder>(f: &mut F, files: &BlockFiles) -> Result<Option<Addr>, F
     end_of_list(f, files, HEAD)
 }
 
-/// The node that was used first, or `None` where the list is empty, by one folder call.
+/// The node that was used least recently, the last of the list, or `None` where the list is empty, by one folder call.
 ///
 /// A word that is neither 0 nor the address of a node that is there is corruption.
 pub fn last<F: Folder>(f: &mut F, files: &BlockFiles) -> Result<Option<Addr>, Fault>
@@ -65,7 +65,7 @@ pub fn last<F: Folder>(f: &mut F, files: &BlockFiles) -> Result<Option<Addr>, Fa
     end_of_list(f, files, TAIL)
 }
 
-/// The node before a listed one, which was used after it, or `None` before the first, by one folder call.
+/// The node before a listed one, which was used more recently, or `None` before the first, by one folder call.
 ///
 /// A link that isn't the address of a node that is there is corruption.
 pub fn before<F: Folder>(f: &mut F, files: &BlockFiles, node: Addr) -> Result<Option<Addr>, Fault>
@@ -84,7 +84,7 @@ pub fn before<F: Folder>(f: &mut F, files: &BlockFiles, node: Addr) -> Result<Op
     Ok(unless_same(node, other))
 }
 
-/// The node after a listed one, which was used before it, or `None` after the last, by one folder call.
+/// The node after a listed one, which was used less recently, or `None` after the last, by one folder call.
 ///
 /// A link that isn't the address of a node that is there is corruption.
 pub fn after<F: Folder>(f: &mut F, files: &BlockFiles, node: Addr) -> Result<Option<Addr>, Fault>

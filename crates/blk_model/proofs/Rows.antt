@@ -98,7 +98,7 @@ flushed_object_stays : replies new (to_create 0 (codes "a") ∷ to_create 1 (cod
 unfolding computing
 flushed_object_stays = refl
 
--- a doomed object is also written through its handle, and is charged until it is closed
+-- a doomed object is also written through its handle, and counts with its cost until it is closed
 doomed_object_is_written : replies new (to_create 0 (codes "k") ∷ to_doom_key (codes "k") ∷ to_write 0 2 0 false (codes "abc") ∷ to_total ∷ to_list ∷ to_read 0 2 1 9 ∷ to_close 0 ∷ to_total ∷ [])
     ≡ ok ∷ ok ∷ wrote 3 ∷ totals 1 4 ∷ ([], showed []) ∷ gives (codes "bc") ∷ ok ∷ totals 0 0 ∷ []
 unfolding computing

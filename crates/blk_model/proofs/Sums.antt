@@ -270,7 +270,7 @@ signature_is state valid n object here live =
 plus_none : (n : ℕ) → n ≡ n + 0
 plus_none n = omega arith
 
--- what a slot is charged is what its rows are charged, or what it is charged as a doomed object
+-- the cost of a slot is the sum of the costs of its rows, or its cost as a doomed object
 slot_charge : (state : State) (valid : IsValidState state) (n : ℕ) (slot : Option Object) → object_at state n ≡ slot → of_slot charge slot ≡ slot_weight (row_charge state) slot + doomed_charge slot
 unfolding slot_weight charge
 slot_charge state valid n None here = refl

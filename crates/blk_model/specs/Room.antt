@@ -27,11 +27,11 @@ items_of_group (single key n) = part key n ∷ []
 abbrev pub is_out : List Group → Item → Bool
 is_out groups item = list_any (takes item) groups
 
--- what an object is charged as a main item
+-- the cost of an object as a main item
 abbrev pub own_charge : Object → ℕ
 own_charge object = main_charge object.key object.shape object.streams
 
--- what an object is charged with its parts
+-- the cost of an object with its parts
 unfoldable pub charge : Object → ℕ
 charge object = own_charge object + sum_by (λ p. part_charge object.key (signature_of object.shape) p.0 p.1) object.parts
 
@@ -44,7 +44,7 @@ abbrev pub of_slot : (Object → ℕ) → Option Object → ℕ
 of_slot number None = 0
 of_slot number (Some object) = number object
 
--- what all objects are charged
+-- the sum of the costs of all objects
 abbrev pub total_of : List (Option Object) → ℕ
 total_of objects = sum_by (of_slot charge) objects
 
@@ -52,7 +52,7 @@ total_of objects = sum_by (of_slot charge) objects
 abbrev pub count_of : List (Option Object) → ℕ
 count_of objects = sum_by (of_slot item_count) objects
 
--- the bytes that count against the limits: the charges of all items and all doomed objects
+-- the bytes that count against the limits: the costs of all items and all doomed objects
 abbrev pub total : State → ℕ
 total state = total_of state.objects
 

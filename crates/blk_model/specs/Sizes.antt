@@ -57,11 +57,11 @@ largest_offset = 68719476736
 abbrev pub signatures : ℕ
 signatures = 2 ^ 63
 
--- what a sparse object is charged for the index of its parts
+-- the cost of the index of the parts of a sparse object, in bytes
 abbrev pub parts_index_charge : ℕ
 parts_index_charge = 8256
 
--- what a part is charged for the index of its blocks
+-- the cost of the index of the blocks of a part, in bytes
 abbrev pub blocks_index_charge : ℕ
 blocks_index_charge = 192
 

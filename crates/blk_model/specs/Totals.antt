@@ -11,12 +11,12 @@ use Rattle.blk_model.specs.Room.{own_charge, total, items}
 abbrev pub signature_for : State → List ℕ → ℕ
 signature_for state key = option_map_or (λ object. signature_of object.shape) (owner_object state (main key)) 0
 
--- what a row of a state is charged; the name of a part has its parent's signature
+-- the cost of a row of a state; the name of a part has its parent's signature
 abbrev pub row_charge : State → Row → ℕ
 row_charge state (main_row key shape streams) = main_charge key shape streams
 row_charge state (part_row key n value) = part_charge key (signature_for state key) n value
 
--- what a doomed object is charged; nothing of a live one
+-- the cost of a doomed object; 0 of a live one
 abbrev pub doomed_charge : Option Object → ℕ
 doomed_charge None = 0
 doomed_charge (Some object) = if object.live then 0 else own_charge object

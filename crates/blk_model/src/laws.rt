@@ -39,24 +39,24 @@ pub fn steps_keep_states_valid()
     ensures { StepsKeepStatesValid }
 {}
 
-/// The LRU list after the list steps of a command is that of the state after it.
+/// The list steps of a command, made on the LRU list of the state before it, lead to that of the state after it.
 pub fn list_steps_lead_to_the_lru_list()
     ensures { ListStepsLeadToTheLruList }
 {}
 
-/// A cache that finds a valid snapshot opens with a valid state, and that snapshot is the durable contents of it.
+/// A valid snapshot is opened as a valid state, whose durable contents are that snapshot.
 pub fn opened_states_are_valid()
     ensures valid { OpenedStatesAreValid }
     ensures at_rest { WhatIsFoundIsAtRest }
 {}
 
-/// The durable contents in a valid state are a valid snapshot, and so is whatever a crash leaves.
+/// The durable contents of a valid state are a valid snapshot, and so is each crash outcome of a command.
 pub fn stops_leave_holdings()
     ensures rests { RestsAreHoldings }
     ensures stops { StopsLeaveHoldings }
 {}
 
-/// The durable contents before a command, and those after it, may be left by a crash in it.
+/// The durable contents before a command, and those after it, are crash outcomes of it.
 pub fn stops_may_leave_what_is_at_rest()
     ensures before { StopsMayLeaveWhatWas }
     ensures after { StopsMayLeaveWhatIs }
@@ -70,13 +70,12 @@ pub fn refusals_change_nothing()
     ensures handles { NoneIsRefusedForNoHandle }
 {}
 
-/// The totals are the sums over the listed rows and the doomed objects.
+/// The totals of a valid state, its bytes and its items, are the sums over its listed rows and its doomed objects.
 pub fn totals_are_sums()
     ensures { TotalsAreSums }
 {}
 
-/// What a command evicts goes first: the durable contents without the first groups may be left by a crash in it, and so may what a crash in the rest of it
-/// leaves.
+/// What a command evicts goes first: the durable contents without its first groups are a crash outcome of it, and so is what a crash later in it leaves.
 pub fn evictions_come_first()
     ensures stops { EvictionsMayStop }
     ensures later { EvictionsComeFirst }

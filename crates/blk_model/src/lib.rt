@@ -189,7 +189,7 @@ pub enum Answer {
     Listed(u64),
     /// So many items were evicted.
     Trimmed(u64),
-    /// The number of items and the bytes that they are charged.
+    /// The number of items, and the sum of their costs in bytes.
     Totals { items: u64, bytes: u64 },
     /// It was refused.
     Refused(Refusal),

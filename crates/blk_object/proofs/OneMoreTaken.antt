@@ -1,4 +1,5 @@
--- One item more is taken out, while others of its object may be out already: what holds as its record goes, and in the end, where the seals of what is left hold.
+-- One item more is taken out, while others of its object may be out already: what holds as its record goes, and in the end, where the seals of what is left
+-- hold.
 use Rattle.std.proofs.Common.{◌≡◌, ℕ, List, ◌∷◌, ◌++◌, refl, ap, sym, ◌∙◌, subst, arith, Bool, true, false, Option, Some, None, Ok, inl, inr, ⊎_elim, append_assoc}
 use Rattle.std.specs.Prelude.{◌&&◌, ◌||◌, ◌==◌, filter, if◌then◌else◌, not}
 use Rattle.std.specs.Option.{option_map_or}

@@ -1,4 +1,4 @@
--- What an entry is charged, by the words of its record.
+-- The cost of an entry, by the words of its record.
 use Rattle.std.proofs.Common.{◌≡◌, ℕ, ◌+◌, List, [], ◌∷◌, length, length-take, take, refl, ap, ap₂, sym, ◌∙◌, arith, Bool, true, false, Option, None, Some}
 use Rattle.std.specs.Prelude.{◌==◌, ◌&&◌, nat_le, not, slice_index, if◌then◌else◌}
 use Rattle.std.specs.List.{sum_by}
@@ -98,7 +98,7 @@ record-key image entry loaded with_record = load-then (store_of image) with_reco
     let here : (store_of image).entry entry ≡ Some e = ap (store_of image).entry (sym with_record.contents ∙ f.facts.contents_is) ∙ f.entry in
     key-length image n.contents e loaded.key f.facts.keyed.key ∙ sym (ap (λ (x : RecordFields). x.key_len) (shown-fields image entry e here)))
 
--- what loads is charged the sum of the lengths that its record says
+-- the cost of what loads is the sum of the lengths that its record says
 pub record-charge : (image : Image) (entry : ℕ) (loaded : Loaded) → LoadsWith entry loaded image
     → (entry_at image entry).key_len + slice_index (entry_at image entry).data_size 0 + slice_index (entry_at image entry).data_size 1 + slice_index (entry_at image entry).data_size 2 ≡ charge_of loaded
 record-charge image entry loaded with_record = load-then (store_of image) with_record.rule with_record.node loaded with_record.loads (λ n e f.

@@ -191,7 +191,7 @@ loaded-checks image entry loaded bytes with_record = load-then (store_of image) 
     let here : (store_of image).entry entry ≡ Some e = ap (store_of image).entry (sym with_record.contents ∙ f.facts.contents_is) ∙ f.entry in
     record_checks image entry bytes (standing-parts image blocks_256 entry (core-standing image entry e here)).1 (ap (λ (x : RecordFields). x.checks) (shown-fields image entry e here) ∙ f.checks))
 
--- what was read of a record are its places and its charge
+-- what was read of a record are its places and its cost
 pub owned-by : (told : Told) (entry : ℕ) (owned : Owned) → ForSome told.files (λ image. (loaded : Loaded) → LoadsWith entry loaded image → words_at owned.places ≡ words_of loaded) → ForSome told.files (λ image. (loaded : Loaded) → LoadsWith entry loaded image → owned.charge ≡ charge_of loaded)
     → (image : Image) → told.files ≡ Some image → IsOwnedBy entry owned image
 owned-by told entry owned words charge image there = record { words = words image there; charge = charge image there }

@@ -1,4 +1,4 @@
--- What the listed items are charged once a stream of one of them is written.
+-- The sum of the costs of the listed items once a stream of one of them is written.
 use Rattle.std.proofs.Common.{◌≡◌, ⊎_elim, ℕ, zero, suc, ◌+◌, ◌<◌, List, [], ◌∷◌, length, refl, ap, sym, ◌∙◌, arith, true, false, Option, None, Some}
 use Rattle.std.specs.Prelude.{◌==◌, ◌||◌, if◌then◌else◌}
 use Rattle.std.specs.List.{cons_option, filter_map, sum_by}

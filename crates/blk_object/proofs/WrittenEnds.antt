@@ -1,4 +1,4 @@
--- An object whose stream was written: what is kept then, and what its items are charged.
+-- An object whose stream was written: what is kept then, and the costs of its items.
 use Rattle.std.proofs.Common.{◌≡◌, ℕ, zero, suc, ◌+◌, ◌<◌, List, [], ◌∷◌, ◌++◌, length, refl, ap, sym, ◌∙◌, subst, arith, Bool, true, false, Some}
 use Rattle.std.specs.List.{sum_by}
 use Rattle.std.proofs.lemmas.Bool.{or_parts}
@@ -78,7 +78,7 @@ module _ (state : State) (layout : Layout) (unlinked : List ℕ) (number : ℕ) 
       let parts = streams_parts from (fields_of (entry_at from was.contents)) was.streams said.streams in
       some_inj (sym said.streams ∙ streams_known from (fields_of (entry_at from was.contents)) (stream 0 was.streams) (stream 1 was.streams) (stream 2 was.streams) fourth.0 fourth.1 (parts 0 (omega arith)) (parts 1 (omega arith)) (parts 2 (omega arith)))
 
-  -- ---- what its items are charged
+  -- ---- the costs of its items
   module _ (now : Loaded) (key : now.key ≡ was.key) (streams : now.streams ≡ stored_streams_with i new was.streams) where
     after-stream : stream_of (after_write object i offset cut bytes) i ≡ new
     after-stream = stream-again object.streams i new few

@@ -326,7 +326,8 @@ module _ (state : State) (layout : Layout) (unlinked : List ℕ) (from : Image) 
 
 -- ---- what may be written so
 
--- what lies at a node may have other streams and another role: while it changes inside the old durable contents are recovered, and once it has them the next state is kept
+-- what lies at a node may have other streams and another role: while it changes inside the old durable contents are recovered, and once it has them the next
+-- state is kept
 pub record MayBecome (state after : State) (layout : Layout) (node : ℕ) (was : Loaded) (role : Role) (streams : List (List ℕ)) : Type 0 where
   pub lies : layout.at node ≡ Some was
   pub among : (unlinked : List ℕ) (from : Image) (k : KeepsUncounted state layout unlinked from) → is_among (all_nodes state layout k.numbers) node ≡ true

@@ -1,4 +1,5 @@
--- What lies at a node while a stream of it is written, stage by stage: the old durable contents are recovered at each word, and the next state is kept in the end.
+-- What lies at a node while a stream of it is written, stage by stage: the old durable contents are recovered at each word, and the next state is kept in the
+-- end.
 use Rattle.std.proofs.Common.{◌≡◌, ◌≢◌, ⊎_elim, inl, inr, ℕ, ◌+◌, ◌<◌, ◌≤◌, List, [], ◌∷◌, ◌++◌, length, refl, ap, ap₂, sym, ◌∙◌, subst, arith, Bool, true, false, Option, Some, None}
 use Rattle.std.specs.Prelude.{◌⊎◌, ◌==◌, not, unwrap_or, if◌then◌else◌}
 use Rattle.std.specs.List.Sorted.{IsPermutation}

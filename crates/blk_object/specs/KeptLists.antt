@@ -67,16 +67,16 @@ RemovalsAreDone =
     (files : BlockFiles) (node : ℕ) (old new : Told) → TellsBytes old → ForSome old.files (IsOpen files) → ForSome old.files (IsAmidList node)
     → ForSome old.files (λ from. Applies old new (operation_steps remove node from)) → ForSome old.files (λ from. ForSome new.files (IsRemovalDone from node))
 
--- Touches.
+-- Accesses.
 
--- while a node of the list is touched, a prefix of the writes of the touch is made, and its times perhaps set
+-- while a node of the list is accessed, a prefix of the writes of the access is made, and its times perhaps set
 abbrev pub TouchesArePartly : Type 0
 TouchesArePartly =
     (files : BlockFiles) (node : ℕ) (old new : Told) → ForSome old.files (IsAmidList node)
     → ForSome old.files (λ from. (prefix suffix : List ℕ) → HasListAtRest (prefix ++ node ∷ suffix) from → Passes old new (IsMidTouch files node (touch_writes node (list_of from)) (prefix ++ node ∷ suffix) (node ∷ prefix ++ suffix) from))
     → ForSome old.files (λ from. Passes old new (IsTouched from node (touch_writes node (list_of from))))
 
--- a touch of a node of the list is done after all its steps
+-- an access of a node of the list is done after all its steps
 abbrev pub TouchesAreDone : Type 0
 TouchesAreDone =
     (files : BlockFiles) (node moment : ℕ) (old new : Told) → TellsBytes old → ForSome old.files (IsOpen files) → ForSome old.files (IsAmidList node)

@@ -41,7 +41,7 @@ pub fn external_files_are_gone()
 {}
 
 /// A folder that keeps a state meets the preconditions of `insert_front` for a new entry's node, and of `remove` and `touch` for that of a listed item. In an
-/// insert, a removal and a touch a prefix of the writes is made, and after all steps it is done.
+/// insert, a removal and an access a prefix of the writes is made, and after all steps it is done.
 pub fn nodes_are_listed()
     ensures new { NewNodesCanBeInserted }
     ensures listed { ListedNodesAreInTheList }
@@ -62,8 +62,8 @@ pub fn dirty_words_are_set()
     ensures set { MarksAreSet }
 {}
 
-/// When its node is in the list, the record of a new entry meets the precondition of `link_front`. In a link nothing has changed yet, or the record is linked;
-/// after all steps it is.
+/// Once its node is in the list, the record of a new entry meets the precondition of `link_front`. While it is linked nothing has changed yet, or the record is
+/// in front of its chain; after all steps it is.
 pub fn records_are_linked()
     ensures asked { NewRecordsCanBeLinked }
     ensures each { LinksComeInFront }
@@ -78,8 +78,8 @@ pub fn new_entries_are_written()
     ensures new { WrittenEntriesAreNew }
 {}
 
-/// The record of an item that is out of the list meets the precondition of `unlink`. While it is unlinked it is in its chain or out of it; when it is, its
-/// chain is the old one without it, and the other chains and the files are unchanged.
+/// The record of an item that is out of the list meets the precondition of `unlink`. While the record is unlinked it is in its chain or out of it; once it is
+/// out, the chain is the old one without it, and the other chains and the files are unchanged.
 pub fn records_are_unlinked()
     ensures asked { KeptRecordsCanBeUnlinked }
     ensures each { UnlinkingsChangeLinks }

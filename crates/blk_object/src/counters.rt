@@ -1,4 +1,4 @@
-// The counters of the index, which count the entries and their charges.
+// The counters of the index: the number of entries and the sum of their costs.
 ghost use Rattle.std.specs.Prelude.{◌≡◌, ◌<◌, ◌+◌, ◌/◌, ◌%◌, ◌^◌, [], None, IfOk, OnErr, OnOk};
 ghost use Rattle.std.specs.Option.{ForSome};
 ghost use Rattle.spec_image.specs.Told.{Passes, MayWrite, ReadsOnly};

@@ -2,9 +2,9 @@
 ghost use Rattle.blk_object.specs.ListedParts.{FirstPartsLieNext, FoundNamesAreTheParts, FoundPartsLieNext, NoPartsLeftAreAllOut, PartsHaveTheirNames};
 ghost use Rattle.blk_object.specs.RemovingNext.{CountedLessIsStillOut, CountedLessLeavesSession, CountedOutDoomsEnd, CountedOutEndsKept, CountedOutGroupsAreGone, KeptStatesCountAll, NextItemsAreCountedLess};
 
-/// The index counts all items of a state at first, and those that are left after one more is out and the counters are lowered by it; lowering them keeps the
-/// state with the items out, and the session. When all items to be removed are out, the folder keeps the state without them: that after a DoomKey, or that
-/// without the next eviction unit.
+/// While the items of a kept state are removed one after another, the index counts those that are left, once its counters are lowered by each item that is out;
+/// lowering them keeps the state with these items out, and the session. When all items to be removed are out, the folder keeps the state without them: that
+/// after a DoomKey, or that without the next eviction unit.
 pub fn left_items_are_counted()
     ensures all { KeptStatesCountAll }
     ensures less { NextItemsAreCountedLess }

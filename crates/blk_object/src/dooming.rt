@@ -35,10 +35,11 @@ pub fn doom_record<F: Folder>(folder: &mut F, files: &BlockFiles, entry: Addr) -
     requires stands { IsTrue (stands_among files.now entry) }
     requires is_open { ForSome (F.told folder.old).files (IsOpen files.now) }
 
-    // Where it loads yet, by itself, it loads as a doomed object in the end: so the state with it doomed is kept, with its words in it.
+    // Where the record of a main item that is out loads by itself, it loads as a doomed object in the end: so the state with it doomed is kept, with its words
+    // in use.
     ensures doomed { OnOk result (ForSome (F.told folder.old).files (λ from. ForEachOut entry from (λ state layout number object loaded chains unlinked. ForSome (F.told folder.new).files (IsDoomedOut state layout number object loaded chains unlinked from)))) }
 
-    // At each word the durable contents with it doomed are recovered.
+    // At each word the durable contents with the object doomed are recovered.
     ensures stops { ForSome (F.told folder.old).files (λ from. ForEachOut entry from (λ state layout number object loaded chains unlinked. Passes (F.told folder.old) (F.told folder.new) (Finds (rest (doomed number state (Some object)))))) }
 
     ensures is_open { ForSome (F.told folder.new).files (IsOpen files.now) }
@@ -55,7 +56,7 @@ pub fn doom_record<F: Folder>(folder: &mut F, files: &BlockFiles, entry: Addr) -
 }
 
 /// Dooms a live object without parts that a handle names: its main item is taken out of the LRU list and of its chain,
-/// its record gets the state of a doomed one, and the index counts one entry less, with its charge, in bytes. Nothing
+/// its record gets the state of a doomed one, and the index counts one entry less, and its cost no longer. Nothing
 /// is freed: its places stay its until the last handle is closed.
 ///
 /// Its record is in its chain after the record before, or is the first; and it names this node. This takes as many
@@ -74,7 +75,7 @@ pub fn doom_plain<F: Folder>(
     requires stands_before { IfSome found.now.before (λ before. IsTrue (stands_among files.now before)) }
     requires is_open { ForSome (F.told folder.old).files (IsOpen files.now) }
 
-    // Where all items are counted, and this is its charge, the state with it doomed is kept and counted in the end, with the same words unlinked.
+    // Where all items are counted, and `charge` is the cost of the object, the state with it doomed is kept and counted in the end, the same words unlinked.
     ensures doomed { OnOk result (ForSome (F.told folder.old).files (λ from. ForEachHeld node found.now.entry found.now.before from (λ state layout unlinked number object loaded. CountsItems from state layout → charge ≡ charge_of loaded → ForSome (F.told folder.new).files (Keeps (doomed number state (Some object)) (layout_held layout number object loaded) unlinked)))) }
 
     // At each word the old durable contents are recovered, or those with it doomed.

@@ -48,11 +48,12 @@ pub fn next_part<F: Folder>(
     requires buffer { most_key ≤ length buffer.old }
     requires is_open { ForSome (F.told folder.old).files (IsOpen files.now) }
 
-    // Where some items are out, or none, it is the first part of the key among the others, or after that one; and there is none exactly where none is found.
+    // Where some items are out, or none, the answer is the first part of the key among the others, or after the item of `from`; it is None exactly where none
+    // is.
     ensures part { IfOk result (λ found. ForSome (F.told folder.old).files (λ image. ForEachSearch from image (λ layout items. IsFoundPart layout key.now items found))) }
     ensures there { IfOk result (λ found. IfSome found (IsPartThere files.now)) }
 
-    // On every folder none is found only where the list ends.
+    // On every folder the answer is None only where the list ends.
     ensures ends { IfOk result (λ found. found ≡ None → ForSome (F.told folder.old).files (WalkEnds files.now NodeView.NEXT from)) }
 
     // On every folder its record has the name of that part.
@@ -66,7 +67,7 @@ pub fn next_part<F: Folder>(
     // Corruption is a check that fails on what is read here; nothing is written after it.
     ensures damaged { IfDamaged result (IsFailedCheck files.now (F.told folder.new)) }
 
-    // An observable folder, in which a state is so, reports no corruption.
+    // An observable folder that keeps a state, with some items out or none, reports no corruption.
     ensures untold { ForSome (F.told folder.old).files (λ image. ForEachSearch from image (λ layout items. IfDamaged result (λ _. (F.told folder.old).files ≡ None))) }
 {
     let mut last = from;

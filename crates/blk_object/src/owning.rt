@@ -45,7 +45,7 @@ pub fn read_owned<F: Folder>(
     requires kind { kind_of entry ≡ blocks_256 }
     requires stands { IsTrue (stands_among files.now entry) }
 
-    // They are all the address words of what lies there with this record, and each is there.
+    // The answered places are those of all the address words of what lies there with this record, and each is there.
     ensures words { IfOk result (λ owned. ForSome (F.told folder.old).files (λ image. (loaded : Loaded) → LoadsWith entry loaded image → words_at owned.places ≡ words_of loaded)) }
     ensures charge { IfOk result (λ owned. ForSome (F.told folder.old).files (λ image. (loaded : Loaded) → LoadsWith entry loaded image → owned.charge ≡ charge_of loaded)) }
     ensures small { IfOk result (λ owned. owned.charge < 2 ^ 34) }

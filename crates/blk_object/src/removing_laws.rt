@@ -15,7 +15,7 @@ pub fn taken_items_are_removed()
     ensures each { GoingOutIsRemoving }
 {}
 
-/// Where the index counts a state, it counts that without an item when its counters are lowered by the item and its cost.
+/// Where the index counts a state, and its counters are lowered by an item and its cost, it counts the state without that item.
 pub fn less_is_counted()
     ensures { LessIsCounted }
 {}

@@ -40,7 +40,7 @@ pub fn take_main<F: Folder>(
     requires stands_before { IfSome found.now.before (λ before. IsTrue (stands_among files.now before)) }
     requires is_open { ForSome (F.told folder.old).files (IsOpen files.now) }
 
-    // Where all items are counted, and this is its charge, it is out in the end, and those that are left are counted.
+    // Where all items are counted, and `charge` is the cost of the main item, this item is out in the end, and those that are left are counted.
     ensures out { OnOk result (ForSome (F.told folder.old).files (λ from. ForEachMain node found.now.entry found.now.before from (λ state layout unlinked number object was. CountsItems from state layout → charge ≡ charge_of was → ForSome (F.told folder.new).files (IsMainOut state layout unlinked object.key was)))) }
 
     // At each word the old durable contents are recovered, or those with the object doomed.

@@ -41,11 +41,11 @@ pub fn remove_item<F: Folder>(
     requires stands_before { IfSome found.now.before (λ before. IsTrue (stands_among files.now before)) }
     requires is_open { ForSome (F.told folder.old).files (IsOpen files.now) }
 
-    // The charge is that of what lay there with this record.
+    // The answer is the cost of what lay there with this record.
     ensures charge { IfOk result (λ charge. ForSome (F.told folder.old).files (λ from. (was : Loaded) → LoadsWith found.now.entry was from → charge ≡ charge_of was)) }
 
-    // Where such an item lies there in a state that is kept and counted, the state without it is so in the end. At each word the old durable contents are recovered, or those without
-    // it.
+    // Where such an item lies there in a state that is kept and counted, the state without it is so in the end. At each
+    // word the old durable contents are recovered, or those without it.
     ensures removed { OnOk result (ForSome (F.told folder.old).files (λ from. ForEachAlone node found.now.entry found.now.before from (λ state after layout unlinked. ForSome (F.told folder.new).files (IsRemovedWhole after layout unlinked node found.now.entry)))) }
     ensures stops { ForSome (F.told folder.old).files (λ from. ForEachAlone node found.now.entry found.now.before from (λ state after layout unlinked. Passes (F.told folder.old) (F.told folder.new) (FindsEither state after))) }
 
@@ -83,8 +83,8 @@ pub fn remove_read<F: Folder>(
     requires places { All (IsPlaceAmong files.now) owned.now.places }
     requires is_open { ForSome (F.told folder.old).files (IsOpen files.now) }
 
-    // Where these are its places and its charge, and such an item lies there in a state that is kept and counted, the state without it is so in the end. At each word the old durable contents are recovered, or those without
-    // it.
+    // Where these are its places and its cost, and such an item lies there in a state that is kept and counted, the state without it is so in the end. At each
+    // word the old durable contents are recovered, or those without it.
     ensures removed { OnOk result (ForSome (F.told folder.old).files (λ from. IsOwnedBy found.now.entry owned.now from → ForEachAlone node found.now.entry found.now.before from (λ state after layout unlinked. ForSome (F.told folder.new).files (IsRemovedWhole after layout unlinked node found.now.entry)))) }
     ensures stops { ForSome (F.told folder.old).files (λ from. IsOwnedBy found.now.entry owned.now from → ForEachAlone node found.now.entry found.now.before from (λ state after layout unlinked. Passes (F.told folder.old) (F.told folder.new) (FindsEither state after))) }
 

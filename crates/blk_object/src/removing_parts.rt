@@ -42,7 +42,7 @@ pub fn remove_part<F: Folder>(
     requires stands_before { IfSome found.now.before (λ before. IsTrue (stands_among files.now before)) }
     requires is_open { ForSome (F.told folder.old).files (IsOpen files.now) }
 
-    // The charge is that of what lay there with this record.
+    // The answer is the cost of what lay there with this record.
     ensures charge { IfOk result (λ charge. ForSome (F.told folder.old).files (λ from. (was : Loaded) → LoadsWith found.now.entry was from → charge ≡ charge_of was)) }
     ensures small { IfOk result (λ charge. charge < 2 ^ 34) }
 

@@ -30,7 +30,7 @@ impl<'a> IndexHead<'a> {
     /// The bytes of a whole index.
     pub const INDEX_LEN: u64 = 262_512;
 
-    /// The magic number of a finished index.
+    /// The magic number of an initialized index.
     pub const MAGIC: u32 = 0xC103_CAC3;
 
     /// The version that folders had first, which is read too.
@@ -127,7 +127,7 @@ impl<'a> IndexHead<'a> {
         word(self.window, Self::NUM_ENTRIES as usize)
     }
 
-    /// The sum of the items' charges modulo 2^32 in the first version, and 0 in the later one.
+    /// The sum of the items' costs modulo 2^32 in the first version, and 0 in the later one.
     pub fn num_bytes(&self) -> u32
         ensures { result ≡ num_bytes_of (content self.now) }
     {
@@ -183,7 +183,7 @@ impl<'a> IndexHead<'a> {
         long(self.window, Self::CREATE_TIME as usize)
     }
 
-    /// The sum of the items' charges; the first version has no such field.
+    /// The sum of the items' costs; the first version has no such field.
     pub fn num_bytes64(&self) -> u64
         ensures { result ≡ num_bytes64_of (content self.now) }
     {

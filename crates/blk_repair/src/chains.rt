@@ -50,7 +50,7 @@ fn link<F: Folder>(folder: &mut F, files: &BlockFiles, records: &[Addr]) -> Resu
     ensures prefix { MakesPartOf (F.told folder.old) (F.told folder.new) (λ from. next_words_steps records.now from) }
     ensures damaged { IfDamaged result (IsFailedLink files.now (F.told folder.new)) }
 
-    // An observable folder reports corruption only where not all of them check.
+    // An observable folder reports corruption only where not all of the records check.
     ensures untold { ForSome (F.told folder.old).files (AllCheck records.now) → IfDamaged result (λ _. (F.told folder.old).files ≡ None) }
     ensures later { F.faults folder.old ≤ F.faults folder.new }
     ensures device { IfDevice result (Rises (F.faults folder.old) (F.faults folder.new)) }

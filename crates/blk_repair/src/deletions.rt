@@ -32,8 +32,8 @@ pub fn delete_unlinked<F: Folder>(folder: &mut F, files: &BlockFiles) -> Result<
     ensures steps { OnOk result (DeletesAll (is_unlinked files.now) last_first_file (F.told folder.old) (F.told folder.new)) }
     ensures prefix { DeletesSome (is_unlinked files.now) last_first_file (F.told folder.old) (F.told folder.new) }
 
-    // Where the links are repaired they stay so at each deletion, with the same kept and found, and the crash word is spared; and what was repaired of the files and of the seals is so
-    // still.
+    // Where the links are repaired they stay so at each deletion, with the same kept and found, and the crash word is spared; and what was repaired of the
+    // files and of the seals is so still.
     ensures stops { ForSome (F.told folder.old).files (λ from. (entry : Image) → HasMendedLinksOf entry from → RepairBreaksOff (F.told folder.old) (F.told folder.new) (IsMidDeletion entry from)) }
 
     ensures is_open { ForSome (F.told folder.new).files (IsOpen files.now) }
@@ -63,13 +63,13 @@ pub fn delete_unclaimed<F: Folder>(folder: &mut F, claims: &Claims) -> Result<()
     ensures steps { OnOk result (DeletesAll (is_unclaimed claims.now) last_block_file (F.told folder.old) (F.told folder.new)) }
     ensures prefix { DeletesSome (is_unclaimed claims.now) last_block_file (F.told folder.old) (F.told folder.new) }
 
-    // The links then stay repaired at each deletion, with the same kept and found, and the crash word is spared; and what was repaired of the files and of the seals is so
-    // still.
+    // The links then stay repaired at each deletion, with the same kept and found, and the crash word is spared; and what was repaired of the files and of the
+    // seals is so still.
     ensures stops { ForSome (F.told folder.old).files (λ from. (entry : Image) → IsNextRebuilt entry claims.now from → RepairBreaksOff (F.told folder.old) (F.told folder.new) (IsMidDeletion entry from)) }
 
     ensures is_open { (files : BlockFiles) → ForSome (F.told folder.old).files (IsOpen files) → ForSome (F.told folder.new).files (IsOpen files) }
 
-    // Where only those are there already, no step is made.
+    // Where only external files that what is kept uses are there already, no step is made.
     ensures clean { ForSome (F.told folder.old).files (λ from. (entry : Image) → IsNextRebuilt entry claims.now from → OnlyClaimed from (claims_of_loaded (kept from)) → Stays (F.told folder.old) (F.told folder.new)) }
 
     ensures later { F.faults folder.old ≤ F.faults folder.new }

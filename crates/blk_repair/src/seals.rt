@@ -26,14 +26,14 @@ pub fn seal_records<F: Folder>(
     ensures steps { OnOk result (ForSome (F.told folder.old).files (λ from. Applies (F.told folder.old) (F.told folder.new) (seals_steps records.now from))) }
     ensures prefix { MakesPartOf (F.told folder.old) (F.told folder.new) (λ from. seals_steps records.now from) }
 
-    // Where the links are repaired and these nodes and records are kept, the links stay so at each word, with the same kept and found; in the end these are sealed, so all that is kept is where the others were, and what was sealed or repaired of the files is so
-    // still.
+    // Where the links are repaired and these nodes and records are kept, the links stay so at each word, with the same kept and found; in the end these are
+    // sealed, so all that is kept is where the others were, and what was sealed or repaired of the files is so still.
     ensures sealed { OnOk result (ForSome (F.told folder.old).files (λ from. (entry : Image) → IsNextSealed entry records.now from → ForSome (F.told folder.new).files (AreSealedNow entry from records.now))) }
     ensures stops { ForSome (F.told folder.old).files (λ from. (entry : Image) → IsNextSealed entry records.now from → Passes (F.told folder.old) (F.told folder.new) (HasMendedLinksOf entry)) }
 
     ensures is_open { ForSome (F.told folder.new).files (IsOpen files.now) }
 
-    // An observable folder reports corruption only where not all of them are kept.
+    // An observable folder reports corruption only where not all of these nodes and records are kept.
     ensures damaged { IfDamaged result (IsWrongSealed files.now (F.told folder.new)) }
     ensures untold { ForSome (F.told folder.old).files (λ from. (entry : Image) × IsNextSealed entry records.now from) → IfDamaged result (λ _. (F.told folder.old).files ≡ None) }
 

@@ -23,7 +23,7 @@ use Rattle.blk_run.proofs.Performing.{cause_wider}
 use Rattle.blk_run.proofs.ScriptCauses.{rises_until}
 use Rattle.blk_run.proofs.SessionEnds.{rises_since}
 
--- a folder that is unfinished or well formed is not corrupt
+-- a folder that is uninitialized or well formed is not corrupt
 pub sound : {P : Type 0} (damage : checks.Damage) (image : Image) → IsUsable image → IsDamagedBy damage image → P
 sound damage image (inl unfinished) is = absurd (is.finished unfinished)
 sound damage image (inr formed) is = absurd (never (sym formed ∙ is.first))

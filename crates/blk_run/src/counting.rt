@@ -40,13 +40,13 @@ pub(crate) fn run_count<F: Folder, K: Sink, C: Clock>(
     folder: &mut F,
     clock: &mut C,
 ) -> Status
-    // On a folder that is unfinished or well formed it is the run of the script of `count` on the map model.
+    // On a folder that is uninitialized or well formed it is the run of the script of `count` on the map model.
     ensures script { ForSome (F.told folder.old).files (λ from. IsUsable from → ForSome (C.readings clock.old) (λ readings. (left : Option (List ℕ)) → FixedScript result count_script (bounds_of limits) from readings (Rises (K.faults out.old) (K.faults out.new)) (outside (F.told folder.old) (K.written out.old) left (C.readings clock.old)) (outside (F.told folder.new) (K.written out.new) left (C.readings clock.new)))) }
 
     // Where nothing fails the whole output is printed, unless it is out of memory.
     ensures complete { ForSome (F.told folder.old).files (λ from. IsUsable from → ForSome (C.readings clock.old) (λ readings. (left : Option (List ℕ)) → (Rises (F.faults folder.old) (F.faults folder.new) → ⊥) → (Rises (K.faults out.old) (K.faults out.new) → ⊥) → IsCompleteScript result count_script (bounds_of limits) from readings (outside (F.told folder.old) (K.written out.old) left (C.readings clock.old)) (outside (F.told folder.new) (K.written out.new) left (C.readings clock.new)))) }
 
-    // On a finished folder of which a check fails that is printed, and no more is done.
+    // On an initialized folder of which a check fails that is printed, and no more is done.
     ensures shows { ForSome (F.told folder.old).files (λ from. (damage : check_damage) → IsDamagedBy damage from → (left : Option (List ℕ)) → OnDamage result damage (K.faults out.old) (K.faults out.new) (outside (F.told folder.old) (K.written out.old) left (C.readings clock.old)) (outside (F.told folder.new) (K.written out.new) left (C.readings clock.new))) }
 
     // The cause of each status, on every folder.
@@ -64,13 +64,13 @@ pub(crate) fn run_count<F: Folder, K: Sink, C: Clock>(
     ensures printed { ShowsTotals result (bounds_of limits) (F.told folder.old).files (K.written out.old) (K.written out.new) }
     ensures damage { result ≡ Status.Damaged → IsFailedInOpening (F.told folder.old) (F.told folder.new) (K.written out.old) (K.written out.new) (K.faults out.old) (K.faults out.new) }
 
-    // In the end the same is found, and the folder is sound.
+    // In the end the same is found, and the folder is consistent.
     ensures ended { (result ≡ Status.Ok) ⊎ (result ≡ Status.Sink) → ForSome (F.told folder.old).files (λ start. ForSome (F.told folder.new).files (EndsSame start)) }
 
-    // An unfinished folder is made at the next reading of the clock, and keeps that moment.
+    // An uninitialized folder is made at the next reading of the clock, and keeps that moment.
     ensures made { (result ≡ Status.Ok) ⊎ (result ≡ Status.Sink) → ForSome (F.told folder.old).files (λ start. IsUnfinished start → ForSome (F.told folder.new).files (IsMadeAtNext (C.readings clock.old))) }
 
-    // At each word the same is found, and the folder is unfinished or well formed where it was.
+    // At each word the same is found, and the folder is uninitialized or well formed where it was.
     ensures stops { ForSome (F.told folder.old).files (λ start. Passes (F.told folder.old) (F.told folder.new) (HoldsStill start)) }
 
     // No step is made where an observable folder is corrupt.

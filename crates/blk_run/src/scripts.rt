@@ -136,13 +136,13 @@ pub(crate) fn run_script<F: Folder, K: Sink, C: Clock>(
     clock: &mut C,
 ) -> Status
     requires few { commands_in fixed ≤ 2 ^ 36 }
-    // On a folder that is unfinished or well formed it is the run of the script on the map model.
+    // On a folder that is uninitialized or well formed it is the run of the script on the map model.
     ensures script { ForSome (F.told folder.old).files (λ from. IsUsable from → ForSome (C.readings clock.old) (λ readings. (left : Option (List ℕ)) → FixedScript result (script_of fixed.entry) (bounds_of limits) from readings (Rises (K.faults out.old) (K.faults out.new)) (outside (F.told folder.old) (K.written out.old) left (C.readings clock.old)) (outside (F.told folder.new) (K.written out.new) left (C.readings clock.new)))) }
 
     // Where nothing fails the whole output is printed, unless it is out of memory.
     ensures complete { ForSome (F.told folder.old).files (λ from. IsUsable from → ForSome (C.readings clock.old) (λ readings. (left : Option (List ℕ)) → (Rises (F.faults folder.old) (F.faults folder.new) → ⊥) → (Rises (K.faults out.old) (K.faults out.new) → ⊥) → IsCompleteScript result (script_of fixed.entry) (bounds_of limits) from readings (outside (F.told folder.old) (K.written out.old) left (C.readings clock.old)) (outside (F.told folder.new) (K.written out.new) left (C.readings clock.new)))) }
 
-    // On a finished folder of which a check fails that is printed, and no more is done.
+    // On an initialized folder of which a check fails that is printed, and no more is done.
     ensures damage { ForSome (F.told folder.old).files (λ from. (damage : check_damage) → IsDamagedBy damage from → (left : Option (List ℕ)) → OnDamage result damage (K.faults out.old) (K.faults out.new) (outside (F.told folder.old) (K.written out.old) left (C.readings clock.old)) (outside (F.told folder.new) (K.written out.new) left (C.readings clock.new))) }
 
     // Out of memory nothing is done, whatever of folder, output and clock is told.

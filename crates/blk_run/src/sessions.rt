@@ -37,10 +37,10 @@ use std::alloc::Global;
 
 /// Opens the folder, plays the lines of an input, closes what is open, and answers how it ended.
 ///
-/// Each line is a command, whose reply is printed on `out` once it is done and noted, or a fault, which is printed; either is
-/// flushed once it is printed, before the next line is played. The input is taken as it comes, and at most `budget` bytes of it are used; one byte more is taken, to see whether more
-/// follow. The clock is read once for the opening and once before each command, the closings among them. All memory is
-/// taken before the first step in the folder.
+/// Each line is a command, whose reply is printed on `out` once it is done and noted, or a fault, which is printed; either is flushed once it is printed,
+/// before the next line is played. The input is taken as it comes, and at most `budget` bytes of it are used; one byte more is taken, to see whether more
+/// follow. The clock is read once for the opening and once before each command, the closings among them. All memory is taken before the first step in the
+/// folder.
 pub fn session<F: Folder, S: Source, K: Sink, C: Clock>(
     alloc: Global,
     limits: Limits,
@@ -50,13 +50,13 @@ pub fn session<F: Folder, S: Source, K: Sink, C: Clock>(
     folder: &mut F,
     clock: &mut C,
 ) -> Status
-    // On a folder that is unfinished or well formed it is the run of the lines on the map model.
+    // On a folder that is uninitialized or well formed it is the run of the lines on the map model.
     ensures session { ForSome (F.told folder.old).files (λ from. IsUsable from → ForSome (C.readings clock.old) (λ readings. ForSome (S.left input.old) (λ bytes. Session by_lines result (bounds_of limits) budget from readings bytes (Rises (S.faults input.old) (S.faults input.new)) (Rises (K.faults out.old) (K.faults out.new)) (outside (F.told folder.old) (K.written out.old) (S.left input.old) (C.readings clock.old)) (outside (F.told folder.new) (K.written out.new) (S.left input.new) (C.readings clock.new))))) }
 
     // Where nothing fails and the input is within the budget the whole output is printed, unless it is out of memory.
     ensures complete { ForSome (F.told folder.old).files (λ from. IsUsable from → ForSome (C.readings clock.old) (λ readings. ForSome (S.left input.old) (λ bytes. length bytes ≤ budget → (Rises (F.faults folder.old) (F.faults folder.new) → ⊥) → (Rises (S.faults input.old) (S.faults input.new) → ⊥) → (Rises (K.faults out.old) (K.faults out.new) → ⊥) → IsComplete by_lines result (bounds_of limits) from readings bytes (outside (F.told folder.old) (K.written out.old) (S.left input.old) (C.readings clock.old)) (outside (F.told folder.new) (K.written out.new) (S.left input.new) (C.readings clock.new))))) }
 
-    // On a finished folder of which a check fails that is printed, and no more is done.
+    // On an initialized folder of which a check fails that is printed, and no more is done.
     ensures damage { ForSome (F.told folder.old).files (λ from. (damage : check_damage) → IsDamagedBy damage from → OnDamage result damage (K.faults out.old) (K.faults out.new) (outside (F.told folder.old) (K.written out.old) (S.left input.old) (C.readings clock.old)) (outside (F.told folder.new) (K.written out.new) (S.left input.new) (C.readings clock.new))) }
 
     // Out of memory nothing is done, whatever of folder, output and clock is told.

@@ -50,7 +50,7 @@ length-checked image none =
 pub looked-as : (x y : Start) (image : Image) → x ≡ y → LooksAs (Ok x) image → LooksAs (Ok y) image
 looked-as x y image same = subst (λ (s : Start). LooksAs (Ok s) image) same
 
--- the folder is finished, and this is its first failed check
+-- the folder is initialized, and this is its first failed check
 abbrev pub IsFirst : Told → Met → Type 0
 IsFirst told damage = ForSome told.files (λ image. (IsUnfinished image → ⊥) × (first_damage image ≡ Some (damage_of damage)))
 

@@ -30,7 +30,7 @@ pub struct KeptChains {
 }
 
 impl KeptChains {
-    /// The kept records.
+    /// The kept records of all chains, bucket after bucket and each chain in its order.
     pub fn records(&self) -> &[Addr]
         ensures { result.now ≡ self.now.records.items }
     {

@@ -96,7 +96,7 @@ impl Scan {
         self.kept.len() as u64
     }
 
-    /// What the kept nodes are charged: the bytes of their keys and of their streams, indexes included.
+    /// The sum of the costs of the kept nodes: the bytes of their keys and of their streams, indexes included.
     pub fn bytes(&self) -> u64
         ensures { result ≡ self.now.bytes }
     {
@@ -117,7 +117,7 @@ impl Scan {
         &self.walked
     }
 
-    /// The kept ones of them, in the same order.
+    /// The walked nodes that are kept, in the order of the LRU list.
     pub fn kept_nodes(&self) -> &[Addr]
         ensures { result.now ≡ self.now.kept_nodes.items }
     {

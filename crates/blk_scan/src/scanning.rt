@@ -31,10 +31,10 @@ use blk_io::Folder;
 use blk_verdict::{Judged, charge_of_all, judge_nodes, unlisted};
 use std::alloc::Global;
 
-/// Tells what a folder holds, as it is once its operation in flight is completed. An unfinished folder holds nothing. Nothing
+/// Tells what a folder holds, as it is once its operation in flight is completed. An uninitialized folder holds nothing. Nothing
 /// is written.
 ///
-/// The index is looked at; where it is finished the block files are loaded, and the folder is scanned by them. The folder
+/// The index is looked at; where it is initialized the block files are loaded, and the folder is scanned by them. The folder
 /// calls are those of `look`, `BlockFiles::load` and `scan_files`.
 ///
 /// # Errors
@@ -61,7 +61,7 @@ pub fn scan_folder<F: Folder>(alloc: Global, folder: &mut F) -> Result<Scan, Sca
     }
 }
 
-// Tells what a folder holds whose index is finished.
+// Tells what a folder holds whose index is initialized.
 fn scan_finished<F: Folder>(alloc: Global, folder: &mut F) -> Result<Scan, ScanFault>
     ensures scanned { IfOk result (λ scan. ForSome (F.told folder.old).files (λ image. IsScanOf image scan)) }
     ensures exact { IfOk result (λ scan. ForSome (F.told folder.old).files (λ image. IsExactScan image scan)) }

@@ -17,7 +17,7 @@ use Rattle.law_state.specs.CounterLaws.{charged}
 use Rattle.blk_object.specs.Counters.{AreMoreItems}
 use Rattle.blk_object.proofs.MakingRoom.{rows-long}
 
--- the bytes of a kept state are the charges of what lies there, and those of the doomed objects
+-- the bytes of a kept state are the sum of the costs of what lies there and of the doomed objects
 bytes-are : (state : State) (layout : Layout) (unlinked : List ℕ) (image : Image) → KeepsUncounted state layout unlinked image → total state ≡ charged state layout + sum_by doomed_charge state.objects
 bytes-are state layout unlinked image k =
     (listed-totals image state layout k.represents k.valid).bytes ∙ ap (λ (n : ℕ). n + sum_by doomed_charge state.objects) (ap (sum_by charge_of) (kept-at image state layout k.represents k.valid))

@@ -1,4 +1,4 @@
--- What a write to the parts of an object adds to its charge and to its items.
+-- What a write to the parts of an object adds to its cost and to its items.
 use Rattle.std.proofs.lemmas.Bool.Decides.{nat_tests}
 use Rattle.std.proofs.Common.{◌≡◌, ℕ, suc, ◌+◌, ◌-◌, ◌/◌, ◌%◌, ◌≤◌, ◌<◌, List, [], ◌∷◌, length, take, drop, Bool, true, false, cond, Option, None, Some, T, refl, sym, ◌∙◌, ap, ap₂, arith, length-take, length-drop}
 use Rattle.std.specs.Prelude.{◌==◌, ◌&&◌, is_some, max, nat_lt, sum_by, unwrap_or}
@@ -69,7 +69,7 @@ length-after : (value : PartValue) (place : ℕ) (piece : List ℕ) → length (
 unfolding part_after
 length-after value place piece = length-overwritten value.bytes place piece
 
--- an object with a piece is charged that part up to its end, and not as it was
+-- with a piece an object has the cost of that part up to the end of the piece, in place of the cost of the part as it was
 pub charge-piece : (object : Object) → T (is_sorted nat_cmp object.parts) → (n place : ℕ) (piece : List ℕ)
     → charge (with_piece object n place piece) + charge_there object (signature_of object.shape) n ≡ charge object + charge_up_to object (signature_of object.shape) n (place + length piece)
 unfolding charge
@@ -95,7 +95,7 @@ part-same object n m place piece apart =
 next-apart : (n : ℕ) → ((n + 1) == n) ≡ false
 next-apart n = grind (arith, nat_tests)
 
--- by how much an object is charged more, and by how many items it is more
+-- by how much the cost of an object rises, and by how many items it is more
 pub record IsMore (object : Object) (offset : ℕ) (bytes : List ℕ) : Type 0 where
   pub charged : charge (with_bytes object offset bytes) + sum_by (charge_there object (signature_of object.shape)) (covered_parts offset (length bytes))
       ≡ charge object + sum_by (λ n. charge_up_to object (signature_of object.shape) n (end_in offset (length bytes) n)) (covered_parts offset (length bytes))

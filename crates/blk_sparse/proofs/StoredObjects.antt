@@ -143,7 +143,7 @@ same-session state layout unlinked number object was mid image k l here live loo
     let marked-now : was.dirty ≡ this_id_of (byte image Index) = subst (λ (o : Option Loaded). IfSome o (λ x. x.dirty ≡ this_id_of (byte image Index))) lies (l.session.marked number object here live loose) in
     record { crash = l.session.crash ∙ sym k.session.crash; id = sym marked-now ∙ marked-was }
 
--- no item more, and more charge, is a rise of the charges
+-- where no item is more, but the sum of the costs is, the costs rise
 items-risen : (state after : State) (layout now : Layout) (entries charge : ℕ) → entries ≡ 0 → AreMoreItems state after layout now entries charge → IsRisen state after layout now 0 charge
 items-risen state after layout now entries charge none more = record {
   items = let items = more.items in omega (arith, none, items);

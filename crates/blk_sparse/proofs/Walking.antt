@@ -108,9 +108,9 @@ without-one state layout keep i xs ys split once =
     ∙ ap (filter (λ other. not (same_item i other))) split
     ∙ drop-one layout xs ys i (subst (λ (items : List Item). Distinct (nodes_of layout items)) split once)
 
--- ---- charges
+-- ---- costs
 
--- what the parts of a key with these numbers are charged
+-- the sum of the costs of the parts of a key with these numbers
 abbrev pub charged : Layout → List ℕ → List ℕ → ℕ
 charged layout key numbers = charges_at layout (nodes_of layout (map (part key) numbers))
 
@@ -120,7 +120,7 @@ charged-next layout key n numbers was here =
 
 -- ---- the walk
 
--- where a walk is: so many parts went, with these charges, and a closure was called with their numbers; the others are after a node
+-- where a walk is: so many parts went, whose costs sum to `bytes`, and a closure was called with their numbers; the others are after a node
 pub record IsWalked (E : Type 0) (call : E → ℕ → E → Type 0) (layout : Layout) (key : List ℕ) (all left : List Item) (at : Option ℕ) (items bytes : ℕ) (old new : E) : Type 0 where
   pub done : List ℕ
   pub is : IsBehind layout key left at

@@ -71,7 +71,7 @@ abbrev pub sparse_state : State → ℕ → Object → (signature offset : ℕ) 
 sparse_state state number object signature offset bytes =
     amidst state number (object_written object signature offset bytes) (used_all (main object.key ∷ parts_of object (covered_parts offset (length bytes))) state.uses)
 
--- the index counts the state `counted`, and wherever the state `after` is kept, it has `entries` items and `charge` bytes of cost more
+-- the index counts the state `counted`, and wherever the state `after` is kept, it has `entries` items more, and the sum of its costs is `charge` bytes more
 pub record CountsAfter (counted : State) (laid : Layout) (after : State) (entries charge : ℕ) (image : Image) : Type 0 where
   pub counts : CountsItems image counted laid
   pub more : (now : Layout) (unlinked : List ℕ) (end : Image) → KeepsUncounted after now unlinked end → AreMoreItems counted after laid now entries charge
@@ -90,7 +90,8 @@ pub record IsCountedThen (state : State) (old : Layout) (unlinked : List ℕ) (n
   pub others : OthersLieAsBefore state number old now
   pub session : SameSession from image
 
--- precondition: the folder keeps a state of which an object may get the bytes; with them the state has `entries` items and `charge` bytes of cost more
+-- precondition: the folder keeps a state of which an object may get the bytes; with them the state has `entries` items more, and its cost is `charge` bytes
+-- more
 pub record CanBeStored (state : State) (layout : Layout) (number : ℕ) (object : Object) (target : Target) (offset : ℕ) (bytes : List ℕ) (entries charge : ℕ) (image : Image) : Type 0 where
   pub kept : Keeps state layout [] image
   pub is : IsTarget (covered_parts offset (length bytes)) state layout [] number object target image

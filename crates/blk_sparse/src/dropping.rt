@@ -75,7 +75,8 @@ pub fn drop_parts_with<F: Folder, E: FnMut(u32)>(
     requires callable { E.IsAlwaysCallable each.old }
     requires is_open { ForSome (F.told folder.old).files (IsOpen files.now) }
 
-    // Where the main item of an object is out, and perhaps parts of it, and what is left is counted, all its items are out in the end, in the same session. It answers how many parts were removed, and what they were charged.
+    // Where the main item of an object is out, and perhaps parts of it, and what is left is counted, all its items are out in the end, in the same session.
+    // It answers how many parts were removed, and the sum of their costs.
     ensures out { OnOk result (ForSome (F.told folder.old).files (λ from. ForEachLeft key.now (cast_unsigned w64 signature) from (λ state layout keep unlinked number object. ForSome (F.told folder.new).files (IsWholeDropped state layout unlinked key.now)))) }
     ensures gone { IfOk result (λ gone. ForSome (F.told folder.old).files (λ from. ForEachLeft key.now (cast_unsigned w64 signature) from (λ state layout keep unlinked number object. AreGone layout (map (part key.now) (parts_among key.now (filter keep state.uses))) gone))) }
     ensures session { OnOk result (ForSome (F.told folder.old).files (λ from. ForEachLeft key.now (cast_unsigned w64 signature) from (λ state layout keep unlinked number object. ForSome (F.told folder.new).files (SameSession from)))) }
@@ -83,7 +84,7 @@ pub fn drop_parts_with<F: Folder, E: FnMut(u32)>(
     // Places that were unlinked at the start, as those of the main item, keep their bytes.
     ensures keeps { OnOk result (ForSome (F.told folder.old).files (λ from. ForEachLeft key.now (cast_unsigned w64 signature) from (λ state layout keep unlinked number object. ForSome (F.told folder.new).files (KeepsUnlinked unlinked from)))) }
 
-    // No more parts go than a list has nodes, each charged less than 2^34 bytes.
+    // No more parts go than a list has nodes, and each costs less than 2^34 bytes.
     ensures few { IfOk result (λ gone. gone.items ≤ 131072) }
     ensures light { IfOk result (λ gone. gone.bytes ≤ 2 ^ 51) }
 

@@ -52,7 +52,7 @@ pub fn find_parts<F: Folder>(
     // These are the records of the parts of each object that a kept state has with this parent.
     ensures parts { IfOk result (λ found. ForSome (F.told folder.old).files (λ from. ForEachKeptParent parent.now.node parent.now.entry (cast_unsigned w64 parent.now.signature) from (λ state layout unlinked number object. ArePartsFound layout object offset count found))) }
 
-    // On every folder they are valid.
+    // On every folder the records that are found are valid.
     ensures first_kind { IfOk result (λ found. IfSome found.first (λ entry. kind_of entry ≡ blocks_256)) }
     ensures first_stands { IfOk result (λ found. IfSome found.first (λ entry. IsTrue (stands_among files.now entry))) }
     ensures second_kind { IfOk result (λ found. IfSome found.second (λ entry. kind_of entry ≡ blocks_256)) }

@@ -169,7 +169,7 @@ fn name_streams<F: Folder>(
     requires stands { IsTrue (stands_among files.now entry) }
     requires is_open { ForSome (F.told folder.old).files (IsOpen files.now) }
 
-    // Of streams of these lengths it has them then.
+    // Where the addresses store streams of these lengths, the record has these streams in the end.
     ensures named { OnOk result (ForSome (F.told folder.old).files (λ from. ForSome (F.told folder.new).files (λ image. (bytes map : List ℕ) → length bytes ≡ size → length map ≡ part_index_length → RecordChecks entry from → HasStreamsNow entry (record { stored = bytes; index = map; stored_addr = stored; index_addr = index }) from image))) }
 
     // At each word of the update of a record that checks nothing else has changed.
@@ -207,7 +207,7 @@ fn write_part<F: Folder>(
     requires streams { IsTrue (is_address places.now.stored) × IsTrue (is_address places.now.index) }
     requires is_open { ForSome (F.told folder.old).files (IsOpen files.now) }
 
-    // Where these are the bytes of a part of this name, each state that was kept with its words unlinked is kept so, and the part is there.
+    // Where the stored streams are those of a part of this name, each state that was kept with the part's words unlinked is kept so, and the part is there.
     ensures written { OnOk result (ForSome (F.told folder.old).files (λ from. ForSome (F.told folder.new).files (λ image. (bytes index : List ℕ) (role : Role) → ArePartStreams places.now name.now bytes index role from → length bytes ≡ size → WritesPart places.now name.now bytes index role from image))) }
 
     // At each word the old durable contents are recovered.
@@ -343,7 +343,8 @@ pub(crate) fn make_part<F: Folder>(
     requires most { place + length piece.now ≤ part_size }
     requires is_open { ForSome (F.told folder.old).files (IsOpen files.old) }
 
-    // For each dirty object that has this parent and lacks this part: in the end the folder keeps the state with the piece written, but for the counters, which come later.
+    // For each dirty object that has this parent and lacks this part: in the end the folder keeps the state with the piece written, but for the counters, which
+    // come later.
     ensures written { OnOk result (ForSome (F.told folder.old).files (λ from. ForEachLacking parent name.entry.child name.entry.bytes.now from (λ state layout unlinked number object node. ForSome (F.told folder.new).files (KeepsParentThen (with_piece_written state number object name.entry.child.part place piece.now) layout unlinked number (with_piece object name.entry.child.part place piece.now) node parent (cast_unsigned w64 name.entry.child.signature) from)))) }
 
     // At each word the old durable contents are recovered: a dirty object isn't durable.

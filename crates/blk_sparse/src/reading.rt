@@ -49,7 +49,7 @@ pub fn use_parts<F: Folder>(
     // Each state that was kept, with such an object, is kept with these parts in front in the end, by the same layout.
     ensures used { OnOk result (ForSome (F.told folder.old).files (λ from. ForEachKeptParent parent.now.node parent.now.entry (cast_unsigned w64 parent.now.signature) from (λ state layout unlinked number object. ForSome (F.told folder.new).files (KeepsParentUsed state layout unlinked number object parent.now.node parent.now.entry (cast_unsigned w64 parent.now.signature) (parts_used object offset count) from)))) }
 
-    // At each word the durable contents with the first of them in front are recovered.
+    // At each word the durable contents with a prefix of these accesses made are recovered.
     ensures stops { ForSome (F.told folder.old).files (λ from. ForEachKeptParent parent.now.node parent.now.entry (cast_unsigned w64 parent.now.signature) from (λ state layout unlinked number object. Passes (F.told folder.old) (F.told folder.new) (FindsUsed state (parts_used object offset count)))) }
 
     ensures is_open { ForSome (F.told folder.new).files (IsOpen files.now) }
@@ -167,7 +167,7 @@ pub fn read<F: Folder>(
     // Each state that was kept, with such an object, is kept with these parts in front in the end, by the same layout.
     ensures used { OnOk result (ForSome (F.told f.old).files (λ from. ForEachKeptParent parent.now.node parent.now.entry (cast_unsigned w64 parent.now.signature) from (λ state layout unlinked number object. ForSome (F.told f.new).files (KeepsParentUsed state layout unlinked number object parent.now.node parent.now.entry (cast_unsigned w64 parent.now.signature) (parts_used object offset (length out.old)) from)))) }
 
-    // At each word the durable contents with the first of them in front are recovered.
+    // At each word the durable contents with a prefix of these accesses made are recovered.
     ensures stops { ForSome (F.told f.old).files (λ from. ForEachKeptParent parent.now.node parent.now.entry (cast_unsigned w64 parent.now.signature) from (λ state layout unlinked number object. Passes (F.told f.old) (F.told f.new) (FindsUsed state (parts_used object offset (length out.old))))) }
 
     ensures is_open { ForSome (F.told f.new).files (IsOpen files.now) }
@@ -213,7 +213,7 @@ pub fn range<F: Folder>(
     // Each state that was kept, with such an object, is kept with these parts in front in the end, by the same layout.
     ensures used { OnOk result (ForSome (F.told f.old).files (λ from. ForEachKeptParent parent.now.node parent.now.entry (cast_unsigned w64 parent.now.signature) from (λ state layout unlinked number object. ForSome (F.told f.new).files (KeepsParentUsed state layout unlinked number object parent.now.node parent.now.entry (cast_unsigned w64 parent.now.signature) (parts_used object offset count) from)))) }
 
-    // At each word the durable contents with the first of them in front are recovered.
+    // At each word the durable contents with a prefix of these accesses made are recovered.
     ensures stops { ForSome (F.told f.old).files (λ from. ForEachKeptParent parent.now.node parent.now.entry (cast_unsigned w64 parent.now.signature) from (λ state layout unlinked number object. Passes (F.told f.old) (F.told f.new) (FindsUsed state (parts_used object offset count)))) }
 
     ensures is_open { ForSome (F.told f.new).files (IsOpen files.now) }

@@ -40,7 +40,7 @@ pub struct Target {
 struct Counted {
     // How many items.
     entries: u64,
-    // The bytes that these and the items that grow are charged.
+    // The cost of these, and the bytes by which the costs of items that grow rise.
     charge: u64,
 }
 

@@ -96,7 +96,8 @@ fn filled_place<F: Folder>(
     Ok(Some(addr))
 }
 
-// Writes bytes of a stream whose new size has another storage than the old one: a new place is filled, then the record names it, and then the old place is freed.
+// Writes bytes of a stream whose new size has another storage than the old one: a new place is filled, then the record names it, and then the old place is
+// freed.
 pub(crate) fn write_moved<F: Folder>(
     folder: &mut F,
     files: &mut BlockFiles,

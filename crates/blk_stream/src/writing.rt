@@ -57,7 +57,8 @@ pub fn write<F: Folder>(
     ensures checked { OnOk result (ForSome (F.told f.old).files (RecordChecks entry)) }
     ensures placed { OnOk result (ForSome (F.told f.old).files (HasStreamPlace files.old entry stream)) }
 
-    // The stream has the bytes after the write, in the storage of their number; maps and files have its new place and not the old one, and all else is as before.
+    // The stream has the bytes after the write, in the storage of their number; maps and files have its new place and not the old one, and all else is as
+    // before.
     ensures written { OnOk result (ForSome (F.told f.old).files (λ from. CanBeWritten files.old entry stream (writes.size_after cut (size_word from entry stream) offset (length bytes.now)) from → ForSome (F.told f.new).files (StreamIsWritten files.old files.new entry stream offset cut bytes.now from))) }
 
     // It was written where it lies; or a new place was taken and filled, then the record named it, and then the old one was freed.
@@ -67,7 +68,8 @@ pub fn write<F: Folder>(
     ensures keeps { KeepsStanding files.old files.new }
     ensures agrees { OnOk result (ForSome (F.told f.new).files (Agrees files.new)) }
 
-    // At each word the record checks, and nothing but its words of the stream and the two places has changed; the old place is as it was until the record names the new one, which then has the bytes.
+    // At each word the record checks, and nothing but its words of the stream and the two places has changed; the old place is as it was until the record names
+    // the new one, which then has the bytes.
     ensures stops { ForSome (F.told f.old).files (λ from. CanBeWritten files.old entry stream (writes.size_after cut (size_word from entry stream) offset (length bytes.now)) from → Passes (F.told f.old) (F.told f.new) (WritesStream files.old entry stream (writes.size_after cut (size_word from entry stream) offset (length bytes.now)) offset cut bytes.now from)) }
 
     // At each word one of these stages is on its way: what was done before it is done, and of what comes after it nothing is.

@@ -2,7 +2,8 @@
 ghost use Rattle.blk_verdict.specs.Charges.{LoadedAreCharged};
 ghost use Rattle.blk_verdict.specs.KeptKeys.{LoadedIndexesAreFound, LoadedKeysAreFound};
 
-/// What is kept in memory of an entry that its node loads leads to its key, to the index of a parent, and to its cost.
+/// The words that are kept in memory of an entry lead to its key, and to its index if it is a parent, where its node loads in the image; the cost that they say
+/// is that of the entry.
 pub fn loaded_keys_are_found()
     ensures keys { LoadedKeysAreFound }
     ensures indexes { LoadedIndexesAreFound }

@@ -46,7 +46,7 @@ RepresentedChainsEnd = (view : View) (state : State) (layout : Layout) → Repre
 abbrev pub KeptAreAtRest : Type 0
 KeptAreAtRest = (view : View) (state : State) (layout : Layout) → Represents view state layout → IsValidState state → map row_of_loaded (kept_by held_rule (completed view)) ≡ rest state
 
--- the recovered contents of a finished folder are the durable contents of the state that its view represents
+-- the recovered contents of an initialized folder are the durable contents of the state that its view represents
 abbrev pub FoundIsAtRest : Type 0
 FoundIsAtRest = (image : Image) (state : State) (layout : Layout) → Represents (view_of image) state layout → IsValidState state → unfinished image ≡ false → found image ≡ rest state
 

@@ -1,6 +1,7 @@
 //! The laws of what a cache folder holds, each the contract of a function with an empty body.
 //!
-//! They say that the definitions of `spec_folder` fit together: what is kept, what represents a state, what changes leave, and what a folder shows at each word of a write.
+//! They say that the definitions of `spec_folder` fit together: what is kept, what represents a state, what changes leave, and what a folder shows at each word
+//! of a write.
 #![tactic(auto)]
 
 ghost use Rattle.law_folder.specs.AllocationLaws.{SoundFilesAreAllocated, StoodForFilesAreAllocated};
@@ -27,37 +28,43 @@ pub use mid_updates::{
     records_are_written,
 };
 
-/// The walk of a whole list is its nodes; that of any list is of different nodes, which check.
+/// The walk of a whole LRU list gives its nodes in their order; the walk of any list gives different nodes, each of which is there with a right or absent
+/// checksum.
 pub fn whole_lists_are_walked()
     ensures nodes { WalksAreTheLists }
     ensures distinct { WalksAreDistinct }
 {}
 
-/// An insert, crashed after any of its writes and completed, gives the old list before the second, and the new one from then on.
+/// An insert into the LRU list commits at its second write: the redo after a crash gives the old nodes before that write, and the new ones from it on. After
+/// all writes the list is idle, with the node in front.
 pub fn inserts_at_each_write()
     ensures commits { InsertsCommitAtTwo }
     ensures ends { InsertsEnd }
 {}
 
-/// A removal, crashed after any of its writes and completed, gives the old list before the second, and the new one from then on.
+/// A removal from the LRU list commits at its second write: the redo after a crash gives the old nodes before that write, and those without the node from it
+/// on. After all writes the list is idle, without the node.
 pub fn removals_at_each_write()
     ensures commits { RemovalsCommitAtTwo }
     ensures ends { RemovalsEnd }
 {}
 
-/// A touch, crashed after any of its writes and completed, gives the old list before the second, and the new one from then on.
+/// An access of a node of the LRU list commits at its second write: the redo after a crash gives the old order before that write, and the node in front from it
+/// on. After all writes the list is idle, with the node in front.
 pub fn touches_at_each_write()
     ensures commits { TouchesCommitAtTwo }
     ensures ends { TouchesEnd }
 {}
 
-/// A completion may crash anywhere and be begun again, on every list.
+/// The redo of any LRU list may crash after any of its writes and begin again, as often as one likes, and gives the same list but for the operation word. After
+/// all its writes no operation is in flight.
 pub fn completions_at_each_write()
     ensures stops { CompletingAgainIsTheSame }
     ensures ends { CompletionsEnd }
 {}
 
-/// A hash chain has no more records than there are first blocks; a record joins it at its head or leaves it, and no other chain changes.
+/// The write of a bucket's word puts a record in front of the hash chain, or takes the first one out, and leaves the chains of other buckets; the write of a
+/// record's link takes the record after it out. A whole chain ends at the word 0, and has no more records than there are first blocks.
 pub fn chains_are_linked()
     ensures records { ChainsAreTheirRecords }
     ensures short { WholeChainsAreShort }
@@ -71,7 +78,8 @@ pub fn chains_are_linked()
     ensures later_leaves { LaterRecordsLeaveChains }
 {}
 
-/// What is given to a walk is kept, and where something is given to each node none is dropped; what is kept is given to the walk of the kept nodes alone, which keeps the same.
+/// The kept records of a walk load, share no block, no external number and no name, and have their parents, so a walk of the kept nodes alone keeps the same.
+/// Records that are given for a walk's nodes as `IsShown` says are those that it keeps, and where each node has one, none is dropped.
 pub fn given_nodes_are_kept()
     ensures kept { KeptAreTheGiven }
     ensures dropped { NoneOfTheGivenIsDropped }
@@ -79,24 +87,24 @@ pub fn given_nodes_are_kept()
     ensures alone { KeptAloneAreKept }
 {}
 
-/// A dropped node uses nothing, so it may be removed without changing what is kept.
+/// A walk without some or all of the nodes that it drops keeps the same records: a dropped node plays no part in the verdicts on the others.
 pub fn dropped_nodes_may_be_left_out()
     ensures { LeavingOutKeepsTheSame }
 {}
 
-/// Records with one key are in one chain.
+/// Two records with the same key, which none of the reasons up to that of the chain drops, are in the hash chain of one bucket.
 pub fn one_key_is_in_one_chain()
     ensures { SameKeyIsOneChain }
 {}
 
-/// No node but a candidate is kept, so a change that leaves the candidates and what they name leaves what is held.
+/// Two well-formed images with the same candidates, which agree on what these name, have the same recovered contents, since no node but a candidate is kept.
 pub fn same_candidates_hold_the_same()
     ensures only { OnlyCandidatesAreKept }
     ensures frame { SameCandidatesHoldTheSame }
 {}
 
-/// What represents a state has its items as its walk and its rows as what is listed, drops nothing, ends its chains, and holds the durable
-/// contents.
+/// Where a view represents a valid state, its walk is the nodes of the state's items, and recovery keeps the durable contents of the state. With dirty nodes
+/// kept too nothing is dropped, and the kept rows are the state's rows; each hash chain ends.
 pub fn represented_states_are_found()
     ensures walks { WalksAreTheOrder }
     ensures rows { ListedAreTheRows }
@@ -106,8 +114,9 @@ pub fn represented_states_are_found()
     ensures found { FoundIsAtRest }
 {}
 
-/// An image that represents a state with exact maps shows it, and stands for it where all else is in order, which is so where it is tidy by its layout; the durable contents of a state are recovered from
-/// what stands for it.
+/// A well-formed image of the version that is made now represents a state with all its files (`StandsFor`) where its view represents the state, its maps are
+/// exact, and its files, counters and checksums are in order. Those of a tidy image are in order. The durable contents of the state are recovered from such an
+/// image.
 pub fn represented_states_are_stood_for()
     ensures shown { RepresentedStatesAreShown }
     ensures in_order { TidyIsInOrder }
@@ -116,12 +125,12 @@ pub fn represented_states_are_stood_for()
     ensures found { WhatIsStoodForIsFound }
 {}
 
-/// A folder that shows nothing represents the empty state.
+/// The view of a new folder represents the empty state.
 pub fn nothing_represents_the_empty_state()
     ensures { NothingRepresentsTheEmptyState }
 {}
 
-/// A folder with no list, no chain and no block holds nothing, is sound, and represents the empty state and stands for it.
+/// An empty cache (`HasNoEntries`) has no recovered contents, is consistent, and represents the empty state.
 pub fn folders_without_entries_are_sound()
     ensures held { FoldersWithoutEntriesHoldNothing }
     ensures sound { FoldersWithoutEntriesAreSound }
@@ -129,49 +138,51 @@ pub fn folders_without_entries_are_sound()
     ensures stands { FoldersWithoutEntriesStandForTheEmptyState }
 {}
 
-/// A new folder has no list, no chain and no block.
+/// A new folder is an empty cache (`HasNoEntries`).
 pub fn new_folders_have_no_entries()
     ensures { NewFoldersHaveNoEntries }
 {}
 
-/// What a layout has of some items is shown to their walk, and its rows are kept.
+/// A walk of the nodes of some items keeps the records that pass a test which agrees with its rule; recovery keeps the rows of those that are clean, where no
+/// part is without its main item.
 pub fn placed_items_are_kept()
     ensures shown { PlacedItemsAreShown }
     ensures picked { KeptArePicked }
 {}
 
-/// A change inside a footprint that is nobody's keeps what is represented.
+/// A change inside a footprint that no node owns keeps the state that the view represents.
 pub fn free_footprints_keep_states()
     ensures { FreeFootprintsKeepStates }
 {}
 
-/// Something else at the node of one item is laid out and represented for the changed state.
+/// Where one item changes inside its own footprint, the view represents the changed state, and the layout with the item's new record fits that state.
 pub fn changed_items_are_represented()
     ensures laid { ChangedItemsArePlaced }
     ensures represented { ChangedItemsAreRepresented }
 {}
 
-/// While a dirty object is in the midst of a change, what is kept is the durable contents.
+/// While the records of one dirty object, of its main item or of a part, are in the midst of a change, recovery keeps the durable contents.
 pub fn unsettled_objects_may_change()
     ensures midst { UnsettledObjectsMayChange }
     ensures at_each_word { UnsettledChangesAreAtRest }
 {}
 
-/// While items are taken out of the list, what is kept is what stays, and the layout without them is laid out and represented for the state without them.
+/// While items are taken out of the LRU list, recovery keeps the rows of the clean items that stay in it with their main item. Once what stays is in the list
+/// and in the chains, and the list is idle, the view represents the state without the others, by the layout without them.
 pub fn removals_keep_the_others()
     ensures kept { RemovalsKeepTheOthers }
     ensures laid { LessIsPlaced }
     ensures represented { LessIsRepresented }
 {}
 
-/// The dirty word of a main item makes its object clean or dirty.
+/// Once the dirty flag in a main item's node is written, the view represents the state in which the object is clean if the flag is 0, and else dirty.
 pub fn dirty_words_settle()
     ensures put { DirtyWordsSettle }
     ensures written { WrittenDirtyWordsSettle }
 {}
 
-/// A doomed object may change at its node, and its dirty word makes it clean or dirty, and it may go; at each word what is kept is the durable
-/// contents.
+/// While a doomed object changes inside its node's footprint, recovery keeps the durable contents, also where its record is torn. In the end the view
+/// represents the state with its new value, or without it once it is gone; with another dirty flag the object is clean if that is 0, and else dirty.
 pub fn doomed_objects_change()
     ensures laid { ChangedDoomedObjectsArePlaced }
     ensures represented { ChangedDoomedObjectsAreRepresented }
@@ -181,7 +192,8 @@ pub fn doomed_objects_change()
     ensures written { WrittenDoomedDirtyWordsSettle }
 {}
 
-/// While some records are in the midst of a change or gone, the others stay through changes of what is not theirs and of links.
+/// While some nodes are left out, in the midst of a change or gone, the other nodes load as before. So they do through changes that touch neither their blocks
+/// nor a record of a chain, and through changes of chain links and of table words. A record of which only the state is written loads as one of that state.
 pub fn others_hold_meanwhile()
     ensures begin { RepresentedHoldExcept }
     ensures more { MoreMayBeLeftOut }
@@ -193,8 +205,9 @@ pub fn others_hold_meanwhile()
     ensures state { RecordsOfAnotherStateLoad }
 {}
 
-/// While an object is doomed what is kept is the durable contents before or after it; in the end its node is that of a doomed object, and the new state is laid out and
-/// represented.
+/// The doom of an object commits at the second write of the removal of its main item from the LRU list: recovery keeps the durable contents before the doom,
+/// and from then on those after it, also while its parts are removed. In the end the view represents the state after the doom, with a doomed object at the
+/// node.
 pub fn dooms_keep_the_others()
     ensures before { ListedItemsAreAtRest }
     ensures after { DoomsKeepTheOthers }
@@ -204,30 +217,33 @@ pub fn dooms_keep_the_others()
     ensures represented { DoomedIsRepresented }
 {}
 
-/// Which handles there are is not shown.
+/// What a view represents does not depend on the handle names.
 pub fn handles_are_not_shown()
     ensures { HandlesAreNotShown }
 {}
 
-/// The durable contents before and after an object is made clean or dirty are picked by that.
+/// The durable contents before an object is made clean or dirty, and those after it, are two values of what survives a crash in that (`pick`): with the objects
+/// in transition where the object is clean, and without them where it is dirty.
 pub fn turning_objects_are_picked()
     ensures before { RestBeforeTurning }
     ensures after { RestAfterTurning }
 {}
 
-/// A store that shows the same represents the same; a touch of any listed item, at each write and in the end.
+/// The access of a listed item commits at its second write: recovery keeps the durable contents before it, and from then on those with the item in front. In
+/// the end the view represents the state with the item in front, which is valid. A view represents the same with any store that shows the same.
 pub fn items_are_used()
     ensures stores { SameStoresRepresent }
     ensures at_each_word { TouchedItemsAtEachWrite }
     ensures ends { TouchedItemsEnd }
 {}
 
-/// What joins the list in front, a main item or a part, is laid out for the state with it.
+/// The layout with a new item, a main item or a part, fits the state with that item in front.
 pub fn new_items_are_placed()
     ensures { NewItemsArePlaced }
 {}
 
-/// The chains of what represents a state are the layout's, no longer than the list, and can be searched; a found record is that of the live object with the key, and where none is found there is none.
+/// Where a view represents a state, the hash chain of any key can be searched: a record with the key that is no child is that of the live object with the key,
+/// and where there is none no live object has it. Each chain is the layout's, and has no more records than there are listed nodes.
 pub fn chains_are_searched()
     ensures chains { ChainsAreTheLayouts }
     ensures short { RepresentedChainsAreShort }
@@ -236,15 +252,16 @@ pub fn chains_are_searched()
     ensures missing { NoneFoundIsMissing }
 {}
 
-/// At each write of an Open, in a store that shows the same, what is kept may be left by a crash in it, and in the end the new state is
-/// represented.
+/// At each write of the access in an Open, recovery keeps a crash outcome of the Open, in each store that shows the same; in the end the view represents the
+/// state after the Open.
 pub fn opens_at_each_write()
     ensures at_each_word { OpensAtEachWrite }
     ensures ends { OpensEnd }
 {}
 
-/// Before a Create's insert, at each write of it and after its link, in stores that show the same, what is kept is the durable contents, which may be left by a crash; in the end the new state is represented, which is the model's where nothing is
-/// evicted.
+/// While the record and the node of a new object are written, inserted and linked, recovery keeps the old durable contents, in each store that shows the same;
+/// in the end the view represents the state with the new object. That is the state after a Create that evicts nothing, of which the old durable contents are a
+/// crash outcome.
 pub fn creates_at_each_write()
     ensures written { WrittenEntriesStay }
     ensures before { CreatesBeforeTheInsert }
@@ -256,8 +273,8 @@ pub fn creates_at_each_write()
     ensures stops { CreatesMayLeaveWhatWas }
 {}
 
-/// A change of bytes changes what is shown only inside what covers it; blocks and external files are covered by their used
-/// blocks.
+/// A change of bytes changes what is shown only inside the blocks and external numbers that cover these bytes. The bytes of blocks are covered by these, and an
+/// external file by its number; the header of a block file, but for next_file and max_entries, and places of the index that aren't shown need no cover.
 pub fn covered_changes_stay_inside()
     ensures shown { CoveredChangesStayInside }
     ensures blocks { BlocksAreCovered }
@@ -269,13 +286,15 @@ pub fn covered_changes_stay_inside()
     ensures either { CoversOfEither }
 {}
 
-/// The allocations of each linked file are the address words of what is kept, and of doomed objects.
+/// Where an image represents a state, the allocations of each linked block file are the address words in it of what is listed or doomed; in a consistent folder
+/// they are those of what is kept.
 pub fn linked_files_are_allocated()
     ensures sound { SoundFilesAreAllocated }
     ensures stood { StoodForFilesAreAllocated }
 {}
 
-/// Images that agree but on some blocks and external files show the same but there; a covered change leaves such images, and so does the growth or linking of block files.
+/// Two images that agree outside a footprint of blocks and external files show the same outside it. A change of bytes that the footprint covers leaves such
+/// images; the growth of block files touches only blocks past those that they had; and with the same next_file in each block file the same files are linked.
 pub fn agreeing_images_show_the_same()
     ensures last { BlocksStandByTheirLast }
     ensures shown { AgreeingImagesShowTheSame }
@@ -286,7 +305,9 @@ pub fn agreeing_images_show_the_same()
     ensures more { AgreementButMore }
 {}
 
-/// A longer block file has grown, and so have files whose headers change but for what says which blocks there are; growth or linking touches blocks alone that were not there, and keeps what is represented; a block file that isn't linked may go.
+/// The growth of block files touches only blocks that weren't there, and keeps the state that the view represents, if each owner is a node of the layout that
+/// uses what it owns. Files have grown at most where one gets longer, and where a change is of headers and none gets shorter. A block file that isn't linked
+/// may be deleted.
 pub fn growth_keeps_states()
     ensures longer { LongerFilesHaveGrown }
     ensures absent { GrowthIsOfAbsentBlocks }
@@ -295,7 +316,8 @@ pub fn growth_keeps_states()
     ensures gone { UnlinkedFilesMayGo }
 {}
 
-/// The name of a part in the model is its name in the formats; what is listed is charged what its rows are, which is, with the doomed objects, the totals of the state.
+/// The cost of a listed record is the cost of its row in the model; these costs and those of the doomed objects sum to the total of the state. The model and
+/// the formats give a part the same name.
 pub fn charges_are_the_totals()
     ensures names { PartNamesAreNames }
     ensures items { ItemsAreChargedAsRows }
@@ -304,7 +326,8 @@ pub fn charges_are_the_totals()
     ensures opened { OpenedChargesAreTheTotals }
 {}
 
-/// A change after the headers leaves the files as they are; an image that has a state stands for it, and a touch of any listed item leaves one with the item in front.
+/// An image that has a state by a layout represents it, and after the access of a listed item it has the state with that item in front. A change that is after
+/// the headers leaves the files of a well-formed folder as they are.
 pub fn states_are_had()
     ensures files { FilesStandBehindHeaders }
     ensures stands { StatesAreStoodFor }

@@ -4,8 +4,8 @@
 ghost use Rattle.law_folder.specs.ListWords.{WritesAreMadeInTurn, WritesAreMade, WritesCanGoOn, WritesSealTheirNodes, WritesKeepSeals, NodeUpdatesKeepSeals, InsertsCanBeMade, InsertsCommitAtTheSecondWord, InsertsEndAtRest, RemovalsCanBeMade, RemovalsCommitAtTheSecondWord, RemovalsEndAtRest};
 ghost use Rattle.law_folder.specs.ListWords.{TouchesCanBeMade, TouchesAreMadeInTurn, TouchesCanGoOn, TouchesCommitAtTheSecondWord, TouchesEndAtRest, TouchesSetTheTimes, TouchesSealTheirNodes, TouchesKeepSeals, CompletionsCanBeMade, CompletionsKeepTheOutcome, CompletionsAreDone, CompletionsMayBeStopped};
 
-/// At each word of writes into the list a prefix of them is made and nothing else is shown to change; in the end all are made, their nodes are sealed, those that were sealed are so still, and more can be
-/// written.
+/// At each word of some writes into the LRU list a prefix of the writes is made, and nothing else is shown to change. In the end all are made, each node that
+/// they write is sealed, each that was sealed is so still, and more can be written.
 pub fn writes_are_made_in_turn()
     ensures at_each_word { WritesAreMadeInTurn }
     ensures ends { WritesAreMade }
@@ -15,21 +15,24 @@ pub fn writes_are_made_in_turn()
     ensures updated { NodeUpdatesKeepSeals }
 {}
 
-/// An insert, crashed at any of its words and completed, gives the old list before the second word, and the new one from then on.
+/// An insert into the LRU list commits at its second word: the redo after a crash gives the old nodes before that word, and the new ones from it on. It can be
+/// made on the image, and ends with the list idle and the node in front.
 pub fn inserts_at_each_word()
     ensures can { InsertsCanBeMade }
     ensures commits { InsertsCommitAtTheSecondWord }
     ensures ends { InsertsEndAtRest }
 {}
 
-/// A removal, crashed at any of its words and completed, gives the old list before the second word, and the new one from then on.
+/// A removal from the LRU list commits at its second word: the redo after a crash gives the old nodes before that word, and those without the node from it on.
+/// It can be made on the image, and ends with the list idle.
 pub fn removals_at_each_word()
     ensures can { RemovalsCanBeMade }
     ensures commits { RemovalsCommitAtTheSecondWord }
     ensures ends { RemovalsEndAtRest }
 {}
 
-/// A touch, crashed at any of its words and completed, gives the old list before the second word, and the new one from then on; in the end the node has its times, and is sealed, as each node is that was.
+/// An access of a node of the LRU list commits at its second word: the redo after a crash gives the old order before that word, and the node in front from it
+/// on. In the end the list is idle, the node has the moment as both its times, and it is sealed, as each node is that was.
 pub fn touches_at_each_word()
     ensures can { TouchesCanBeMade }
     ensures at_each_word { TouchesAreMadeInTurn }
@@ -41,7 +44,8 @@ pub fn touches_at_each_word()
     ensures seals_stand { TouchesKeepSeals }
 {}
 
-/// A completion may crash at any of its words and be begun again, as often as one likes, on every list.
+/// The redo of any LRU list may crash at any of its words and begin again, as often as one likes, and gives the same. After all its words its operation is
+/// done, and none is in flight.
 pub fn completions_at_each_word()
     ensures can { CompletionsCanBeMade }
     ensures at_each_word { CompletionsKeepTheOutcome }

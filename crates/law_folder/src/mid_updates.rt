@@ -6,13 +6,14 @@ ghost use Rattle.law_folder.specs.IndexWrites.{HeadsAreWritten, TailsAreWritten,
 ghost use Rattle.law_folder.specs.NodeUpdates.{NextsAreWritten, PrevsAreWritten, TimesAreNotShown, ContentsAreWritten, DirtyWordsAreWritten};
 ghost use Rattle.law_folder.specs.RecordUpdates.{ChainNextsAreWritten, FieldsAreWritten};
 
-/// Writes into the blocks of an address, and updates of the record at their front, change what is shown only there.
+/// A write into the blocks of a valid address, and each moment of an update of the record at their front, changes only these blocks in what is shown.
 pub fn blocks_change_inside()
     ensures writes { WritesStayInside }
     ensures updates { UpdatesStayInside }
 {}
 
-/// At each word of an update of a node's link the list has the old or the new link; the times are not shown; and such changes add up.
+/// At each word of the update of a node's next or prev, what is shown has none or all of one write into the LRU list. The update of a node's times changes
+/// nothing that is shown, and writes into the list after other ones are together one change of the list alone.
 pub fn links_are_written()
     ensures next { NextsAreWritten }
     ensures prev { PrevsAreWritten }
@@ -21,20 +22,22 @@ pub fn links_are_written()
     ensures add { ListChangesAdd }
 {}
 
-/// At each word of an update of what a node says of its record it says the old or the new, and nothing else changes.
+/// At each word of the update of a node's contents or dirty flag, the node has the old or the new word there, and nothing else that is shown changes.
 pub fn names_are_written()
     ensures contents { ContentsAreWritten }
     ensures dirty { DirtyWordsAreWritten }
 {}
 
-/// At each word of an update of a record it checks, with its fields or its link as far as they are written, and nothing else changes.
+/// At each word of the update of a record, its chain link is the old or the new word, its other fields are the old ones with a prefix of the changes, and
+/// nothing else that is shown changes.
 pub fn records_are_written()
     ensures chain_next { ChainNextsAreWritten }
     ensures fields { FieldsAreWritten }
 {}
 
-/// A word of the index that is written is a write into the LRU list, the word of a bucket, or not shown; few of them are checked or counted, the
-/// version may be raised, and none says what is valid.
+/// The write of a word of the index is one write into the LRU list, or the word of a bucket, or changes nothing that is shown, and leaves the same addresses
+/// valid. A folder stays well formed with a word that no check reads, with the version that is made now and with the word of a bucket; what the index counts
+/// stays where `counted_places` do.
 pub fn index_words_are_written()
     ensures head { HeadsAreWritten }
     ensures tail { TailsAreWritten }

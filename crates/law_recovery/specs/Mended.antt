@@ -49,6 +49,6 @@ MendedFoldersStandFor = (image : Image) (limits : Bounds) → IsMended image →
 abbrev pub MendedFoldersAreSound : Type 0
 MendedFoldersAreSound = (image : Image) → IsMended image → AreBytes image → IsSound image
 
--- a sound folder whose index has the version that is made now needs no repair
+-- a consistent folder whose index has the version that is made now needs no repair
 abbrev pub SoundFoldersAreMended : Type 0
 SoundFoldersAreMended = (image : Image) → IsSound image → version_of (byte image Index) ≡ index_version → IsMended image

@@ -1,4 +1,5 @@
-//! The laws of repair, each the contract of a function with an empty body: at each word of the repair the same is kept and found, and in the end the folder stands for what it holds.
+//! The laws of repair, each the contract of a function with an empty body: at each word of the repair the kept records and the recovered contents stay the
+//! same, and in the end the folder represents the state that is opened on these.
 #![tactic(auto)]
 
 ghost use Rattle.law_recovery.specs.RecordSeals.{SealsAreMade, SealsStand, GrowthLeavesSeals, UnlinkedFilesLeaveSeals, ExternalFilesLeaveSeals, RecordsAreBehindHeaders, IndexWordsAreBehindHeaders};
@@ -13,23 +14,26 @@ ghost use Rattle.law_recovery.specs.MendedStates.{MendedFoldersHaveTheirState};
 ghost use Rattle.law_recovery.specs.MendedParts.{KeptWordsStand, KeptWordsClaim, RebuiltFilesAreMended, UnlinkedFilesLeaveTheOthers, ExternalFilesLeaveTheBlocks, MendedFilesStand, IndexWordsLeaveSeals, OtherWordsLeaveCounters, KeptAreSealed};
 ghost use Rattle.law_recovery.specs.FoundHolding.{FoundIsAHolding, KeptClaimOnce};
 
-/// While the end of a list is repaired the same nodes are walked; in the end the list is whole.
+/// While the end of an LRU list without an operation in flight is repaired, its walk stays the same at each write; in the end the list is idle, with the nodes
+/// of that walk.
 pub fn ends_are_mended()
     ensures { EndsAreMended }
 {}
 
-/// At each word of the repair of the list the same is kept and found; in the end the list is that of the kept nodes.
+/// The repair of the LRU list keeps the recovered contents at each of its words; in the end the list is that of the kept nodes.
 pub fn lists_are_repaired()
     ensures { ListsAreRepaired }
 {}
 
-/// Once the operation in flight is completed and the end is repaired the list is idle, and an idle one needs neither.
+/// The redo of a well-formed folder's LRU list and then the repair of its end leave the list idle, and keep the recovered contents; an idle list needs no step
+/// of either.
 pub fn lists_are_ended()
     ensures rests { CompletedListsAreEnded }
     ensures none { ListsAtRestNeedNoEnd }
 {}
 
-/// Then the dropped nodes are taken out one after the other, while the walked nodes and the kept ones are gone through side by side.
+/// Once its end is repaired, the nodes of the LRU list that are walked and not kept are taken out one after the other, and the recovered contents stay at each
+/// word of that. A kept node stays in the list; once no node is left to look at, the list is repaired.
 pub fn dropped_nodes_are_removed()
     ensures others { DroppedNodesAreTheOthers }
     ensures begins { RemovalsBegin }
@@ -38,12 +42,13 @@ pub fn dropped_nodes_are_removed()
     ensures ends { ListRepairsEnd }
 {}
 
-/// At each word of the repair of the chains the same is kept and found; in the end each chain is that of the kept records of its bucket.
+/// The repair of the hash chains keeps the recovered contents at each of its words; in the end each chain is that of the kept records of its bucket.
 pub fn chains_are_repaired()
     ensures { ChainsAreRepaired }
 {}
 
-/// The buckets are repaired one after the other; one that is right needs no step.
+/// The hash chains are repaired one bucket after the other, by steps that keep the recovered contents at each of their words; a bucket that is right needs no
+/// step.
 pub fn buckets_are_mended()
     ensures begins { ChainsBegin }
     ensures mends { BucketsAreMended }
@@ -51,46 +56,49 @@ pub fn buckets_are_mended()
     ensures ends { ChainRepairsEnd }
 {}
 
-/// What the repair of the list leaves of the chains: the kept records of each bucket, and whole chains.
+/// A change of the LRU list alone, by which the same records are kept, leaves each bucket its kept records, and each whole chain whole.
 pub fn chains_stay()
     ensures records { KeptRecordsStay }
     ensures whole { WholeChainsStay }
 {}
 
-/// The nodes and the records of what is kept check, so they can be written.
+/// The node and the record of all that recovery keeps are there with a right or absent checksum, so they can be written.
 pub fn kept_records_check()
     ensures nodes { KeptNodesCheck }
     ensures records { KeptRecordsCheck }
 {}
 
-/// Both, one after the other: of every well-formed image the same is kept and found at each word, and in the end its links are repaired; where they are so already there is no
-/// step.
+/// The repair of a well-formed folder's links, of its LRU list and then of its hash chains, keeps the recovered contents at each of its words. In the end the
+/// links are repaired, and each record that was sealed is sealed; a folder whose links are repaired needs no step.
 pub fn links_are_repaired()
     ensures at_each_word { LinksAreRepaired }
     ensures mended { MendedChainsAreMendedLinks }
     ensures none { MendedLinksNeedNoSteps }
 {}
 
-/// A folder whose links are repaired represents what it holds, opened.
+/// A folder whose links are repaired represents the state that is opened on its recovered contents, by the layout of what it keeps.
 pub fn mended_links_represent()
     ensures { MendedLinksRepresent }
 {}
 
-/// Once the links are repaired the same is kept and found, and they stay so through one change after another.
+/// Once a repair that keeps the recovered contents has repaired the links, they are repaired with the same kept and recovered. Two changes one after the other
+/// that keep them so are together such a change.
 pub fn mended_links_go_on()
     ensures begins { RepairedLinksAreKept }
     ensures goes_on { MendedLinksGoOn }
 {}
 
-/// So at each word of the repair, while the links are repaired and after that, the folder is well formed and the same is kept and found.
+/// At each word of a repair, of the links and then of maps, counters, files and checksums, the folder is well formed, with the same kept records and recovered
+/// contents. Repairs of the links that crash, however often, keep the recovered contents.
 pub fn repairs_hold_the_same()
     ensures links { LinksAreMidRepair }
     ensures behind { MendedLinksAreMidRepair }
     ensures stopped { LinkRepairsMayBeStopped }
 {}
 
-/// Repaired links stay repaired, with the same kept and found, where what isn't kept changes: where block files grow, where one that isn't linked or an external file that nobody uses goes, and where a counter of the index is
-/// written.
+/// Repaired links stay repaired, with the same kept and recovered, through each change of what isn't kept. Such are the growth of block files, the deletion of
+/// a block file that isn't linked, a change of an external file that no kept record uses, and the write of a word of the index's header that is neither shown
+/// nor checked, or of the version.
 pub fn mended_links_stay_outside()
     ensures outside { MendedLinksStayOutside }
     ensures grow { MendedLinksMayGrow }
@@ -100,13 +108,14 @@ pub fn mended_links_stay_outside()
     ensures version { VersionsMayChange }
 {}
 
-/// They stay so at each word at which what is kept is sealed.
+/// Repaired links stay repaired at each word at which a kept node or its record is sealed.
 pub fn kept_records_may_be_sealed()
     ensures nodes { KeptNodesMayBeSealed }
     ensures records { KeptRecordsMayBeSealed }
 {}
 
-/// Growth and the deletion of files leave what was sealed; records and words of the index are after the headers of the block files.
+/// The growth of block files, the deletion of one that isn't linked and a change of an external file leave each record sealed that was. No record and no word
+/// of the index lies in a header of a block file.
 pub fn seals_are_left()
     ensures growth { GrowthLeavesSeals }
     ensures unlinked { UnlinkedFilesLeaveSeals }
@@ -115,15 +124,16 @@ pub fn seals_are_left()
     ensures words { IndexWordsAreBehindHeaders }
 {}
 
-/// The address words of what is kept are valid and use what it uses; where maps and counters are rebuilt for them, the files are
-/// repaired.
+/// The block files are repaired where each linked one has all its blocks, and the map and the counters of what is kept. The address words of what is kept are
+/// valid, and name exactly the blocks and external numbers that the kept records use.
 pub fn rebuilt_files_are_mended()
     ensures stand { KeptWordsStand }
     ensures claim { KeptWordsClaim }
     ensures mended { RebuiltFilesAreMended }
 {}
 
-/// What was repaired of files, seals and counters stays so while what comes after it is repaired.
+/// Each later step of a repair leaves what was repaired before it: block files, checksums and counters. Such steps are the deletion of a block file that isn't
+/// linked, a change of an external file, and changes of checksums and of words of the index.
 pub fn mended_parts_stand()
     ensures unlinked { UnlinkedFilesLeaveTheOthers }
     ensures external { ExternalFilesLeaveTheBlocks }
@@ -132,15 +142,16 @@ pub fn mended_parts_stand()
     ensures counters { OtherWordsLeaveCounters }
 {}
 
-/// What is kept is sealed one record after the other, and each leaves the others sealed.
+/// A sealed update of a record without changes leaves it sealed, and each other record that was; all that is kept is sealed once each of its nodes and records
+/// has its hash as its checksum.
 pub fn kept_records_are_sealed()
     ensures made { SealsAreMade }
     ensures stand { SealsStand }
     ensures all { KeptAreSealed }
 {}
 
-/// A repaired folder has the state of what it holds, opened, so it stands for that, and is sound; and a sound one needs no
-/// repair.
+/// A folder in which nothing is left to repair represents the state that is opened on its recovered contents, and is consistent; a consistent folder whose
+/// index has the version that is made now needs no repair.
 pub fn mended_folders_stand_for()
     ensures state { MendedFoldersHaveTheirState }
     ensures stands { MendedFoldersStandFor }
@@ -148,8 +159,7 @@ pub fn mended_folders_stand_for()
     ensures converse { SoundFoldersAreMended }
 {}
 
-/// Of every image of bytes what is found is a valid snapshot, and no block and no external number of what is kept has two
-/// owners.
+/// The recovered contents of every image of bytes are a valid snapshot; no block and no external number is used twice by what is kept.
 pub fn found_is_a_holding()
     ensures holding { FoundIsAHolding }
     ensures once { KeptClaimOnce }

@@ -1,4 +1,4 @@
--- What is charged is a number of eight bytes.
+-- The sum of the costs is a number of eight bytes.
 use Rattle.std.proofs.Common.{◌≡◌, ℕ, zero, suc, ◌+◌, ◌*◌, ◌≤◌, ◌^◌, List, [], ◌∷◌, length, length-take, take, refl, ap, sym, ◌∙◌, subst, arith, Bool, true, false, Option, None, Some}
 use Rattle.std.specs.Prelude.{◌==◌, ◌&&◌, nat_le, not, if◌then◌else◌}
 use Rattle.std.specs.List.{cons_option, filter_map, sum_by}
@@ -89,7 +89,7 @@ streams-few image e streams is = go ((data_size_of e 3 == 0) && (address_of e 3 
       let third : length c ≤ 2147483647 = stream-few image e 2 c e2 in
       subst (λ (l : List (List ℕ)). sum_by length l ≤ 3 * 2147483647) same (let sum : sum_by length (a ∷ b ∷ c ∷ []) ≤ 3 * 2147483647 = omega (arith, first, second, third) in sum)
 
--- some nodes are charged at most their number times a part's name and three streams, 32796 + 3 * 2147483647
+-- the costs of some nodes sum to at most their number times a part's name and three streams, 32796 + 3 * 2147483647
 one-more : (o : Option Loaded) (ls : List Loaded) (n : ℕ) → ((l : Loaded) → o ≡ Some l → charge_of l ≤ 6442483737) → sum_by charge_of ls ≤ n * 6442483737 → sum_by charge_of (cons_option o ls) ≤ suc n * 6442483737
 one-more None ls n each rest = omega (arith, rest)
 one-more (Some l) ls n each rest = let one = each l refl in subst (λ (s : ℕ). s ≤ suc n * 6442483737) (sym (sum_by-cons charge_of l ls)) (omega (arith, one, rest))

@@ -167,7 +167,7 @@ dead-same state number o other here live n = ⊎_elim
     (λ (e : n ≢ number). ap is_dead (set-else state number n (Some other) e))
     (cases_eq n number)
 
--- the charges are the same with another dirty word
+-- the sum of the costs is the same with another dirty word
 pub charges-same : (at : ℕ → Option Loaded) (node mark : ℕ) (l : Loaded) → at node ≡ Some l → (nodes : List ℕ) → sum_by charge_of (filter_map (put at node (Some (record l { dirty = mark }))) nodes) ≡ sum_by charge_of (filter_map at nodes)
 charges-same at node mark l here [] = refl
 charges-same at node mark l here (x ∷ nodes) = ⊎_elim

@@ -1,4 +1,5 @@
--- Folders that keep a state: the whole folder of one entry, and the folder of one doomed object, in each of which a session is opened; so the laws speak of something.
+-- Folders that keep a state: the whole folder of one entry, and the folder of one doomed object, in each of which a session is opened; so the laws speak of
+-- something.
 use Rattle.std.proofs.Common.{◌≡◌, ◌⊎◌, inl, inr, ⊎_elim, ℕ, zero, suc, ◌+◌, ◌≤◌, [], ◌∷◌, refl, ap, sym, ◌∙◌, subst, arith, lit<, lit≤, Option, true, false}
 use Rattle.std.specs.Prelude.{is_some}
 use Rattle.std.proofs.lemmas.Bool.Decides.{nat_tests}

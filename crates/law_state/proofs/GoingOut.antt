@@ -1,4 +1,5 @@
--- Where a folder can be written, an item whose record is alone in its chain can go out: the steps of the removal of its node, and then the word of its bucket. So the laws on items that go out speak of something.
+-- Where a folder can be written, an item whose record is alone in its chain can go out: the steps of the removal of its node, and then the word of its bucket.
+-- So the laws on items that go out speak of something.
 use Rattle.std.proofs.Common.{◌≡◌, ⊎_elim, ℕ, ◌<◌, List, [], ◌∷◌, ◌++◌, refl, ap, sym, ◌∙◌, subst, arith, lit<, Bool, Option, Some, true, false}
 use Rattle.std.specs.Prelude.{◌&&◌, ◌==◌, filter}
 use Rattle.std.specs.Option.{option_map_or}

@@ -1,4 +1,5 @@
--- Where a folder can be written, the dirty word of a node that checks can: at each word of its sealed update, and in the end. So the laws on dirty words speak of something.
+-- Where a folder can be written, the dirty word of a node that checks can: at each word of its sealed update, and in the end. So the laws on dirty words speak
+-- of something.
 use Rattle.std.proofs.Common.{◌≡◌, inl, inr, ⊎_elim, ℕ, ◌+◌, ◌<◌, ◌≤◌, ◌^◌, [], ◌∷◌, All, refl, ap, sym, ◌∙◌, arith, Bool, Some, true}
 use Rattle.std.specs.Prelude.{if◌then◌else◌, ◌==◌, ◌&&◌}
 use Rattle.std.proofs.lemmas.List.Elements.{All-cons, All-nil}

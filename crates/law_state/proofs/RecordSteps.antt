@@ -1,4 +1,5 @@
--- Where a folder can be written, the fields of a record that checks can: it is sealed then, its fields are the written ones, and nothing else changes. So the laws on records that change speak of something.
+-- Where a folder can be written, the fields of a record that checks can: it is sealed then, its fields are the written ones, and nothing else changes. So the
+-- laws on records that change speak of something.
 use Rattle.std.proofs.Common.{◌≡◌, ◌≢◌, inl, inr, ℕ, ◌+◌, ◌<◌, ◌≤◌, List, [], ◌∷◌, All, length, take, refl, ap, sym, ◌∙◌, subst, arith, lit<, Bool, Some, true}
 use Rattle.std.specs.Prelude.{◌^◌, ◌%◌, ◌==◌, ◌&&◌, if◌then◌else◌, nat_le}
 use Rattle.std.proofs.lemmas.Bool.{and_parts, eq-eqb, leb-true}

@@ -1,4 +1,5 @@
--- The laws on folders in the midst of a command speak of something: in the whole folder of one entry, whose handle is 0, a Read, a Doom and a List are begun; and in the folder of one doomed object its key is out.
+-- The laws on folders in the midst of a command speak of something: in the whole folder of one entry, whose handle is 0, a Read, a Doom and a List are begun;
+-- and in the folder of one doomed object its key is out.
 use Rattle.std.proofs.Common.{◌++◌, ◌≡◌, [], ◌∷◌, refl, sym, subst, true, false, arith, None, Some, codes}
 use Rattle.std.specs.Option.{ForSome}
 use Rattle.spec_image.specs.Footprint.{Footprint, SameOutside}

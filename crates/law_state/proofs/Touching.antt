@@ -19,7 +19,7 @@ use Rattle.law_folder.proofs.commands.Touches.{touched-items}
 use Rattle.law_folder.proofs.commands.Touches.{opens-each}
 use Rattle.law_state.specs.TouchLaws.{OpensMayStop, TouchesFindEither}
 
--- what is found in a finished folder
+-- what is found in an initialized folder
 pub found-kept : (image : Image) → IsWellFormed image → found image ≡ map row_of_loaded (kept_by held_rule (completed (view_of image)))
 unfolding found kept
 found-kept image well = rw (well_formed-finished image well) refl

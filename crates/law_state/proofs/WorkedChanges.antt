@@ -1,4 +1,5 @@
--- In the worked folder `b` is opened and made dirty; then a Write cuts its stream, and its record is written anew: meanwhile the old durable contents are recovered, and in the end the state without its stream is kept.
+-- In the worked folder `b` is opened and made dirty; then a Write cuts its stream, and its record is written anew: meanwhile the old durable contents are
+-- recovered, and in the end the state without its stream is kept.
 use Rattle.std.proofs.Common.{◌≡◌, inl, inr, ℕ, ◌+◌, ◌≤◌, List, [], ◌∷◌, ◌++◌, length, refl, ap, sym, ◌∙◌, subst, arith, lit<, true, false, None, Ok, Some, codes, replicate}
 use Rattle.std.specs.Prelude.{◌⊎◌}
 use Rattle.std.proofs.lemmas.Bool.{or_right}

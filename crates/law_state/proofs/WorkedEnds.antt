@@ -1,4 +1,5 @@
--- In the worked folder commands come to their ends, once the counters of the index are written: a Doom, a Trim, a Write to a live and to a doomed object, a SparseWrite of some bytes and of none, and a Close of one handle of two.
+-- In the worked folder commands come to their ends, once the counters of the index are written: a Doom, a Trim, a Write to a live and to a doomed object, a
+-- SparseWrite of some bytes and of none, and a Close of one handle of two.
 use Rattle.std.proofs.Common.{◌≡◌, ℕ, ◌<◌, ◌^◌, List, [], ◌∷◌, ◌++◌, length, refl, sym, ◌∙◌, subst, arith, lit<, lit≤, None, Some, true, codes}
 use Rattle.spec_image.specs.Image.{Image}
 use Rattle.spec_image.specs.Steps.{after}

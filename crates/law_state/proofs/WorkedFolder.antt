@@ -34,7 +34,7 @@ use Rattle.law_folder.proofs.walks.Loads.{IsKeyed}
 use Rattle.law_state.proofs.LaidOut.{looked}
 use Rattle.law_state.proofs.WorkedState.{all_four, chain_of, index_head, nodes, parent_bytes, parent_index, records, part_bytes, the_doomed, the_parent, the_part, the_plain, worked, worked-lies, worked_layout}
 
--- three items, and the sum of their charges; session 7 is open; the list goes from the part over its parent to `b`, and each of them is alone in its chain
+-- three items, and the sum of their costs; session 7 is open; the list goes from the part over its parent to `b`, and each of them is alone in its chain
 abbrev pub index_words : List (ℕ × ℕ)
 index_words = new_index_words 50 ++ (8, 3) ∷ (48, 8466) ∷ (20, 7) ∷ (32, 1) ∷ (268, 3) ∷ (288, 0x90000001) ∷ (308, 0x90000002) ∷ (12064, 0xA0010001) ∷ (165108, 0xA0010002) ∷ (171896, 0xA0010000) ∷ []
 

@@ -1,4 +1,5 @@
--- In the worked folder the blocks of the sparse object's index are freed, the only allocation of their file; and so in each folder where that file has the same header and length. Seen the other way, they are allocated.
+-- In the worked folder the blocks of the sparse object's index are freed, the only allocation of their file; and so in each folder where that file has the same
+-- header and length. Seen the other way, they are allocated.
 use Rattle.std.proofs.Common.{◌≡◌, ◌≢◌, ⊎_elim, ℕ, zero, suc, ◌+◌, ◌*◌, ◌/◌, ◌%◌, ◌<◌, ◌≤◌, List, [], ◌∷◌, ◌++◌, All, length, refl, ap, sym, ◌∙◌, subst, arith, lit<, lit≤, Bool, true, false, Some}
 use Rattle.std.specs.Prelude.{◌==◌, ◌&&◌, ◌||◌, filter, is_some, nat_le, nat_lt, not}
 use Rattle.std.proofs.lemmas.Bool.{cases_lt}

@@ -1,4 +1,5 @@
--- The record of the worked folder's doomed object, once its stream is empty, and its state is written anew: what it loads as, and that nothing else has changed.
+-- The record of the worked folder's doomed object, once its stream is empty, and its state is written anew: what it loads as, and that nothing else has
+-- changed.
 use Rattle.std.proofs.Common.{◌≡◌, ◌≢◌, inr, ℕ, ◌+◌, ◌<◌, ◌≤◌, List, [], ◌∷◌, All, refl, ap, sym, ◌∙◌, arith, true, false, Ok, Some}
 use Rattle.std.specs.Prelude.{◌%◌}
 use Rattle.std.proofs.lemmas.Bool.{eq-eqb}

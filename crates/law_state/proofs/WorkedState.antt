@@ -1,4 +1,5 @@
--- A state with a plain, a sparse and a doomed object: `b` has the stream `zz`; `a` is sparse, and its part 0 has the bytes `xx`; a third object, doomed and not clean, has the stream `yyy` and the handle 5, and its key is one of the bucket of `b`.
+-- A state with a plain, a sparse and a doomed object: `b` has the stream `zz`; `a` is sparse, and its part 0 has the bytes `xx`; a third object, doomed and not
+-- clean, has the stream `yyy` and the handle 5, and its key is one of the bucket of `b`.
 use Rattle.std.proofs.Common.{◌≡◌, ℕ, zero, suc, ◌+◌, ◌<◌, List, [], ◌∷◌, ◌++◌, refl, ap, sym, ◌∙◌, subst, arith, Bool, true, false, Some, None}
 use Rattle.std.specs.Prelude.{if◌then◌else◌, ◌==◌, ◌&&◌, nat_lt, codes, replicate}
 use Rattle.std.specs.Str.{bytes_eq}

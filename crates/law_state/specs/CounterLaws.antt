@@ -16,11 +16,11 @@ use Rattle.law_state.specs.Keeping.{CountsItems, Keeps, KeepsUncounted}
 abbrev pub CountersMayBeWritten : Type 0
 CountersMayBeWritten = (from image : Image) (at x : ℕ) → is_among counter_places at ≡ true → IsIndexWord at x from image → KeepsWith [] [] from image
 
--- the sum of the charges of a state's items
+-- the sum of the costs of a state's items
 abbrev pub charged : State → Layout → ℕ
 charged state layout = sum_by charge_of (loaded_at layout (order state layout))
 
--- the sum of the charges of a kept state's items is a number of eight bytes: there are at most 131072 nodes, and what lies at each has a key and three streams
+-- the sum of the costs of a kept state's items is a number of eight bytes: there are at most 131072 nodes, and what lies at each has a key and three streams
 -- that are short enough
 abbrev pub ChargesAreSmall : Type 0
 ChargesAreSmall = (state : State) (layout : Layout) (unlinked : List ℕ) (image : Image) → KeepsUncounted state layout unlinked image → charged state layout < 2 ^ 64

@@ -45,11 +45,11 @@ DoomedObjectsAreKept = (state : State) (layout : Layout) (unlinked : List ℕ) (
     → IsRemovalDone from (layout.place (main object.key)) between → IsUnchained state layout (layout.place (main object.key)) loaded between image
     → KeepsUncounted (doomed number state (Some object)) (layout_doomed layout number (layout.place (main object.key)) loaded) unlinked image
 
--- the state in which an object is doomed has one item less, with its charge
+-- the state in which an object is doomed has one item less, and the sum of the costs is less by the object's
 pub record IsDoomedLess (state : State) (layout : Layout) (number : ℕ) (object : Object) (loaded : Loaded) : Type 0 where
   pub items : length (doomed number state (Some object)).uses + 1 ≡ length state.uses
   pub bytes : sum_by charge_of (loaded_at layout (nodes_of layout (doomed number state (Some object)).uses)) + charge_of loaded ≡ sum_by charge_of (loaded_at layout (order state layout))
 
--- where an object can be doomed, the state after that has one item less, with its charge
+-- where an object can be doomed, the state after that has one item less, and the sum of the costs is less by the object's
 abbrev pub DoomedObjectsAreOneLess : Type 0
 DoomedObjectsAreOneLess = (state : State) (layout : Layout) (unlinked : List ℕ) (number : ℕ) (object : Object) (loaded : Loaded) (from : Image) → KeepsUncounted state layout unlinked from → CanBeDoomed state layout number object loaded → IsDoomedLess state layout number object loaded

@@ -67,7 +67,7 @@ pub record AreUnlinked (image : Image) (layout : Layout) (unlinked : List ℕ) :
 abbrev pub AllAreSealed : Image → Layout → Type 0
 AllAreSealed image layout = (node : ℕ) (loaded : Loaded) → layout.at node ≡ Some loaded → AreSealed image loaded
 
--- the index, of the version that is made now, counts the listed items, and sums their charges
+-- the index, of the version that is made now, counts the listed items, and has the sum of their costs
 abbrev pub CountsItems : Image → State → Layout → Type 0
 CountsItems image state layout = count_of (byte image Index) ≡ counting (length state.uses) (sum_by charge_of (loaded_at layout (order state layout)))
 

@@ -68,12 +68,12 @@ RecordUpdatesAreInside = (state : State) (layout : Layout) (unlinked : List ℕ)
 
 -- Counting.
 
--- the state without an item has one item less, with its charge
+-- the state without an item has one item less, and the sum of its costs is less by the item's
 pub record IsOneLess (state : State) (layout : Layout) (objects : List (Option Object)) (keep : Item → Bool) (item : Item) (was : Loaded) : Type 0 where
   pub items : length (without_items state objects keep).uses + 1 ≡ length state.uses
   pub bytes : sum_by charge_of (loaded_at (layout_removed layout (layout.place item) was.contents) (order (without_items state objects keep) (layout_removed layout (layout.place item) was.contents))) + charge_of was ≡ sum_by charge_of (loaded_at layout (order state layout))
 
--- the removal of an item from a kept state makes one item less, with its charge
+-- the removal of an item from a kept state makes one item less, and the sum of the costs less by its cost
 abbrev pub RemovedItemsAreOneLess : Type 0
 RemovedItemsAreOneLess = (state : State) (layout : Layout) (unlinked : List ℕ) (objects : List (Option Object)) (keep : Item → Bool) (item : Item) (was : Loaded) (from : Image) → KeepsUncounted state layout unlinked from → IsWithout state objects keep item → layout.at (layout.place item) ≡ Some was
     → IsOneLess state layout objects keep item was

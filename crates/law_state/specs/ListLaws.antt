@@ -1,4 +1,4 @@
--- The LRU list of a folder that keeps a state: touches.
+-- The LRU list of a folder that keeps a state: accesses.
 use Rattle.std.specs.Prelude.{◌≡◌, ℕ, List, ◌∷◌, ◌++◌, true}
 use Rattle.blk_model.specs.Effects.{used}
 use Rattle.blk_model.specs.Items.{Item}

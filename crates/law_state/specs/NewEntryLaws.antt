@@ -65,11 +65,11 @@ abbrev pub NewEntriesAreKept : Type 0
 NewEntriesAreKept = (state : State) (layout : Layout) (unlinked key : List ℕ) (loaded : Loaded) (handle : ℕ) (from between image : Image) → KeepsUncounted state layout (words_of loaded ++ unlinked) from → IsNewEntryOf state layout key loaded from
     → IsValidState (created handle key state) → IsInsertDone from loaded.node between → HasRecordInFront between loaded.contents image → KeepsUncounted (created handle key state) (with_new layout key loaded) unlinked image
 
--- the state with a new object has one item more, with its charge
+-- the state with a new object has one item more, with its cost
 pub record IsOneMore (state : State) (layout : Layout) (key : List ℕ) (loaded : Loaded) (handle : ℕ) : Type 0 where
   pub items : length (created handle key state).uses ≡ length state.uses + 1
   pub bytes : sum_by charge_of (loaded_at (with_new layout key loaded) (order (created handle key state) (with_new layout key loaded))) ≡ charge_of loaded + sum_by charge_of (loaded_at layout (order state layout))
 
--- the Create of a written entry makes one item more, with its charge
+-- the Create of a written entry makes one item more, with its cost
 abbrev pub NewEntriesAreOneMore : Type 0
 NewEntriesAreOneMore = (state : State) (layout : Layout) (unlinked key : List ℕ) (loaded : Loaded) (handle : ℕ) (from : Image) → KeepsUncounted state layout unlinked from → IsNewEntryOf state layout key loaded from → IsOneMore state layout key loaded handle

@@ -43,7 +43,7 @@ MakingPartsFindsTheNext =
     → KeepsUncounted state layout unlinked from → IsPartWritten (view_of from) state objects layout key n was seen loaded
     → IsMakingPart state layout key loaded chains image → Finds (rest (with_first state objects (part key n))) image
 
--- other objects for a state: none is doomed that wasn't, and each dirty one was dirty
+-- other objects for a state: the same slots have a doomed object, and each live object that is dirty was live and dirty, with this key
 pub record KeepsUnsettled (state : State) (objects : List (Option Object)) : Type 0 where
   pub dead : (number : ℕ) → is_doomed_slot (object_at (record state { objects = objects }) number) ≡ is_doomed_slot (object_at state number)
   pub unsettled : (number : ℕ) (object : Object) → object_at (record state { objects = objects }) number ≡ Some object → object.live ≡ true → object.settled ≡ false

@@ -24,7 +24,7 @@ pub record Names (state : State) (handle number : ℕ) (object : Object) : Type 
   pub names : named_by state handle ≡ Some number
   pub here : object_at state number ≡ Some object
 
--- Open: where it may crash at each word is said of touches.
+-- Open: where it may crash at each word is said of accesses.
 
 -- the state after an Open is kept once the item of its key is accessed
 abbrev pub OpensEndByTouch : Type 0

@@ -20,19 +20,22 @@ ghost use Rattle.law_state.specs.ObjectLaws.{HandlesMayChange, HandlesAreNotCoun
 ghost use Rattle.law_state.specs.RecordLaws.{DoomedMarkingFindsTheSame, DoomedMarkingKeepsTheState, DoomedMarkingKeepsTheCounters, RecordUpdatesChangeOnly, RecordUpdatesLeaveCounters, MarkingFindsEither, MarkingKeepsTheState, MarkingKeepsTheCounters};
 ghost use Rattle.law_state.specs.RemovalLaws.{RemovalsFindEither, UnlinkingFindsTheOthers, RemovedItemsAreUnlinked};
 
-/// Where a call leaves the files, another state that lies there with the same words in use is kept; so is the same state with its unlinked words in another order.
+/// A kept state is also kept, but for the counters, with its unlinked words in any other order; so is another state that lies there with the same words in use,
+/// where a call leaves the files.
 pub fn other_states_are_kept()
     ensures rearranged { StatesAreRearranged }
     ensures any_order { KeptInAnyOrder }
 {}
 
-/// Once a listed item is touched, the state with it in front is kept, and counted.
+/// Once a listed item is accessed, the folder keeps the state with it in front, with the same words unlinked; the counters stay right.
 pub fn touches_keep_states()
     ensures uncounted { TouchesKeepTheState }
     ensures counted { TouchesKeepTheCounters }
 {}
 
-/// An update of a record is a change of its blocks; the dirty word of a main item makes its object clean or dirty, at each word and in the end.
+/// While the dirty flag of a main item's node changes, recovery gives the durable contents with the object as it was, or as it is afterwards; then the folder
+/// keeps the state in which it is clean where the flag is 0, and dirty where it is the number of the session. A sealed update of a record changes its blocks
+/// alone, and leaves the counters.
 pub fn objects_are_marked()
     ensures blocks { RecordUpdatesChangeOnly }
     ensures counters { RecordUpdatesLeaveCounters }
@@ -41,22 +44,24 @@ pub fn objects_are_marked()
     ensures counted { MarkingKeepsTheCounters }
 {}
 
-/// The dirty word of a doomed object may be set and cleared: the old durable contents are recovered at each word, and in the end the object is dirty or clean, which is not
-/// counted.
+/// While the dirty flag of a doomed object's node changes, recovery gives the old durable contents; then the folder keeps the state in which the object is
+/// clean where the flag is 0, and else dirty. The counters stay right, since they count no doomed object.
 pub fn doomed_objects_are_marked()
     ensures find { DoomedMarkingFindsTheSame }
     ensures uncounted { DoomedMarkingKeepsTheState }
     ensures counted { DoomedMarkingKeepsTheCounters }
 {}
 
-/// Each counter of the index may be written, and once all are, the state is counted; the sum of the charges is a number of eight bytes.
+/// The write of a counter of the index keeps each state but for the counters; once all four are written with the numbers of a state, that state is kept with
+/// them. The sum of the costs of a kept state's items is a number of eight bytes.
 pub fn counters_are_written()
     ensures each { CountersMayBeWritten }
     ensures small { ChargesAreSmall }
     ensures counted { WrittenCountersCount }
 {}
 
-/// While an external file is made or deleted the durable contents are recovered, and in the end it is made or deleted.
+/// While an external file is made, or that of an unlinked word is changed or deleted, recovery gives the old durable contents. It is made (`AddsExternal`) once
+/// it is there, and deleted (`RemovesExternal`) once it isn't.
 pub fn external_files_come_and_go()
     ensures making { MakingFilesFindsTheSame }
     ensures made { MadeFilesAreAdded }
@@ -64,8 +69,8 @@ pub fn external_files_come_and_go()
     ensures deleted { DeletedFilesAreRemoved }
 {}
 
-/// While the entry of a new object comes into the list and its chain the old durable contents are recovered; then the state with the object is kept, which has
-/// one item more.
+/// While the node of a new object's entry is inserted and its record is linked, recovery gives the old durable contents; then the folder keeps the state with
+/// the object but for the counters, and the entry's words are unlinked no longer. That state has one item more, with its cost.
 pub fn new_entries_are_kept()
     ensures inserting { InsertsFindTheSame }
     ensures linking { LinksFindTheSame }
@@ -73,8 +78,9 @@ pub fn new_entries_are_kept()
     ensures one_more { NewEntriesAreOneMore }
 {}
 
-/// While a part is made, and until its parent has its bit, all but these two stay as they were, and what is shown is the durable contents; in the end the state with the part is
-/// represented.
+/// While a part of a sparse object is made, recovery keeps the old durable contents, and from the second write of its insert on those with the part; all nodes
+/// but the part's and its parent's load as before. Once the part's record is linked and its parent is seen with its bit, the view represents the state with the
+/// part.
 pub fn new_parts_are_shown()
     ensures others { NewPartsHoldTheOthers }
     ensures at_rest { NewPartsAreAtRest }
@@ -85,8 +91,8 @@ pub fn new_parts_are_shown()
     ensures ends { NewPartsEnd }
 {}
 
-/// So it is in a folder: while a part is made the durable contents are recovered, and in the end the state with the part is kept, whose words are unlinked
-/// no longer.
+/// While a part of a sparse object is made, recovery gives the old durable contents of the folder, and from the second write of its insert on those with the
+/// part. Then the folder keeps the state with the part but for the counters, and the part's words are unlinked no longer.
 pub fn new_parts_are_kept()
     ensures inserting { PartInsertsFindEither }
     ensures making { MakingPartsFindsTheNext }
@@ -94,21 +100,21 @@ pub fn new_parts_are_kept()
     ensures kept { NewPartsAreKept }
 {}
 
-/// The allocations of the files of a kind are at most five for each item and doomed object, and one for each unlinked word; so they leave space where a state and what a command adds have no more items than a cache may
-/// have.
+/// The allocations of a kind of block are at most five for each item and doomed object of a kept state, and one for each unlinked word. So they leave space
+/// while a state, with what a command adds, has no more items than a cache may have.
 pub fn kept_allocations_are_few()
     ensures few { KeptAllocationsAreFew }
     ensures room { KeptAllocationsLeaveRoom }
 {}
 
-/// Which handles there are is not in the folder.
+/// The handle names are not in the folder: a kept state is kept with any other names with which it is valid.
 pub fn handles_are_not_kept()
     ensures uncounted { HandlesMayChange }
     ensures counted { HandlesAreNotCounted }
 {}
 
-/// While a dirty or a doomed object changes the old durable contents are recovered, and in the end the state with the changed object
-/// is kept.
+/// While what lies at a node of a dirty or a doomed object changes, and what unlinked words name, recovery gives the old durable contents. Once it has changed,
+/// and its words and the unlinked ones are those that were there, the folder keeps the changed state but for the counters.
 pub fn changed_objects_are_kept()
     ensures unsettled { UnsettledItemsFindTheSame }
     ensures dead { DoomedObjectsFindTheSame }
@@ -116,34 +122,37 @@ pub fn changed_objects_are_kept()
     ensures doomed { ChangedDoomedObjectsAreKept }
 {}
 
-/// A doomed object that is gone has its words unlinked, in the same folder.
+/// Once a doomed object has left the state with its handle names, the same folder keeps the state without it, and its addresses are unlinked. The counters stay
+/// right, since they count no doomed object.
 pub fn gone_objects_are_unlinked()
     ensures uncounted { GoneObjectsAreUnlinked }
     ensures counted { GoneObjectsAreNotCounted }
 {}
 
-/// While an item goes out of the list the old durable contents are recovered, or those without it, and these while it goes out of its chain; then its words
-/// are unlinked.
+/// While an item goes out of the LRU list, recovery gives the old durable contents, and from the second write on those without it, also while its record goes
+/// out of its chain. Then the folder keeps the state without it but for the counters, and its words are unlinked.
 pub fn removed_items_are_unlinked()
     ensures removing { RemovalsFindEither }
     ensures unlinking { UnlinkingFindsTheOthers }
     ensures kept { RemovedItemsAreUnlinked }
 {}
 
-/// What the steps of a touch, an insert and a removal leave is what is asked of them when they are done.
+/// The steps of an access, an insert and a removal of a node of an idle LRU list do what `IsTouchDone`, `IsInsertDone` and `IsRemovalDone` say.
 pub fn list_steps_are_done()
     ensures touch { TouchStepsAreDone }
     ensures insert { InsertStepsAreDone }
     ensures removal { RemovalStepsAreDone }
 {}
 
-/// An object without parts that is out of the list and out of its chain is kept as a doomed one, and is one less to be counted.
+/// Once an object that can be doomed is out of the LRU list and of its chain, the folder keeps the state in which it is doomed but for the counters, with the
+/// same words unlinked. That state has one item less, and the sum of the costs is less by the object's.
 pub fn doomed_objects_are_kept()
     ensures kept { DoomedObjectsAreKept }
     ensures one_less { DoomedObjectsAreOneLess }
 {}
 
-/// A word of the table and the link of a record change links alone, and leave files and seals.
+/// The write of a word of the table, or of a record's chain link, changes nothing that is shown but links of chains. That of the table leaves checksums,
+/// headers, lengths and the session as they are; that of a link leaves the checksums where its record is sealed after it.
 pub fn links_leave_the_rest()
     ensures table_links { TableWordsChangeLinks }
     ensures table_files { TableWordsLeaveFiles }
@@ -152,36 +161,39 @@ pub fn links_leave_the_rest()
     ensures next_seals { ChainNextsLeaveSeals }
 {}
 
-/// Changes of an object's data and of its record are inside what is its node's.
+/// A change of an item's data that touches no other node's blocks, and neither its node nor its record, is inside its node (`IsInsideNode`). So is an update of
+/// its record that leaves the hash and the chain link.
 pub fn changes_are_inside()
     ensures stored { DataChangesAreInside }
     ensures fields { RecordUpdatesAreInside }
 {}
 
-/// A removed item is one less to be counted.
+/// The removal of an item from a kept state makes one item less, and the sum of the costs less by its cost.
 pub fn removed_items_are_one_less()
     ensures { RemovedItemsAreOneLess }
 {}
 
-/// An object without handles goes whole, alone or with its parts, and another value of an object's main item changes nothing else, and is what the item has then.
+/// Where a live object has no handle, the state in which it is doomed is the one without its main item and its parts. Where it is replaced by one of the same
+/// key and parts, the state differs in the value of its main item alone.
 pub fn states_change_in_one_object()
     ensures without { UnheldObjectsGoWhole }
     ensures group { UnheldObjectsGoWithTheirParts }
     ensures changed { ObjectsChangeTheirMainItem }
 {}
 
-/// Blocks that are allocated or freed, as it is told of maps and counters, have their allocation added or removed.
+/// The allocation of blocks, as `AreAllocated` tells it, adds one allocation; the freeing of blocks, as `AreFreed` tells it, removes it.
 pub fn allocations_come_and_go()
     ensures added { AllocatedBlocksAreAdded }
     ensures removed { FreedBlocksAreRemoved }
 {}
 
-/// Several items that are out of the list and of the chains have their words unlinked.
+/// Once some items are out of the LRU list and of the chains, the folder keeps the state without them but for the counters, and their words are unlinked.
 pub fn gone_items_are_unlinked()
     ensures { GoneItemsAreUnlinked }
 {}
 
-/// Of a kept state all items stay at first; then one item more goes out of the list and of its chain, and unlinked blocks may be freed and files deleted before the next one does, in whatever order; once what is left is a state, that is kept.
+/// The items of a kept state may be removed one after another, and unlinked blocks may be freed and files deleted between two of them, in whatever order. Once
+/// the items that are out leave a state without them, the folder keeps that state but for the counters, with those of their words unlinked that aren't freed.
 pub fn states_may_be_partly_out()
     ensures begins { KeptStatesArePartlyOut }
     ensures one_more { OneMoreGoesOut }

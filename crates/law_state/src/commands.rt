@@ -16,8 +16,8 @@ ghost use Rattle.law_state.specs.CreateStops.{InsertsMayStop, LinksMayStop, Crea
 ghost use Rattle.law_state.specs.RestLaws.{RestsAreNotRefused, RestsEvictTheOthersOrNone, TrimsGoOn, RestsHaveTheLaterSteps, RestsEndAlike, StopsInRestsAreInTheWhole, StopOnlyInTheRest};
 ghost use Rattle.law_state.specs.StopLaws.{WhatIsLeftMayStop, OrdersMayBeLeft, UsesMayBeLeft, UsesGoOn, RoomMayBeLeft, HandlesAreNotAtRest, DoomedObjectsAreNotAtRest, UnsettledObjectsAreNotAtRest, OwnUsesKeepOthers, OthersMayBeLeftOnceUnsettled, OthersMayBeLeftWhileDoomed};
 
-/// Once some groups are out and some of the later list steps are made, a crash may leave the durable contents in that order; where that is found the request may
-/// crash.
+/// Once the first groups of a request are evicted and some of its later list steps are made, the durable contents in that order are a crash outcome of it. A
+/// request may crash where a crash outcome of it is recovered.
 pub fn orders_may_be_left()
     ensures stops { WhatIsLeftMayStop }
     ensures orders { OrdersMayBeLeft }
@@ -26,7 +26,8 @@ pub fn orders_may_be_left()
     ensures room { RoomMayBeLeft }
 {}
 
-/// Which handles there are is no matter for the durable contents; nor is a doomed object, whatever becomes of it, nor a dirty one and where its items are. A live object that is clean, or dirty and named, leaves the state valid.
+/// The durable contents of a state don't depend on the handle names, on a doomed object, whatever becomes of it, or on a dirty one and where its items are in
+/// the LRU list. A state stays valid where a live object is made clean, or dirty while a handle names it.
 pub fn rests_leave_them_out()
     ensures handles { HandlesAreNotAtRest }
     ensures doomed { DoomedObjectsAreNotAtRest }
@@ -35,14 +36,15 @@ pub fn rests_leave_them_out()
     ensures marked { MarkedStatesAreValid }
 {}
 
-/// Once a request has made its object dirty, a crash may leave the durable contents, whatever became of it; and so while a doomed object changes.
+/// Once a request has made its object dirty, the durable contents are a crash outcome of it, whatever became of the object. So they are whatever becomes of a
+/// doomed object.
 pub fn others_may_be_left()
     ensures unsettled { OthersMayBeLeftOnceUnsettled }
     ensures doomed { OthersMayBeLeftWhileDoomed }
 {}
 
-/// A request that isn't refused has its effect once all that it evicts is out, group after group. A Trim ends there, and a crash in it may leave the durable contents without the first
-/// groups.
+/// A request that isn't refused has its effect on the state without all that it evicts, group after group, and its reply is by the state before. A Trim ends in
+/// that state, and the durable contents without its first groups are a crash outcome of it.
 pub fn requests_take_effect()
     ensures effect { PassedRequestsTakeEffect }
     ensures in_turn { GroupsGoInTurn }
@@ -52,8 +54,8 @@ pub fn requests_take_effect()
     ensures trims_leave { TrimsMayLeave }
 {}
 
-/// A Read and the two sparse reads end once their items are used, an Open once its item is used and its handle bound. A crash may leave the durable contents in each order
-/// between.
+/// A Read or a sparse read ends in the state in which its items are accessed, and an Open in that in which the item of its key is accessed and its handle
+/// bound. The durable contents once the first of these items are accessed are a crash outcome of it.
 pub fn reads_end_once_used()
     ensures ends { UsesEnd }
     ensures leaves { OnlyUsesMayBeLeft }
@@ -61,14 +63,14 @@ pub fn reads_end_once_used()
     ensures opens_leave { OpensMayLeave }
 {}
 
-/// A Create ends with the new object, whose durable contents a crash may leave.
+/// A Create ends in the state with the new object and without all that it evicts; the durable contents with the new object are a crash outcome of it.
 pub fn creates_end_once_made()
     ensures ends { CreatesEndOnceMade }
     ensures leaves { CreatesMayLeave }
 {}
 
-/// A Write and a SparseWrite of some bytes make their object dirty, and end once it is written and used; of no bytes a SparseWrite uses the main item alone, and of a doomed object a Write makes no
-/// use.
+/// A Write to a live object, and a SparseWrite of some bytes, make the object dirty, and end in the state in which the bytes are written and the items
+/// accessed, without all that they evict. A SparseWrite of no bytes accesses the main item alone, and a Write to a doomed object accesses none.
 pub fn writes_end_once_written()
     ensures unsettle { WritesUnsettle }
     ensures ends { WritesEndOnceWritten }
@@ -78,15 +80,17 @@ pub fn writes_end_once_written()
     ensures empty { EmptySparseWritesEnd }
 {}
 
-/// Inside a sparse write one part changes alone, or one more keeps the state valid, or one goes and leaves all else.
+/// A live object with another value for one part differs in that item alone. With one part more, whose item is in front, a dirty sparse object leaves the state
+/// valid; without one part of a live object all other items and objects are as they were.
 pub fn parts_change_alone()
     ensures alone { PartsChangeAlone }
     ensures more { NewPartsKeepValid }
     ensures less { PartsAreLeftOut }
 {}
 
-/// A Close frees its name; of the last handle it makes a live object clean, whose durable contents a crash may leave, and ends
-/// without a doomed one. A Flush makes a live object clean likewise, and frees no name.
+/// A Close of the last handle of a live object makes it clean, one of a doomed object ends in the state without it, and a Close of one handle of several
+/// unbinds that handle alone. A Flush makes a live object clean, and changes nothing else. The durable contents with the object clean are a crash outcome of
+/// the Close and of the Flush.
 pub fn closes_settle()
     ensures several { ClosesFreeTheName }
     ensures ends { ClosesSettle }
@@ -97,14 +101,15 @@ pub fn closes_settle()
     ensures none { FlushesOfSettledEnd }
 {}
 
-/// A Doom and a DoomKey end with the object doomed, and a crash may leave the durable contents then.
+/// A Doom or a DoomKey ends in the state in which its object is doomed, and the durable contents with the object doomed are a crash outcome of it.
 pub fn dooms_end_once_doomed()
     ensures ends { DoomsEndOnceDoomed }
     ensures leaves { DoomsMayLeave }
 {}
 
-/// The calls of a command follow each other: between them the folder keeps a state whose durable contents a crash may leave, and at each word of a call from there the command may crash, also where the call
-/// failed.
+/// A request may crash at each word of two calls, one after the other, if it may at each word of either, also where the second failed. Between its calls it is
+/// at a stage: the folder keeps a state whose durable contents are a crash outcome, and the request may crash at each word of a call that leaves these to be
+/// recovered.
 pub fn calls_follow_each_other()
     ensures go_on { StagesGoOn }
     ensures stop { StagesMayStop KeepsSome }
@@ -112,14 +117,16 @@ pub fn calls_follow_each_other()
     ensures follow { CallsFollow KeepsSome }
 {}
 
-/// A command is done where its effect is kept and its answer is the map's, whatever handles there are; with its note after all else it is stepped.
+/// A request is done once its effect is kept and its answer is the model's, whatever handle names there are. It is stepped once its note is made, if it may
+/// crash at each word before that and the folder then represents the state after it.
 pub fn commands_are_done()
     ensures ends { EndsAreKept }
     ensures done { EffectsAreDone KeepsSome }
     ensures noted { NotesEndSteps }
 {}
 
-/// At each word of the touch of the next item that a request uses it may crash, also of an item of the object that it has made dirty; and while it makes its object clean or dirty.
+/// A request that dooms nothing may crash at each word of the access of the next item that it accesses; any may at each word of the access of an item of the
+/// object that it has made dirty. It may also crash while it makes its object clean or dirty.
 pub fn uses_may_be_stopped()
     ensures uses { UsesMayStop }
     ensures unsettled_uses { UnsettledUsesMayStop }
@@ -128,8 +135,9 @@ pub fn uses_may_be_stopped()
     ensures cleans { CleaningMayStop }
 {}
 
-/// At each word of the removal of an object's main item the old durable contents are recovered, or those with it doomed, and these from then on; a part that goes alone is found, or not, likewise. So a Doom may crash, and a request while a
-/// group is evicted.
+/// At each word of the removal of an object's main item, recovery gives the old durable contents, and from the second write on those with the object doomed; of
+/// a part that goes alone it gives the old ones, and then those without it. So a Doom or a DoomKey may crash there, and a request while its next group is
+/// evicted.
 pub fn removals_may_be_stopped()
     ensures either { DoomsFindEither }
     ensures out { OutIsDoomed }
@@ -141,7 +149,7 @@ pub fn removals_may_be_stopped()
     ensures whole { WholeGroupsMayStop }
 {}
 
-/// The end of each command keeps the next state: where what its last call leaves is kept, the state after the command is.
+/// Where the folder keeps the state that the last call of a command leaves, it keeps the state after the command.
 pub fn commands_keep_the_next_state()
     ensures uses { UsesKeepNext }
     ensures opens { OpensKeepNext }
@@ -157,7 +165,8 @@ pub fn commands_keep_the_next_state()
     ensures trims { TrimsKeepNext }
 {}
 
-/// Open, Read, Close and Flush from the moments of their calls: where each may crash, and what is kept in the end. So is a request while it makes its object dirty.
+/// A Read, a Close of a last handle and a Flush may crash at each word of their one call; once that is done the state after them is kept, and so is that after
+/// an Open. A request may also crash while the dirty flag of the object that it makes dirty becomes its mark.
 pub fn commands_of_one_call()
     ensures opens_end { OpensEndByTouch }
     ensures reads_stop { ReadsMayStop }
@@ -171,8 +180,9 @@ pub fn commands_of_one_call()
     ensures unsettling_stops { UnsettlingMarksMayStop }
 {}
 
-/// While a plain object that no handle names, or a part that goes alone, is removed, the durable contents without it are recovered, and in the end the state without it is kept and its words are unlinked. So a Doom or a DoomKey of a plain object ends, with or without a handle, and so the next
-/// group is evicted.
+/// While the record of a plain object without a handle, or of a part that goes alone, goes out of its chain, recovery gives the durable contents without it.
+/// Once it is removed, the folder keeps the state without it but for the counters, and its words are unlinked. So a Doom or a DoomKey of a plain object ends,
+/// with or without a handle, and so the next group is evicted.
 pub fn plain_objects_are_removed()
     ensures part { PartGoneIsWithout }
     ensures removing { RemovingFindsDoomed }
@@ -185,8 +195,8 @@ pub fn plain_objects_are_removed()
     ensures parts { LonePartsGo }
 {}
 
-/// Once an object is out with its parts, the state with it doomed is kept: of one that no handle names its words are unlinked, of one that is held those of its parts. So a Doom or a DoomKey ends, and so the next group is
-/// evicted.
+/// Once an object is out with its parts, the folder keeps the state with it doomed but for the counters. Where no handle names it its words are unlinked, and
+/// where one does those of its parts. So a Doom or a DoomKey ends, and so the next group is evicted.
 pub fn whole_objects_are_removed()
     ensures removed { WholeObjectsAreRemoved }
     ensures unheld_dooms { UnheldWholeDoomsEnd }
@@ -195,20 +205,23 @@ pub fn whole_objects_are_removed()
     ensures groups { WholeGroupsGo }
 {}
 
-/// Where all items of an object that no handle names went out one after another, each part freed before the next one went, a DoomKey of it ends, and the next group is gone.
+/// Once all items of an object without a handle are out, freed or not, the state after a DoomKey of it is kept but for the counters, and so is the state
+/// without the group that has these items.
 pub fn objects_go_part_after_part()
     ensures unheld_dooms { UnheldOutDoomsEnd }
     ensures groups { OutGroupsAreGone }
 {}
 
-/// Where all items of an object that a handle names went out so, and its record is that of a doomed object, the state with it doomed is kept, and a Doom or a DoomKey of it ends.
+/// Once all items of an object with a handle are out, and its node loads as a doomed object's, the folder keeps the state with it doomed but for the counters,
+/// and so it keeps the state after a Doom or a DoomKey of it.
 pub fn held_objects_go_part_after_part()
     ensures doomed { HeldOutObjectsAreDoomed }
     ensures dooms { HeldOutDoomsEnd }
 {}
 
-/// While the parts of an object go out, its main item first, the durable contents with it doomed are recovered, also at each word of the removal of a part, of the unlinking of an item, of a freeing and of a deletion. So a Doom or a DoomKey may crash there, and a request whose next group
-/// is evicted.
+/// Once the main item of an object is out, and while its parts go out one after another, recovery gives the durable contents with the object doomed. So it does
+/// at each word of the removal of a part, while a record goes out of its chain, while blocks are freed and while an external file is deleted; and there a Doom
+/// or a DoomKey may crash, and a request whose next group is evicted.
 pub fn parts_may_be_stopped_between()
     ensures leave { ItemsOfAKeyLeaveOthers }
     ensures out { PartlyOutIsOut }
@@ -221,7 +234,8 @@ pub fn parts_may_be_stopped_between()
     ensures groups { PartlyOutGroupsMayStop }
 {}
 
-/// Items that are gone, as a group and as a doomed object with its parts, are less to be counted, with their charges; so is each that goes out in turn. A part that is made is one more.
+/// The number of items and the sum of their costs fall by what is evicted, by a doomed object with its parts, and by each of their items that goes out in
+/// turn; they rise by a part that is made.
 pub fn parts_are_counted()
     ensures gone { GoneItemsAreLess }
     ensures doomed { DoomedItemsAreLess }
@@ -229,15 +243,17 @@ pub fn parts_are_counted()
     ensures made { NewPartsAreOneMore }
 {}
 
-/// A Create may crash at each word of the insert of its node, and where its record is linked; once the counters are written too the state after it is kept.
+/// A Create may crash at each word of the insert of its node, and where its record is linked after that. Once the counters are written too, the state after the
+/// Create is kept.
 pub fn creates_may_be_stopped()
     ensures inserts { InsertsMayStop }
     ensures links { LinksMayStop }
     ensures ends { CreatesEndOnceCounted }
 {}
 
-/// On the state without the first groups that it evicts a command isn't refused, and evicts the others, or nothing where all fits before they are out, which a Trim never does. Where it evicts the others its steps are the later ones, it ends alike, and a crash in it is one in the whole command; where it evicts nothing one need not
-/// be.
+/// The rest of a command, which is the command on the state without the first groups that it evicts, isn't refused, and evicts the groups that are left, or
+/// nothing; the rest of a Trim evicts something where groups are left. Where the rest evicts something if groups are left, its list steps are the later ones of
+/// the whole command, it ends in the same state, and a crash outcome of it is one of the whole command; else one need not be.
 pub fn rests_of_commands_may_be_stopped()
     ensures passes { RestsAreNotRefused }
     ensures evicts { RestsEvictTheOthersOrNone }

@@ -1,4 +1,5 @@
-//! What a folder keeps between two calls of a command, and what the calls do to it: definitions, and laws that are the contracts of functions with empty bodies.
+//! What a folder keeps between two calls of a command, and what the calls do to it: definitions, and laws that are the contracts of functions with empty
+//! bodies.
 #![tactic(auto)]
 
 ghost use Rattle.law_state.specs.Keeping.{KeepsSome};
@@ -29,32 +30,34 @@ pub use commands::{
     whole_objects_are_removed, writes_end_once_written,
 };
 
-/// What is found in a folder that keeps a state is the durable contents of it. With nothing unlinked the folder stands for the state, and it is sound where each object is live and
-/// clean.
+/// The recovered contents of a folder that keeps a state are the durable contents of that state. With nothing unlinked the folder represents the state, and is
+/// consistent where each object is live and clean.
 pub fn kept_states_are_stood_for()
     ensures found { KeptStatesAreFound }
     ensures stands { KeptStatesAreStoodFor }
     ensures sound { KeptStatesAreSound }
 {}
 
-/// A folder without entries keeps the empty state.
+/// An empty cache (`HasNoEntries`) in which a session is open keeps the empty state.
 pub fn folders_without_entries_keep_the_empty_state()
     ensures { FoldersWithoutEntriesKeepTheEmptyState }
 {}
 
-/// A folder in order, in which a session is opened, keeps the state that it represents.
+/// A folder that represents a state, with exact maps and all in order, keeps that state once the number of the session and then the crash word are written.
 pub fn opened_folders_keep_their_state()
     ensures { OpenedFoldersKeepTheirState }
 {}
 
-/// Where a call keeps the state the durable contents are recovered, and where it leaves the counters of the index they count
-/// the same.
+/// After a call that keeps each state that was kept, the durable contents of such a state are recovered; where it leaves the counters of the index as they
+/// were, it keeps the state with its counters.
 pub fn calls_keep_states()
     ensures found { WhatIsKeptIsFound }
     ensures counters { SameCountersCountTheSame }
 {}
 
-/// What unlinked words name may change, by writes into blocks and into external files; and so may a word of the index that is neither shown nor checked.
+/// A change of what unlinked words name keeps the state, with the same words unlinked: a write into the blocks of a valid address changes these alone, and one
+/// into an external file this file alone. The write of a word of the index's header that is neither shown nor checked, nor of the session, changes nothing that
+/// a kept state asks for.
 pub fn unlinked_places_may_change()
     ensures kept { UnlinkedPlacesMayChange }
     ensures blocks { BlockWritesChangeOnly }
@@ -62,16 +65,16 @@ pub fn unlinked_places_may_change()
     ensures index { OtherWordsChangeOnly }
 {}
 
-/// While block files grow, the durable contents are recovered; blocks that are allocated are unlinked, and unlinked ones that are freed are in use
-/// no longer.
+/// The allocation of blocks keeps each state, with their word unlinked; the freeing of unlinked blocks keeps it too, and their word is in use no longer. While
+/// block files grow, in a folder that stays well formed, recovery gives the durable contents.
 pub fn blocks_are_allocated()
     ensures growth { GrowthFindsTheSame }
     ensures unlinked { AllocatedBlocksAreUnlinked }
     ensures freed { FreedBlocksAreGone }
 {}
 
-/// A request may crash where the durable contents before it are recovered, and so before its first word; where the durable contents after it are recovered; and once its first
-/// groups are evicted.
+/// A request may crash where the durable contents before it are recovered, or those after it, or those without the first groups that it evicts; so it may
+/// before its first word, where its state is kept.
 pub fn requests_may_be_stopped()
     ensures before { RequestsMayStopBefore }
     ensures after { RequestsMayStopAfter }
@@ -79,7 +82,8 @@ pub fn requests_may_be_stopped()
     ensures kept { KeptStatesMayStop }
 {}
 
-/// How a command ends: nothing is written, and it may crash, and is done where the map says so, as for a refusal, a List, a Total and a Size; or after a call.
+/// A request of which no step was made may crash, and is done where it leaves the state as it is and its answer is the model's, as a refusal, a List, a Total
+/// or a Size. A call after each of whose words the old durable contents are recovered may crash at each.
 pub fn commands_end()
     ensures says { SaysKept KeepsSome }
     ensures stays_stops { NothingMayStop KeepsSome }
@@ -89,13 +93,15 @@ pub fn commands_end()
     ensures calls_stop { CallsMayStop KeepsSome }
 {}
 
-/// At each word of a touch the old or the new order is found, and an Open may crash.
+/// At each word of the access of an item's node, recovery gives the old durable contents, and from the second write on those with the item in front. So an Open
+/// may crash at each word of the access of its key's node.
 pub fn items_are_touched()
     ensures find { TouchesFindEither }
     ensures opens { OpensMayStop }
 {}
 
-/// An external file that is made is unlinked, and an unlinked one that is deleted is in use no longer.
+/// The making of an external file keeps each state, with the file's word unlinked; the deletion of an unlinked one keeps each state, and its word is in use no
+/// longer.
 pub fn external_files_are_made()
     ensures unlinked { MadeFilesAreUnlinked }
     ensures deleted { DeletedFilesAreGone }

@@ -22,7 +22,7 @@ row_with key (IsPart name index) streams = part_row name.key name.part (record {
 abbrev pub row_of_loaded : Loaded → Row
 row_of_loaded loaded = row_with loaded.key loaded.role loaded.streams
 
--- the charge of a kept record: the bytes of its key, which is a part's name, and of its streams, indexes included
+-- the cost of a kept record: the bytes of its key, which is a part's name, and of its streams, indexes included
 abbrev pub charge_of : Loaded → ℕ
 charge_of loaded = length loaded.key + sum_by length loaded.streams
 
@@ -30,14 +30,14 @@ charge_of loaded = length loaded.key + sum_by length loaded.streams
 abbrev pub completed : View → View
 completed view = record view { list = completed_list view.list }
 
--- the records that recovery keeps of a folder with a finished index, in the order of the LRU list
+-- the records that recovery keeps of a folder with an initialized index, in the order of the LRU list
 unfoldable pub kept : Image → List Loaded
 kept image = kept_by held_rule (completed (view_of image))
 
--- the nodes and records that recovery drops of a folder with a finished index, each with its reason
+-- the nodes and records that recovery drops of a folder with an initialized index, each with its reason
 unfoldable pub dropped : Image → List (ℕ × Reason)
 dropped image = dropped_by held_rule (completed (view_of image))
 
--- the recovered contents of a folder: the rows of the kept records, in the order of the LRU list; none of an unfinished folder
+-- the recovered contents of a folder: the rows of the kept records, in the order of the LRU list; none of an uninitialized folder
 unfoldable pub found : Image → List Row
 found image = if unfinished image then [] else map row_of_loaded (kept image)

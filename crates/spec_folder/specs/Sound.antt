@@ -80,7 +80,7 @@ pub record IsInOrder (image : Image) (listed doomed : List Loaded) : Type 0 wher
   pub index : IsIndexCounted image listed
   pub sealed : AllByRecursion (AreSealed image) (listed ++ doomed)
 
--- the folder is consistent: recovery has nothing to do
+-- the folder is consistent: recovery has nothing to do, but that it raises the version of an older index
 pub record IsSound (image : Image) : Type 0 where
   pub well_formed : IsWellFormed image
   pub transaction : (view_of image).list.transaction ≡ 0

@@ -4,7 +4,7 @@ use Rattle.spec_image.specs.Bytes.{content, spliced, zeros}
 use Rattle.spec_image.specs.Steps.{with_word, with_words}
 use Rattle.spec_format.specs.Headers.{CountsAs, count_of, counting, is_index_version, pad_of}
 
--- the words of a header of three items that are charged 661: as the first version has them, with others at the new place
+-- the words of a header of three items whose costs sum to 661: as the first version has them, with others at the new place
 first_words : List (ℕ × ℕ)
 first_words = (4, 0x20000) ∷ (8, 3) ∷ (12, 661) ∷ (48, 7) ∷ (52, 7) ∷ (268, 3) ∷ []
 
@@ -12,7 +12,7 @@ first_words = (4, 0x20000) ∷ (8, 3) ∷ (12, 661) ∷ (48, 7) ∷ (52, 7) ∷ 
 raised_words : List (ℕ × ℕ)
 raised_words = (4, 0x30000) ∷ (8, 3) ∷ (12, 0) ∷ (48, 661) ∷ (52, 0) ∷ (268, 3) ∷ []
 
--- three items that are charged more than a word can say
+-- three items whose costs sum to more than a word can say
 large_words : List (ℕ × ℕ)
 large_words = (4, 0x30000) ∷ (8, 3) ∷ (12, 0) ∷ (48, 0x7FFFFFFE) ∷ (52, 1) ∷ (56, 5) ∷ (268, 3) ∷ []
 

@@ -1,4 +1,4 @@
--- A well-formed image is finished.
+-- A well-formed image is initialized.
 use Rattle.std.proofs.Common.{◌≡◌, ℕ, List, [], ◌∷◌, refl, sym, ◌∙◌, Bool, true, false, Option, Some, None}
 use Rattle.std.specs.Prelude.{IsTrue, ◌==◌, ◌||◌, not, nat_lt, is_some, length, unwrap_or}
 use Rattle.std.proofs.lemmas.Bool.{eqb-true}

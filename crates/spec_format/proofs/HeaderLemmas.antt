@@ -1,4 +1,4 @@
--- The test for an unfinished index.
+-- The test for an uninitialized index.
 use Rattle.std.proofs.Common.{◌≡◌, ℕ, ◌<◌, List, [], not, ◌||◌, length, arith, ◌⊎◌}
 use Rattle.std.specs.Prelude.{◌↔◌, ◌==◌, nat_lt, IsTrue, IsNone, None, Some, is_some, unwrap_or}
 use Rattle.std.specs.declared.option.Option.{Option}

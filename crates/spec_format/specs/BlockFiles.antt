@@ -122,7 +122,7 @@ block_checks image = flat_map (checks_of_kind image) block_kinds
 abbrev pub first_block_damage : Image → Option Damage
 first_block_damage image = first_of (block_checks image)
 
--- the first check of a folder with a finished index that fails: of the index, and then of the block files
+-- the first check of a folder with an initialized index that fails: of the index, and then of the block files
 abbrev pub first_damage : Image → Option Damage
 first_damage image = first_of (head_checks (byte image Index) (length_of image Index) ++ list_checks (byte image Index) ++ block_checks image)
 
@@ -130,12 +130,12 @@ first_damage image = first_of (head_checks (byte image Index) (length_of image I
 abbrev pub IsWellFormed : Image → Type 0
 IsWellFormed image = first_damage image ≡ None
 
--- the folder has a finished index, and no check of a header fails
+-- the folder has an initialized index, and no check of a header fails
 pub record IsWhole (image : Image) : Type 0 where
   pub finished : IsUnfinished image → ⊥
   pub well_formed : IsWellFormed image
 
--- a well-formed folder has a finished index: an unfinished one fails the check of its magic or of its length
+-- a well-formed folder has an initialized index: an uninitialized one fails the check of its magic or of its length
 abbrev pub WellFormedIsFinished : Type 0
 WellFormedIsFinished = (image : Image) → IsWellFormed image → IsWhole image
 

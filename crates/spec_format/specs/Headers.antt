@@ -22,7 +22,7 @@ index_length = 262512
 abbrev pub block_fields_length : ℕ
 block_fields_length = 80
 
--- the magic number of a finished index
+-- the magic number of an initialized index
 abbrev pub index_magic : ℕ
 index_magic = 0xC103CAC3
 
@@ -70,11 +70,11 @@ version_of f = word_at f version_place
 abbrev pub num_entries_place : ℕ
 num_entries_place = 8
 
--- the place of the sum of their charges in an index of the first version
+-- the place of the sum of their costs in an index of the first version
 abbrev pub num_bytes_place : ℕ
 num_bytes_place = 12
 
--- the place of the sum of their charges, two words, in an index of the version that is made now
+-- the place of the sum of their costs, two words, in an index of the version that is made now
 abbrev pub num_bytes64_place : ℕ
 num_bytes64_place = 48
 
@@ -82,11 +82,11 @@ num_bytes64_place = 48
 abbrev pub sizes_place : ℕ
 sizes_place = 268
 
--- the places of the counters that a command writes: the items, both words of the sum of charges, and the nodes
+-- the places of the counters that a command writes: the items, both words of the sum of costs, and the nodes
 abbrev pub counter_places : List ℕ
 counter_places = num_entries_place ∷ num_bytes64_place ∷ (num_bytes64_place + 4) ∷ sizes_place ∷ []
 
--- the places of all words that say what an index counts: the version, the old sum of charges, and the counters that a command writes
+-- the places of all words that say what an index counts: the version, the old sum of costs, and the counters that a command writes
 abbrev pub counted_places : List ℕ
 counted_places = version_place ∷ num_bytes_place ∷ counter_places
 
@@ -94,11 +94,11 @@ counted_places = version_place ∷ num_bytes_place ∷ counter_places
 abbrev pub num_entries_of : (ℕ → ℕ) → ℕ
 num_entries_of f = word_at f num_entries_place
 
--- the sum of the charges of listed items modulo 2 ^ 32, in the first version; 0 in the one that is made now
+-- the sum of the costs of listed items modulo 2 ^ 32, in the first version; 0 in the one that is made now
 abbrev pub num_bytes_of : (ℕ → ℕ) → ℕ
 num_bytes_of f = word_at f num_bytes_place
 
--- the sum of the charges of listed items, in the version that is made now; the first one has no such field
+-- the sum of the costs of listed items, in the version that is made now; the first one has no such field
 abbrev pub num_bytes64_of : (ℕ → ℕ) → ℕ
 num_bytes64_of f = long_at f num_bytes64_place
 
@@ -188,7 +188,7 @@ pad2_of f i = word_at f (340 + 4 * i)
 
 -- What an index counts.
 
--- what an index counts: its version, the numbers of items and of nodes, and the sum of the charges at both of its places
+-- what an index counts: its version, the numbers of items and of nodes, and the sum of the costs at both of its places
 pub record Count : Type 0 where
   pub version : ℕ
   pub entries : ℕ
@@ -200,11 +200,11 @@ pub record Count : Type 0 where
 unfoldable pub count_of : (ℕ → ℕ) → Count
 count_of f = record { version = version_of f; entries = num_entries_of f; bytes = num_bytes_of f; bytes64 = num_bytes64_of f; nodes = sizes_of f 0 }
 
--- what an index of the version that is made now counts for so many items with a sum of charges
+-- what an index of the version that is made now counts for so many items with a sum of costs
 abbrev pub counting : (items sum : ℕ) → Count
 counting items sum = record { version = index_version; entries = items; bytes = 0; bytes64 = sum; nodes = items }
 
--- what an index counts is right for so many items with a sum of charges, by its version: the first one has the sum modulo 2 ^ 32 in bytes, the one that is made
+-- what an index counts is right for so many items with a sum of costs, by its version: the first one has the sum modulo 2 ^ 32 in bytes, the one that is made
 -- now has it whole in bytes64, and 0 in bytes
 pub record CountsAs (items sum : ℕ) (count : Count) : Type 0 where
   pub entries : count.entries ≡ items
@@ -296,15 +296,15 @@ HasWholeIndex image = length_of image Index ≡ index_length
 unfoldable pub IsUnfinished : Image → Type 0
 IsUnfinished image = IsNone (image Index) ⊎ ((length_of image Index < 4) ⊎ (magic_of (byte image Index) ≡ 0))
 
--- whether the index is unfinished: it is not there, has fewer than 4 bytes, or has the magic number 0
+-- whether the index is uninitialized: it is not there, has fewer than 4 bytes, or has the magic number 0
 unfoldable pub unfinished : Image → Bool
 unfinished image = not (has_file image Index) || nat_lt (length_of image Index) 4 || (magic_of (byte image Index) == 0)
 
--- the test `unfinished` is true of an image exactly where its index is unfinished
+-- the test `unfinished` is true of an image exactly where its index is uninitialized
 abbrev pub UnfinishedAgrees : Type 0
 UnfinishedAgrees = (image : Image) → IsTrue (unfinished image) ↔ IsUnfinished image
 
--- the checks of a finished index's header and length, in their order: the magic, the length, and the fields that have one value, or one of two
+-- the checks of an initialized index's header and length, in their order: the magic, the length, and the fields that have one value, or one of two
 unfoldable pub head_checks : (ℕ → ℕ) → ℕ → List (Option Damage)
 head_checks f length =
     check_word Index f magic_place (magic_of f == index_magic)
@@ -327,7 +327,7 @@ zero_places =
 unfoldable pub list_checks : (ℕ → ℕ) → List (Option Damage)
 list_checks f = map (λ at. check_word Index f at (word_at f at == 0)) zero_places
 
--- the first check of a finished index that fails: of its header, and then of the words that are to be 0
+-- the first check of an initialized index that fails: of its header, and then of the words that are to be 0
 abbrev pub first_index_damage : Image → Option Damage
 first_index_damage image = first_of (head_checks (byte image Index) (length_of image Index) ++ list_checks (byte image Index))
 

@@ -56,7 +56,8 @@ groups_with marked groups run = count_by (λ g. longest_run marked g == run) (ra
 unfoldable pub EmptyAgrees : Image → ℕ → Type 0
 EmptyAgrees image n = (i : ℕ) → i < 4 → empty_of (byte image (Block n)) i ≡ groups_with (is_block_marked image n) (groups_of (max_entries_in image n)) (i + 1)
 
--- these address words are the allocations of a file: they are valid in it and share no block, exactly their blocks are marked, and `num_entries` is their number
+-- these address words are the allocations of a file: they are valid in it and share no block, exactly their blocks are marked, and `num_entries` is their
+-- number
 pub record AreAllocations (image : Image) (n : ℕ) (words : List ℕ) : Type 0 where
   pub stand : All (λ w. stands_in image w ≡ true) words
   pub here : All (λ w. is_in_file n w ≡ true) words

@@ -8,23 +8,23 @@ ghost use Rattle.spec_format.specs.BlockFiles.{WellFormedIsFinished, WellFormedH
 ghost use Rattle.spec_format.specs.Names.{ReadsNames};
 ghost use Rattle.spec_format.specs.Sealed.{WholeUpdatesAreMade};
 
-/// The test for an unfinished index agrees with what it tests.
+/// The test `unfinished` is true of an image exactly where its index is uninitialized.
 pub fn unfinished_agrees()
     ensures { UnfinishedAgrees }
 {}
 
-/// Bytes are read as the name of a part exactly where they are one.
+/// `read_name` gives a part's name for some bytes exactly where they are that name.
 pub fn reads_names()
     ensures { ReadsNames }
 {}
 
-/// A well-formed folder is finished, and its index has its whole length.
+/// A well-formed folder is initialized, and its index has its whole length.
 pub fn well_formed_is_finished()
     ensures finished { WellFormedIsFinished }
     ensures whole { WellFormedHasWholeIndex }
 {}
 
-/// A whole sealed update is one with all its changes made.
+/// Once a record is the updated one, and all else is as before, the image is one of its sealed update, with all changes made.
 pub fn whole_updates_are_made()
     ensures { WholeUpdatesAreMade }
 {}

@@ -5,7 +5,7 @@
 
 ghost use Rattle.spec_image.specs.Laws.{WordsWriteTheBytes, WordsAreAligned, WordsStayInside, StepsStayInside, StepsOfOneCallAreOne, NotesGoOn};
 
-/// The word steps of a write leave its bytes in the file, and nothing else changes.
+/// After the word steps of a write its bytes are in the file, and nothing else has changed.
 pub fn words_write_the_bytes()
     ensures { WordsWriteTheBytes }
 {}
@@ -20,18 +20,17 @@ pub fn words_stay_inside()
     ensures { WordsStayInside }
 {}
 
-/// What none of some steps touches is as before at each of them.
+/// Before and after each of some steps, all outside what the steps touch is as it was before the first.
 pub fn steps_stay_inside()
     ensures { StepsStayInside }
 {}
 
-/// Where the write trace is told, a call made the steps that the write trace has more, so two clauses of it speak of the
-/// same steps.
+/// Where the write trace is told before a call, two lists of steps that the call applied are equal, so two clauses of one contract speak of the same steps.
 pub fn steps_of_one_call_are_one()
     ensures { StepsOfOneCallAreOne }
 {}
 
-/// True notes go on after true notes.
+/// Steps with true notes (completion markers), and then steps whose notes go on from theirs, have true notes together.
 pub fn notes_go_on()
     ensures { NotesGoOn }
 {}

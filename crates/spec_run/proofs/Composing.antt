@@ -52,7 +52,7 @@ left_between opened commands done (c ∷ more) rows e valid same =
     left_in opened commands done more c rows e
     (subst (StopOutcome (state_after opened done) c.moment c.request (state_then (state_after opened done) c)) (sym same) (rest_before (state_after opened done) c.moment c.request valid))
 
--- a well-formed folder isn't unfinished
+-- a well-formed folder isn't uninitialized
 pub finished : (image : Image) → IsWellFormed image → IsUnfinished image → ⊥
 finished image well_formed = (finished_whole image well_formed).finished
 

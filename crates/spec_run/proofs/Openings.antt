@@ -16,7 +16,7 @@ use Rattle.spec_run.specs.Laws.{RunsBegin, RunsMayStopInTheOpening}
 use Rattle.spec_run.proofs.StepFacts.{true_false, along_head, quiet_first, quiet_later, quiet_notes, quiet_true, opened-append, none_before, not_marked, no_last, snoc_step}
 use Rattle.spec_run.proofs.Composing.{finished, stays, stopped_at_rest, some_after}
 
--- a folder that holds what one held that a session may be opened on is unfinished only where that was
+-- a folder that holds what one held that a session may be opened on is uninitialized only where that was
 pub unfinished_before : (from image : Image) → IsUsable from → HoldsStill from image → IsUnfinished image → IsUnfinished from
 unfinished_before from image (inl unfinished) held now = unfinished
 unfinished_before from image (inr well_formed) held now = absurd (finished image (held.formed well_formed) now)

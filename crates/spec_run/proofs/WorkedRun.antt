@@ -1,4 +1,5 @@
--- A whole run on a folder of one entry, from its bytes: the folder is opened, one command is done, and the folder is closed. So the laws on runs speak of something.
+-- A whole run on a folder of one entry, from its bytes: the folder is opened, one command is done, and the folder is closed. So the laws on runs speak of
+-- something.
 use Rattle.std.proofs.Common.{◌≡◌, ℕ, true, List, [], ◌∷◌, Some, inr, refl, sym, ◌∙◌, ap, subst, arith, map}
 use Rattle.spec_image.specs.Bytes.{word_bytes}
 use Rattle.spec_image.specs.Footprint.{SameOutside, one_word}

@@ -38,7 +38,7 @@ pub record IsLeft (found : List Row) (opened : State) (commands : List Stamped) 
 
 -- the folder as a crash after these steps may leave it, in a call that began with an image
 pub record IsStopped (from : Image) (opened : State) (commands : List Stamped) (steps : List TrailStep) (image : Image) : Type 0 where
-  -- the folder is unfinished or well formed, and unfinished only while it is being made
+  -- the folder is uninitialized or well formed, and uninitialized only while it is being made
   pub usable : IsUsable image
   pub making : IsUnfinished image → IsUnfinished from × (has_opened steps ≡ false)
   -- its recovered contents are what a crash may leave

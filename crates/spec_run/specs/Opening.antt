@@ -13,11 +13,11 @@ use Rattle.blk_model.specs.State.{State}
 use Rattle.spec_folder.specs.Found.{found}
 use Rattle.spec_folder.specs.StandsFor.{StandsFor}
 
--- a folder that a session may be opened on, and that each crash leaves: its index is unfinished, or no check of a header fails
+-- a folder that a session may be opened on, and that each crash leaves: its index is uninitialized, or no check of a header fails
 abbrev pub IsUsable : Image → Type 0
 IsUsable image = IsUnfinished image ⊎ IsWellFormed image
 
--- the recovered contents are those of another image; the folder is well formed where that one was, and unfinished or well formed where that one was so
+-- the recovered contents are those of another image; the folder is well formed where that one was, and uninitialized or well formed where that one was so
 pub record HoldsStill (entry image : Image) : Type 0 where
   pub usable : IsUsable entry → IsUsable image
   pub formed : IsWellFormed entry → IsWellFormed image

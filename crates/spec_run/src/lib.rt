@@ -6,14 +6,13 @@
 
 ghost use Rattle.spec_run.specs.Laws.{AnsweredCommandsAreDone, AnsweredCommandsAreNoted, AskedCommandsAreNext, BoundNamesAreFew, ClockIsReadForCommands, ClosesFreeTheirName, CommandsAreFew, CommandsArePlayed, EntriesAreFoundWhole, ErrorsArePlayed, FixedScriptsTurnNoneAway, FoundRowsAreFromBefore, FoundRowsGoByOneList, LeastNamesAreClosedFirst, LinesArePlayedInTurn, LinesGoOn, LinesTurnNoneAway, NewEntriesAreLost, NoneIsClosedWhereNoneIsBound, NoteNumbersAreExact, NotedCommandsFollow, NothingIsPlayed, PlayedCommandsComeFirst, PlayedRunsAreCut, PlayedRunsAreWhole, PlayingGoesOn, RefusalsOutsideArePlayed, RestsAreFound, RunsBegin, RunsEnd, RunsGoOn, RunsGoOnInTurn, RunsMayStopBetween, RunsMayStopInACommand, RunsMayStopInTheOpening, SettledEntriesAreFound, StatesOfRunsAreValid, TextsArePlayed, UnsavedItemsAreLost, UnusedItemsKeepTheirOrder, WholeLinesComeFirst};
 
-/// A run begins with an opening. Where the opening failed a crash in any run may leave what it left.
+/// A run begins with an opening that succeeds. An opening that failed leaves the folder as a crash of a run may, whatever commands would follow.
 pub fn runs_begin()
     ensures begins { RunsBegin }
     ensures failed { RunsMayStopInTheOpening }
 {}
 
-/// A run goes on with each command that is done and noted. It may crash in a command that is made in part, and between
-/// two.
+/// A run goes on with each command that is done and noted. It may crash in a command that is made in part, and between two commands.
 pub fn runs_go_on()
     ensures command { RunsGoOn }
     ensures in_turn { RunsGoOnInTurn }
@@ -23,13 +22,13 @@ pub fn runs_go_on()
     ensures numbers { NoteNumbersAreExact }
 {}
 
-/// Where all its commands are done, steps at which the folder holds what it held end a run.
+/// A run is whole where all its commands are done, and the steps after them leave the recovered contents as they are.
 pub fn runs_end()
     ensures { RunsEnd }
 {}
 
-/// A script is played one iteration after another, and lines after lines. What was played of it is a run that is cut
-/// there, or whole; then its names are closed.
+/// A script is played one iteration after another, and a session's lines after earlier lines. A run that is cut after some iterations, or whole, has exactly
+/// these iterations, and its commands are theirs and then the Closes of the names that are bound.
 pub fn scripts_are_played()
     ensures nothing { NothingIsPlayed }
     ensures command { CommandsArePlayed }
@@ -47,14 +46,15 @@ pub fn scripts_are_played()
     ensures next { AskedCommandsAreNext }
 {}
 
-/// Bytes that come later are cut after those that came before. A session has no more commands than half its bytes and one.
+/// An input is cut into lines piece by piece: whole lines stay, and later bytes go on with the line that has no end yet. A session has at most half as many
+/// commands as its input has bytes, rounded up.
 pub fn lines_go_on()
     ensures cut { LinesGoOn }
     ensures whole { WholeLinesComeFirst }
     ensures few { CommandsAreFew }
 {}
 
-/// The least bound name is closed first, and its Close leaves the other names bound.
+/// At the end of a session the least bound handle name is closed first, and its Close leaves the other names bound.
 pub fn least_names_are_closed_first()
     ensures first { LeastNamesAreClosedFirst }
     ensures none { NoneIsClosedWhereNoneIsBound }
@@ -62,16 +62,15 @@ pub fn least_names_are_closed_first()
     ensures few { BoundNamesAreFew }
 {}
 
-/// Wherever a run crashes once its folder is opened, each clean entry that the command in progress leaves as it is is
-/// found with its exact bytes; with no command in progress just the durable contents are recovered.
+/// Wherever a run crashes once its folder is opened, the recovered contents have each clean entry that the command in progress leaves as it is, with its exact
+/// bytes. With no command in progress they are exactly the durable contents.
 pub fn settled_entries_are_found()
     ensures settled { SettledEntriesAreFound }
     ensures rests { RestsAreFound }
 {}
 
-/// Wherever a run crashes in a command, any entry is found as it was before that command, whole but for parts that are evicted
-/// alone, or not at all, and what the command doesn't use is found in its old order. An entry that stays dirty, or that the
-/// command makes, isn't found.
+/// Wherever a run crashes in a command, an entry is found as it was before that command, or not at all. It is found whole, but for parts that the command
+/// evicts alone, and what the command doesn't use is found in its old order. An entry that stays dirty, or that the command makes, isn't found.
 pub fn entries_are_found_whole_and_in_order()
     ensures before { FoundRowsAreFromBefore }
     ensures lost { UnsavedItemsAreLost }
@@ -82,8 +81,8 @@ pub fn entries_are_found_whole_and_in_order()
     ensures valid { StatesOfRunsAreValid }
 {}
 
-/// A reply is printed once its command is noted. So where the folder stops, behind any step, each command that was answered
-/// is done, and what is recovered is what a crash in a later command leaves.
+/// Each command that was answered where a run breaks off is done: its reply is printed after its note, and what is recovered is what a crash in a later command
+/// leaves, or the durable contents after all commands.
 pub fn replies_follow_notes()
     ensures noted { AnsweredCommandsAreNoted }
     ensures done { AnsweredCommandsAreDone }

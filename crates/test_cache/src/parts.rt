@@ -22,7 +22,7 @@ const NO_PART: u32 = 0;
 
 const TWO_PARTS: u32 = 3;
 
-// The key of the object, the signature of its index, and the bytes that its main item is charged.
+// The key of the object, the signature of its index, and the cost of its main item.
 const OBJECT: &[u8] = b"v";
 
 const SIGNATURE: i64 = 1;

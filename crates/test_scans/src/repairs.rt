@@ -27,7 +27,7 @@ const MOST_STEPS: u64 = 1000;
 // A repair that follows on a crashed one crashes within so many steps.
 const NEXT_STEPS: u64 = 23;
 
-// What is held: the number of the entries that are kept, the bytes that are charged for them, and the hash of all that is
+// What is held: the number of the entries that are kept, the sum of their costs, and the hash of all that is
 // found of them, their keys and their data in the order of the list.
 type Held = (u64, u64, u64);
 
@@ -139,7 +139,7 @@ fn repair_may_be_stopped_at_each_word(rt: HostRuntime) -> Result<(), Fail> {
     Ok(())
 }
 
-// The words of the index that say its version, and the sum of the charges at both of its places.
+// The words of the index that say its version, and the sum of the costs at both of its places.
 fn summed(f: &mut Mem) -> Result<[u32; 4], Fault> {
     let mut words = [0; 4];
     for (slot, place) in words.iter_mut().zip([4, 12, 48, 52]) {

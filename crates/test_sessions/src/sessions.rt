@@ -75,7 +75,7 @@ impl Session {
     }
 }
 
-/// What is held: the number of the entries that are kept, the bytes that are charged for them, and the hash of their keys and data
+/// What is held: the number of the entries that are kept, the sum of their costs, and the hash of their keys and data
 /// in the order of the list.
 pub type Held = (u64, u64, u64);
 

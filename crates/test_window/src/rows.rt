@@ -68,7 +68,7 @@ const DOOMED: Row<'static> = Row {
     printed: b"ok\nok 2\nok\nok\ndata 2 6162\nrefused 10 Doomed\nok\nmain k 0 0 0\nend 1\ntotal 2 4\n",
 };
 
-// Evictions that make space for a write: objects charged 40, 300, 300 and 300 are closed one after another, and then one is
+// Evictions that make space for a write: objects that cost 40, 300, 300 and 300 bytes are closed one after another, and then one is
 // written.
 const EVICTING: Row<'static> = Row {
     limits: THOUSAND,

@@ -1,4 +1,5 @@
--- A folder of one doomed object, computed from its bytes: the whole folder after its entry `a` is out of the list and the chain, with a record of state 2. It stands for the state of that object.
+-- A folder of one doomed object, computed from its bytes: the whole folder after its entry `a` is out of the list and the chain, with a record of state 2. It
+-- stands for the state of that object.
 use Rattle.std.proofs.Common.{◌≡◌, ℕ, zero, suc, ◌+◌, ◌/◌, ◌%◌, ◌<◌, ◌≤◌, List, [], ◌∷◌, inl, refl, ap, sym, ◌∙◌, subst, arith, lit≤, true, false, Option, Some, None, Ok}
 use Rattle.std.specs.Prelude.{◌==◌, is_some, unwrap_or}
 use Rattle.std.specs.Int.{bit_at}

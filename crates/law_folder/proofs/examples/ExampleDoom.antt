@@ -1,4 +1,5 @@
--- The laws on a doom, word by word: the entry `a`, which a handle names, is after `kmyb` in the list and in their chain; it is taken out of both, and its record gets state 2.
+-- The laws on a doom, word by word: the entry `a`, which a handle names, is after `kmyb` in the list and in their chain; it is taken out of both, and its
+-- record gets state 2.
 use Rattle.std.proofs.Common.{◌≡◌, ⊎_elim, inr, ℕ, List, [], ◌∷◌, map, refl, ap, sym, ◌∙◌, subst, arith, Bool, true, false, Option, Some, Ok}
 use Rattle.std.specs.Prelude.{if◌then◌else◌, nat_lt, take, ◌==◌, ◌||◌, codes}
 use Rattle.std.proofs.lemmas.Bool.{cases_Bool, eqb-true, eq-eqb, false_from_ne_true}

@@ -1,4 +1,4 @@
--- The laws of items that are used and that are new, of what is found, of charges, growth and order, each at an example that meets its premises.
+-- The laws of items that are used and that are new, of what is found, of costs, growth and order, each at an example that meets its premises.
 use Rattle.std.proofs.Common.{◌≡◌, ℕ, zero, suc, ◌+◌, ◌<◌, ◌≤◌, ◌⊎◌, inr, List, [], ◌∷◌, ◌++◌, length, map, take, refl, ap, sym, ◌∙◌, subst, arith, lit<, Bool, true, false, Some, None}
 use Rattle.std.specs.Prelude.{codes, ◌&&◌, ◌==◌, nat_le, nat_lt}
 use Rattle.std.proofs.lemmas.Bool.Decides.{nat_tests}
@@ -147,7 +147,7 @@ none-there w among has = absurd (let c : false ≡ true = sym (ap (λ (ws : List
 none-is_missing : live_with (open_state [] some_limits) (codes "a") ≡ None
 none-is_missing = none-missing (view_of (new_folder 50)) (open_state [] some_limits) no_layout new-is_represented (empty-valid some_limits) (codes "a") none-there
 
--- Charges.
+-- Costs.
 
 entry-is_charged : volume.charge_of (one.loaded 0) ≡ 3
 entry-is_charged = items-charged (one.view 0) (one.state true) (one.layout 0) (one.represented 0) (main (codes "a")) (one.loaded 0) refl refl

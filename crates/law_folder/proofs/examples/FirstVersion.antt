@@ -1,4 +1,5 @@
--- The whole folder as it was before its version was raised: the sum stands at its old place, and what stands at the new one is nothing to it. It is sound, and holds the same.
+-- The whole folder as it was before its version was raised: the sum stands at its old place, and what stands at the new one is nothing to it. It is sound, and
+-- holds the same.
 use Rattle.std.proofs.Common.{◌≡◌, inr, ℕ, ◌+◌, ◌*◌, ◌≤◌, List, [], ◌∷◌, refl, sym, ◌∙◌, ap, subst, lit≤, arith, Option, Some, true, false}
 use Rattle.std.specs.Prelude.{is_some}
 use Rattle.spec_image.specs.Bytes.{content, spliced, word_at, zeros}

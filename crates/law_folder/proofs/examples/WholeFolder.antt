@@ -1,4 +1,5 @@
--- A whole folder, computed from its bytes, with one closed entry `a` whose stream 0 is `zz`: counters, maps and seals are in order, and it represents the state of that entry.
+-- A whole folder, computed from its bytes, with one closed entry `a` whose stream 0 is `zz`: counters, maps and seals are in order, and it represents the state
+-- of that entry.
 use Rattle.std.proofs.Common.{◌≡◌, ◌≢◌, ◌⊎◌, inl, inr, ⊎_elim, ℕ, zero, suc, ◌+◌, ◌*◌, ◌<◌, ◌≤◌, List, [], ◌∷◌, ◌++◌, refl, ap, sym, ◌∙◌, subst, arith, lit≤, Some, None, true, false, Ok}
 use Rattle.std.specs.Prelude.{if◌then◌else◌, ◌==◌, nat_lt}
 use Rattle.std.proofs.lemmas.Bool.Decides.{nat_tests}

@@ -1,4 +1,4 @@
--- What lies at a node is charged what its row is charged.
+-- The cost of what lies at a node is the cost of its row.
 use Rattle.std.proofs.Common.{◌≡◌, ℕ, ◌+◌, List, [], ◌∷◌, ◌++◌, length, refl, sym, ◌∙◌, ap, subst, Bool, true, false, arith, append_assoc, cond, Option, Some, None}
 use Rattle.std.specs.Fmt.{digits}
 use Rattle.std.specs.Prelude.{codes, ◌==◌, ◌&&◌, not, nat_lt, if◌then◌else◌}

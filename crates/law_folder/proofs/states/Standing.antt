@@ -234,7 +234,7 @@ module _ (image : Image) (m : State) (y : Layout) (r : Represents (view_of image
   pub stands-for : IsWellFormed image → version_of (byte image Index) ≡ index_version → IsInOrder image (kept_by listed_rule (view_of image)) (map (λ (d : ℕ × Loaded). d.1) (doomed_of y numbers)) → StandsFor image m
   stands-for well version in_order = record { well_formed = well; version = version; shows = shows-state; doomed = doomed_of y numbers; are_doomed = are-doomed; owned = are-owned; in_order = in_order }
 
--- a finished folder that represents a state holds the durable contents
+-- an initialized folder that represents a state holds the durable contents
 pub found-at_rest : FoundIsAtRest
 unfolding found kept
 found-at_rest image m y r valid finished = rw finished (found-rest (view_of image) m y r valid)

@@ -41,7 +41,7 @@ open_loaded-requires g c = record {
       record { agrees = (c.in_ok-files.ensures.loaded i there).0; whole_index = c.requires.complete i there };
 }
 
--- what was loaded of a finished folder is well formed
+-- what was loaded of an initialized folder is well formed
 formed : (g : given.Over) (c : After-open_loaded g) (from : Image) → (g.F.Folder.told c.args.folder.now).files ≡ Some from → IsFinished from → IsWellFormed from
 formed g c from there fin = formed-of from fin.undamaged (c.in_ok-files.ensures.loaded from there).1
 
@@ -67,7 +67,7 @@ returns-clause-last g c =
     (λ ends from there fin.
     ends-stayed c.in_ok-files.ensures.reads.stays (ends-weaker (ends from (ap (λ (t : Told). t.files) c.in_ok-files.ensures.reads.stays ∙ there) (formed g c from there fin)) (mid-still from) (λ i stands. stands))) c.open_loaded.ensures.last
 
--- a failed check of a finished folder comes only where it is opaque
+-- a failed check of an initialized folder comes only where it is opaque
 never : (g : given.Over) (c : After-open_loaded g) (P : Damage → Image → Type 0) → IfOpenDamaged c.open_loaded.result (λ damage. ForSome (g.F.Folder.told c.args.folder.now).files (λ from. IsFinished from → P damage from))
 never g c P =
     open-damaged-weaker c.open_loaded.result _ _
