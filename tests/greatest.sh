@@ -1,4 +1,4 @@
-# The greatest limit of bytes, and the longest streams: three of 2147483647 bytes, which are whose costs sum to more than 32 bits hold.
+# The greatest limit of bytes, and the longest streams: three of 2147483647 bytes, whose costs sum to more than 32 bits hold.
 . "$(dirname "${BASH_SOURCE[0]}")/common.sh"
 
 # Runs the program with arguments over lines, and compares the status and all that is said: NAME STATUS OUTPUT WORDS -- LINES
