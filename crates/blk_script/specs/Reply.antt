@@ -7,6 +7,7 @@ use Rattle.blk_model.specs.Items.{Item, main, part, Row, main_row, part_row, pla
 use Rattle.blk_model.specs.Reply.{Reply, answered, gave, showed}
 use Rattle.blk_model.specs.RefusalTable.{number_of_refusal, name_of_refusal}
 use Rattle.blk_model.specs.Room.{Group, items_of_group}
+use Rattle.blk_model.specs.Step.{Outcome}
 use Rattle.blk_script.specs.declared.fault.LineFault.{LineFault}
 use Rattle.blk_script.specs.Faults.{fault_number, fault_name}
 use Rattle.blk_script.specs.Spelling.{number_text, key_text, data_text, line}
@@ -47,3 +48,7 @@ reply_text (showed rows) = flat_map row_line rows ++ answer_line (answer.Listed 
 -- the text of evicted items, a line for each
 abbrev pub evicted_text : List Group → List ℕ
 evicted_text groups = flat_map evicted_line (flat_map items_of_group groups)
+
+-- what is printed of a command: the evicted items, and then the reply
+abbrev pub outcome_text : Outcome → List ℕ
+outcome_text outcome = evicted_text outcome.groups ++ reply_text outcome.reply

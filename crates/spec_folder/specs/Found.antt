@@ -1,8 +1,9 @@
 -- What recovery finds in a folder: what it keeps and drops, and the recovered contents.
-use Rattle.std.specs.Prelude.{ℕ, ◌+◌, List, [], length, map, if◌then◌else◌}
+use Rattle.std.specs.Prelude.{ℕ, ◌+◌, ◌≡◌, List, [], length, map, if◌then◌else◌}
 use Rattle.std.specs.List.{sum_by, range_with_len}
 use Rattle.blk_model.specs.Items.{Row, main_row, part_row, plain, sparse}
 use Rattle.spec_image.specs.Image.{Image}
+use Rattle.spec_format.specs.BlockFiles.{IsUsable, IsWellFormed}
 use Rattle.spec_format.specs.Headers.{unfinished}
 use Rattle.spec_folder.specs.Completion.{completed_list}
 use Rattle.spec_folder.specs.View.{View, view_of}
@@ -41,3 +42,9 @@ dropped image = dropped_by held_rule (completed (view_of image))
 -- the recovered contents of a folder: the rows of the kept records, in the order of the LRU list; none of an unfinished folder
 unfoldable pub found : Image → List Row
 found image = if unfinished image then [] else map row_of_loaded (kept image)
+
+-- the recovered contents are those of another image; the folder is well formed where that one was, and usable where that one was so
+pub record HoldsStill (entry image : Image) : Type 0 where
+  pub usable : IsUsable entry → IsUsable image
+  pub formed : IsWellFormed entry → IsWellFormed image
+  pub found_same : found image ≡ found entry

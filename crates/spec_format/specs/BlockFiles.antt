@@ -1,6 +1,6 @@
 -- The block files that are linked, the checks of their headers, and the first failed check of a folder.
 use Rattle.std.proofs.Common.{zero, suc}
-use Rattle.std.specs.Prelude.{ℕ, ◌-◌, ◌%◌, ◌≡◌, List, [], ◌∷◌, ◌++◌, Bool, not, ◌&&◌, ◌||◌, ◌==◌, nat_le, nat_lt, if◌then◌else◌, None, Some}
+use Rattle.std.specs.Prelude.{ℕ, ◌-◌, ◌%◌, ◌≡◌, ◌⊎◌, List, [], ◌∷◌, ◌++◌, Bool, not, ◌&&◌, ◌||◌, ◌==◌, nat_le, nat_lt, if◌then◌else◌, None, Some}
 use Rattle.std.specs.List.{list_any, flat_map}
 use Rattle.std.specs.declared.option.Option.{Option}
 use Rattle.spec_image.specs.Image.{Index, Block, External, Image, has_file, length_of, byte}
@@ -129,6 +129,15 @@ first_damage image = first_of (head_checks (byte image Index) (length_of image I
 -- no check fails
 abbrev pub IsWellFormed : Image → Type 0
 IsWellFormed image = first_damage image ≡ None
+
+-- a folder that a session may be opened on, and that each crash leaves: its index is uninitialized, or no check of a header fails
+abbrev pub IsUsable : Image → Type 0
+IsUsable image = IsUnfinished image ⊎ IsWellFormed image
+
+-- the index is initialized, and this check is the first of the folder that fails
+pub record IsDamagedBy (damage : Damage) (image : Image) : Type 0 where
+  pub finished : IsUnfinished image → ⊥
+  pub first : first_damage image ≡ Some damage
 
 -- the folder has a finished index, and no check of a header fails
 pub record IsWhole (image : Image) : Type 0 where

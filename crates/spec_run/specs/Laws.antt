@@ -15,14 +15,15 @@ use Rattle.blk_model.specs.Room.{single}
 use Rattle.blk_model.specs.ListSteps.{front, list_after, list_steps}
 use Rattle.blk_model.specs.Step.{Outcome}
 use Rattle.blk_model.specs.Stops.{is_live_and_settled, is_safe}
+use Rattle.spec_format.specs.BlockFiles.{IsUsable}
 use Rattle.blk_io.specs.Streams.{Readings, later_of}
 use Rattle.law_state.specs.Commands.{IsNoted, IsStepped, note_number}
-use Rattle.spec_folder.specs.Found.{found}
+use Rattle.spec_folder.specs.Found.{HoldsStill, found}
 use Rattle.spec_run.specs.Lines.{Cut, with_bytes, lines, whole_lines}
 use Rattle.spec_run.specs.Script.{Script, Shown, TurnsNoneAway, ended, errs, says, turns_away, asks, count_script, put_script, session_script, until_refused}
 use Rattle.spec_run.specs.Run.{Stamped, Turn, error_turn, text_turn, away_turn, command_turn, stamped_by, outcome_in, state_then, state_after, clock_after, turns, commands_of, readings_of, text_of, bound_names, closings, run_of, cut_after, commands, command_after, state_at}
 use Rattle.spec_run.specs.Moments.{IsLeftAt, IsStopped}
-use Rattle.spec_run.specs.Opening.{IsUsable, HoldsStill, Opens, FailsToOpen, has_opened}
+use Rattle.spec_run.specs.Opening.{Opens, FailsToOpen, has_opened}
 use Rattle.spec_run.specs.Progress.{Progress, Stops, IsWholeRun, AreNoted}
 use Rattle.spec_run.specs.Playing.{IsPlayed}
 use Rattle.spec_run.specs.Replies.{PrintsNoMore, evictions_of}
