@@ -11,6 +11,7 @@ use Rattle.spec_image.specs.Footprint.{SameOutside, one_word}
 use Rattle.blk_model.specs.State.{State, is_named, named_by}
 use Rattle.spec_format.proofs.Counts.{its-version}
 use Rattle.spec_format.proofs.Finished.{whole_index}
+use Rattle.spec_folder.specs.Found.{HoldsStill}
 use Rattle.spec_folder.specs.Layout.{Layout}
 use Rattle.law_folder.proofs.updates.IndexWords.{word-still}
 use Rattle.law_state.specs.CounterLaws.{charged}
@@ -27,7 +28,6 @@ use Rattle.blk_cache.specs.declared.cache.Cache.{Cache}
 use Rattle.blk_cache.specs.BoundNames.{AreAllFree}
 use Rattle.blk_cache.specs.CacheKeeping.{IsBoundAs, KeepsState}
 use Rattle.blk_cache.specs.OpeningLaws.{FreeCachesEndSound, FreeCachesHoldStill, KeptFoldersAreOpen}
-use Rattle.blk_cache.specs.Opening.{HoldsStill}
 use Rattle.blk_cache.proofs.Unnamed.{none-among, unnamed-rests}
 
 pub kept-open : KeptFoldersAreOpen

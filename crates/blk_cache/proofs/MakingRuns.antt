@@ -15,6 +15,7 @@ use Rattle.spec_image.proofs.WordSteps.{along_over, along_put, quiet-word_steps}
 use Rattle.spec_format.specs.Address.{header_size}
 use Rattle.spec_format.specs.Headers.{IsUnfinished, index_magic}
 use Rattle.spec_format.specs.NewFolder.{new_file_words, new_index_words, words_before_magic}
+use Rattle.spec_folder.specs.Found.{HoldsStill}
 use Rattle.blk_index.specs.Index.{HasNoMagic, IsMagicless}
 use Rattle.blk_index.specs.Making.{IsBlankIndex, Lists, MakesPrefix, blank_steps, deletions, files_steps, first_file_steps, folder_steps}
 use Rattle.blk_index.proofs.Blank.{blank_is, blank_unfinished, cut_unfinished, no_magic-with_word}
@@ -22,7 +23,6 @@ use Rattle.blk_index.proofs.Magic.{magicless_if, unfinished_if}
 use Rattle.blk_repair.specs.Endings.{RepairBreaksOff}
 use Rattle.blk_repair.proofs.CrashWord.{SpareIt}
 use Rattle.blk_repair.proofs.Endings.{breaks-part, front-or-all, spare-prefix}
-use Rattle.blk_cache.specs.Opening.{HoldsStill}
 use Rattle.blk_cache.proofs.MakingSteps.{spare-folder}
 use Rattle.blk_cache.proofs.OpenRuns.{unfinished-still}
 

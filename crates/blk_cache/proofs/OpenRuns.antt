@@ -14,12 +14,12 @@ use Rattle.blk_model.specs.Items.{Row}
 use Rattle.blk_model.specs.Holding.{open_state}
 use Rattle.blk_model.specs.Room.{items, total}
 use Rattle.law_state.specs.Keeping.{KeepsSome}
-use Rattle.spec_format.specs.BlockFiles.{first_damage, IsWellFormed}
+use Rattle.spec_format.specs.BlockFiles.{IsDamagedBy, IsWellFormed, first_damage}
 use Rattle.spec_format.specs.Headers.{index_length, IsUnfinished, this_id_of, unfinished}
 use Rattle.spec_format.specs.NewFolder.{IsMade, new_index_words}
 use Rattle.spec_format.proofs.Finished.{finished_whole, well_formed-finished}
 use Rattle.spec_format.proofs.HeaderLemmas.{unfinished_agrees}
-use Rattle.spec_folder.specs.Found.{found}
+use Rattle.spec_folder.specs.Found.{HoldsStill, found}
 use Rattle.spec_folder.specs.StandsFor.{StandsFor}
 use Rattle.law_folder.proofs.states.Bare.{bare-found}
 use Rattle.law_folder.proofs.states.NewFolders.{new-bare, words_beside}
@@ -42,8 +42,8 @@ use Rattle.blk_repair.specs.Endings.{RepairBreaksOff, EndsOrBreaksOff, EndsWithC
 use Rattle.blk_repair.proofs.Endings.{breaks-none, either-weaker, ends-weaker}
 use Rattle.blk_repair.specs.Repair.{IsRepairDamage, IsRepairable, IsRepaired, next_id}
 use Rattle.blk_cache.specs.declared.opening.Opened.{Opened}
-use Rattle.blk_cache.specs.Opened.{IsFirstDamage, IsJustMade, IsOpenedAs, IsOpeningDamage}
-use Rattle.blk_cache.specs.Opening.{HoldsStill, StandsOpened, opened_id}
+use Rattle.blk_cache.specs.Opened.{IsJustMade, IsOpenedAs, IsOpeningDamage}
+use Rattle.blk_cache.specs.Opening.{StandsOpened, opened_id}
 use Rattle.blk_scan.proofs.FirstDamages.{blocks-formed, first-before, first-behind}
 use Rattle.blk_cache.proofs.OpenedFolders.{made-repairable, repaired-kept, told-totals}
 
@@ -190,7 +190,7 @@ pub first-of_load : (e : Fault) (files : Option Image) → ForSome files (LoadsA
 first-of_load fault.Device files loaded = tt
 first-of_load (fault.Damaged damage) files loaded = λ image there (fin : IsFinished image). first-behind image fin.undamaged ∙ loaded image there
 
-pub first-of_look : (e : Fault) (files : Option Image) → ForSome files (LooksAs (Err e)) → IfDamaged {A = Told} (Err e) (λ damage. ForSome files (IsFirstDamage damage))
+pub first-of_look : (e : Fault) (files : Option Image) → ForSome files (LooksAs (Err e)) → IfDamaged {A = Told} (Err e) (λ damage. ForSome files (IsDamagedBy (damage_of damage)))
 first-of_look fault.Device files looked = tt
 first-of_look (fault.Damaged damage) files looked = λ image there. record { finished = (looked image there).0; first = first-before image (damage_of damage) (looked image there).1 }
 

@@ -13,13 +13,13 @@ use Rattle.blk_model.specs.Step.{outcome, step}
 use Rattle.blk_model.specs.declared.Answer.{Answer}
 use Rattle.blk_model.specs.declared.Refusal.{Refusal}
 use Rattle.law_state.specs.Commands.{Does, ForKept, MayStopAtEach}
-use Rattle.blk_script.specs.Reply.{evicted_text, reply_text}
+use Rattle.blk_script.specs.Reply.{evicted_text, outcome_text, reply_text}
 use Rattle.blk_cache.specs.declared.cache.Cache.{Cache}
 use Rattle.blk_cache.specs.CacheKeeping.{KeepsState}
 use Rattle.blk_cache.specs.CommandClauses.{KeepsAny}
 use Rattle.blk_evict.specs.RoomPrinting.{PrintsUnlessFailed, PrintsInPart}
 use Rattle.blk_cache.specs.Replying.{ForReply, KeepsAfter}
-use Rattle.blk_cache.specs.Stepping.{SaysEvicted, SaysPrefix, evicted_first, outcome_text}
+use Rattle.blk_cache.specs.Stepping.{SaysEvicted, SaysPrefix, evicted_first}
 use Rattle.blk_evict.proofs.RoomTexts.{none-printed, part-on, printed-on}
 use Rattle.blk_cache.proofs.Replies.{is-after, text-after}
 

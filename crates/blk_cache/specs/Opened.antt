@@ -1,18 +1,15 @@
 -- What opening a folder leaves, and which checks may fail in it.
 use Rattle.std.specs.Prelude.{◌≡◌, ◌⊎◌, ℕ}
-use Rattle.std.specs.declared.option.Option.TheVariants.{Some}
 use Rattle.spec_image.specs.Image.{Image, Index, byte}
 use Rattle.spec_image.specs.Told.{Told}
 use Rattle.blk_model.specs.Holding.{open_state}
 use Rattle.blk_model.specs.Room.{items, total}
 use Rattle.blk_model.specs.State.{Bounds}
-use Rattle.spec_format.specs.BlockFiles.{first_damage}
-use Rattle.spec_format.specs.Headers.{IsUnfinished, this_id_of}
+use Rattle.spec_format.specs.Headers.{this_id_of}
 use Rattle.spec_format.specs.NewFolder.{IsMade}
 use Rattle.spec_folder.specs.Found.{found}
 use Rattle.law_state.specs.Keeping.{KeepsSome}
 use Rattle.blk_io.specs.declared.fault.Damage.{Damage}
-use Rattle.blk_io.specs.Faults.{damage_of}
 use Rattle.blk_index.specs.Start.{IsLookDamage}
 use Rattle.blk_disk.specs.declared.tables.BlockFiles.{BlockFiles}
 use Rattle.blk_disk.specs.Loading.{IsLoadDamage}
@@ -37,11 +34,6 @@ pub record IsOpenedAs (entry : Image) (opened : Opened) (image : Image) : Type 0
   pub id_is : this_id_of (byte image Index) ≡ opened_id entry
 
 -- Failed checks.
-
--- the index is initialized, and `damage` is the first check of the folder that fails
-pub record IsFirstDamage (damage : Damage) (image : Image) : Type 0 where
-  pub finished : IsUnfinished image → ⊥
-  pub first : first_damage image ≡ Some (damage_of damage)
 
 -- a check failed after those of the headers: while the folder was scanned, or in its recovery
 pub record IsMendingDamage (told : Told) (damage : Damage) : Type 0 where

@@ -1,12 +1,11 @@
 -- The contracts of opening and of closing a cache.
-use Rattle.std.specs.Prelude.{◌≡◌, ◌⊎◌, ℕ, Result, Ok, Err, if◌then◌else◌}
+use Rattle.std.specs.Prelude.{◌≡◌, ℕ, Result, Ok, Err, if◌then◌else◌}
 use Rattle.spec_image.specs.Image.{Image, Index, byte}
 use Rattle.spec_image.specs.Told.{Told}
 use Rattle.blk_model.specs.Holding.{open_state}
 use Rattle.blk_model.specs.State.{Bounds}
-use Rattle.spec_format.specs.BlockFiles.{IsWellFormed}
-use Rattle.spec_format.specs.Headers.{IsUnfinished, crash_of, create_time_of, index_version, this_id_of, unfinished, version_of}
-use Rattle.spec_folder.specs.Found.{found}
+use Rattle.spec_format.specs.Headers.{crash_of, create_time_of, index_version, this_id_of, unfinished, version_of}
+use Rattle.spec_folder.specs.Found.{HoldsStill, found}
 use Rattle.spec_folder.specs.Sound.{IsSound}
 use Rattle.spec_folder.specs.StandsFor.{StandsFor}
 use Rattle.blk_io.specs.declared.fault.Damage.{Damage}
@@ -18,16 +17,6 @@ use Rattle.blk_repair.specs.Endings.{EndsOrBreaksOff, EndsWithCrashWord}
 use Rattle.blk_repair.specs.Repair.{next_id}
 use Rattle.blk_cache.specs.declared.fault.OpenFault.{OpenFault}
 use Rattle.blk_cache.specs.declared.fault.OpenFault.TheVariants.{Device, Damaged, Memory}
-
--- a cache may be opened on the folder: it is uninitialized, or no check of its headers fails
-abbrev pub IsUsable : Image → Type 0
-IsUsable image = IsUnfinished image ⊎ IsWellFormed image
-
--- recovery gives the same for both images; the second is well formed where the first is, and usable where the first is
-pub record HoldsStill (entry image : Image) : Type 0 where
-  pub usable : IsUsable entry → IsUsable image
-  pub formed : IsWellFormed entry → IsWellFormed image
-  pub found_same : found image ≡ found entry
 
 -- the folder represents the state that is opened on the recovered contents of the image `entry`
 abbrev pub StandsOpened : Image → Image → Type 0

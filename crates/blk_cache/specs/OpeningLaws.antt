@@ -7,7 +7,7 @@ use Rattle.blk_model.specs.Holding.{open_state}
 use Rattle.blk_model.specs.Room.{items, total}
 use Rattle.blk_model.specs.State.{State, Bounds}
 use Rattle.spec_format.specs.NewFolder.{IsMade}
-use Rattle.spec_folder.specs.Found.{found}
+use Rattle.spec_folder.specs.Found.{HoldsStill, found}
 use Rattle.spec_folder.specs.Sound.{IsSound}
 use Rattle.law_state.specs.Keeping.{KeepsSome}
 use Rattle.blk_disk.specs.Open.{IsOpen}
@@ -18,7 +18,6 @@ use Rattle.blk_repair.specs.Repair.{IsRepairable, IsRepaired}
 use Rattle.blk_cache.specs.declared.cache.Cache.{Cache}
 use Rattle.blk_cache.specs.BoundNames.{AreAllFree}
 use Rattle.blk_cache.specs.CacheKeeping.{KeepsState}
-use Rattle.blk_cache.specs.Opening.{HoldsStill}
 
 -- Opening.
 

@@ -1,5 +1,5 @@
 -- The contract of one step of a cache: a command, what it prints, and its completion marker.
-use Rattle.std.specs.Prelude.{ℕ, Bool, List, ◌++◌, Result, Ok, Err}
+use Rattle.std.specs.Prelude.{ℕ, Bool, List, Result, Ok, Err}
 use Rattle.std.specs.declared.option.Option.{Option}
 use Rattle.spec_image.specs.Told.{Told}
 use Rattle.blk_io.specs.Streams.{Appends}
@@ -9,7 +9,7 @@ use Rattle.blk_io.specs.declared.fault.Fault.TheVariants as fault
 use Rattle.blk_model.specs.Request.{Request}
 use Rattle.blk_model.specs.Step.{Outcome, step}
 use Rattle.law_state.specs.Commands.{ForKept}
-use Rattle.blk_script.specs.Reply.{evicted_text, reply_text}
+use Rattle.blk_script.specs.Reply.{evicted_text}
 use Rattle.blk_cache.specs.declared.cache.Cache.{Cache}
 use Rattle.blk_cache.specs.declared.fault.StepFault.{StepFault}
 use Rattle.blk_cache.specs.declared.fault.StepFault.TheVariants as step_fault
@@ -21,10 +21,6 @@ use Rattle.blk_evict.specs.RoomPrinting.{PrintsUnlessFailed}
 -- the printed lines of what a command evicts, one for each item
 abbrev pub evicted_first : Outcome → List ℕ
 evicted_first outcome = evicted_text outcome.groups
-
--- all that a command prints: the lines of what it evicts, and then its reply
-abbrev pub outcome_text : Outcome → List ℕ
-outcome_text outcome = evicted_first outcome ++ reply_text outcome.reply
 
 -- the lines of what the command evicts were printed, unless the output failed, for each state that the cache kept before
 abbrev pub SaysEvicted : Cache → Told → (moment : ℕ) → Request → (failed_before failed : Bool) → (old new : Option (List ℕ)) → Type 0

@@ -6,11 +6,12 @@ ghost use Rattle.spec_image.specs.Steps.{word_step};
 ghost use Rattle.spec_image.specs.Told.{Applies, AppliesPrefix, Passes, Rises};
 ghost use Rattle.blk_model.specs.Room.{items as items_of, total};
 ghost use Rattle.blk_model.specs.State.{State};
+ghost use Rattle.spec_folder.specs.Found.{HoldsStill};
 ghost use Rattle.blk_disk.specs.Open.{IsOpen};
 ghost use Rattle.blk_repair.specs.Counters.{crash_place};
 ghost use Rattle.blk_cache.specs.BoundNames.{AreAllFree};
 ghost use Rattle.blk_cache.specs.CacheKeeping.{KeepsState};
-ghost use Rattle.blk_cache.specs.Opening.{HoldsStill, EndsSession};
+ghost use Rattle.blk_cache.specs.Opening.{EndsSession};
 
 use crate::cache::Cache;
 use blk_index::set_word;

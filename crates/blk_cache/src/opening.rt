@@ -3,7 +3,7 @@ ghost use Rattle.std.specs.Prelude.{◌≡◌, IfOk, None, OnOk, Some};
 ghost use Rattle.std.specs.Option.{ForSome};
 ghost use Rattle.spec_image.specs.Image.{Index as index, byte};
 ghost use Rattle.spec_image.specs.Told.{Stays, MayWrite};
-ghost use Rattle.spec_format.specs.BlockFiles.{first_damage, IsWellFormed};
+ghost use Rattle.spec_format.specs.BlockFiles.{IsDamagedBy, IsUsable, IsWellFormed, first_damage};
 ghost use Rattle.spec_format.specs.Headers.{HasWholeIndex, IsUnfinished, create_time_of};
 ghost use Rattle.blk_io.specs.Faults.{IfDamaged, IfDevice, damage_of};
 ghost use Rattle.blk_index.specs.Start.{IsFinished};
@@ -12,8 +12,8 @@ ghost use Rattle.blk_repair.specs.Endings.{EndsOrBreaksOff, EndsWithCrashWord};
 ghost use Rattle.blk_repair.specs.Repair.{IsRepairable, NeedsOnlyWords};
 ghost use Rattle.law_recovery.specs.MendedChanges.{IsMidRepair};
 ghost use Rattle.blk_scan.specs.Scans.{StandAmong};
-ghost use Rattle.blk_cache.specs.Opened.{IsFirstDamage, IsJustMade, IsOpenedAs, IsOpeningDamage};
-ghost use Rattle.blk_cache.specs.Opening.{IfOpenDamaged, IfOpenDevice, IfOpenMemory, IsUsable, OpensFolder, OpensOrBreaksOff, StandsOpened, WasMadeAt};
+ghost use Rattle.blk_cache.specs.Opened.{IsJustMade, IsOpenedAs, IsOpeningDamage};
+ghost use Rattle.blk_cache.specs.Opening.{IfOpenDamaged, IfOpenDevice, IfOpenMemory, OpensFolder, OpensOrBreaksOff, StandsOpened, WasMadeAt};
 
 use crate::fault::OpenFault;
 use blk_disk::BlockFiles;
@@ -46,7 +46,7 @@ pub(crate) fn open_folder<F: Folder>(
     ensures stops { ForSome (F.told folder.old).files (λ from. OpensOrBreaksOff from (F.told folder.old) (F.told folder.new)) }
     ensures last { OnOk result (ForSome (F.told folder.old).files (λ from. OpensFolder from (F.told folder.old) (F.told folder.new))) }
     ensures damaged { IfOpenDamaged result (IsOpeningDamage (F.told folder.new)) }
-    ensures first { IfOpenDamaged result (λ damage. ForSome (F.told folder.old).files (IsFirstDamage damage)) }
+    ensures first { IfOpenDamaged result (λ damage. ForSome (F.told folder.old).files (IsDamagedBy (damage_of damage))) }
     ensures unwritten { ForSome (F.told folder.old).files (λ from. (IsUsable from → ⊥) → Stays (F.told folder.old) (F.told folder.new)) }
     ensures memory { IfOpenMemory result (Stays (F.told folder.old) (F.told folder.new)) }
     ensures writes { MayWrite F.told F.faults folder.old folder.new (IfOpenDevice result) }

@@ -5,12 +5,14 @@ ghost use Rattle.spec_image.specs.Image.{Index as index, byte};
 ghost use Rattle.spec_image.specs.Told.{Stays, MayWrite};
 ghost use Rattle.blk_model.specs.Bounds.{bounds_of};
 ghost use Rattle.blk_model.specs.Holding.{open_state};
+ghost use Rattle.spec_format.specs.BlockFiles.{IsDamagedBy, IsUsable};
 ghost use Rattle.spec_format.specs.Headers.{IsUnfinished, this_id_of};
 ghost use Rattle.spec_folder.specs.Found.{found};
+ghost use Rattle.blk_io.specs.Faults.{damage_of};
 ghost use Rattle.blk_cache.specs.BoundNames.{AreAllFree};
 ghost use Rattle.blk_cache.specs.CacheKeeping.{KeepsState};
-ghost use Rattle.blk_cache.specs.Opened.{IsFirstDamage, IsOpeningDamage};
-ghost use Rattle.blk_cache.specs.Opening.{IfOpenDamaged, IfOpenDevice, IfOpenMemory, IsUsable, OpensFolder, OpensOrBreaksOff, WasMadeAt, opened_id};
+ghost use Rattle.blk_cache.specs.Opened.{IsOpeningDamage};
+ghost use Rattle.blk_cache.specs.Opening.{IfOpenDamaged, IfOpenDevice, IfOpenMemory, OpensFolder, OpensOrBreaksOff, WasMadeAt, opened_id};
 
 use crate::cache::Cache;
 use crate::fault::OpenFault;
@@ -55,7 +57,7 @@ impl Cache {
 
         // An observable folder reports corruption only where a check of its headers fails, and the first one.
         ensures damaged { IfOpenDamaged result (IsOpeningDamage (F.told f.new)) }
-        ensures first { IfOpenDamaged result (λ damage. ForSome (F.told f.old).files (IsFirstDamage damage)) }
+        ensures first { IfOpenDamaged result (λ damage. ForSome (F.told f.old).files (IsDamagedBy (damage_of damage))) }
 
         // A folder that is neither uninitialized nor well formed is left as it is, whatever is answered.
         ensures unwritten { ForSome (F.told f.old).files (λ from. (IsUsable from → ⊥) → Stays (F.told f.old) (F.told f.new)) }

@@ -11,10 +11,11 @@ ghost use Rattle.blk_model.specs.Step.{step};
 ghost use Rattle.blk_disk.specs.Open.{IsOpen};
 ghost use Rattle.law_state.specs.Commands.{Does, ForKept, IsNoted, IsStepped, MayStopAtEach, note_number};
 ghost use Rattle.blk_object.specs.FailedChecks.{IsFailedCheck};
+ghost use Rattle.blk_script.specs.Reply.{outcome_text};
 ghost use Rattle.blk_cache.specs.CacheKeeping.{KeepsState};
 ghost use Rattle.blk_cache.specs.CommandClauses.{FlushesClean, IsRefused, KeepsAny, OnlyNotesChange};
 ghost use Rattle.blk_evict.specs.RoomPrinting.{FailsWhereItRose};
-ghost use Rattle.blk_cache.specs.Stepping.{IfDone, IfSink, IfStepDamaged, IfStepDevice, SaysEvicted, SaysPrefix, outcome_text};
+ghost use Rattle.blk_cache.specs.Stepping.{IfDone, IfSink, IfStepDamaged, IfStepDevice, SaysEvicted, SaysPrefix};
 
 use crate::cache::Cache;
 use crate::fault::StepFault;

@@ -4,11 +4,13 @@ use Rattle.std.specs.Prelude.{IsErrAnd}
 use Rattle.std.specs.declared.option.Option.{Option}
 use Rattle.std.specs.Option.{ForSome}
 use Rattle.spec_image.specs.Image.{Image}
+use Rattle.spec_format.specs.BlockFiles.{IsDamagedBy}
 use Rattle.blk_io.specs.declared.fault.Damage.{Damage}
+use Rattle.blk_io.specs.Faults.{damage_of}
 use Rattle.blk_audit.specs.declared.fault.ScanFault.{ScanFault}
 use Rattle.blk_audit.specs.declared.fault.ScanFault.TheVariants as scan
 use Rattle.blk_audit.specs.Faults.{IfScanDamaged, IfScanDevice}
-use Rattle.blk_inspect.specs.Inspecting.{AnswersFor, IfInspectDamaged, IfInspectDevice, IfInspectSink, IsDamagedFirst, PrintsAt, UnlessSink, inspect_fault}
+use Rattle.blk_inspect.specs.Inspecting.{AnswersFor, IfInspectDamaged, IfInspectDevice, IfInspectSink, PrintsAt, UnlessSink, inspect_fault}
 use Rattle.blk_inspect.specs.declared.fault.InspectFault.{InspectFault}
 use Rattle.blk_inspect.specs.declared.fault.InspectFault.TheVariants.{Sink}
 
@@ -35,12 +37,12 @@ unprinted {A} {B} r q e old is same = by_fault r q e (λ s. UnlessSink s (old �
     each scan.Memory at = refl
 
 -- the folder decides the answer
-pub answered : {A B : Type 0} (r : Result A ScanFault) (q : Result B InspectFault) (e : ScanFault) (files : Option Image) → r ≡ Err e → IsErrAnd q (λ (x : InspectFault). x ≡ inspect_fault e) → IfScanDamaged r (λ damage. ForSome files (IsDamagedFirst damage)) → ForSome files (AnswersFor q)
+pub answered : {A B : Type 0} (r : Result A ScanFault) (q : Result B InspectFault) (e : ScanFault) (files : Option Image) → r ≡ Err e → IsErrAnd q (λ (x : InspectFault). x ≡ inspect_fault e) → IfScanDamaged r (λ damage. ForSome files (IsDamagedBy (damage_of damage))) → ForSome files (AnswersFor q)
 answered {A} {B} r q e files is same damaged = by_fault r q e (λ s. ForSome files (AnswersFor s)) is same each
   where
     each : (fault : ScanFault) → r ≡ Err fault → ForSome files (AnswersFor {A = B} (Err (inspect_fault fault)))
     each scan.Device at image there = tt
-    each (scan.Damaged damage) at image there = (subst (λ (s : Result A ScanFault). IfScanDamaged s (λ d. ForSome files (IsDamagedFirst d))) at damaged) image there
+    each (scan.Damaged damage) at image there = (subst (λ (s : Result A ScanFault). IfScanDamaged s (λ d. ForSome files (IsDamagedBy (damage_of d)))) at damaged) image there
     each scan.Memory at image there = tt
 
 -- a failed check has its cause

@@ -1,11 +1,11 @@
 -- The contract of an inspection of a folder.
-use Rattle.std.specs.Prelude.{◌≡◌, ◌++◌, ◌⊎◌, ℕ, List, Result, Ok, Err, Some}
+use Rattle.std.specs.Prelude.{◌≡◌, ◌++◌, ◌⊎◌, ℕ, List, Result, Ok, Err}
 use Rattle.std.specs.declared.option.Option.{Option}
 use Rattle.std.specs.Option.{option_map}
 use Rattle.spec_image.specs.Image.{Image}
 use Rattle.spec_image.specs.Told.{Told}
-use Rattle.spec_format.specs.BlockFiles.{first_damage}
-use Rattle.spec_format.specs.Headers.{IsUnfinished, block_fields_length, header_length}
+use Rattle.spec_format.specs.BlockFiles.{IsDamagedBy, IsUsable}
+use Rattle.spec_format.specs.Headers.{block_fields_length, header_length}
 use Rattle.blk_io.specs.declared.fault.Damage.{Damage}
 use Rattle.blk_io.specs.declared.folder.FileId.TheVariants as names
 use Rattle.blk_io.specs.Faults.{IsShort, damage_of}
@@ -15,7 +15,6 @@ use Rattle.blk_disk.specs.declared.tables.BlockFiles.{BlockFiles}
 use Rattle.blk_audit.specs.declared.fault.ScanFault.{ScanFault}
 use Rattle.blk_audit.specs.declared.fault.ScanFault.TheVariants as scan
 use Rattle.blk_scan.specs.Faults.{IsBlocksDamage, IsScanDamage}
-use Rattle.spec_run.specs.Opening.{IsUsable}
 use Rattle.blk_inspect.specs.declared.fault.InspectFault.{InspectFault}
 use Rattle.blk_inspect.specs.declared.fault.InspectFault.TheVariants.{Device, Damaged, Sink, Memory}
 
@@ -27,15 +26,11 @@ inspect_fault scan.Device = Device
 inspect_fault (scan.Damaged damage) = Damaged damage
 inspect_fault scan.Memory = Memory
 
--- the folder is initialized, and `damage` is the first check of its headers that fails
-abbrev pub IsDamagedFirst : Damage → Image → Type 0
-IsDamagedFirst damage image = (IsUnfinished image → ⊥) × (first_damage image ≡ Some (damage_of damage))
-
 -- for each answer the folders that it may be given for; an I/O error and out of memory say nothing of the folder
 abbrev pub AnswersFor : {A : Type 0} → Result A InspectFault → Image → Type 0
 AnswersFor (Ok a) image = IsUsable image
 AnswersFor (Err Sink) image = IsUsable image
-AnswersFor (Err (Damaged damage)) image = IsDamagedFirst damage image
+AnswersFor (Err (Damaged damage)) image = IsDamagedBy (damage_of damage) image
 AnswersFor (Err Device) image = Unit {0}
 AnswersFor (Err Memory) image = Unit {0}
 

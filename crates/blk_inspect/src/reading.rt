@@ -2,14 +2,13 @@
 ghost use Rattle.std.specs.Prelude.{◌≡◌, IfOk, None, Some};
 ghost use Rattle.std.specs.Option.{ForSome};
 ghost use Rattle.spec_image.specs.Told.{ReadsOnly};
-ghost use Rattle.spec_format.specs.BlockFiles.{first_block_damage};
+ghost use Rattle.spec_format.specs.BlockFiles.{IsDamagedBy, IsUsable, first_block_damage};
 ghost use Rattle.spec_format.specs.Headers.{HasWholeIndex};
 ghost use Rattle.blk_io.specs.Faults.{damage_of};
 ghost use Rattle.blk_disk.specs.Open.{IsOpen};
 ghost use Rattle.blk_audit.specs.Faults.{IfScanDamaged, IfScanDevice};
-ghost use Rattle.spec_run.specs.Opening.{IsUsable};
 ghost use Rattle.blk_inspect.specs.Findings.{findings_text, finished_text, question_text};
-ghost use Rattle.blk_inspect.specs.Inspecting.{IsDamagedFirst, IsFinishedDamage, IsInspectDamage, IsInspectReadDamage};
+ghost use Rattle.blk_inspect.specs.Inspecting.{IsFinishedDamage, IsInspectDamage, IsInspectReadDamage};
 ghost use Rattle.blk_inspect.specs.Texts.{address_text, part_text, verdict_text};
 
 use crate::findings::Findings;
@@ -49,7 +48,7 @@ pub(crate) fn find<F: Folder>(
     ensures reads { ReadsOnly F.told F.faults folder.old folder.new (IfScanDevice result) }
 
     // An observable folder reports corruption only where a check of its headers fails: the first that does.
-    ensures damaged { IfScanDamaged result (λ damage. ForSome (F.told folder.old).files (IsDamagedFirst damage)) }
+    ensures damaged { IfScanDamaged result (λ damage. ForSome (F.told folder.old).files (IsDamagedBy (damage_of damage))) }
 
     // The cause of a failed check, which holds for an opaque folder too.
     ensures cause { IfScanDamaged result (IsInspectDamage (F.told folder.old)) }

@@ -11,9 +11,9 @@ use Rattle.blk_model.specs.Reply.{answer_of}
 use Rattle.blk_model.specs.Request.{Request}
 use Rattle.blk_model.specs.State.{State}
 use Rattle.blk_model.specs.Step.{step}
-use Rattle.blk_script.specs.Reply.{reply_text}
+use Rattle.blk_script.specs.Reply.{outcome_text, reply_text}
 use Rattle.law_state.specs.Commands.{ForKept, IsNoted, IsStepped, MayStop, note_number}
-use Rattle.spec_run.specs.Script.{is_refusal, is_refused, outcome_text, refusal_of}
+use Rattle.spec_run.specs.Script.{is_refusal, is_refused, refusal_of}
 use Rattle.spec_run.specs.Progress.{StopsAfter}
 use Rattle.spec_run.specs.Run.{Stamped, Turn, clock_after, text_of}
 use Rattle.spec_run.proofs.CommandStates.{state_after-one}
@@ -23,7 +23,7 @@ use Rattle.spec_run.proofs.Replies.{no_less_one, no_more_evicted, no_more_whole}
 use Rattle.blk_cache.specs.declared.fault.StepFault.{StepFault}
 use Rattle.blk_cache.specs.declared.fault.StepFault.TheVariants as fault
 use Rattle.blk_cache.specs.Stepping.{IfDone, IfStepDamaged, IfStepDevice, evicted_first}
-use Rattle.blk_run.specs.Playing.{AreStopped, Around, Plays, SoFar, StandsAt, around, asked_turn, has_refused, state_now, with_more}
+use Rattle.blk_run.specs.Playing.{AreStopped, Plays, SoFar, StandsAt, around, asked_turn, has_refused, state_now, with_more}
 
 -- the number of the next note
 pub next_note : (far : SoFar) (keeps : State → Image → Type 0) (notes left : ℕ) (now : Told) → StandsAt far keeps notes (left + 2) now → note_number (notes + 1) ≡ length far.done + 1

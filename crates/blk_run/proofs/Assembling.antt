@@ -6,10 +6,11 @@ use Rattle.spec_image.specs.Image.{Image}
 use Rattle.spec_image.specs.Notes.{notes_in}
 use Rattle.spec_image.specs.Steps.{after}
 use Rattle.spec_image.specs.Told.{Told, Passes}
-use Rattle.spec_image.proofs.Runs.{passes_end, passes_weaker}
+use Rattle.spec_image.proofs.Runs.{passes_end}
 use Rattle.blk_model.specs.Holding.{open_state, rest}
 use Rattle.blk_model.specs.State.{Bounds, State}
-use Rattle.spec_folder.specs.Found.{found}
+use Rattle.spec_format.specs.BlockFiles.{IsUsable}
+use Rattle.spec_folder.specs.Found.{HoldsStill, found}
 use Rattle.spec_folder.specs.StandsFor.{StandsFor}
 use Rattle.law_folder.proofs.states.StoodFor.{stood-found}
 use Rattle.blk_io.specs.declared.fault.Fault.{Fault}
@@ -17,8 +18,8 @@ use Rattle.blk_io.specs.declared.fault.Fault.TheVariants as fault
 use Rattle.blk_io.specs.Streams.{Appends, Readings, later_of}
 use Rattle.spec_run.specs.Inputs.{by_lines}
 use Rattle.spec_run.specs.Lines.{lines, whole_lines}
-use Rattle.spec_run.specs.Opening.{FailsToOpen, HoldsStill, IsUsable, Opens, open_mark}
-use Rattle.spec_run.specs.Progress.{IsWholeRun, Stops, StopsAfter, StopsPast}
+use Rattle.spec_run.specs.Opening.{FailsToOpen, Opens, open_mark}
+use Rattle.spec_run.specs.Progress.{IsWholeRun, StopsAfter, StopsPast}
 use Rattle.spec_run.specs.Replies.{PrintsBeforeLast, PrintsNoMore}
 use Rattle.spec_run.specs.Run.{Run, Stamped, Turn, bound_names, clock_after, closings, commands, commands_of, cut_after, readings_in, readings_of, refuse, run_of, state_after, text_of, turns}
 use Rattle.spec_run.specs.Script.{Script, session_script}
@@ -38,14 +39,14 @@ use Rattle.blk_run.specs.Session.{EndsAs, FixedRuns, IsEnded, IsUnopened, Outsid
 
 -- The end, after the commands of a run.
 
-module _ (far : SoFar) (keeps : State → Image → Type 0) (stands_for : (state : State) (image : Image) → keeps state image → StandsFor image state) (still : Image → Image → Type 0)
-    (holds_still : (from image : Image) → still from image → HoldsStill from image) (notes left : ℕ) (told new : Told) (clock_old clock_new : Option Readings) (closes : ClosesAll (Ok tt) far keeps notes left told clock_old clock_new)
-    (passes : ForSome told.files (λ image. (state : State) → keeps state image → Passes told new (still image))) where
+module _ (far : SoFar) (keeps : State → Image → Type 0) (stands_for : (state : State) (image : Image) → keeps state image → StandsFor image state)
+    (notes left : ℕ) (told new : Told) (clock_old clock_new : Option Readings) (closes : ClosesAll (Ok tt) far keeps notes left told clock_old clock_new)
+    (passes : ForSome told.files (λ image. (state : State) → keeps state image → Passes told new (HoldsStill image))) where
   abbrev stands : StandsAt (with_more far closes.commands) keeps notes left told
   stands = closes.closes.stands
 
   held : Passes told new (HoldsStill stands.image)
-  held = passes_weaker (passes stands.image stands.here (state_now (with_more far closes.commands)) stands.kept) (holds_still stands.image) (holds_still stands.image)
+  held = passes stands.image stands.here (state_now (with_more far closes.commands)) stands.kept
 
   some_same : {x y : Image} → Some x ≡ Some y → x ≡ y
   some_same e = cc

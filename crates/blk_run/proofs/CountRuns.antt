@@ -9,7 +9,7 @@ use Rattle.blk_io.specs.Streams.{Appends, Readings, later_of}
 use Rattle.blk_model.specs.Holding.{open_state}
 use Rattle.blk_model.specs.Sizes.{handle_names}
 use Rattle.blk_model.specs.State.{Bounds, State}
-use Rattle.spec_folder.specs.Found.{found}
+use Rattle.spec_folder.specs.Found.{HoldsStill, found}
 use Rattle.spec_run.specs.Script.{count_script, totals_line, totals_text}
 use Rattle.spec_run.specs.Run.{turns}
 use Rattle.blk_cache.specs.declared.cache.Cache.{Cache}
@@ -27,7 +27,7 @@ use Rattle.blk_run.specs.Scripts.{closes_script, script_status}
 use Rattle.blk_run.specs.Session.{FixedRuns, Outside}
 use Rattle.blk_run.proofs.Assembling.{ends_closed, ends_unfinished}
 use Rattle.blk_run.proofs.ClosingAll.{all_closed, none_so_far}
-use Rattle.blk_run.proofs.HeadlineBridge.{cache_stands, held_still, names_bound}
+use Rattle.blk_run.proofs.HeadlineBridge.{cache_stands, names_bound}
 use Rattle.blk_run.proofs.ScriptEnds.{script_closed, script_unclosed}
 use Rattle.blk_run.proofs.TextTurns.{text_part, totals_are}
 
@@ -69,7 +69,7 @@ module _ (cache : Cache) (free : AreAllFree cache.handles) (from : Image) (limit
     (told final : Told) (w_old w_new : Option (List ℕ)) (sink : Type 0) (r : Result (Unit {0}) StepFault)
     (printed : OnOk r (w_new ≡ option_map (λ (w : List ℕ). w ++ totals_line cache.items cache.bytes) w_old)) (front : Appends w_old w_new (totals_line cache.items cache.bytes)) (only : IsOnlySink r)
     (at : StandsAt (record { start = start; from = from; opened = open_state (found from) limits; done = [] }) (KeepsState cache) cache.notes (2 * handle_names) told)
-    (passes : ForSome told.files (λ image. (state : State) → KeepsState cache state image → Passes told final (opening.HoldsStill image))) where
+    (passes : ForSome told.files (λ image. (state : State) → KeepsState cache state image → Passes told final (HoldsStill image))) where
   abbrev far : SoFar
   far = record { start = start; from = from; opened = open_state (found from) limits; done = [] }
 
@@ -86,10 +86,10 @@ module _ (cache : Cache) (free : AreAllFree cache.handles) (from : Image) (limit
   pub count_closed : ForSome told.files (λ image. (state : State) → KeepsState cache state image → ForSome final.files opening.EndsSession) → FixedRuns (script_status r false) count_script limits from readings sink old new
   count_closed ends =
       script_closed count_script from limits readings old there is next read sink (KeepsState cache) cache.notes told new (around told w_new next false) refl r (only_closes r only) plays
-      (λ run stands. ends_closed run (KeepsState cache) (cache_stands cache) opening.HoldsStill held_still cache.notes 0 told final next next (free_closes cache run 0 told next free stands) passes ends)
+      (λ run stands. ends_closed run (KeepsState cache) (cache_stands cache) cache.notes 0 told final next next (free_closes cache run 0 told next free stands) passes ends)
 
   -- the folder failed where it was to be closed
   pub count_unclosed : IfSink r sink → FixedRuns status.Device count_script limits from readings sink old new
   count_unclosed fell =
       script_unclosed count_script from limits readings old there is next read sink (KeepsState cache) cache.notes told new (around told w_new next false) refl r (only_closes r only) fell plays
-      (λ run stands. ends_unfinished run (KeepsState cache) (cache_stands cache) opening.HoldsStill held_still cache.notes 0 told final next next (free_closes cache run 0 told next free stands) passes)
+      (λ run stands. ends_unfinished run (KeepsState cache) (cache_stands cache) cache.notes 0 told final next next (free_closes cache run 0 told next free stands) passes)

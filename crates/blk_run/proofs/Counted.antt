@@ -3,12 +3,15 @@ use Rattle.std.proofs.Common.{◌≡◌, ℕ, List, [], ◌++◌, Option, None, 
 use Rattle.std.specs.Option.{ForSome, option_map}
 use Rattle.std.proofs.lemmas.List.{append-nil}
 use Rattle.spec_image.specs.Bytes.{word_bytes}
+use Rattle.spec_image.specs.Checks as checks
 use Rattle.spec_image.specs.Image.{Image, Index, byte, word}
 use Rattle.spec_image.specs.Steps.{after, word_step}
 use Rattle.spec_image.specs.Told.{Told, Applies, Passes, PassesTo}
 use Rattle.spec_image.proofs.Images.{word-after_other}
 use Rattle.spec_image.proofs.Runs.{passes_end, passes_then, passes_weaker, some_inj, told_whole}
+use Rattle.spec_format.specs.BlockFiles.{IsDamagedBy}
 use Rattle.spec_format.specs.Headers.{this_id_of}
+use Rattle.spec_folder.specs.Found.{HoldsStill}
 use Rattle.blk_io.specs.Streams.{Appends}
 use Rattle.blk_cache.specs.declared.cache.Cache.{Cache}
 use Rattle.blk_cache.specs.CacheKeeping.{KeepsState}
@@ -16,14 +19,13 @@ use Rattle.blk_io.specs.declared.fault.Damage.{Damage}
 use Rattle.blk_io.specs.Faults.{damage_of}
 use Rattle.blk_cache.specs.declared.fault.OpenFault.{OpenFault}
 use Rattle.blk_cache.specs.declared.fault.OpenFault.TheVariants.{Damaged}
-use Rattle.blk_cache.specs.Opened.{IsFirstDamage}
-use Rattle.blk_cache.specs.Opening.{EndsSession, HoldsStill, IfOpenDamaged, opened_id}
+use Rattle.blk_cache.specs.Opening.{EndsSession, IfOpenDamaged, opened_id}
 use Rattle.blk_cache.proofs.Ends.{kept-open}
 use Rattle.blk_disk.specs.Open.{IsOpen}
 use Rattle.blk_model.specs.State.{Bounds, State}
 use Rattle.spec_run.specs.Script.{totals_line}
 use Rattle.blk_run.specs.declared.ending.Status.{Status}
-use Rattle.blk_run.specs.Count.{AreTotalsOf, EndsSame, IsDamaged, PrintsCountAt, ShowsTotals, opened_on}
+use Rattle.blk_run.specs.Count.{AreTotalsOf, EndsSame, PrintsCountAt, ShowsTotals, opened_on}
 
 -- nothing is a prefix of each text
 pub none_printed : (line : List ℕ) (old : Option (List ℕ)) → Appends old old line
@@ -96,7 +98,6 @@ number_stays {a} {b} made from there = told_whole (λ image. word image Index 20
     beside image = unfold word_step in word-after_other image Index 32 (word_bytes 0) 20 (lit≤ tt) refl (omega arith)
 
 -- a failed check that is the first of the folder
-pub first_is : (fault : OpenFault) (damage : Damage) (files : Option Image) → fault ≡ Damaged damage → IfOpenDamaged {A = Cache} (Err fault) (λ d. ForSome files (IsFirstDamage d)) → ForSome files IsDamaged
+pub first_is : (fault : OpenFault) (damage : Damage) (files : Option Image) → fault ≡ Damaged damage → IfOpenDamaged {A = Cache} (Err fault) (λ d. ForSome files (IsDamagedBy (damage_of d))) → ForSome files (λ image. (d : checks.Damage) × IsDamagedBy d image)
 first_is fault damage files is first image there =
-    let own = subst (λ (x : OpenFault). IfOpenDamaged {A = Cache} (Err x) (λ d. ForSome files (IsFirstDamage d))) is first image there in
-    record { finished = own.finished; damage = damage_of damage; first = own.first }
+    (damage_of damage, subst (λ (x : OpenFault). IfOpenDamaged {A = Cache} (Err x) (λ d. ForSome files (IsDamagedBy (damage_of d)))) is first image there)

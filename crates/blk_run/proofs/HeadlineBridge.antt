@@ -1,5 +1,5 @@
 -- What a cache promises, as the laws on runs take it.
-use Rattle.std.proofs.Common.{◌≡◌, ℕ, Bool, true, false, List, [], ◌∷◌, ◌++◌, length, Option, Some, None, inl, inr, refl, sym, ◌∙◌, ap}
+use Rattle.std.proofs.Common.{◌≡◌, ℕ, Bool, true, false, List, [], ◌∷◌, length, Option, Some, None, inl, inr, refl, sym, ◌∙◌, ap}
 use Rattle.std.specs.Prelude.{All, ◌&&◌, ◌==◌, is_some, slice_index_or}
 use Rattle.std.specs.List.{position}
 use Rattle.std.specs.Str.{bytes_eq}
@@ -8,8 +8,7 @@ use Rattle.std.proofs.lemmas.List.Elements.{All-head, All-tail}
 use Rattle.spec_image.specs.Bytes.{word_bytes}
 use Rattle.spec_image.specs.Image.{Image, Index, same_file}
 use Rattle.spec_image.specs.Steps.{TrailStep, Word, SetLength, Delete, Note, word_step}
-use Rattle.spec_image.specs.Told.{Along, Told}
-use Rattle.spec_image.proofs.Runs.{until_weaker2}
+use Rattle.spec_image.specs.Told.{Told}
 use Rattle.blk_model.proofs.Same.{same_bytes}
 use Rattle.blk_model.specs.Holding.{open_state}
 use Rattle.blk_model.specs.State.{Bounds, State, named_by}
@@ -22,7 +21,7 @@ use Rattle.blk_repair.specs.Counters.{is_in_crash_word, writes_crash_word}
 use Rattle.blk_cache.specs.declared.cache.Cache.{Cache}
 use Rattle.blk_cache.specs.CacheKeeping.{IsBoundAs, KeepsState}
 use Rattle.blk_cache.specs.Opening as opening
-use Rattle.spec_run.specs.Opening.{FailsToOpen, HoldsStill, Opens, has_opened, marks_open, open_mark}
+use Rattle.spec_run.specs.Opening.{FailsToOpen, Opens, has_opened, marks_open}
 use Rattle.spec_run.specs.Run.{bound_names}
 use Rattle.spec_run.specs.Laws.{IsLeastBound}
 use Rattle.spec_run.proofs.Closing.{least_of_slots, none_closed, none_of_slots}
@@ -53,13 +52,6 @@ unmarked [] none = refl
 unmarked (step ∷ steps) none =
     rw (unmarked_step step (All-head (λ (s : TrailStep). writes_crash_word s ≡ false) step steps none)) (unmarked steps (All-tail (λ (s : TrailStep). writes_crash_word s ≡ false) step steps none))
 
--- a folder that holds what it held, by either definition
-pub held_still : (from image : Image) → opening.HoldsStill from image → HoldsStill from image
-held_still from image held = record { usable = held.usable; formed = held.formed; found_same = held.found_same }
-
-still_along : (from : Image) (steps : List TrailStep) → Along (opening.HoldsStill from) from steps → Along (HoldsStill from) from steps
-still_along from steps all = until_weaker2 (opening.HoldsStill from) (HoldsStill from) (opening.HoldsStill from) (HoldsStill from) steps from (held_still from) (held_still from) all
-
 -- what `start` opened
 pub opened_by_start : (from : Image) (limits : Bounds) (old new : Told) → old.files ≡ Some from → opening.OpensFolder from old new → Opens from (open_state (found from) limits) old new
 unfolding word_step
@@ -68,7 +60,7 @@ opened_by_start from limits old new there opens = record {
   quiet = opens.quiet;
   unmarked = unmarked opens.before opens.first;
   applies = opens.applies;
-  along = still_along from (opens.before ++ open_mark ∷ []) (opens.along from there);
+  along = opens.along from there;
   stands = λ image here. opens.leaves image here limits;
 }
 
@@ -79,7 +71,7 @@ failed_by_start from limits old new there (inl broken) = inl (record {
   quiet = broken.passes.quiet;
   unmarked = unmarked broken.passes.steps broken.unmarked;
   applies = broken.passes.applies;
-  along = still_along from broken.passes.steps (broken.passes.along from there);
+  along = broken.passes.along from there;
 })
 failed_by_start from limits old new there (inr opens) = inr (opened_by_start from limits old new there opens)
 

@@ -5,15 +5,15 @@ use Rattle.std.proofs.lemmas.List.{append-nil, length-append, length-take}
 use Rattle.spec_image.specs.Checks.{Damage}
 use Rattle.spec_image.specs.Image.{Image}
 use Rattle.spec_image.specs.Told.{Rises}
+use Rattle.spec_format.specs.BlockFiles.{IsDamagedBy, IsUsable}
 use Rattle.blk_io.specs.Streams.{Readings}
 use Rattle.blk_model.specs.State.{Bounds}
-use Rattle.spec_run.specs.Opening.{IsUsable}
 use Rattle.spec_run.specs.Script.{Script}
 use Rattle.blk_run.specs.declared.ending.Status.{Status}
 use Rattle.blk_run.specs.declared.ending.Status.TheVariants as status
 use Rattle.blk_run.specs.Failing.{IsDamagedRun}
 use Rattle.blk_run.specs.Inputs.{IsReadWhole, IsTakenPast, IsTakenUpTo}
-use Rattle.blk_run.specs.Session.{DoesNothing, FixedScript, IsCompleteScript, IsDamagedBy, LeavesUnput, OnDamage, Outside, Put}
+use Rattle.blk_run.specs.Session.{DoesNothing, FixedScript, IsCompleteScript, LeavesUnput, OnDamage, Outside, Put}
 use Rattle.blk_run.specs.Statuses.{CauseOf}
 use Rattle.blk_script.specs.declared.fault.LineFault.{LineFault}
 use Rattle.blk_run.specs.WholeInputs.{IsWholeInBuffer, longest_input}

@@ -13,8 +13,8 @@ use Rattle.blk_model.specs.Reply.{answer_of, answered}
 use Rattle.blk_model.specs.Request.{Request, to_close, to_create, to_open, to_write}
 use Rattle.blk_model.specs.State.{State}
 use Rattle.blk_model.specs.Step.{Outcome, outcome, reply, step}
-use Rattle.blk_script.specs.Reply.{reply_text}
-use Rattle.spec_run.specs.Script.{ended, is_missing, is_missing_refusal, is_refused, outcome_text, put_after, put_script, refusal_of, Script, shown_where, until_refused}
+use Rattle.blk_script.specs.Reply.{outcome_text, reply_text}
+use Rattle.spec_run.specs.Script.{ended, is_missing, is_missing_refusal, is_refused, put_after, put_script, refusal_of, Script, shown_where, until_refused}
 use Rattle.spec_run.specs.Run.{Stamped, Turn, clock_after, command_turn, commands_of, outcome_in, refuse, state_after, text_of, turns}
 use Rattle.blk_cache.specs.declared.fault.StepFault.{StepFault}
 use Rattle.blk_cache.specs.declared.fault.StepFault.TheVariants as fault

@@ -4,17 +4,17 @@ use Rattle.std.specs.Option.{ForSome, option_map}
 use Rattle.spec_image.specs.Checks as checks
 use Rattle.spec_image.specs.Image.{Image}
 use Rattle.spec_image.specs.Told.{Rises, Stays, Told}
+use Rattle.spec_format.specs.BlockFiles.{IsDamagedBy, IsUsable}
 use Rattle.blk_io.specs.declared.fault.Damage.{Damage}
 use Rattle.blk_io.specs.Faults.{damage_of}
 use Rattle.blk_io.specs.Streams.{Appends, Readings}
 use Rattle.blk_model.specs.State.{Bounds}
-use Rattle.spec_run.specs.Opening.{IsUsable}
 use Rattle.blk_inspect.specs.declared.fault.InspectFault.{InspectFault}
 use Rattle.blk_inspect.specs.declared.fault.InspectFault.TheVariants as fault
-use Rattle.blk_inspect.specs.Inspecting.{AnswersFor, IfInspectDamaged, IfInspectDevice, IfInspectSink, IsDamagedFirst, IsInspectDamage, PrintsAt, UnlessSink}
+use Rattle.blk_inspect.specs.Inspecting.{AnswersFor, IfInspectDamaged, IfInspectDevice, IfInspectSink, IsInspectDamage, PrintsAt, UnlessSink}
 use Rattle.blk_run.specs.declared.ending.Status.{Status}
 use Rattle.blk_run.specs.Failing.{IsFailedInReading}
-use Rattle.blk_run.specs.Session.{IsDamagedBy, Outside}
+use Rattle.blk_run.specs.Session.{Outside}
 use Rattle.blk_run.specs.Shown.{PrintsFault, status_shown}
 use Rattle.blk_run.specs.Texts.{Prints, damage_line}
 use Rattle.blk_run.specs.Work.{Performs, folder_text}
@@ -30,9 +30,6 @@ sound damage image (inr formed) is = absurd (never (sym formed ∙ is.first))
   where
     never : ◌≡◌ {A = Option checks.Damage} None (Some damage) → ⊥
     never e = cc
-
-damaged_by : (damage : Damage) (image : Image) → IsDamagedFirst damage image → IsDamagedBy (damage_of damage) image
-damaged_by damage image is = record { finished = is.0; first = is.1 }
 
 -- the first check that fails is one
 one_damage : (a b : checks.Damage) (image : Image) → IsDamagedBy a image → IsDamagedBy b image → a ≡ b
@@ -74,18 +71,18 @@ module _ (text : Image → List ℕ) (limits : Bounds) (device : Type 0) (before
     memory = λ is. absurd (not_memory _ refl is);
   }
   shown_at (Err (fault.Damaged found)) printed answer unprinted cause_is device_is sink_is behind = record {
-    plays = λ from there usable readings c. sound (damage_of found) from usable (damaged_by found from (answer from there));
-    complete = λ from there usable readings c no_device no_source no_sink. sound (damage_of found) from usable (damaged_by found from (answer from there));
+    plays = λ from there usable readings c. sound (damage_of found) from usable (answer from there);
+    complete = λ from there usable readings c no_device no_source no_sink. sound (damage_of found) from usable (answer from there);
     damage = λ from there damage is. record {
       unwritten = stays;
       unread = refl;
-      printed = subst (λ (d : checks.Damage). Prints w_old w_new before now (damage_line d)) (one_damage (damage_of found) damage from (damaged_by found from (answer from there)) is)
+      printed = subst (λ (d : checks.Damage). Prints w_old w_new before now (damage_line d)) (one_damage (damage_of found) damage from (answer from there) is)
           (printed_since w_old w_mid w_new before between now (damage_line (damage_of found)) unprinted less behind);
     };
     cause = record {
       damage = found;
       cause = cause_is;
-      first = λ from there. record { finished = (answer from there).0; first = (answer from there).1 };
+      first = answer;
       printed = printed_since w_old w_mid w_new before between now (damage_line (damage_of found)) unprinted less behind;
     };
     takes = refl;

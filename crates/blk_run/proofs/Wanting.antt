@@ -3,9 +3,9 @@ use Rattle.std.proofs.Common.{◌≡◌, ℕ, List, [], Option, Some, option_map
 use Rattle.spec_image.specs.Image.{Image}
 use Rattle.spec_image.specs.Told.{Told}
 use Rattle.spec_image.proofs.Runs.{passes_none}
+use Rattle.spec_folder.specs.Found.{HoldsStill}
 use Rattle.blk_io.specs.Streams.{later_of}
 use Rattle.blk_model.specs.State.{Bounds}
-use Rattle.blk_cache.specs.Opening.{HoldsStill}
 use Rattle.blk_run.specs.declared.ending.Status.TheVariants as status
 use Rattle.blk_run.specs.Counting.{Counts, IsDoneOrSink}
 use Rattle.blk_run.specs.Inputs.{IsTakenUpTo}

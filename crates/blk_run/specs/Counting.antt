@@ -4,8 +4,8 @@ use Rattle.std.specs.Option.{ForSome, option_map}
 use Rattle.spec_image.specs.Told.{Passes, Stays}
 use Rattle.blk_model.specs.State.{Bounds}
 use Rattle.spec_format.specs.Headers.{IsUnfinished}
+use Rattle.spec_folder.specs.Found.{HoldsStill}
 use Rattle.blk_io.specs.Streams.{later_of}
-use Rattle.blk_cache.specs.Opening.{HoldsStill}
 use Rattle.blk_run.specs.declared.ending.Status.{Status}
 use Rattle.blk_run.specs.declared.ending.Status.TheVariants as status
 use Rattle.blk_run.specs.Count.{CountAnswersFor, EndsSame, IsMadeAtNext, ShowsTotals}

@@ -4,11 +4,12 @@ use Rattle.std.specs.Option.{ForSome}
 use Rattle.std.specs.declared.option.Option.{Option}
 use Rattle.std.specs.declared.option.Option.TheVariants.{None}
 use Rattle.spec_image.specs.Told.{Told}
+use Rattle.spec_format.specs.BlockFiles.{IsDamagedBy}
 use Rattle.blk_io.specs.declared.fault.Damage.{Damage}
 use Rattle.blk_io.specs.Faults.{damage_of}
 use Rattle.blk_disk.specs.declared.tables.BlockFiles.{BlockFiles}
 use Rattle.blk_object.specs.FailedChecks.{IsFailedCheck}
-use Rattle.blk_cache.specs.Opened.{IsFirstDamage, IsOpeningDamage}
+use Rattle.blk_cache.specs.Opened.{IsOpeningDamage}
 use Rattle.blk_inspect.specs.Inspecting.{IsInspectDamage}
 use Rattle.blk_run.specs.Texts.{Prints, damage_line}
 
@@ -26,7 +27,7 @@ IsFailedSomewhere told = (damage : Damage) × IsCommandDamage told damage
 pub record IsFailedInOpening (start final : Told) (old new : Option (List ℕ)) (before now : ℕ) : Type 0 where
   pub damage : Damage
   pub cause : IsOpeningDamage final damage
-  pub first : ForSome start.files (IsFirstDamage damage)
+  pub first : ForSome start.files (IsDamagedBy (damage_of damage))
   pub printed : Prints old new before now (damage_line (damage_of damage))
 
 -- the folder is opaque, and a check failed in a command after the opening; which one can't be told from outside, so of an opaque folder this may always hold
@@ -42,5 +43,5 @@ IsDamagedRun start final old new before now = IsFailedInOpening start final old 
 pub record IsFailedInReading (told : Told) (old new : Option (List ℕ)) (before now : ℕ) : Type 0 where
   pub damage : Damage
   pub cause : IsInspectDamage told damage
-  pub first : ForSome told.files (IsFirstDamage damage)
+  pub first : ForSome told.files (IsDamagedBy (damage_of damage))
   pub printed : Prints old new before now (damage_line (damage_of damage))

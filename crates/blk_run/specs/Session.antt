@@ -2,13 +2,10 @@
 use Rattle.std.specs.Prelude.{ℕ, ◌≡◌, ◌⊎◌, ◌+◌, ◌<◌, true, false, List, ◌++◌, length, take}
 use Rattle.std.specs.Option.{option_map, ForSome}
 use Rattle.std.specs.declared.option.Option.{Option}
-use Rattle.std.specs.declared.option.Option.TheVariants.{Some}
 use Rattle.spec_image.specs.Checks.{Damage}
 use Rattle.spec_image.specs.Image.{Image}
 use Rattle.spec_image.specs.Notes.{notes_in}
 use Rattle.spec_image.specs.Told.{Told, Stays}
-use Rattle.spec_format.specs.BlockFiles.{first_damage}
-use Rattle.spec_format.specs.Headers.{IsUnfinished}
 use Rattle.blk_model.specs.Holding.{open_state, rest}
 use Rattle.blk_model.specs.State.{Bounds}
 use Rattle.spec_folder.specs.Found.{found}
@@ -164,11 +161,6 @@ IsCompleteScript status.Memory script limits from readings old new = DoesNothing
 IsCompleteScript _ script limits from readings old new = ⊥
 
 -- A folder that is corrupt at the start.
-
--- an initialized folder of which this check is the first that fails
-pub record IsDamagedBy (damage : Damage) (image : Image) : Type 0 where
-  pub finished : IsUnfinished image → ⊥
-  pub first : first_damage image ≡ Some damage
 
 -- the failed check is printed, and nothing else is done; `before` and `now` are the error counter of the output
 pub record ShowsDamage (damage : Damage) (before now : ℕ) (old new : Outside) : Type 0 where

@@ -6,9 +6,9 @@ use Rattle.std.specs.declared.option.Option.TheVariants.{None, Some}
 use Rattle.spec_image.specs.Checks.{Damage}
 use Rattle.spec_image.specs.Image.{Image}
 use Rattle.spec_image.specs.Told.{Rises}
+use Rattle.spec_format.specs.BlockFiles.{IsDamagedBy, IsUsable}
 use Rattle.blk_io.specs.Streams.{Readings}
 use Rattle.blk_model.specs.State.{Bounds}
-use Rattle.spec_run.specs.Opening.{IsUsable}
 use Rattle.spec_run.specs.Inputs.{Protocol, by_lines}
 use Rattle.spec_run.specs.Script.{Script, count_script, doom_script, get_script, list_script, put_script, trim_script}
 use Rattle.blk_gen.specs.Generator.{gen_script}
@@ -19,7 +19,7 @@ use Rattle.blk_run.specs.declared.ending.Status.{Status}
 use Rattle.blk_run.specs.declared.ending.Status.TheVariants as status
 use Rattle.blk_run.specs.Failing.{IsDamagedRun, IsFailedInReading}
 use Rattle.blk_run.specs.Inputs.{IsReadWhole, IsTakenUpTo}
-use Rattle.blk_run.specs.Session.{DoesNothing, FixedScript, IsComplete, IsCompleteScript, IsDamagedBy, LeavesUnput, OnDamage, Outside, Put, Session, TakesUnput}
+use Rattle.blk_run.specs.Session.{DoesNothing, FixedScript, IsComplete, IsCompleteScript, LeavesUnput, OnDamage, Outside, Put, Session, TakesUnput}
 use Rattle.blk_run.specs.Shown.{IsCompleteText, ShowsText}
 use Rattle.blk_run.specs.Statuses.{CauseOf}
 use Rattle.blk_run.specs.WholeInputs.{longest_input}

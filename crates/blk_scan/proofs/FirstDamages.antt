@@ -5,8 +5,8 @@ use Rattle.std.proofs.lemmas.Bool.{eqb-true}
 use Rattle.spec_image.specs.Checks.{Damage}
 use Rattle.spec_image.specs.Image.{Image, Index, byte, length_of}
 use Rattle.spec_image.proofs.FirstChecks.{all_none, append_none, append_some, passed}
-use Rattle.spec_format.specs.BlockFiles.{block_checks, first_block_damage, first_damage, IsWellFormed}
-use Rattle.spec_format.specs.Headers.{HasWholeIndex, IsUnfinished, first_index_damage, head_checks, list_checks}
+use Rattle.spec_format.specs.BlockFiles.{IsDamagedBy, block_checks, first_block_damage, first_damage, IsWellFormed}
+use Rattle.spec_format.specs.Headers.{HasWholeIndex, first_index_damage, head_checks, list_checks}
 use Rattle.spec_image.specs.Told.{Told}
 use Rattle.blk_io.specs.declared.fault.Damage.{Damage as Met}
 use Rattle.blk_io.specs.declared.fault.Fault.{Fault}
@@ -52,10 +52,10 @@ looked-as x y image same = subst (λ (s : Start). LooksAs (Ok s) image) same
 
 -- the folder is initialized, and this is its first failed check
 abbrev pub IsFirst : Told → Met → Type 0
-IsFirst told damage = ForSome told.files (λ image. (IsUnfinished image → ⊥) × (first_damage image ≡ Some (damage_of damage)))
+IsFirst told damage = ForSome told.files (IsDamagedBy (damage_of damage))
 
 -- so it is where a look finds it
 pub looked-first : (r : Result Start Fault) (told : Told) → ForSome told.files (LooksAs r) → IfDamaged r (IsFirst told)
 looked-first (Ok start) told looks = tt
 looked-first (Err fault.Device) told looks = tt
-looked-first (Err (fault.Damaged damage)) told looks = λ image there. ((looks image there).0, first-before image (damage_of damage) (looks image there).1)
+looked-first (Err (fault.Damaged damage)) told looks = λ image there. record { finished = (looks image there).0; first = first-before image (damage_of damage) (looks image there).1 }

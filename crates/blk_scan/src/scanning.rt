@@ -1,9 +1,9 @@
 // The audit of a folder.
-ghost use Rattle.std.specs.Prelude.{◌≡◌, ◌⊎◌, ◌≤◌, IfOk, None, Some, length};
+ghost use Rattle.std.specs.Prelude.{◌≡◌, ◌≤◌, IfOk, None, Some, length};
 ghost use Rattle.std.specs.Option.{ForSome};
 ghost use Rattle.spec_image.specs.Image.{Image};
 ghost use Rattle.spec_image.specs.Told.{ReadsOnly};
-ghost use Rattle.spec_format.specs.BlockFiles.{first_block_damage, first_damage, IsWellFormed};
+ghost use Rattle.spec_format.specs.BlockFiles.{IsDamagedBy, IsUsable, IsWellFormed, first_block_damage};
 ghost use Rattle.spec_format.specs.Headers.{HasWholeIndex, IsUnfinished};
 ghost use Rattle.spec_folder.specs.ListView.{most_nodes};
 ghost use Rattle.blk_io.specs.Faults.{damage_of};
@@ -46,11 +46,11 @@ pub fn scan_folder<F: Folder>(alloc: Global, folder: &mut F) -> Result<Scan, Sca
     ensures exact { IfOk result (λ scan. ForSome (F.told folder.old).files (λ image. IsWellFormed image → IsExactScan image scan)) }
     ensures empty { IfOk result (λ scan. ForSome (F.told folder.old).files (λ image. IsUnfinished image → IsEmptyScan scan)) }
     ensures few { IfOk result (λ scan. length scan.walked.items ≤ most_nodes) }
-    ensures checked { IfOk result (λ _. ForSome (F.told folder.old).files (λ image. IsUnfinished image ⊎ IsWellFormed image)) }
+    ensures checked { IfOk result (λ _. ForSome (F.told folder.old).files IsUsable) }
     ensures reads { ReadsOnly F.told F.faults folder.old folder.new (IfScanDevice result) }
 
     // An observable folder reports corruption only where a check of its headers fails: the first that does.
-    ensures damaged { IfScanDamaged result (λ damage. ForSome (F.told folder.old).files (λ image. (IsUnfinished image → ⊥) × (first_damage image ≡ Some (damage_of damage)))) }
+    ensures damaged { IfScanDamaged result (λ damage. ForSome (F.told folder.old).files (IsDamagedBy (damage_of damage))) }
 
     // The cause of a failed check, which holds for an opaque folder too.
     ensures cause { IfScanDamaged result (IsFolderDamage (F.told folder.old)) }

@@ -17,13 +17,13 @@ use Rattle.blk_model.specs.State.{State, IsValidState}
 use Rattle.blk_model.specs.Holding.{rest}
 use Rattle.blk_model.specs.Stops.{StopOutcome}
 use Rattle.blk_model.proofs.StopRests.{rest_before}
-use Rattle.spec_folder.specs.Found.{found}
+use Rattle.spec_folder.specs.Found.{HoldsStill, found}
 use Rattle.spec_folder.specs.StandsFor.{StandsFor}
 use Rattle.law_folder.proofs.states.StoodFor.{stood-found}
 use Rattle.law_state.specs.Commands.{IsNoted, IsStepped, MayStop}
 use Rattle.spec_run.specs.Run.{Stamped, state_after, state_then, state_at, command_after}
 use Rattle.spec_run.specs.Moments.{IsStopped, IsLeftAt, Completes}
-use Rattle.spec_run.specs.Opening.{HoldsStill, has_opened}
+use Rattle.spec_run.specs.Opening.{has_opened}
 use Rattle.spec_run.specs.Progress.{Progress, Stops, StopsAfter, StopsPast}
 use Rattle.spec_run.specs.Laws.{RunsGoOn, RunsMayStopInACommand, RunsMayStopBetween, RunsEnd}
 use Rattle.spec_run.proofs.StepFacts.{true_false, along_head, quiet_first, quiet_later, quiet_true, opened_more, quiet_counts, not_complete, snoc_step}

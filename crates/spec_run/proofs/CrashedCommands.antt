@@ -39,7 +39,7 @@ crash_leaves from image opened state commands steps command crash =
 
 -- A row that is picked.
 
-row_at : (state : State) (item : Item) (o : Owner state item) → row_of state item ≡ row_in o.object item
+pub row_at : (state : State) (item : Item) (o : Owner state item) → row_of state item ≡ row_in o.object item
 unfolding row_of
 row_at state item o = ap (λ s. option_and_then (λ (x : Object). row_in x item) (option_and_then (object_at state) s)) o.found ∙ ap (λ s. option_and_then (λ (x : Object). row_in x item) s) o.here
 

@@ -15,3 +15,4 @@ pub mod WholeEntries
 pub mod ValidStates
 pub mod FoundExamples
 pub mod Replies
+pub mod CleanEntries

@@ -6,12 +6,14 @@ use Rattle.spec_image.specs.Told.{Along, IsQuiet}
 use Rattle.spec_image.specs.Notes.{AlongFrom, notes_in}
 use Rattle.spec_image.proofs.Cuts.{after-append}
 use Rattle.spec_image.proofs.NotesLemmas.{along_from-one, at_each_prefix, notes_in-append, are_true-append}
+use Rattle.spec_format.specs.BlockFiles.{IsUsable}
 use Rattle.spec_format.specs.Headers.{IsUnfinished}
 use Rattle.blk_model.specs.State.{State}
+use Rattle.spec_folder.specs.Found.{HoldsStill}
 use Rattle.spec_folder.specs.StandsFor.{StandsFor}
 use Rattle.spec_run.specs.Run.{Stamped, state_after}
 use Rattle.spec_run.specs.Moments.{IsStopped, Completes}
-use Rattle.spec_run.specs.Opening.{IsUsable, HoldsStill, has_opened, open_mark}
+use Rattle.spec_run.specs.Opening.{has_opened, open_mark}
 use Rattle.spec_run.specs.Laws.{RunsBegin, RunsMayStopInTheOpening}
 use Rattle.spec_run.proofs.StepFacts.{true_false, along_head, quiet_first, quiet_later, quiet_notes, quiet_true, opened-append, none_before, not_marked, no_last, snoc_step}
 use Rattle.spec_run.proofs.Composing.{finished, stays, stopped_at_rest, some_after}

@@ -34,7 +34,7 @@ use Rattle.spec_run.proofs.StepFacts.{true_false}
 
 -- Items in a list.
 
-counted : (item : Item) (items : List Item) → Contains items item → 1 ≤ times item items
+pub counted : (item : Item) (items : List Item) → Contains items item → 1 ≤ times item items
 counted item [] there = none_contained item there
 counted item (i ∷ items) there =
     let more = times-cons item i items in
@@ -45,7 +45,7 @@ counted item (i ∷ items) there =
     (λ (later : Contains items item). let rest = counted item items later in omega (arith, more, rest))
     (contained_cases i items item there)
 
-contained : (item : Item) (items : List Item) → 1 ≤ times item items → Contains items item
+pub contained : (item : Item) (items : List Item) → 1 ≤ times item items → Contains items item
 contained item [] some = absurd (omega (arith, some))
 contained item (i ∷ items) some =
     let more = times-cons item i items in
@@ -57,7 +57,7 @@ contained item (i ∷ items) some =
     (cases_Bool (same_item item i))
 
 -- an item that somebody has is listed
-owned_is_listed : (state : State) → IsValidState state → (item : Item) → Owner state item → 1 ≤ times item state.uses
+pub owned_is_listed : (state : State) → IsValidState state → (item : Item) → Owner state item → 1 ≤ times item state.uses
 owned_is_listed state valid item o =
     let has = owners-has item o.number state.objects (ap (slot_has_item item) o.here ∙ o.has) in
     let listed = valid.listed item in

@@ -20,7 +20,7 @@ use Rattle.blk_model.specs.Step.{outcome, step}
 use Rattle.blk_model.specs.Stops.{StopOutcome}
 use Rattle.blk_model.proofs.StopRests.{rest_before}
 use Rattle.spec_folder.specs.Audit.{kept_by}
-use Rattle.spec_folder.specs.Found.{completed, found, kept, row_of_loaded}
+use Rattle.spec_folder.specs.Found.{HoldsStill, completed, found, kept, row_of_loaded}
 use Rattle.spec_folder.specs.Loads.{held_rule}
 use Rattle.spec_folder.specs.StandsFor.{StandsFor}
 use Rattle.spec_folder.specs.View.{View}
@@ -32,7 +32,7 @@ use Rattle.law_state.specs.Commands.{IsNoted, MayStop}
 use Rattle.law_state.proofs.Examples.{numbered, opened, whole-keeps}
 use Rattle.law_state.proofs.Keeping.{kept-stands}
 use Rattle.spec_run.specs.Moments.{IsStopped}
-use Rattle.spec_run.specs.Opening.{HoldsStill, Opens, open_mark}
+use Rattle.spec_run.specs.Opening.{Opens, open_mark}
 use Rattle.spec_run.specs.Progress.{IsWholeRun, Progress}
 use Rattle.spec_run.specs.Run.{Stamped, state_after}
 use Rattle.spec_run.proofs.Composing.{ended, one_more}

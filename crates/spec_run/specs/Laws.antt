@@ -1,28 +1,30 @@
 -- The laws by which a run composes: an opening, commands one after another, the closing, and the iterations of a script.
-use Rattle.std.specs.Prelude.{◌≡◌, ◌<◌, ◌≤◌, ◌+◌, ◌*◌, ◌^◌, ◌⊎◌, ℕ, Bool, true, false, ◌||◌, List, [], ◌∷◌, ◌++◌, length, Some, None, is_some, slice_set, take}
+use Rattle.std.specs.Prelude.{◌≡◌, ◌<◌, ◌≤◌, ◌+◌, ◌*◌, ◌^◌, ◌-◌, ◌==◌, ◌⊎◌, ℕ, Bool, true, false, ◌||◌, List, [], ◌∷◌, ◌++◌, length, Some, None, is_some, slice_set, take, drop}
 use Rattle.std.specs.List.{Contains}
 use Rattle.std.specs.Option.{ForSome}
 use Rattle.spec_image.specs.Image.{Image}
-use Rattle.spec_image.specs.Steps.{TrailStep}
+use Rattle.spec_image.specs.Steps.{TrailStep, after}
 use Rattle.spec_image.specs.Notes.{AtEachPrefix, notes_in}
 use Rattle.spec_image.specs.Told.{Told, Passes}
 use Rattle.blk_model.specs.Sizes.{handle_names}
 use Rattle.blk_model.specs.Items.{Item, main, part, Row, item_of}
-use Rattle.blk_model.specs.State.{State, Bounds, IsValidState, named_by, object_at}
+use Rattle.blk_model.specs.State.{State, Bounds, IsValidState, is_named, named_by, object_at}
 use Rattle.blk_model.specs.Holding.{open_state, owner, rest, row_of}
-use Rattle.blk_model.specs.Request.{Request, to_close}
-use Rattle.blk_model.specs.Room.{single}
-use Rattle.blk_model.specs.ListSteps.{front, list_after, list_steps}
+use Rattle.blk_model.specs.Request.{Request, to_close, to_sparse_write, to_write}
+use Rattle.blk_model.specs.Effects.{number_of}
+use Rattle.blk_model.specs.Room.{Group, single, takes}
+use Rattle.blk_model.specs.ListSteps.{front, list_after, list_steps, out}
 use Rattle.blk_model.specs.Step.{Outcome}
 use Rattle.blk_model.specs.Stops.{is_live_and_settled, is_safe}
+use Rattle.spec_format.specs.BlockFiles.{IsUsable}
 use Rattle.blk_io.specs.Streams.{Readings, later_of}
 use Rattle.law_state.specs.Commands.{IsNoted, IsStepped, note_number}
-use Rattle.spec_folder.specs.Found.{found}
+use Rattle.spec_folder.specs.Found.{HoldsStill, found}
 use Rattle.spec_run.specs.Lines.{Cut, with_bytes, lines, whole_lines}
 use Rattle.spec_run.specs.Script.{Script, Shown, TurnsNoneAway, ended, errs, says, turns_away, asks, count_script, put_script, session_script, until_refused}
 use Rattle.spec_run.specs.Run.{Stamped, Turn, error_turn, text_turn, away_turn, command_turn, stamped_by, outcome_in, state_then, state_after, clock_after, turns, commands_of, readings_of, text_of, bound_names, closings, run_of, cut_after, commands, command_after, state_at}
 use Rattle.spec_run.specs.Moments.{IsLeftAt, IsStopped}
-use Rattle.spec_run.specs.Opening.{IsUsable, HoldsStill, Opens, FailsToOpen, has_opened}
+use Rattle.spec_run.specs.Opening.{Opens, FailsToOpen, has_opened}
 use Rattle.spec_run.specs.Progress.{Progress, Stops, IsWholeRun, AreNoted}
 use Rattle.spec_run.specs.Playing.{IsPlayed}
 use Rattle.spec_run.specs.Replies.{PrintsNoMore, evictions_of}
@@ -323,3 +325,54 @@ AnsweredCommandsAreDone = (from : Image) (turns before : List Turn) (opened : St
     → IsStopped from opened (commands_of turns ++ more) steps image → has_opened steps ≡ true
     → (length (commands_of before) + 1 ≤ notes_in steps)
     × IsLeftAt opened (commands_of turns ++ more) (notes_in steps) (command_after (commands_of turns ++ more) (notes_in steps)) (found image)
+
+-- a command writes to the object with a number, by a handle that names it
+abbrev pub writes_to : State → Request → ℕ → Bool
+writes_to state (to_write handle stream offset cut bytes) number = number_of state handle == number
+writes_to state (to_sparse_write handle offset bytes) number = number_of state handle == number
+writes_to state _ number = false
+
+-- a command lets the entry of an item be: it doesn't write to the object that has the item, and it neither evicts the item nor dooms it: none of its steps on
+-- the LRU list takes the item out
+pub record LetsBe (state : State) (command : Stamped) (item : Item) : Type 0 where
+  pub unwritten : (number : ℕ) → owner state item ≡ Some number → writes_to state command.request number ≡ false
+  pub stays : (group : Group) → Contains (list_steps state command.moment command.request) (out group) → takes item group ≡ false
+
+-- each of some commands in turn lets the entry of an item be
+abbrev pub LetBe : State → List Stamped → Item → Type 0
+LetBe state [] item = Unit {0}
+LetBe state (command ∷ commands) item = LetsBe state command item × LetBe (state_then state command) commands item
+
+-- an entry is clean: the object that has the item is live and clean, and the item has this row
+pub record IsCleanEntry (state : State) (item : Item) (row : Row) : Type 0 where
+  pub number : ℕ
+  pub owned : owner state item ≡ Some number
+  pub clean : is_live_and_settled (object_at state number) ≡ true
+  pub row_is : row_of state item ≡ Some row
+
+-- the state after a Close of a handle name
+abbrev pub state_closed_by : State → (moment handle : ℕ) → State
+state_closed_by state moment handle = state_then state (record { moment = moment; request = to_close handle })
+
+-- a Close that leaves an object with no handle leaves its entries clean
+abbrev pub ClosesLeaveEntriesClean : Type 0
+ClosesLeaveEntriesClean = (state : State) (moment handle number : ℕ) (item : Item) (row : Row) → IsValidState state
+    → named_by state handle ≡ Some number → owner state item ≡ Some number → row_of state item ≡ Some row
+    → is_named (state_closed_by state moment handle) number ≡ false → IsCleanEntry (state_closed_by state moment handle) item row
+
+-- the commands of a run after its first `done`, up to the one in progress where `noted` are noted
+abbrev pub commands_since : List Stamped → (done noted : ℕ) → List Stamped
+commands_since commands done noted = take (noted + 1 - done) (drop done commands)
+
+-- an entry is clean behind the first `done` commands of a run, and each later command lets it be, the one in progress among them where `noted` are noted
+pub record IsCleanSince (opened : State) (commands : List Stamped) (done noted : ℕ) (item : Item) (row : Row) : Type 0 where
+  pub entry : IsCleanEntry (state_at opened commands done) item row
+  pub later : LetBe (state_at opened commands done) (commands_since commands done noted) item
+
+-- wherever a run breaks off, an entry that is clean since an answered command is found, with its exact bytes
+abbrev pub AnsweredEntriesAreFound : Type 0
+AnsweredEntriesAreFound = (from : Image) (turns before : List Turn) (opened : State) (more : List Stamped) (steps : List TrailStep) (written printed : List ℕ)
+    → (command : Stamped) → AtEachPrefix (IsStopped from opened (commands_of turns ++ more)) from steps
+    → PrintsNoMore turns opened (notes_in steps) (Some written) (Some (written ++ printed)) → IsReplyOut turns opened printed before command
+    → (item : Item) (row : Row) → IsCleanSince opened (commands_of turns ++ more) (length (commands_of before) + 1) (notes_in steps) item row
+    → Contains (found (after steps from)) row

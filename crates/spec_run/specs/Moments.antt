@@ -5,6 +5,7 @@ use Rattle.std.specs.declared.option.Option.TheVariants.{None, Some}
 use Rattle.spec_image.specs.Image.{Image}
 use Rattle.spec_image.specs.Steps.{TrailStep, Word, SetLength, Delete, Note}
 use Rattle.spec_image.specs.Notes.{notes_in}
+use Rattle.spec_format.specs.BlockFiles.{IsUsable}
 use Rattle.spec_format.specs.Headers.{IsUnfinished}
 use Rattle.blk_model.specs.Items.{Row}
 use Rattle.blk_model.specs.State.{State}
@@ -13,7 +14,7 @@ use Rattle.blk_model.specs.Stops.{StopOutcome}
 use Rattle.spec_folder.specs.Found.{found}
 use Rattle.spec_folder.specs.StandsFor.{StandsFor}
 use Rattle.spec_run.specs.Run.{Stamped, state_at, command_after}
-use Rattle.spec_run.specs.Opening.{IsUsable, has_opened, marks_open}
+use Rattle.spec_run.specs.Opening.{has_opened, marks_open}
 
 -- a step, after the steps before it, is a note, or the write that ends the opening: after it the folder represents a state
 abbrev pub Completes : List TrailStep → TrailStep → Type 0

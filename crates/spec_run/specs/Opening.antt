@@ -7,21 +7,9 @@ use Rattle.spec_image.specs.Bytes.{word_bytes}
 use Rattle.spec_image.specs.Image.{Image, Index, same_file}
 use Rattle.spec_image.specs.Steps.{TrailStep, Word, SetLength, Delete, Note}
 use Rattle.spec_image.specs.Told.{Told, Applies, Along, IsQuiet}
-use Rattle.spec_format.specs.BlockFiles.{IsWellFormed}
-use Rattle.spec_format.specs.Headers.{IsUnfinished}
 use Rattle.blk_model.specs.State.{State}
-use Rattle.spec_folder.specs.Found.{found}
+use Rattle.spec_folder.specs.Found.{HoldsStill}
 use Rattle.spec_folder.specs.StandsFor.{StandsFor}
-
--- a folder that a session may be opened on, and that each crash leaves: its index is uninitialized, or no check of a header fails
-abbrev pub IsUsable : Image → Type 0
-IsUsable image = IsUnfinished image ⊎ IsWellFormed image
-
--- the recovered contents are those of another image; the folder is well formed where that one was, and uninitialized or well formed where that one was so
-pub record HoldsStill (entry image : Image) : Type 0 where
-  pub usable : IsUsable entry → IsUsable image
-  pub formed : IsWellFormed entry → IsWellFormed image
-  pub found_same : found image ≡ found entry
 
 -- whether a step writes the word 1 at place 32 of the index, which marks a session as open
 abbrev pub marks_open : TrailStep → Bool

@@ -13,7 +13,7 @@ use Rattle.blk_model.specs.Reply.{answer_of}
 use Rattle.blk_model.specs.Step.{Outcome}
 use Rattle.blk_script.specs.declared.fault.LineFault.{LineFault}
 use Rattle.blk_script.specs.Line.{read_text}
-use Rattle.blk_script.specs.Reply.{evicted_text, line_fault_text, reply_text}
+use Rattle.blk_script.specs.Reply.{line_fault_text, outcome_text}
 use Rattle.blk_script.specs.Spelling.{number_text}
 
 -- Scripts.
@@ -54,10 +54,6 @@ is_missing_refusal _ = false
 -- whether a command was refused as Missing
 abbrev pub is_missing : Outcome → Bool
 is_missing outcome = is_missing_refusal (refusal_of (answer_of outcome.reply))
-
--- what is printed of a command: the evicted items, and then the reply
-abbrev pub outcome_text : Outcome → List ℕ
-outcome_text outcome = evicted_text outcome.groups ++ reply_text outcome.reply
 
 -- what is shown of a command: all of it where a test passes, else nothing, and a refusal that isn't shown doesn't count
 abbrev pub shown_where : Bool → Outcome → Shown

@@ -4,7 +4,7 @@
 //! which a run composes, each the contract of a function with an empty body.
 #![tactic(auto)]
 
-ghost use Rattle.spec_run.specs.Laws.{AnsweredCommandsAreDone, AnsweredCommandsAreNoted, AskedCommandsAreNext, BoundNamesAreFew, ClockIsReadForCommands, ClosesFreeTheirName, CommandsAreFew, CommandsArePlayed, EntriesAreFoundWhole, ErrorsArePlayed, FixedScriptsTurnNoneAway, FoundRowsAreFromBefore, FoundRowsGoByOneList, LeastNamesAreClosedFirst, LinesArePlayedInTurn, LinesGoOn, LinesTurnNoneAway, NewEntriesAreLost, NoneIsClosedWhereNoneIsBound, NoteNumbersAreExact, NotedCommandsFollow, NothingIsPlayed, PlayedCommandsComeFirst, PlayedRunsAreCut, PlayedRunsAreWhole, PlayingGoesOn, RefusalsOutsideArePlayed, RestsAreFound, RunsBegin, RunsEnd, RunsGoOn, RunsGoOnInTurn, RunsMayStopBetween, RunsMayStopInACommand, RunsMayStopInTheOpening, SettledEntriesAreFound, StatesOfRunsAreValid, TextsArePlayed, UnsavedItemsAreLost, UnusedItemsKeepTheirOrder, WholeLinesComeFirst};
+ghost use Rattle.spec_run.specs.Laws.{AnsweredCommandsAreDone, AnsweredCommandsAreNoted, AnsweredEntriesAreFound, AskedCommandsAreNext, BoundNamesAreFew, ClockIsReadForCommands, ClosesFreeTheirName, ClosesLeaveEntriesClean, CommandsAreFew, CommandsArePlayed, EntriesAreFoundWhole, ErrorsArePlayed, FixedScriptsTurnNoneAway, FoundRowsAreFromBefore, FoundRowsGoByOneList, LeastNamesAreClosedFirst, LinesArePlayedInTurn, LinesGoOn, LinesTurnNoneAway, NewEntriesAreLost, NoneIsClosedWhereNoneIsBound, NoteNumbersAreExact, NotedCommandsFollow, NothingIsPlayed, PlayedCommandsComeFirst, PlayedRunsAreCut, PlayedRunsAreWhole, PlayingGoesOn, RefusalsOutsideArePlayed, RestsAreFound, RunsBegin, RunsEnd, RunsGoOn, RunsGoOnInTurn, RunsMayStopBetween, RunsMayStopInACommand, RunsMayStopInTheOpening, SettledEntriesAreFound, StatesOfRunsAreValid, TextsArePlayed, UnsavedItemsAreLost, UnusedItemsKeepTheirOrder, WholeLinesComeFirst};
 
 /// A run begins with an opening that succeeds. An opening that failed leaves the folder as a crash of a run may, whatever commands would follow.
 pub fn runs_begin()
@@ -86,4 +86,12 @@ pub fn entries_are_found_whole_and_in_order()
 pub fn replies_follow_notes()
     ensures noted { AnsweredCommandsAreNoted }
     ensures done { AnsweredCommandsAreDone }
+{}
+
+/// What was closed and answered is kept. The last Close of an object leaves its entries clean; and wherever the folder stops,
+/// behind any step, an entry that is clean since an answered command is found with its exact bytes: no later command writes
+/// to its object, dooms it or evicts it.
+pub fn answered_closes_are_kept()
+    ensures closes { ClosesLeaveEntriesClean }
+    ensures found { AnsweredEntriesAreFound }
 {}

@@ -1,8 +1,9 @@
 use Rattle.std.proofs.Common.{inl, inr, sym, ap, ◌∙◌}
 use Rattle.std.proofs.lemmas.Result.{IfOk-weaker, on_ok_weaker}
 use Rattle.spec_image.specs.Told.{Told}
+use Rattle.spec_format.specs.BlockFiles.{IsDamagedBy}
+use Rattle.blk_io.specs.Faults.{damage_of}
 use Rattle.blk_repair.proofs.Endings.{either-stayed, ends-stayed}
-use Rattle.blk_cache.specs.Opened.{IsFirstDamage}
 use Rattle.blk_cache.proofs.CarriedFaults.{damaged-on, if-memory, no-memory, open-damaged-weaker, open-memory-weaker}
 use Rattle.blk_scan.proofs.FirstDamages.{length-checked, looked-as}
 use Rattle.blk_cache.proofs.OpenRuns.{first-of_look, looking-as, stayed-still, untold-says}
@@ -37,7 +38,7 @@ returns-in_err-open_new-in-Unfinished-clause-damaged g c =
 pub returns-in_err-open_new-in-Unfinished-clause-first : goal.returns-in_err-open_new-in-Unfinished-clause-first
 returns-in_err-open_new-in-Unfinished-clause-first g c =
     damaged-on c.from_residual-in_err-open_new-in-Unfinished.result c.in_err-open_new-in-Unfinished.field-0.0 c.from_residual-in_err-open_new-in-Unfinished.ensures.1 _
-    (untold-says c.in_err-open_new-in-Unfinished.field-0.0 (g.F.Folder.told c.look.new.f) (g.F.Folder.told c.args.folder.now).files IsFirstDamage (λ i there. ap (λ (t : Told). t.files) c.in_ok-look.ensures.reads.stays ∙ there)
+    (untold-says c.in_err-open_new-in-Unfinished.field-0.0 (g.F.Folder.told c.look.new.f) (g.F.Folder.told c.args.folder.now).files (λ damage. IsDamagedBy (damage_of damage)) (λ i there. ap (λ (t : Told). t.files) c.in_ok-look.ensures.reads.stays ∙ there)
     c.in_err-open_new-in-Unfinished.ensures.untold)
 
 pub returns-in_err-open_new-in-Unfinished-clause-unwritten : goal.returns-in_err-open_new-in-Unfinished-clause-unwritten

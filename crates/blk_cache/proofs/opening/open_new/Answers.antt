@@ -4,13 +4,13 @@ use Rattle.spec_image.specs.Image.{Image}
 use Rattle.spec_image.specs.Told.{Passes}
 use Rattle.spec_image.proofs.Runs.{passes_end}
 use Rattle.spec_format.proofs.Finished.{whole_index}
+use Rattle.spec_folder.specs.Found.{HoldsStill}
 use Rattle.blk_io.proofs.Carried.{if_damaged_weaker}
 use Rattle.blk_repair.specs.Endings.{RepairBreaksOff}
 use Rattle.blk_repair.proofs.Endings.{either-then, either-weaker, ends-then, ends-weaker}
 use Rattle.blk_repair.proofs.RepairRuns.{none-before, still-told}
 use Rattle.blk_cache.proofs.MakingRuns.{making-breaks}
 use Rattle.blk_cache.specs.Opened.{IsJustMade}
-use Rattle.blk_cache.specs.Opening.{HoldsStill}
 use Rattle.blk_cache.proofs.CreationTimes.{made-moment}
 use Rattle.blk_cache.proofs.OpenRuns.{made-formed, made-opened, made-stands, made-still, making-still, passes-silent}
 use Rattle.blk_cache.proofs.opening.open_new.Given as given

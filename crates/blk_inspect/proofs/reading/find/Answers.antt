@@ -34,4 +34,4 @@ returns-in-Finished-clause-damaged g c =
     weaker c.find_finished.result _ _
     (λ damage first image there.
     let fin = looked-as _ _ image c.in-Finished.is (c.in_ok-look.ensures.looked image there) in
-    (fin.finished, first-behind image fin.undamaged ∙ first image (told_now image c.in_ok-look.ensures.reads.stays there) (length-checked image fin.undamaged))) c.find_finished.ensures.damaged
+    record { finished = fin.finished; first = first-behind image fin.undamaged ∙ first image (told_now image c.in_ok-look.ensures.reads.stays there) (length-checked image fin.undamaged) }) c.find_finished.ensures.damaged

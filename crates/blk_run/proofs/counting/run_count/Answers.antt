@@ -107,4 +107,4 @@ returns-in-Ok-clause-never g c = none_refused c.count.result c.count.ensures.ans
 pub returns-in-Err-Damaged-clause-unwritten : goal.returns-in-Err-Damaged-clause-unwritten
 returns-in-Err-Damaged-clause-unwritten g c is from there =
     let damaged = returns-in-Err-Damaged-clause-answer g c from there in
-    c.start.ensures.unwritten from there (λ usable. sound damaged.damage from usable (record { finished = damaged.finished; first = damaged.first }))
+    c.start.ensures.unwritten from there (λ usable. sound damaged.0 from usable damaged.1)

@@ -42,4 +42,4 @@ returns-in-Finished-clause-damaged g c =
     weaker c.scan_finished.result _ _
     (λ damage first image there.
     let fin = looked-as _ _ image c.in-Finished.is (c.in_ok-look.ensures.looked image there) in
-    (fin.finished, first-behind image fin.undamaged ∙ first image (told_now image c.in_ok-look.ensures.reads.stays there) (length-checked image fin.undamaged))) c.scan_finished.ensures.damaged
+    record { finished = fin.finished; first = first-behind image fin.undamaged ∙ first image (told_now image c.in_ok-look.ensures.reads.stays there) (length-checked image fin.undamaged) }) c.scan_finished.ensures.damaged
