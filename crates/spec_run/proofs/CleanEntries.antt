@@ -4,28 +4,31 @@ use Rattle.std.specs.List.{Contains, filter}
 use Rattle.std.specs.Option.{option_and_then}
 use Rattle.std.specs.Prelude.{unwrap_or}
 use Rattle.std.proofs.lemmas.Bool.{and_from, and_parts, cases_Bool, eq-eqb}
-use Rattle.std.proofs.lemmas.List.{append-nil}
+use Rattle.std.specs.Str.{bytes_eq}
+use Rattle.std.proofs.lemmas.List.{append-nil, length-map}
 use Rattle.spec_image.specs.Image.{Image}
 use Rattle.spec_image.specs.Steps.{TrailStep, Word, SetLength, Delete, Note, after}
 use Rattle.spec_image.specs.Notes.{AtEachPrefix, notes_in}
 use Rattle.blk_model.specs.Effects.{closed, created, doomed, doomed_key, doomed_slot, effect, new_object, number_of, opened, released, released_slot, sparse_used, sparse_written, used, with_name, written}
 use Rattle.blk_model.specs.Holding.{owner, rest, row_in, row_of, settled_row}
-use Rattle.blk_model.specs.Items.{Item, main, part, Row, same_item}
+use Rattle.blk_model.specs.Items.{Item, main, part, Row, key_of, same_item}
 use Rattle.blk_model.specs.ListSteps.{ListStep, out, front, after_step, after_steps, list_after, list_steps}
 use Rattle.blk_model.specs.Refusals.{evicted, names_none, refused, refusals}
 use Rattle.blk_model.specs.Request.{Request, to_create, to_open, to_read, to_write, to_size, to_sparse_write, to_sparse_read, to_sparse_range, to_doom, to_doom_key, to_close, to_flush, to_list, to_trim, to_total}
 use Rattle.blk_model.specs.Room.{Group, is_out, left_of, takes, without}
-use Rattle.blk_model.specs.State.{Object, State, IsValidState, has_item, is_named, named_by, object_at}
+use Rattle.blk_model.specs.State.{Object, State, IsValidState, has_item, is_named, named_by, object_at, owners, slot_has_item}
 use Rattle.blk_model.specs.Step.{outcome, step}
 use Rattle.blk_model.specs.Stops.{is_live, is_live_and_settled, is_safe}
 use Rattle.blk_model.proofs.Chosen.{Owner, has_owner, owned_at, owner_of, settled_chooses}
 use Rattle.blk_model.proofs.Doomed.{state_closed}
 use Rattle.blk_model.proofs.Each.{any_has}
 use Rattle.blk_model.proofs.Evicted.{kept_parts, map_at}
-use Rattle.blk_model.proofs.Leads.{IsFresh, Leads, LeadsTo, length-without, may_settle, step_leads}
+use Rattle.blk_model.proofs.Leads.{IsFresh, Leads, LeadsTo, may_settle, step_leads}
 use Rattle.blk_model.proofs.LruList.{uses_after_steps}
-use Rattle.blk_model.proofs.Same.{one_item}
-use Rattle.blk_model.proofs.StopRests.{fresh_owner, owner_key, owner_live, same_owner}
+use Rattle.blk_model.proofs.Same.{bytes_eq_self, one_item}
+use Rattle.blk_model.proofs.Owners.{has_item_main}
+use Rattle.blk_model.proofs.Slots.{owners-has}
+use Rattle.blk_model.proofs.StopRests.{owner_key, owner_live}
 use Rattle.blk_model.proofs.Steps.{none_comes}
 use Rattle.blk_model.proofs.Written.{without_names}
 use Rattle.spec_folder.specs.Found.{found}
@@ -40,6 +43,28 @@ use Rattle.spec_run.proofs.SettledEntries.{rests_found, settled_found}
 use Rattle.spec_run.proofs.StepFacts.{true_false}
 use Rattle.spec_run.proofs.ValidStates.{states_are_valid}
 use Rattle.spec_run.proofs.WholeEntries.{contained, counted, owned_is_listed}
+
+-- Owners, as the laws of the model have them for themselves.
+
+-- groups that go leave as many slots
+length-without : (groups : List Group) (state : State) → length (without groups state).objects ≡ length state.objects
+unfolding without
+length-without [] state = refl
+length-without (group ∷ groups) state = length-map state.objects (option_and_then (left_of (group ∷ groups)))
+
+-- an item of a fresh object was nobody's
+fresh_owner : (before : State) (item : Item) (new : Object) → has_item new item ≡ true → IsFresh before new → Owner before item → ⊥
+fresh_owner before item new has fresh o =
+    let has_main = owners-has (main (key_of item)) o.number before.objects (ap (slot_has_item (main (key_of item))) o.here ∙ has_item_main item (Some o.object) o.has) in
+    let none : owners (main (key_of item)) before.objects ≡ 0 = ap (λ k. owners (main k) before.objects) (owner_key new item has) ∙ fresh in
+    absurd (omega arith)
+
+-- who had an item of an object that was there before is that object
+same_owner : (before : State) (valid : IsValidState before) (item : Item) (n : ℕ) (old : Object) → object_at before n ≡ Some old → old.live ≡ true → key_of item ≡ old.key → (o : Owner before item) → o.number ≡ n
+same_owner before valid item n old here live key o =
+    let mine : owner before (main (key_of item)) ≡ Some n = owned_at before valid n old (main (key_of item)) here (and_from _ _ live (subst (λ k. bytes_eq (key_of item) k ≡ true) key (bytes_eq_self (key_of item)))) in
+    let theirs : owner before (main (key_of item)) ≡ Some o.number = owned_at before valid o.number o.object (main (key_of item)) o.here (has_item_main item (Some o.object) o.has) in
+    let same : Some o.number ≡ Some n = sym theirs ∙ mine in cc
 
 -- What a command that writes nothing to an object makes of it.
 
