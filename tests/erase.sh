@@ -1,14 +1,14 @@
 # With BLKCACHE_ERASE=1 what is removed is gone: no byte of it is in any file of the folder, also after a kill and the next opening.
-# Without it the bytes are found. ERASE_KILLS says how many places of a kill are tried of each command, in even steps from the first to the
-# last, and always the same ones: 16; or all, those before each write, after its first word, midway and before its last; or words, those
-# between any two words that are written. ERASE_PART=K/N tries the K-th of N parts of these places alone. ERASE_SEED is what the script is
-# drawn from.
+# Without it the bytes are found. ERASE_KILLS says which places of a kill are tried of each command: a number, so many that are drawn; all, those
+# before each write, after its first word, midway and before its last; or words, those between any two words that are written. ERASE_PART=K/N tries
+# the K-th of N parts of these places alone. ERASE_SEED is what the places, the script and some lengths are drawn from.
 # Of each place it is asked that the next opening ends well, also where it is killed too (behind each third place); that no piece of what was
-# removed is in any file then, no byte in a block that is free or behind the end of a stream; and that what the command leaves alone has its
-# bytes. With words a command runs once, and its places are replayed from a record of what it wrote (tests/replayed.py): a folder that was
-# tried isn't tried again, and it is asked besides, at each word, that what gets out of use is blank before it does. At 16 places of each
-# command the program is killed indeed, and has to leave the replayed folder. In every run five records are replayed that leave out one byte of
-# the zeros, and one of a program that doesn't erase: each has to be refused.
+# removed is in any file then, no byte in a block that is free or behind the end of a stream or a long key; and that what the command leaves alone
+# has its bytes. But for all of them, the places are replayed from a record of what the command wrote as it ran once (tests/replayed.py): a folder
+# that was tried isn't tried again, and it is asked besides, of each write, that what gets out of use is blank before it does. At each place that is
+# drawn, and at 16 of words, the program is killed indeed, and has to leave the replayed folder. Without python3 the program is killed at so many
+# places in even steps instead. In every run five records are replayed that leave out one byte of the zeros, one of a program that doesn't erase, and
+# one of openings that don't: each has to be refused, five of the seven by what is found behind a kill.
 . "$(dirname "${BASH_SOURCE[0]}")/common.sh"
 
 for tool in awk grep basenc; do
@@ -17,7 +17,11 @@ for tool in awk grep basenc; do
         finish
     }
 done
-places_of_each=${ERASE_KILLS:-16}
+places_of_each=${ERASE_KILLS:-24}
+if [[ ! $places_of_each =~ ^(all|words|[1-9][0-9]{0,5})$ ]]; then
+    is 'ERASE_KILLS is a number, all or words' 'one of these' "$places_of_each"
+    finish
+fi
 part=${ERASE_PART:-1/1}
 if [[ ! $part =~ ^[1-9][0-9]{0,5}/[1-9][0-9]{0,5}$ ]] || [ "${part%/*}" -gt "${part#*/}" ]; then
     is 'ERASE_PART is K/N' 'a part, and how many there are' "$part"
@@ -497,7 +501,7 @@ for limits in '--max 400000 --items 12' '--max 9000000 --items 60'; do
 done
 unset BLKCACHE_ERASE
 
-# A kill at places of what is written, and the next opening, which is killed too after each third of them.
+# A kill at places of what is written, and the next opening, which is killed too behind each third of them.
 if ! command -v cc >/dev/null || ! cc -shared -fPIC -o "$room/stopped.so" "$top/tests/stopped.c" -ldl 2>/dev/null; then
     skip 'what a kill leaves' 'cc is missing'
     finish
@@ -533,6 +537,8 @@ secret 5008; third=$text
 plays "$room/base"
 secret 1008; new=$text
 secret 4000; longer=$data
+secret 1600; same=$text
+secret 12000; much=$data
 looks_for_drawn
 
 # What was found of a folder, by its names and the sums of its files: kills at many places lead to the same ones.
@@ -628,7 +634,7 @@ planted() {
 }
 # Of each so many places one is tried, where all are asked for.
 step=1
-# With python3 places are replayed, but for all of them.
+# With python3 places are replayed, unless all are asked for.
 is_replayed=no by_seed=
 if [ "$places_of_each" != all ] && [ "$has_python" = yes ]; then
     is_replayed=yes
@@ -683,10 +689,17 @@ kills() {
 stay=("$second" "$third" sparse)
 kills 'doom of blocks' '' doom "$first"
 kills 'put in fewer blocks' "$new" put "$first" 1
+kills 'put in the same blocks' "$same" put "$first" 1
+kills 'a cut within its blocks' "open 0 $first\ncut 0 2 8000 -\nclose 0\n" session
+kills 'growth within a kind' "open 0 $first\nwrite 0 0 112 ${longer:0:1024}\nwrite 0 1 2000 ${longer:0:3200}\nwrite 0 2 8192 $longer\nclose 0\n" session
+kills 'growth from blocks of 1024 to those of 4096' "open 0 $first\nwrite 0 1 2000 $longer\nclose 0\n" session
+kills 'growth from blocks into a file' "open 0 $first\nwrite 0 2 8192 $much\nclose 0\n" session
 kills 'cuts' "open 0 $first\ncut 0 0 64 -\ncut 0 1 1040 -\ncut 0 2 4096 -\ncut 0 2 512 -\nclose 0\n" session
 stay=("$first" "$third" sparse)
 kills 'doom of a file' '' doom "$second"
 kills 'put in place of a file' "$new" put "$second" 0
+kills 'growth of a file' "open 0 $second\nwrite 0 0 20000 $longer\nclose 0\n" session
+kills 'a cut from a file into blocks' "open 0 $second\ncut 0 0 5000 -\nclose 0\n" session
 stay=("$first" "$second" sparse)
 kills 'doom with a long key' '' doom "$third"
 stay=("$first" "$second" "$third")
@@ -775,5 +788,65 @@ put_back "$room/dirty_old" "$(printf '\\%03o' $((bytes & 255)) $((bytes >> 8 & 2
 is 'a folder of the first version' 00020000 "$(words_of "$room/dirty_old" 4)"
 base=$room/dirty_old
 kills 'an opening that raises a folder' '' count
+
+# Keys in blocks of 1024 and in a file of their own, and the keys of parts, which have that of their entry.
+mkdir "$room/keyed"
+drawn=0
+secret 2000; first=$text
+secret 20000; second=$text
+secret 17008; third=$text
+{
+    secret 304; printf 'create 0 %s\nwrite 0 0 0 %s\nclose 0\n' "$first" "$data"
+    secret 1008; printf 'create 0 %s\nwrite 0 1 0 %s\nclose 0\n' "$second" "$data"
+    secret 1008; printf 'create 0 %s\nswrite 0 1024 %s\n' "$third" "$data"
+    secret 3008; printf 'swrite 0 1048576 %s\nclose 0\n' "$data"
+    secret 1600; printf 'create 0 stays\nwrite 0 0 0 %s\nclose 0\n' "$data"
+} >"$room/input"
+plays "$room/keyed"
+looks_for_drawn
+base=$room/keyed
+stay=("$second" "$third" stays)
+kills 'doom with a key in blocks of 1024' '' doom "$first"
+stay=("$first" "$third" stays)
+kills 'doom with a key in a file' '' doom "$second"
+stay=("$first" "$second" stays)
+kills 'doom of sparse data with a key in files' '' doom "$third"
+
+# Streams from lengths that are drawn to others, by a cut, by a write behind the end, or written anew.
+lengths=(16 240 256 272 512 784 1008 1024 2048 3088 4080 4096 8192 12304 16384 16400 24000)
+mkdir "$room/lengths"
+drawn=0
+RANDOM=$seed
+changes=
+input='open 0 changes\n'
+{
+    printf 'create 0 changes\n'
+    for stream in 0 1 2; do
+        from=${lengths[RANDOM % ${#lengths[@]}]} to=$from
+        while [ "$to" = "$from" ]; do
+            to=${lengths[RANDOM % ${#lengths[@]}]}
+        done
+        changes+=" $from:$to"
+        secret "$from"
+        printf 'write 0 %d 0 %s\n' "$stream" "$data"
+        secret "$to"
+        if [ $((RANDOM % 3)) = 0 ]; then
+            changes+=' anew'
+            input+="cut 0 $stream 0 $data\n"
+        elif [ "$to" -lt "$from" ]; then
+            input+="cut 0 $stream $to -\n"
+        else
+            input+="write 0 $stream $from ${data:0:(to - from) * 2}\n"
+        fi
+    done
+    printf 'close 0\n'
+    secret 1600
+    printf 'create 0 stays\nwrite 0 0 0 %s\nclose 0\n' "$data"
+} >"$room/input"
+plays "$room/lengths"
+looks_for_drawn
+base=$room/lengths
+stay=(stays)
+kills "lengths that are drawn,$changes" "${input}close 0\n" session
 echo "$places places of a kill were tried, and $killed_openings of the next openings${images:+, in $images folders}"
 finish

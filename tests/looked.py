@@ -82,7 +82,7 @@ class Folder:
             lines += [b"open 0 " + rest[0], *reads, b"close 0"]
         for reply in self.run("session", given=b"\n".join([*lines, b""])).splitlines():
             words = reply.split()
-            if words[0] == b"data" and words[1] != b"0":
+            if words[:1] == [b"data"] and words[1] != b"0":
                 count_pieces(bytes.fromhex(words[2].decode()), pieces, given)
         return sum((found - given).values())
 
