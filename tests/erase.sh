@@ -17,7 +17,7 @@ for tool in awk grep basenc; do
         finish
     }
 done
-places_of_each=${ERASE_KILLS:-24}
+places_of_each=${ERASE_KILLS:-16}
 if [[ ! $places_of_each =~ ^(all|words|[1-9][0-9]{0,5})$ ]]; then
     is 'ERASE_KILLS is a number, all or words' 'one of these' "$places_of_each"
     finish
