@@ -1,14 +1,14 @@
 # With BLKCACHE_ERASE=1 what is removed is gone: no byte of it is in any file of the folder, also after a kill and the next opening.
-# Without it the bytes are found. ERASE_KILLS says how many places of a kill are tried of each command, in even steps from the first to the
-# last, and always the same ones: 16; or all, those before each write, after its first word, midway and before its last; or words, those
-# between any two words that are written. ERASE_PART=K/N tries the K-th of N parts of these places alone. ERASE_SEED is what the script is
-# drawn from.
+# Without it the bytes are found. ERASE_KILLS says which places of a kill are tried of each command: a number, so many that are drawn; all, those
+# before each write, after its first word, midway and before its last; or words, those between any two words that are written. ERASE_PART=K/N tries
+# the K-th of N parts of these places alone. ERASE_SEED is what the places, the script and some lengths are drawn from.
 # Of each place it is asked that the next opening ends well, also where it is killed too (behind each third place); that no piece of what was
-# removed is in any file then, no byte in a block that is free or behind the end of a stream; and that what the command leaves alone has its
-# bytes. With words a command runs once, and its places are replayed from a record of what it wrote (tests/replayed.py): a folder that was
-# tried isn't tried again, and it is asked besides, at each word, that what gets out of use is blank before it does. At 16 places of each
-# command the program is killed indeed, and has to leave the replayed folder. In every run five records are replayed that leave out one byte of
-# the zeros, and one of a program that doesn't erase: each has to be refused.
+# removed is in any file then, no byte in a block that is free or behind the end of a stream or a long key; and that what the command leaves alone
+# has its bytes. But for all of them, the places are replayed from a record of what the command wrote as it ran once (tests/replayed.py): a folder
+# that was tried isn't tried again, and it is asked besides, of each write, that what gets out of use is blank before it does. At each place that is
+# drawn, and at 16 of words, the program is killed indeed, and has to leave the replayed folder. Without python3 the program is killed at so many
+# places in even steps instead. In every run five records are replayed that leave out one byte of the zeros, one of a program that doesn't erase, and
+# one of openings that don't: each has to be refused, five of the seven by what is found behind a kill.
 . "$(dirname "${BASH_SOURCE[0]}")/common.sh"
 
 for tool in awk grep basenc; do
@@ -18,6 +18,10 @@ for tool in awk grep basenc; do
     }
 done
 places_of_each=${ERASE_KILLS:-16}
+if [[ ! $places_of_each =~ ^(all|words|[1-9][0-9]{0,5})$ ]]; then
+    is 'ERASE_KILLS is a number, all or words' 'one of these' "$places_of_each"
+    finish
+fi
 part=${ERASE_PART:-1/1}
 if [[ ! $part =~ ^[1-9][0-9]{0,5}/[1-9][0-9]{0,5}$ ]] || [ "${part%/*}" -gt "${part#*/}" ]; then
     is 'ERASE_PART is K/N' 'a part, and how many there are' "$part"
@@ -83,7 +87,13 @@ blocks_left_in() {
     for file in "$1"/data_*; do
         size=$(($(od -An -tu4 -j12 -N4 "$file")))
         od -An -v -tu1 -w8112 -j80 -N8112 "$file"
-        od -Ad -tx1 -w"$size" -j8192 "$file" | awk -v size="$size" '{ place = $1; sub(/^[0-9*]+/, "") } /[1-9a-f]/ { print "block", (place - 8192) / size }'
+        # (a line of * stands for blocks that equal the one before them)
+        od -Ad -tx1 -w"$size" -j8192 "$file" | awk -v size="$size" '
+            $1 == "*" { next }
+            { number = ($1 - 8192) / size; sub(/^[0-9]+/, "") }
+            has { for (it = last + 1; it < number; it++) print "block", it }
+            { last = number; has = /[1-9a-f]/ }
+            has { print "block", number }'
     done | awk '
         $1 != "block" { for (it = 1; it <= NF; it++) map[it - 1] = $it; next }
         int(map[int($2 / 8)] / 2 ^ ($2 % 8)) % 2 == 0 { left++ }
@@ -95,7 +105,7 @@ bytes_in() {
     tail -c +8193 "$1" | tr -d '\0' | wc -c
 }
 
-# Prints how many digits that are not 0 a folder has after the ends of its streams, in the blocks or in the file of each.
+# Prints how many digits that are not 0 a folder has after the ends of its streams and long keys, in the blocks or in the file of each.
 behind_ends_in() {
     local sum=0 words word name value it at size place room_of file rest
     local -A of
@@ -105,7 +115,8 @@ behind_ends_in() {
         while read -r name value; do
             of[$name]=$value
         done < <("$program" "$1" inspect entry "$word")
-        for it in 0 1 2 3; do
+        of[addr4]=${of[long_key]} of[size4]=${of[key_len]}
+        for it in 0 1 2 3 4; do
             at=$((16#${of[addr$it]})) size=$((16#${of[size$it]}))
             case $((at >> 28 & 7)) in
                 0)
@@ -135,11 +146,42 @@ is_blank() {
     is "$1" '0 0 0 0 ' "$(bytes_in "$2/data_0") $(bytes_in "$2/data_1") $(bytes_in "$2/data_2") $(bytes_in "$2/data_3") $(cd "$2" && ls | grep -E '^(f_|data_[4-9])')"
 }
 
+# Prints these three numbers of each folder, and with a file of lines a sum of what the program answers to them: LINES FOLDERS. With python3
+# one process does so for all of them.
+looks() {
+    local folder sum
+    if [ "$has_python" = yes ]; then
+        "$python" -S -B "$top/tests/looked.py" "$program" "$room/pieces" "$sparse_places" "$@"
+        return
+    fi
+    for folder in "${@:2}"; do
+        sum=
+        [ -z "$1" ] || sum=$(timeout 60 "$program" "$folder" session <"$1" 2>/dev/null | sha256sum)
+        echo "$(left_in "$folder") $(blocks_left_in "$folder") $(behind_ends_in "$folder") ${sum%% *}"
+    done
+}
+# Leaves the three numbers of a folder.
+look() {
+    read -r left blocks behind < <(looks '' "$1")
+}
+# The two ways to look find the same in a folder.
+both_look() {
+    [ "$has_python" = yes ] || return
+    is "$1: python3 finds what the shell does" "$(has_python=no looks '' "$2")" "$(looks '' "$2")"
+}
+# (its own path, since what the name leads to may be a script that starts it)
+has_python=no
+if python=$(python3 -S -c 'import sys; print(sys.executable)' 2>/dev/null) && [ -x "$python" ]; then
+    has_python=yes
+fi
+
 # What is left is none of what was removed.
 is_gone() {
-    is "$1: no piece is left" 0 "$(left_in "$2")"
-    is "$1: no block that is free holds a byte" 0 "$(blocks_left_in "$2")"
-    is "$1: no byte is left behind the end of a stream" 0 "$(behind_ends_in "$2")"
+    local left blocks behind
+    look "$2"
+    is "$1: no piece is left" 0 "$left"
+    is "$1: no block that is free holds a byte" 0 "$blocks"
+    is "$1: no byte is left behind the end of a stream or a long key" 0 "$behind"
 }
 
 # Runs a script, of which no line may be refused.
@@ -184,7 +226,8 @@ for value in unset '' 0 1; do
     is "BLKCACHE_ERASE is [$value], words that only read: the folder" "$before" "$(both "$room/try")"
     run "$room/try" doom page
     is "BLKCACHE_ERASE is [$value], doom" '0 ok' "$status $said"
-    is "BLKCACHE_ERASE is [$value], pieces that are left" "$([ "$value" = 1 ] && echo 0 || echo 125)" "$(left_in "$room/try")"
+    look "$room/try"
+    is "BLKCACHE_ERASE is [$value], pieces that are left" "$([ "$value" = 1 ] && echo 0 || echo 125)" "$left"
     run "$room/try" no-word-of-it
     is "BLKCACHE_ERASE is [$value], other words" '2 usage' "$status $said"
 done
@@ -287,8 +330,10 @@ for way in by_doom by_doomkey by_doom_of_open by_doom_at_the_end by_eviction by_
     unset BLKCACHE_ERASE
     fill "$room/kept"
     "$way" "$room/kept"
-    is "$way, without erasing: each piece in a block is left" yes "$([ "$(left_in "$room/kept")" -ge "$expected" ] && echo yes)"
+    look "$room/kept"
+    is "$way, without erasing: each piece in a block is left" yes "$([ "$left" -ge "$expected" ] && echo yes)"
 done
+both_look "$way" "$room/kept"
 rm -rf "$room/gone" "$room/kept"
 
 # Streams that are cut: from one size to another, in the same storage and into another.
@@ -334,9 +379,22 @@ for how in cut data twice odd; do
     is_blank "cut ($how), and then all" "$room/gone"
     unset BLKCACHE_ERASE
     cut_all "$room/kept" "$how"
-    is "cut ($how), without erasing: pieces are left" yes "$([ "$(left_in "$room/kept")" -gt 1000 ] && echo yes)"
-    is "cut ($how), without erasing: bytes behind the ends are left" yes "$([ "$(behind_ends_in "$room/kept")" -gt 5000 ] && echo yes)"
+    look "$room/kept"
+    is "cut ($how), without erasing: pieces are left" yes "$([ "$left" -gt 1000 ] && echo yes)"
+    is "cut ($how), without erasing: bytes behind the ends are left" yes "$([ "$behind" -gt 5000 ] && echo yes)"
 done
+both_look "cut ($how)" "$room/kept"
+
+# Free blocks that equal each other are found each, also the last ones.
+rm -rf "$room/kept"
+cp -a "$room/made" "$room/kept"
+truncate -s $((8192 + 7 * 256)) "$room/kept/data_1"
+for number in 1 2 3 5 6; do
+    patch "$room/kept/data_1" $((8192 + number * 256 + 100)) x
+done
+is 'free blocks with the same bytes, by the shell' 5 "$(blocks_left_in "$room/kept")"
+look "$room/kept"
+is 'free blocks with the same bytes' 5 "$blocks"
 
 # Streams that grow into another storage, that are written anew by put, and an entry that is made anew under its key.
 grown() {
@@ -389,7 +447,8 @@ for way in grown replaced anew; do
     is_blank "$way, and then all" "$room/gone"
     unset BLKCACHE_ERASE
     "$way" "$room/kept"
-    is "$way, without erasing: pieces are left" yes "$([ "$(left_in "$room/kept")" -gt 0 ] && echo yes)"
+    look "$room/kept"
+    is "$way, without erasing: pieces are left" yes "$([ "$left" -gt 0 ] && echo yes)"
 done
 
 # The bytes of a file that is removed or cut, as one sees them who opened it before.
@@ -435,19 +494,19 @@ for limits in '--max 400000 --items 12' '--max 9000000 --items 60'; do
         : >"$room/input"
     done
     is "a script that is drawn, $limits (ERASE_SEED=$seed)" '' "$(are_same "$room/all0" "$room/all1" || echo 'other replies')"
-    is "a script that is drawn, $limits: no block that is free holds a byte (ERASE_SEED=$seed)" 0 "$(blocks_left_in "$room/drawn1")"
-    is "a script that is drawn, $limits: the control" yes "$([ "$(blocks_left_in "$room/drawn0")" -gt 0 ] && echo yes)"
+    is "a script that is drawn, $limits: no block that is free holds a byte (ERASE_SEED=$seed)" 0 "$(look "$room/drawn1" && echo "$blocks")"
+    is "a script that is drawn, $limits: the control" yes "$(look "$room/drawn0" && [ "$blocks" -gt 0 ] && echo yes)"
     run "$room/drawn1" trim 0
     is_blank "a script that is drawn, $limits, and then all (ERASE_SEED=$seed)" "$room/drawn1"
 done
 unset BLKCACHE_ERASE
 
-# A kill at places of what is written, and the next opening, which is killed too after each third of them.
+# A kill at places of what is written, and the next opening, which is killed too behind each third of them.
 if ! command -v cc >/dev/null || ! cc -shared -fPIC -o "$room/stopped.so" "$top/tests/stopped.c" -ldl 2>/dev/null; then
     skip 'what a kill leaves' 'cc is missing'
     finish
 fi
-if ! command -v python3 >/dev/null; then
+if [ "$has_python" = no ]; then
     skip 'kills between any two words, and records that leave out a byte' 'python3 is missing'
     [ "$places_of_each" != words ] || finish
 fi
@@ -478,18 +537,10 @@ secret 5008; third=$text
 plays "$room/base"
 secret 1008; new=$text
 secret 4000; longer=$data
+secret 1600; same=$text
+secret 12000; much=$data
 looks_for_drawn
 
-# Prints what the program answers of entries.
-told_of() {
-    local key
-    for key in "${@:2}"; do
-        printf '%s\n' "open 0 $key" 'read 0 0 0 100000' 'read 0 1 0 100000' 'read 0 2 0 100000' 'sread 0 1024 4096' 'sread 0 1048576 32768' 'close 0'
-    done >"$room/input"
-    run "$1" session
-    : >"$room/input"
-    cat "$room/said"
-}
 # What was found of a folder, by its names and the sums of its files: kills at many places lead to the same ones.
 declare -A looked
 places=0
@@ -502,8 +553,7 @@ is_clean() {
     patch "$2/index" 20 '\0\0\0\0'
     patch "$2/index" 40 '\0\0\0\0\0\0\0\0'
     sum=$(cksum -- "$2"/*)
-    [ -n "${looked[$sum]-}" ] ||
-        looked[$sum]="$(left_in "$2") $(blocks_left_in "$2") $(behind_ends_in "$2") $(told_of "$2" "${stay[@]}" | cksum)"
+    [ -n "${looked[$sum]-}" ] || looked[$sum]=$(looks "$room/told" "$2")
     is "$1: pieces, bytes of free blocks, bytes behind ends, what stays" "0 0 0 $told" "${looked[$sum]}"
 }
 # A copy of the folder on which the commands are tried.
@@ -514,62 +564,87 @@ take() {
 }
 # Feeds the input to a command, and asks what is told of the entries of the list stay, which have to stay.
 feed() {
+    local key
     printf %b "$1" >"$room/fed"
+    for key in "${stay[@]}"; do
+        printf '%s\n' "open 0 $key" 'read 0 0 0 100000' 'read 0 1 0 100000' 'read 0 2 0 100000' 'sread 0 1024 4096' 'sread 0 1048576 32768' 'close 0'
+    done >"$room/told"
     take try "$base"
-    told=$(told_of "$room/try" "${stay[@]}" | cksum)
+    told=$(looks "$room/told" "$room/try")
+    told=${told##* }
     # What was found before was of other entries.
     looked=()
 }
-# Replays places of a command, and leaves what was wrong, and the counts: PART NAMES NAME INPUT WORDS. Where there are NAMES a byte is left out
-# of the zeros over the files whose names begin so.
+# Replays places of a command, and leaves what was wrong, and the counts: PART COUNT NAMES OPENINGS NAME INPUT WORDS. Where there is a COUNT, so
+# many places are drawn. Where there are NAMES, a byte is left out of the zeros over the files whose names begin so. Where there is a value
+# OPENINGS, the openings have that one of BLKCACHE_ERASE.
 replay() {
-    local leave=()
-    [ -z "$2" ] || leave=(--leave "$2")
-    feed "$4"
+    local options=()
+    [ -z "$2" ] || options+=(--drawn "$2" "$seed $5")
+    [ -z "$3" ] || options+=(--leave "$3")
+    [ -z "$4" ] || options+=(--openings "$4")
+    feed "$6"
     rm -rf "${scratch:?}/out"
     mkdir "$scratch/out"
     tried=0 total=0 tried_images=0 openings=0 folders=0 compared=0
-    python3 -B "$top/tests/replayed.py" "${leave[@]}" "$program" "$room/stopped.so" "$base" "$room/fed" "$scratch/out" "$1" -- "${@:5}" \
+    "$python" -S -B "$top/tests/replayed.py" "${options[@]}" "$program" "$room/stopped.so" "$base" "$room/fed" "$scratch/out" "$1" -- "${@:7}" \
         >"$room/replayed" 2>&1 || echo 'wrong: it did not come to its end' >>"$room/replayed"
     wrong=$(grep -vx '[0-9 ]*' "$room/replayed")
     read -r tried total tried_images openings folders compared < <(grep -x '[0-9][0-9 ]*' "$room/replayed")
 }
-# Kills between any two words, replayed: NAME INPUT WORDS
+# Kills between any two words, replayed, those that are drawn or all: NAME INPUT WORDS
 replays() {
-    local told wrong tried total tried_images openings folders compared number from=$SECONDS
-    replay "$(((part - 1) * step + 1))/$((part_of * step))" '' "$@"
-    is "$1: what is replayed" '' "$wrong"
+    local told wrong tried total tried_images openings folders compared number found from=$SECONDS
+    if [ "$places_of_each" = words ]; then
+        replay "$(((part - 1) * step + 1))/$((part_of * step))" '' '' '' "$@"
+    else
+        replay "$part/$part_of" "$places_of_each" '' '' "$@"
+    fi
+    is "$1: what is replayed$by_seed" '' "$wrong"
     is "$1: there are places" yes "$([ "$total" -gt 16 ] && echo yes)"
     for ((number = 1; number <= folders; number++)); do
-        is_clean "$1, $(cat "$scratch/out/left/$number.place")" "$scratch/out/left/$number"
-    done
+        read -r found
+        is "$1, $(cat "$scratch/out/left/$number.place")$by_seed: pieces, bytes of free blocks, bytes behind ends, what stays" "0 0 0 $told" "$found"
+    done < <(looks "$room/told" $(seq -f "$scratch/out/left/%g" "$folders"))
     places=$((places + tried)) killed_openings=$((killed_openings + openings)) images=$((${images:-0} + tried_images))
     echo "$1: $tried of $total places, and $openings of the next openings: $tried_images folders, which openings made $folders;" \
         "$compared kills were compared; in $((SECONDS - from)) seconds"
 }
-# A byte is left out of the zeros over the files whose names begin so, or all of them where there is no name: this is refused at its word, by
-# what the next opening leaves, or by both. HOW NAMES NAME INPUT WORDS
+# Zeros are left out: a byte of those over the files whose names begin with what is given, or all of those of the program (all), or of the
+# openings alone (openings). This is refused at its word, by what the next opening leaves, behind a kill or behind none, or by both.
+# HOW GIVEN NAME INPUT WORDS
 planted() {
-    local told wrong tried total tried_images openings folders compared number folder by='' left=''
-    command -v python3 >/dev/null || return
-    [ -n "$2" ] || local -x BLKCACHE_ERASE=0
-    # (no command has so many places, so that of no kill alone is opened)
-    replay 9999999/9999999 "${@:2}"
+    local told wrong tried total tried_images openings folders compared number found by='' left='' names=$2 of_openings=
+    [ "$has_python" = yes ] || return
+    case $2 in
+        all) local -x BLKCACHE_ERASE=0 names= ;;
+        openings) names='' of_openings=0 ;;
+    esac
+    replay 1/1 edges "$names" "$of_openings" "${@:3}"
     [[ $wrong != *' before it is blank'* ]] || by='at its word'
     [[ $wrong != *'did not come to its end'* ]] || by='by a replay that broke off'
     for ((number = 1; number <= folders; number++)); do
-        folder=$scratch/out/left/$number
-        [ "$(left_in "$folder") $(blocks_left_in "$folder") $(behind_ends_in "$folder")" = '0 0 0' ] || left=' by what is left'
-    done
-    is "refused: $3, with ${2:+a byte of the }zeros left out${2:+ of $2*}" "$1" "$by$left"
+        read -r found
+        [ "$found" = "0 0 0 $told" ] || case $(cat "$scratch/out/left/$number.place") in
+            place*) left=' by what is left behind a kill' ;;
+            *) [ -n "$left" ] || left=' by what is left' ;;
+        esac
+    done < <(looks "$room/told" $(seq -f "$scratch/out/left/%g" "$folders"))
+    is "refused: $3, with zeros left out: $2" "$1" "$by$left"
 }
 # Of each so many places one is tried, where all are asked for.
 step=1
+# With python3 places are replayed, unless all are asked for.
+is_replayed=no by_seed=
+if [ "$places_of_each" != all ] && [ "$has_python" = yes ]; then
+    is_replayed=yes
+    [ "$places_of_each" = words ] || by_seed=" (ERASE_SEED=$seed)"
+fi
 # Kills the program at places of what it writes: NAME INPUT WORDS. The entries that have to stay are those of the list stay. Behind each
 # third place the next opening is killed too, at one of its own places, another each time.
 kills() {
     local name=$1 number turn total stride told next tried=0 openings=0
-    if [ "$places_of_each" = words ]; then
+    if [ "$is_replayed" = yes ]; then
         replays "$@"
         return
     fi
@@ -614,10 +689,17 @@ kills() {
 stay=("$second" "$third" sparse)
 kills 'doom of blocks' '' doom "$first"
 kills 'put in fewer blocks' "$new" put "$first" 1
+kills 'put in the same blocks' "$same" put "$first" 1
+kills 'a cut within its blocks' "open 0 $first\ncut 0 2 8000 -\nclose 0\n" session
+kills 'growth within a kind' "open 0 $first\nwrite 0 0 112 ${longer:0:1024}\nwrite 0 1 2000 ${longer:0:3200}\nwrite 0 2 8192 $longer\nclose 0\n" session
+kills 'growth from blocks of 1024 to those of 4096' "open 0 $first\nwrite 0 1 2000 $longer\nclose 0\n" session
+kills 'growth from blocks into a file' "open 0 $first\nwrite 0 2 8192 $much\nclose 0\n" session
 kills 'cuts' "open 0 $first\ncut 0 0 64 -\ncut 0 1 1040 -\ncut 0 2 4096 -\ncut 0 2 512 -\nclose 0\n" session
 stay=("$first" "$third" sparse)
 kills 'doom of a file' '' doom "$second"
 kills 'put in place of a file' "$new" put "$second" 0
+kills 'growth of a file' "open 0 $second\nwrite 0 0 20000 $longer\nclose 0\n" session
+kills 'a cut from a file into blocks' "open 0 $second\ncut 0 0 5000 -\nclose 0\n" session
 stay=("$first" "$second" sparse)
 kills 'doom with a long key' '' doom "$third"
 stay=("$first" "$second" "$third")
@@ -635,11 +717,12 @@ stay=("$third" sparse)
 kills 'doom of entries that are open at the end' "open 0 $first\ndoomkey $first\nopen 1 $second\ndoomkey $second\n" session
 
 # Zeros that are left out: of a block that is freed, of a file that is removed or cut, behind the end of a stream in its block, and all.
-planted 'at its word by what is left' data_ 'doom of blocks' '' doom "$first"
+planted 'at its word by what is left behind a kill' data_ 'doom of blocks' '' doom "$first"
 planted 'at its word' f_ 'doom of a file' '' doom "$second"
 planted 'at its word' f_ 'a file that is cut' "open 0 $second\ncut 0 0 16400 -\nclose 0\n" session
-planted ' by what is left' data_ 'a cut in a block' "open 0 $first\ncut 0 2 8000 -\nclose 0\n" session
-planted 'at its word by what is left' '' 'doom of blocks' '' doom "$first"
+planted ' by what is left behind a kill' data_ 'a cut in a block' "open 0 $first\ncut 0 2 8000 -\nclose 0\n" session
+planted 'at its word by what is left behind a kill' all 'doom of blocks' '' doom "$first"
+planted 'at its word by what is left behind a kill' openings 'doom of blocks' '' doom "$first"
 
 # Sparse data that are evicted: the others were used since.
 take turned "$room/base"
@@ -676,10 +759,12 @@ is 'it leaves three dirty entries, one of them with two parts' '0 5' "$status $(
 take try "$room/dirty"
 BLKCACHE_ERASE=0 run "$room/try" count
 is 'a count that does not erase drops them' '0 items 1' "$status ${said% bytes*}"
-left=$(left_in "$room/try")
+look "$room/try"
 is 'a count that does not erase leaves their pieces' yes "$([ "$left" -gt 400 ] && echo yes || echo "$left")"
+all_left=$left
 run "$room/try" count
-is 'one that erases leaves them too' "$left" "$(left_in "$room/try")"
+look "$room/try"
+is 'one that erases leaves them too' "$all_left" "$left"
 # (in runs of one to four blocks of each size)
 for ((number = 0; number < 40; number++)); do
     run_of=$((number % 4 + 1))
@@ -690,18 +775,78 @@ for ((number = 0; number < 40; number++)); do
     echo "doomkey fills$number"
 done >"$room/input"
 plays "$room/try"
-less=$(left_in "$room/try")
-is 'where their places were used and freed again they are gone' yes "$([ "$less" -lt "$left" ] && echo yes || echo "$less of $left")"
+look "$room/try"
+is 'where their places were used and freed again they are gone' yes "$([ "$left" -lt "$all_left" ] && echo yes || echo "$left of $all_left")"
 
 base=$room/dirty
 stay=("$third")
 kills 'an opening that drops entries' '' count
-planted 'at its word by what is left' data_ 'an opening that drops entries' '' count
+planted 'at its word by what is left behind a kill' data_ 'an opening that drops entries' '' count
 take dirty_old "$room/dirty"
 bytes=$("$program" "$room/dirty" verify | awk '/^items/ { print $4 }')
 put_back "$room/dirty_old" "$(printf '\\%03o' $((bytes & 255)) $((bytes >> 8 & 255)) $((bytes >> 16 & 255)) $((bytes >> 24 & 255)))"
 is 'a folder of the first version' 00020000 "$(words_of "$room/dirty_old" 4)"
 base=$room/dirty_old
 kills 'an opening that raises a folder' '' count
+
+# Keys in blocks of 1024 and in a file of their own, and the keys of parts, which have that of their entry.
+mkdir "$room/keyed"
+drawn=0
+secret 2000; first=$text
+secret 20000; second=$text
+secret 17008; third=$text
+{
+    secret 304; printf 'create 0 %s\nwrite 0 0 0 %s\nclose 0\n' "$first" "$data"
+    secret 1008; printf 'create 0 %s\nwrite 0 1 0 %s\nclose 0\n' "$second" "$data"
+    secret 1008; printf 'create 0 %s\nswrite 0 1024 %s\n' "$third" "$data"
+    secret 3008; printf 'swrite 0 1048576 %s\nclose 0\n' "$data"
+    secret 1600; printf 'create 0 stays\nwrite 0 0 0 %s\nclose 0\n' "$data"
+} >"$room/input"
+plays "$room/keyed"
+looks_for_drawn
+base=$room/keyed
+stay=("$second" "$third" stays)
+kills 'doom with a key in blocks of 1024' '' doom "$first"
+stay=("$first" "$third" stays)
+kills 'doom with a key in a file' '' doom "$second"
+stay=("$first" "$second" stays)
+kills 'doom of sparse data with a key in files' '' doom "$third"
+
+# Streams from lengths that are drawn to others, by a cut, by a write behind the end, or written anew.
+lengths=(16 240 256 272 512 784 1008 1024 2048 3088 4080 4096 8192 12304 16384 16400 24000)
+mkdir "$room/lengths"
+drawn=0
+RANDOM=$seed
+changes=
+input='open 0 changes\n'
+{
+    printf 'create 0 changes\n'
+    for stream in 0 1 2; do
+        from=${lengths[RANDOM % ${#lengths[@]}]} to=$from
+        while [ "$to" = "$from" ]; do
+            to=${lengths[RANDOM % ${#lengths[@]}]}
+        done
+        changes+=" $from:$to"
+        secret "$from"
+        printf 'write 0 %d 0 %s\n' "$stream" "$data"
+        secret "$to"
+        if [ $((RANDOM % 3)) = 0 ]; then
+            changes+=' anew'
+            input+="cut 0 $stream 0 $data\n"
+        elif [ "$to" -lt "$from" ]; then
+            input+="cut 0 $stream $to -\n"
+        else
+            input+="write 0 $stream $from ${data:0:(to - from) * 2}\n"
+        fi
+    done
+    printf 'close 0\n'
+    secret 1600
+    printf 'create 0 stays\nwrite 0 0 0 %s\nclose 0\n' "$data"
+} >"$room/input"
+plays "$room/lengths"
+looks_for_drawn
+base=$room/lengths
+stay=(stays)
+kills "lengths that are drawn,$changes" "${input}close 0\n" session
 echo "$places places of a kill were tried, and $killed_openings of the next openings${images:+, in $images folders}"
 finish

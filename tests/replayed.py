@@ -1,13 +1,16 @@
 #!/usr/bin/env python3
 """Every place between two words at which a kill may stop a command, replayed in one process.
 
-tests/replayed.py [--leave NAMES] PROGRAM STOPPED BASE INPUT OUT PART/PARTS -- WORDS
+tests/replayed.py [--drawn COUNT SEED] [--leave NAMES] [--openings ERASE] PROGRAM STOPPED BASE INPUT OUT PART/PARTS -- WORDS
 
 The program runs once with WORDS and INPUT on a copy of the folder BASE, under the library STOPPED (tests/stopped.c), which records each call
 that changes a file. The record is then made word by word in one folder, so each image is built from the one before. Those images are tried
 whose place is of the part, and none twice, by a sum over the whole folder: the next opening (count) is run on it, and is taken back by its own
 record. Behind each third place the next opening is stopped too, at a place of its own, and the one after it is run. (Where an opening has more
 than 20000 places, that is done once for each image.)
+
+With --drawn so many places are tried, which are drawn from SEED: three of four among those before each call and, of a write, after its first
+word, midway and before its last one (all of these where COUNT is edges), the others among all. The places of openings are drawn in the same way.
 
 Asked of the record, up to each word, and of the record of each opening:
 - a block that loses its mark is blank, and nothing is written into a block without one, where the index is finished;
@@ -16,17 +19,20 @@ Asked of each opening: it ends with 0, and prints what it counted. What openings
 more than the number of the session and the time of making, with the place that led to it first in a file beside it. What these folders have
 to hold is asked by the caller.
 
-Asked of the replay: the whole record leaves what the program left, and has as many places as the program passed; at 16 of them, and at those
-of openings behind some of these, the program is killed indeed, and leaves the image; there, and after the openings there, the folder is what
-it is taken for.
+Asked of the replay: the whole record leaves what the program left, and has as many places as the program passed; at 16 of them (at each one that
+is drawn), and at those of openings behind some of these, the program is killed indeed, and leaves the image; there, and after the openings there,
+the folder is what it is taken for.
 
-With --leave one byte is left out of the zeros, midway among those over bytes of files whose names begin with NAMES.
+With --leave one byte is left out of the zeros, midway among those over bytes of files whose names begin with NAMES. With --openings the openings
+have ERASE as the value of BLKCACHE_ERASE. With either of them no kill is compared.
 
 Each fault is a line that begins with 'wrong'. The last line has numbers: the places that were tried, all places, the images that were opened,
 the openings that were stopped, the folders that openings left, the kills that were compared.
 """
+import errno
 import hashlib
 import os
+import random
 import re
 import shutil
 import signal
@@ -75,7 +81,7 @@ def calls_of(record):
 
 
 def is_blank(data):
-    return data.count(0) == len(data)
+    return data == bytes(len(data))
 
 
 class Image:
@@ -86,10 +92,9 @@ class Image:
         self.files, self.open_files, self.page_sums, self.length_sums = {}, {}, {}, {}
         self.sum, self.stale, self.unwritten = 0, set(), set()
         self.journal, self.is_noting = [], True
-        for name in os.listdir(path):
+        for name, data in read_folder(path).items():
             self.open_files[name] = os.open(os.path.join(path, name), os.O_RDWR)
-            with open(os.path.join(path, name), "rb") as file:
-                self.files[name] = bytearray(file.read())
+            self.files[name] = data
             self.page_sums[name], self.length_sums[name] = [], 0
             self.count_pages(name, 0)
 
@@ -254,11 +259,30 @@ class Image:
         put_folder(self.files, path)
 
 
+def read_file(file):
+    """The bytes of an open file. What the machine calls a hole isn't read: it has zeros."""
+    length = os.fstat(file).st_size
+    data = bytearray(length)
+    view, at = memoryview(data), 0
+    while at < length:
+        try:
+            at = os.lseek(file, at, os.SEEK_DATA)
+        except OSError as error:
+            if error.errno == errno.ENXIO:
+                break
+            raise
+        end = os.lseek(file, at, os.SEEK_HOLE)
+        while at < end:
+            at += os.preadv(file, [view[at:end]], at)
+    view.release()
+    return data
+
+
 def read_folder(path):
     files = {}
     for name in os.listdir(path):
-        with open(os.path.join(path, name), "rb") as file:
-            files[name] = bytearray(file.read())
+        with open(os.path.join(path, name), "rb", buffering=0) as file:
+            files[name] = read_file(file.fileno())
     return files
 
 
@@ -278,6 +302,7 @@ class Replay:
     def __init__(self, program, library, base, given, out, part, parts):
         self.program, self.base, self.given, self.out = program, base, given, out
         self.part, self.parts = part, parts
+        self.drawn, self.random, self.is_planted = None, None, False
         self.faults = 0
         self.at = "before the first place"
         self.tried, self.left = set(), set()
@@ -287,6 +312,7 @@ class Replay:
         self.complained = os.open(os.path.join(out, "complained"), os.O_RDWR | os.O_CREAT | os.O_APPEND, 0o600)
         self.record = os.open(os.path.join(out, "record"), os.O_RDWR | os.O_CREAT | os.O_APPEND, 0o600)
         self.environment = dict(os.environ, LD_PRELOAD=library, STOPPED_BETWEEN="words")
+        self.of_openings = {}
         os.mkdir(os.path.join(out, "left"))
 
     def wrong(self, what):
@@ -294,11 +320,11 @@ class Replay:
         if self.faults <= MOST_WRONG:
             print(f"wrong {self.at}: {what}")
 
-    def run(self, folder, words, given, stopped=0):
+    def run(self, folder, words, given, stopped=0, more=None):
         """Runs the program: how it ended, what it printed, and the calls that it made, where it isn't stopped."""
         for it in self.said, self.complained, self.record:
             os.ftruncate(it, 0)
-        environment = dict(self.environment, STOPPED=str(stopped))
+        environment = dict(self.environment, STOPPED=str(stopped), **(more or {}))
         if not stopped:
             environment["STOPPED_RECORD"] = str(RECORD)
         streams = [(os.POSIX_SPAWN_OPEN, 0, given, os.O_RDONLY, 0), (os.POSIX_SPAWN_DUP2, self.said, 1)]
@@ -327,7 +353,7 @@ class Replay:
 
     def open(self, image):
         """Runs the next opening, and makes its calls in memory too. What it leaves is put aside where it is new."""
-        status, said, calls = self.run(image.path, ["count"], "/dev/null")
+        status, said, calls = self.run(image.path, ["count"], "/dev/null", more=self.of_openings)
         if status != 0 or not said.startswith(b"items "):
             self.wrong(f"the next opening ends with {status}, and prints {said[:60]!r}")
         for call in calls:
@@ -341,17 +367,16 @@ class Replay:
                 print(self.at, file=file)
         return calls
 
-    def visit(self, image, turn, is_compared):
-        """Tries the image, which is that of a place, or where turn is None the last one, that of no kill."""
+    def visit(self, image, place, is_third, is_compared):
+        """Tries the image, which is that of a place, counted from 0, or where that is None the last one, that of no kill."""
         image.keep()
         image.flush()
         it = image.whole_sum()
-        is_third = turn is not None and turn // self.parts % 3 == 0
         if is_compared:
             if not image.is_on_disk():
                 self.wrong("the folder isn't what it is taken for")
-            if turn is not None:
-                self.kill(self.before, self.words, self.given, turn + 1, image)
+            if place is not None:
+                self.kill(self.before, self.words, self.given, place + 1, image)
         if it not in self.tried or is_third and it != self.last_sum:
             self.tried.add(it)
             self.last_sum, self.last_calls = it, self.open(image)
@@ -364,14 +389,14 @@ class Replay:
             if total > MANY and it == self.stopped_sum:
                 return
             self.stopped_sum = it
-            place = turn // 3 * 7 % total + 1
-            self.at += f", the next opening stopped at place {place}"
+            stop = place // 3 * 7 % total if self.drawn is None else drawn_of(calls, 1, self.random)[0]
+            self.at += f", the next opening stopped at place {stop + 1}"
             self.openings += 1
             kept = {name: bytes(data) for name, data in image.files.items()} if is_compared else None
-            front(image, calls, place)
+            front(image, calls, stop + 1)
             image.flush()
             if is_compared:
-                self.kill(kept, ["count"], "/dev/null", place, image)
+                self.kill(kept, ["count"], "/dev/null", stop + 1, image)
             it = image.whole_sum()
             if it not in self.tried:
                 self.tried.add(it)
@@ -384,19 +409,31 @@ class Replay:
     def play(self, words, left_out):
         self.words = words
         whole = os.path.join(self.out, "whole")
-        shutil.copytree(self.base, whole)
+        put_folder(read_folder(self.base), whole)
         status, _, calls = self.run(whole, words, self.given)
         if status != 0:
             self.wrong(f"the program, killed nowhere, ends with {status}")
         after = read_folder(whole)
         shutil.rmtree(whole)
         folder = os.path.join(self.out, "folder")
-        shutil.copytree(self.base, folder)
+        put_folder(read_folder(self.base), folder)
         image = Image(folder, self.wrong)
         self.before = {name: bytes(data) for name, data in image.files.items()}
         if left_out is not None:
             leave_out(self.before, calls, left_out)
         total = sum(call.places() for call in calls)
+        if self.drawn is None:
+            self.play_words(image, calls, total)
+        else:
+            self.play_drawn(image, calls)
+        self.at = "killed nowhere"
+        if left_out is None and image.files != after:
+            self.wrong("the record, made whole, leaves another folder than the program")
+        self.visit(image, None, False, not self.is_planted)
+        print(self.places, total, len(self.tried), self.openings, len(self.left), self.kills)
+
+    def play_words(self, image, calls, total):
+        """Tries each place of the part."""
         compared = {turn * total // KILLS // self.parts * self.parts + self.part - 1 for turn in range(KILLS)}
         turn = 0
         for call in calls:
@@ -404,14 +441,43 @@ class Replay:
                 self.at = f"place {turn + 1}"
                 if turn % self.parts == self.part - 1:
                     self.places += 1
-                    self.visit(image, turn, left_out is None and turn in compared)
+                    self.visit(image, turn, turn // self.parts % 3 == 0, not self.is_planted and turn in compared)
                 image.make(call.word(number) if call.what == "w" else call, True)
                 turn += 1
-        self.at = "killed nowhere"
-        if left_out is None and image.files != after:
-            self.wrong("the record, made whole, leaves another folder than the program")
-        self.visit(image, None, left_out is None)
-        print(self.places, total, len(self.tried), self.openings, len(self.left), self.kills)
+
+    def play_drawn(self, image, calls):
+        """Tries places that are drawn."""
+        drawn = drawn_of(calls, self.drawn, self.random)[self.part - 1 :: self.parts]
+        passed = turn = 0
+        for call in calls:
+            while turn < len(drawn) and drawn[turn] < passed + call.places():
+                place = drawn[turn]
+                self.at = f"place {place + 1}"
+                if place > passed:
+                    image.make(call.front(place - passed), True)
+                self.places += 1
+                self.visit(image, place, turn % 3 == 0, not self.is_planted)
+                turn += 1
+            self.at = f"place {passed + 1}"
+            image.make(call, True)
+            passed += call.places()
+
+
+def drawn_of(calls, count, generator):
+    """Places of calls that are drawn, counted from 0, in rising order; where there is no count, all those at the edges of the calls."""
+    edges, passed = set(), 0
+    for call in calls:
+        places = call.places()
+        edges.update(passed + it for it in (0, 1, places // 2, places - 1) if it < places)
+        passed += places
+    if count == 0:
+        return sorted(edges)
+    if count == 1:
+        return [generator.choice(sorted(edges)) if generator.randrange(4) else generator.randrange(passed)]
+    at_edges = min(len(edges), count - count // 4)
+    places = set(generator.sample(sorted(edges), at_edges))
+    places.update(generator.randrange(passed) for _ in range(count - at_edges))
+    return sorted(places)
 
 
 def front(image, calls, place):
@@ -462,13 +528,24 @@ def leave_out(before, calls, names):
 
 def main():
     words = sys.argv[1:]
-    left_out = None
+    left_out = drawn = openings = None
+    if words[0] == "--drawn":
+        drawn, words = words[1:3], words[3:]
     if words[0] == "--leave":
         left_out, words = words[1], words[2:]
+    if words[0] == "--openings":
+        openings, words = words[1], words[2:]
     split = words.index("--")
     program, library, base, given, out, part = words[:split]
     part, parts = (int(it) for it in part.split("/"))
-    Replay(program, library, base, given, out, part, parts).play(words[split + 1 :], left_out)
+    replay = Replay(program, library, base, given, out, part, parts)
+    replay.is_planted = left_out is not None or openings is not None
+    if openings is not None:
+        replay.of_openings = {"BLKCACHE_ERASE": openings}
+    if drawn is not None:
+        replay.drawn = 0 if drawn[0] == "edges" else int(drawn[0])
+        replay.random = random.Random(drawn[1])
+    replay.play(words[split + 1 :], left_out)
 
 
 main()
