@@ -15,6 +15,7 @@ use Rattle.blk_script.specs.Reply.{reply_text}
 use Rattle.law_state.specs.Commands.{ForKept}
 use Rattle.law_state.specs.OneCallLaws.{Names}
 use Rattle.blk_cache.specs.declared.cache.Cache.{Cache}
+use Rattle.blk_cache.specs.declared.read_printing.ReadRange.{ReadRange}
 use Rattle.blk_cache.specs.Asking.{stream_refusal}
 use Rattle.blk_cache.specs.CacheKeeping.{KeepsState}
 use Rattle.blk_cache.specs.Reading.{bytes_there}
@@ -36,6 +37,14 @@ pub record KeepsToRead (cache : Cache) (handle stream offset number : ℕ) (imag
   pub names : Names state handle n object
   pub passes : stream_refusal state handle stream ≡ None
   pub number_is : number ≡ bytes_there (length (stream_of object stream)) offset count
+
+-- P holds of the printed reply of a Read with this range
+abbrev pub ForRange : Cache → Told → ReadRange → (List ℕ → Type 0) → Type 0
+ForRange cache told range P = ForRead cache told range.handle range.stream range.offset range.number P
+
+-- the cache keeps some state in which the bytes of this range are there to be read
+abbrev pub KeepsRange : Cache → ReadRange → Image → Type 0
+KeepsRange cache range image = KeepsToRead cache range.handle range.stream range.offset range.number image
 
 -- an object may have a stream of this number, and the range doesn't go beyond the values of a u64
 abbrev pub can_be_read : (stream offset number : ℕ) → Bool

@@ -14,6 +14,7 @@ use Rattle.blk_model.specs.declared.Refusal.TheVariants as refusal
 use Rattle.spec_folder.specs.Layout.{Layout}
 use Rattle.blk_disk.specs.declared.tables.BlockFiles.{BlockFiles}
 use Rattle.blk_disk.specs.Tables.{is_node_among, is_record_among}
+use Rattle.blk_handles.specs.Bindings.{Bindings}
 use Rattle.blk_sparse.specs.declared.children.Parent.{Parent}
 use Rattle.blk_sparse.specs.declared.measuring.Measured.{Measured}
 use Rattle.blk_sparse.specs.declared.storing.Target.{Target}
@@ -25,10 +26,17 @@ use Rattle.blk_cache.specs.declared.sparse_asking.PlainObject.{PlainObject}
 use Rattle.blk_cache.specs.declared.sparse_rise.Rise.{Rise}
 use Rattle.blk_cache.specs.declared.sparse_target.AskedTarget.{AskedTarget}
 use Rattle.blk_cache.specs.declared.sparse_target.AskedTarget.TheVariants as target
+use Rattle.blk_cache.specs.declared.sparse_writing.SparseRequest.{SparseRequest}
 use Rattle.blk_cache.specs.CacheKeeping.{KeepsState}
 use Rattle.blk_cache.specs.Covering.{AreCovered}
-use Rattle.blk_cache.specs.SparseAsking.{IsRangeInside, IsLiveNamed, sparse_refusal}
+use Rattle.blk_cache.specs.SparseAsking.{IsRangeInside, IsLiveNamed, early_sparse_refusal, sparse_refusal}
 use Rattle.blk_cache.specs.SparseWriting.{IsRaisedBy, IsSignedBy, covered_of, index_charge}
+
+-- The request.
+
+-- the refusal of a SparseWrite that needs no read of the folder
+abbrev pub early_store_refusal : Bindings → SparseRequest → Option Refusal
+early_store_refusal bindings request = early_sparse_refusal bindings request.handle request.offset (length request.bytes.now)
 
 -- The object.
 
@@ -61,6 +69,10 @@ IsAskedTarget state layout moment handle offset bytes (target.Found found) = IsT
 -- in each state that the cache keeps, the handle names the object that the target tells
 abbrev pub NamesTarget : Cache → Told → (moment handle offset count : ℕ) → Target → Type 0
 NamesTarget cache told moment handle offset count found = ForSome told.files (λ image. (state : State) (kept : KeepsState cache state image) → IsTargetNamed state kept.layout moment handle offset count found)
+
+-- in each state that the cache keeps, the handle of the request names the object that the target tells
+abbrev pub NamesTargetFor : Cache → Told → SparseRequest → Target → Type 0
+NamesTargetFor cache told request found = NamesTarget cache told request.moment request.handle request.offset (length request.bytes.now) found
 
 -- Clauses that hold of an opaque folder too.
 
@@ -98,3 +110,11 @@ AsksToStore cache told moment handle offset bytes found rise = ForSome told.file
 -- in each state that the cache keeps, the handle names an object that may get the bytes, `rise` is what they add, and the SparseWrite isn't refused
 abbrev pub HasRoomToStore : Cache → Told → (moment handle offset : ℕ) → List ℕ → Target → Rise → Type 0
 HasRoomToStore cache told moment handle offset bytes found rise = ForSome told.files (λ image. (state : State) (kept : KeepsState cache state image) → IsToStore state kept.layout moment handle offset bytes found rise × (refused moment (to_sparse_write handle offset bytes) state ≡ None))
+
+-- in each state that the cache keeps, the handle of the request names an object that may get its bytes, and `rise` is what they add
+abbrev pub AsksToStoreFor : Cache → Told → SparseRequest → Target → Rise → Type 0
+AsksToStoreFor cache told request found rise = AsksToStore cache told request.moment request.handle request.offset request.bytes.now found rise
+
+-- and the request isn't refused
+abbrev pub HasRoomToStoreFor : Cache → Told → SparseRequest → Target → Rise → Type 0
+HasRoomToStoreFor cache told request found rise = HasRoomToStore cache told request.moment request.handle request.offset request.bytes.now found rise

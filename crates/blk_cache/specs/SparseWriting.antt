@@ -5,7 +5,7 @@ use Rattle.spec_image.specs.Image.{Image}
 use Rattle.blk_model.specs.Effects.{effect}
 use Rattle.blk_model.specs.Items.{part, plain, sparse}
 use Rattle.blk_model.specs.Refusals.{refused}
-use Rattle.blk_model.specs.Request.{to_sparse_write}
+use Rattle.blk_model.specs.Request.{Request, to_sparse_write}
 use Rattle.blk_model.specs.Room.{items, total}
 use Rattle.blk_model.specs.Sizes.{most_items, part_size, parts_index_charge, signatures}
 use Rattle.blk_model.specs.Sparse.{covered_parts}
@@ -20,9 +20,16 @@ use Rattle.blk_sparse.specs.SparseObjects.{with_signature}
 use Rattle.blk_sparse.specs.SparseWrites.{signature_to, sparse_state}
 use Rattle.blk_cache.specs.declared.cache.Cache.{Cache}
 use Rattle.blk_cache.specs.declared.covered.Covered.{Covered}
+use Rattle.blk_cache.specs.declared.sparse_writing.SparseRequest.{SparseRequest}
 use Rattle.blk_cache.specs.CacheKeeping.{KeepsState}
 use Rattle.blk_cache.specs.Covering.{AreCovered}
 use Rattle.blk_cache.specs.Creating.{sum_within}
+
+-- The request.
+
+-- the SparseWrite of the model
+abbrev pub sparse_write_of : SparseRequest → Request
+sparse_write_of request = to_sparse_write request.handle request.offset request.bytes.now
 
 -- The object.
 
@@ -59,6 +66,10 @@ pub record KeepsToStore (cache : Cache) (handle offset : ℕ) (bytes : List ℕ)
   pub state : State
   pub kept : KeepsState cache state image
   pub can : CanStore state handle offset bytes target more_bytes more_items
+
+-- the cache keeps some state whose object may get the bytes of the request
+abbrev pub KeepsToStoreFor : Cache → SparseRequest → Target → (more_bytes more_items : ℕ) → Image → Type 0
+KeepsToStoreFor cache request target more_bytes more_items image = KeepsToStore cache request.handle request.offset request.bytes.now target more_bytes more_items image
 
 -- Counters.
 
@@ -101,6 +112,14 @@ pub record IsReadyToStoreSome (cache : Cache) (handle offset : ℕ) (bytes : Lis
   pub state : State
   pub moment : ℕ
   pub ready : IsReadyToStore cache state moment handle offset bytes target more_bytes more_items image
+
+-- all evictions of this SparseWrite of `state` are done
+abbrev pub IsReadyToStoreFor : Cache → State → SparseRequest → Target → (more_bytes more_items : ℕ) → Image → Type 0
+IsReadyToStoreFor cache state request target more_bytes more_items image = IsReadyToStore cache state request.moment request.handle request.offset request.bytes.now target more_bytes more_items image
+
+-- the cache is ready for this SparseWrite, of some state at some moment
+abbrev pub IsReadyToStoreForSome : Cache → SparseRequest → Target → (more_bytes more_items : ℕ) → Image → Type 0
+IsReadyToStoreForSome cache request target more_bytes more_items image = IsReadyToStoreSome cache request.handle request.offset request.bytes.now target more_bytes more_items image
 
 -- Before space is made.
 

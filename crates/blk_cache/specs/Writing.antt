@@ -6,7 +6,7 @@ use Rattle.spec_image.specs.Image.{Image}
 use Rattle.blk_model.specs.Effects.{stream_after, stream_of, written}
 use Rattle.blk_model.specs.Items.{is_sparse, main}
 use Rattle.blk_model.specs.Refusals.{first_refusal, no_room, no_stream, refused}
-use Rattle.blk_model.specs.Request.{to_write}
+use Rattle.blk_model.specs.Request.{Request, to_write}
 use Rattle.blk_model.specs.Room.{total}
 use Rattle.blk_model.specs.Sizes.{longest_stream}
 use Rattle.blk_model.specs.State.{IsValidState, Object, State, object_at}
@@ -24,9 +24,16 @@ use Rattle.blk_cache.specs.declared.asking.Asked.{Asked}
 use Rattle.blk_cache.specs.declared.asking.Asked.TheVariants as asked
 use Rattle.blk_cache.specs.declared.asking.NamedStream.{NamedStream}
 use Rattle.blk_cache.specs.declared.cache.Cache.{Cache}
+use Rattle.blk_cache.specs.declared.write.WriteRequest.{WriteRequest}
 use Rattle.blk_cache.specs.Asking.{IsNamedStream}
 use Rattle.blk_cache.specs.CacheKeeping.{KeepsState}
 use Rattle.blk_cache.specs.Creating.{sum_within}
+
+-- The request.
+
+-- the Write of the model
+abbrev pub write_of : WriteRequest → Request
+write_of request = to_write request.handle request.stream request.offset request.cut request.bytes.now
 
 -- Refusals.
 
@@ -34,6 +41,10 @@ use Rattle.blk_cache.specs.Creating.{sum_within}
 abbrev pub early_write_refusal : Cache → (handle stream offset count : ℕ) → Option Refusal
 early_write_refusal cache handle stream offset count =
     first_refusal ((is_none (binding_of cache.handles handle), refusal.BadHandle) ∷ (no_stream stream, refusal.BadStream) ∷ (nat_lt (longest_stream cache.limits.max_bytes) (offset + count), refusal.TooLarge) ∷ [])
+
+-- the refusal of this Write that needs no read of the folder
+abbrev pub early_refusal : Cache → WriteRequest → Option Refusal
+early_refusal cache request = early_write_refusal cache request.handle request.stream request.offset (length request.bytes.now)
 
 -- the stream of an object that the handle names was found, and the Write is refused only if there is no space
 pub record MayBeWritten (state : State) (layout : Layout) (moment handle stream offset : ℕ) (cut : Bool) (bytes : List ℕ) (found : NamedStream) : Type 0 where
@@ -68,7 +79,19 @@ pub record IsReadyToWriteSome (cache : Cache) (handle stream offset : ℕ) (cut 
   pub moment : ℕ
   pub ready : IsReadyToWrite cache state moment handle stream offset cut bytes size image
 
+-- all evictions of this Write of `state` are done
+abbrev pub IsReadyToWriteFor : Cache → State → WriteRequest → (size : ℕ) → Image → Type 0
+IsReadyToWriteFor cache state request size image = IsReadyToWrite cache state request.moment request.handle request.stream request.offset request.cut request.bytes.now size image
+
+-- the cache is ready for this Write, of some state at some moment
+abbrev pub IsReadyToWriteForSome : Cache → WriteRequest → (size : ℕ) → Image → Type 0
+IsReadyToWriteForSome cache request size image = IsReadyToWriteSome cache request.handle request.stream request.offset request.cut request.bytes.now size image
+
 -- The change.
+
+-- a state with the bytes of this Write
+abbrev pub state_written : WriteRequest → State → State
+state_written request state = written request.handle request.stream request.offset request.cut request.bytes.now state
 
 -- the handle names a dirty object whose stream of `size` bytes may get the bytes: if it gets longer, the sum of costs is within the limit afterwards
 pub record CanGetBytes (state : State) (handle stream offset : ℕ) (cut : Bool) (bytes : List ℕ) (size : ℕ) : Type 0 where
@@ -85,6 +108,14 @@ pub record KeepsToWrite (cache : Cache) (handle stream offset : ℕ) (cut : Bool
   pub state : State
   pub kept : KeepsState cache state image
   pub can : CanGetBytes state handle stream offset cut bytes size
+
+-- the handle of this Write names a dirty object whose stream of `size` bytes may get its bytes
+abbrev pub CanGetFor : State → WriteRequest → (size : ℕ) → Type 0
+CanGetFor state request size = CanGetBytes state request.handle request.stream request.offset request.cut request.bytes.now size
+
+-- the cache keeps some state whose object may get the bytes of this Write
+abbrev pub KeepsToWriteFor : Cache → WriteRequest → (size : ℕ) → Image → Type 0
+KeepsToWriteFor cache request size image = KeepsToWrite cache request.handle request.stream request.offset request.cut request.bytes.now size image
 
 -- The access.
 

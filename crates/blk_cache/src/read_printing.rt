@@ -1,11 +1,11 @@
 // The bytes of a Read are printed.
-ghost use Rattle.std.specs.Prelude.{◌≡◌, ◌<◌, None, OnOk};
+ghost use Rattle.std.specs.Prelude.{◌≡◌, ◌<◌, ◌^◌, None, OnOk};
 ghost use Rattle.std.specs.Option.{ForSome};
 ghost use Rattle.spec_image.specs.Told.{ReadsOnly};
 ghost use Rattle.blk_io.specs.Faults.{IfDamaged, IfDevice};
 ghost use Rattle.blk_io.specs.Streams.{GoesOn};
 ghost use Rattle.blk_object.specs.FailedChecks.{IsFailedCheck};
-ghost use Rattle.blk_cache.specs.ReadPrinting.{ForRead, KeepsToRead, can_be_read};
+ghost use Rattle.blk_cache.specs.ReadPrinting.{ForRange, KeepsRange, can_be_read};
 ghost use Rattle.blk_evict.specs.RoomPrinting.{FailsWhereItRose, PrintsUnlessFailed, PrintsInPart};
 
 use crate::asking::STREAMS;
@@ -13,9 +13,18 @@ use crate::cache::Cache;
 use blk_io::{Fault, Folder, Sink};
 use blk_print::{StreamRange, print_range};
 
+/// What a Read gives: so many bytes from an offset on, of a stream of the object that a handle names.
+#[derive(Clone, Copy)]
+pub(crate) struct ReadRange {
+    pub(crate) handle: u16,
+    pub(crate) stream: u8,
+    pub(crate) offset: u64,
+    pub(crate) number: u64,
+}
+
 impl Cache {
-    /// Prints the line of a Read that was used: the number of bytes that there are from `offset` on, which its answer told,
-    /// and then the bytes.
+    /// Prints the line of a Read that was used: the number of bytes that there are from the offset on, which its answer
+    /// told, and then the bytes.
     ///
     /// Two folder calls are made for each 4096 bytes. Nothing is written. Where the handle names no object, or no stream
     /// has that number, nothing is printed. After a fault a prefix of the line is printed.
@@ -24,40 +33,38 @@ impl Cache {
         folder: &mut F,
         out: &mut K,
         failed: &mut bool,
-        handle: u16,
-        stream: u8,
-        offset: u64,
-        number: u64,
+        range: ReadRange,
     ) -> Result<(), Fault>
-        ensures printed { OnOk result (ForRead self.now (F.told folder.old) handle stream offset number (PrintsUnlessFailed failed.old failed.new (K.written out.old) (K.written out.new))) }
-        ensures part { ForRead self.now (F.told folder.old) handle stream offset number (PrintsInPart failed.old (K.written out.old) (K.written out.new)) }
+        ensures printed { OnOk result (ForRange self.now (F.told folder.old) range (PrintsUnlessFailed failed.old failed.new (K.written out.old) (K.written out.new))) }
+        ensures part { ForRange self.now (F.told folder.old) range (PrintsInPart failed.old (K.written out.old) (K.written out.new)) }
         ensures failed { FailsWhereItRose failed.old failed.new (K.faults out.old) (K.faults out.new) }
         ensures reads { ReadsOnly F.told F.faults folder.old folder.new (IfDevice result) }
 
         // An observable folder reports no corruption where the cache keeps a state with so many bytes.
         ensures damaged { IfDamaged result (IsFailedCheck self.now.files (F.told folder.new)) }
-        ensures untold { ForSome (F.told folder.old).files (KeepsToRead self.now handle stream offset number) → IfDamaged result (λ _. (F.told folder.old).files ≡ None) }
+        ensures untold { ForSome (F.told folder.old).files (KeepsRange self.now range) → IfDamaged result (λ _. (F.told folder.old).files ≡ None) }
         ensures later_out { GoesOn K.is K.faults out.old out.new }
     {
-        let Some(object) = self.handles.object(handle) else {
+        let Some(object) = self.handles.object(range.handle) else {
             return Ok(());
         };
-        if !can_be_read(stream, offset, number) {
+        if !can_be_read(range.stream, range.offset, range.number) {
             return Ok(());
         }
-        let range = StreamRange {
+        let its_stream = StreamRange {
             entry: object.entry,
-            stream,
-            offset,
-            count: number,
+            stream: range.stream,
+            offset: range.offset,
+            count: range.number,
         };
-        print_range(folder, &self.files, out, failed, &range)
+        print_range(folder, &self.files, out, failed, &its_stream)
     }
 }
 
 // Whether an object has a stream with this number, and so many bytes from an offset on end where a u64 can tell.
 fn can_be_read(stream: u8, offset: u64, number: u64) -> bool
-    ensures { result ≡ can_be_read stream offset number }
+    ensures is { result ≡ can_be_read stream offset number }
+    ensures few { offset < 2 ^ 64 }
 {
     stream < STREAMS && offset.checked_add(number).is_some()
 }

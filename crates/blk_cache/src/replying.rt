@@ -15,6 +15,7 @@ ghost use Rattle.blk_evict.specs.RoomPrinting.{FailsWhereItRose, PrintsUnlessFai
 ghost use Rattle.blk_cache.specs.Replying.{ForBytes, ForReply, ForRows, KeepsAfter};
 
 use crate::cache::Cache;
+use crate::read_printing::ReadRange;
 use blk_io::{Fault, Folder, Sink};
 use blk_model::{Answer, Command};
 use blk_script::print_reply;
@@ -79,7 +80,15 @@ impl Cache {
                 stream,
                 offset,
                 ..
-            } => self.print_read(folder, out, failed, handle, stream, offset, number),
+            } => {
+                let range = ReadRange {
+                    handle,
+                    stream,
+                    offset,
+                    number,
+                };
+                self.print_read(folder, out, failed, range)
+            }
             Command::SparseRead { handle, offset, .. } => {
                 self.print_sparse(folder, out, failed, handle, offset, number)
             }

@@ -4,7 +4,6 @@ ghost use Rattle.std.specs.Option.{ForSome};
 ghost use Rattle.spec_image.specs.Told.{Passes, MayWrite};
 ghost use Rattle.blk_io.specs.Faults.{IfDamaged, IfDevice};
 ghost use Rattle.blk_model.specs.Holding.{rest};
-ghost use Rattle.blk_model.specs.Request.{to_sparse_write};
 ghost use Rattle.blk_model.specs.Sizes.{largest_offset, part_size, signatures};
 ghost use Rattle.blk_model.specs.State.{State};
 ghost use Rattle.blk_model.specs.declared.Answer.TheVariants as answer;
@@ -15,9 +14,10 @@ ghost use Rattle.law_state.specs.Commands.{IsDone, MayStop};
 ghost use Rattle.blk_object.specs.FailedChecks.{IsFailedCheck};
 ghost use Rattle.blk_sparse.specs.SparseWrites.{signature_to, sparse_state};
 ghost use Rattle.blk_cache.specs.CacheKeeping.{KeepsState};
-ghost use Rattle.blk_cache.specs.SparseWriting.{CanStore, CountsParts, IsReadyToStore, IsReadyToStoreSome, KeepsToStore, own_target};
+ghost use Rattle.blk_cache.specs.SparseWriting.{CanStore, CountsParts, IsReadyToStoreFor, IsReadyToStoreForSome, KeepsToStoreFor, own_target, sparse_write_of};
 
 use crate::cache::Cache;
+use crate::sparse_writing::SparseRequest;
 use blk_handles::OpenObject;
 use blk_io::{Fault, Folder};
 use blk_model::Answer;
@@ -32,73 +32,65 @@ impl Cache {
     pub(crate) fn end_sparse_write<F: Folder>(
         &mut self,
         folder: &mut F,
-        handle: u16,
+        request: &SparseRequest,
         target: &Target,
-        offset: u64,
-        bytes: &[u8],
         more_bytes: u64,
         more_items: u64,
-        moment: u64,
     ) -> Result<Answer, Fault>
-        requires bound { IsSome (binding_of self.old.handles handle) }
+        requires bound { IsSome (binding_of self.old.handles request.now.handle) }
         requires signature { signature_to target.now < signatures }
-        requires some { 1 ≤ length bytes.now }
-        requires few { length bytes.now ≤ part_size }
-        requires inside { offset + length bytes.now ≤ largest_offset }
+        requires some { 1 ≤ length request.now.bytes.now }
+        requires few { length request.now.bytes.now ≤ part_size }
+        requires inside { request.now.offset + length request.now.bytes.now ≤ largest_offset }
         requires is_open { ForSome (F.told folder.old).files (IsOpen self.old.files) }
 
         // The SparseWrite is done, whatever state it began with, and after each single write the folder is as a crash in it may leave it.
-        ensures does { IfOk result (λ answer. ForSome (F.told folder.old).files (λ from. (state : State) → IsReadyToStore self.old state moment handle offset bytes.now target.now more_bytes more_items from → IsDone (KeepsState self.new) (F.told folder.new) moment (to_sparse_write handle offset bytes.now) answer state)) }
-        ensures stops { ForSome (F.told folder.old).files (λ from. (state : State) → IsReadyToStore self.old state moment handle offset bytes.now target.now more_bytes more_items from → Passes (F.told folder.old) (F.told folder.new) (MayStop state moment (to_sparse_write handle offset bytes.now))) }
+        ensures does { IfOk result (λ answer. ForSome (F.told folder.old).files (λ from. (state : State) → IsReadyToStoreFor self.old state request.now target.now more_bytes more_items from → IsDone (KeepsState self.new) (F.told folder.new) request.now.moment (sparse_write_of request.now) answer state)) }
+        ensures stops { ForSome (F.told folder.old).files (λ from. (state : State) → IsReadyToStoreFor self.old state request.now target.now more_bytes more_items from → Passes (F.told folder.old) (F.told folder.new) (MayStop state request.now.moment (sparse_write_of request.now))) }
 
-        ensures wrote { IfOk result (λ given. given ≡ answer.Wrote (length bytes.now)) }
+        ensures wrote { IfOk result (λ given. given ≡ answer.Wrote (length request.now.bytes.now)) }
         ensures notes { self.new.notes ≡ self.old.notes }
         ensures mark { self.new.mark ≡ self.old.mark }
         ensures is_open { OnOk result (ForSome (F.told folder.new).files (IsOpen self.new.files)) }
         ensures damaged { IfDamaged result (IsFailedCheck self.new.files (F.told folder.new)) }
-        ensures untold { ForSome (F.told folder.old).files (IsReadyToStoreSome self.old handle offset bytes.now target.now more_bytes more_items) → IfDamaged result (λ _. (F.told folder.old).files ≡ None) }
+        ensures untold { ForSome (F.told folder.old).files (IsReadyToStoreForSome self.old request.now target.now more_bytes more_items) → IfDamaged result (λ _. (F.told folder.old).files ≡ None) }
         ensures writes { MayWrite F.told F.faults folder.old folder.new (IfDevice result) }
     {
-        self.set_dirty(folder, handle, true)?;
-        self.store_to_dirty(
-            folder, handle, target, offset, bytes, more_bytes, more_items, moment,
-        )?;
-        Ok(Answer::Wrote(bytes.len() as u64))
+        self.set_dirty(folder, request.handle, true)?;
+        self.store_to_dirty(folder, request, target, more_bytes, more_items)?;
+        Ok(Answer::Wrote(request.bytes.len() as u64))
     }
 
     // Writes sparse data to a dirty object, and counts what is added in the index.
     fn store_to_dirty<F: Folder>(
         &mut self,
         folder: &mut F,
-        handle: u16,
+        request: &SparseRequest,
         target: &Target,
-        offset: u64,
-        bytes: &[u8],
         more_bytes: u64,
         more_items: u64,
-        moment: u64,
     ) -> Result<(), Fault>
-        requires bound { IsSome (binding_of self.old.handles handle) }
+        requires bound { IsSome (binding_of self.old.handles request.now.handle) }
         requires signature { signature_to target.now < signatures }
-        requires some { 1 ≤ length bytes.now }
-        requires few { length bytes.now ≤ part_size }
-        requires inside { offset + length bytes.now ≤ largest_offset }
+        requires some { 1 ≤ length request.now.bytes.now }
+        requires few { length request.now.bytes.now ≤ part_size }
+        requires inside { request.now.offset + length request.now.bytes.now ≤ largest_offset }
         requires is_open { ForSome (F.told folder.old).files (IsOpen self.old.files) }
 
         // In the end each state that was kept, whose object can get them, is kept with them, and with its items in front.
-        ensures stored { OnOk result (ForSome (F.told folder.old).files (λ from. (state : State) → KeepsState self.old state from → (can : CanStore state handle offset bytes.now target.now more_bytes more_items) → ForSome (F.told folder.new).files (KeepsState self.new (sparse_state state can.number can.object (signature_to target.now) offset bytes.now)))) }
+        ensures stored { OnOk result (ForSome (F.told folder.old).files (λ from. (state : State) → KeepsState self.old state from → (can : CanStore state request.now.handle request.now.offset request.now.bytes.now target.now more_bytes more_items) → ForSome (F.told folder.new).files (KeepsState self.new (sparse_state state can.number can.object (signature_to target.now) request.now.offset request.now.bytes.now)))) }
 
         // At each word the old durable contents are recovered.
-        ensures stops { ForSome (F.told folder.old).files (λ from. (state : State) → KeepsState self.old state from → CanStore state handle offset bytes.now target.now more_bytes more_items → Passes (F.told folder.old) (F.told folder.new) (Finds (rest state))) }
+        ensures stops { ForSome (F.told folder.old).files (λ from. (state : State) → KeepsState self.old state from → CanStore state request.now.handle request.now.offset request.now.bytes.now target.now more_bytes more_items → Passes (F.told folder.old) (F.told folder.new) (Finds (rest state))) }
 
         ensures notes { self.new.notes ≡ self.old.notes }
         ensures mark { self.new.mark ≡ self.old.mark }
         ensures is_open { OnOk result (ForSome (F.told folder.new).files (IsOpen self.new.files)) }
         ensures damaged { IfDamaged result (IsFailedCheck self.new.files (F.told folder.new)) }
-        ensures untold { ForSome (F.told folder.old).files (KeepsToStore self.old handle offset bytes.now target.now more_bytes more_items) → IfDamaged result (λ _. (F.told folder.old).files ≡ None) }
+        ensures untold { ForSome (F.told folder.old).files (KeepsToStoreFor self.old request.now target.now more_bytes more_items) → IfDamaged result (λ _. (F.told folder.old).files ≡ None) }
         ensures writes { MayWrite F.told F.faults folder.old folder.new (IfDevice result) }
     {
-        let Some(object) = self.handles.object(handle) else {
+        let Some(object) = self.handles.object(request.handle) else {
             unreachable!();
         };
         let own = own_target(&object, target);
@@ -107,11 +99,11 @@ impl Cache {
             &mut self.files,
             &own,
             &mut self.name,
-            offset,
-            bytes,
+            request.offset,
+            request.bytes,
             more_items,
             more_bytes,
-            moment,
+            request.moment,
         )?;
         self.count_parts(target, more_bytes, more_items);
         Ok(())

@@ -16,8 +16,8 @@ ghost use Rattle.blk_sparse.specs.SparseWrites.{signature_to};
 ghost use Rattle.blk_cache.specs.CacheKeeping.{KeepsState};
 ghost use Rattle.blk_cache.specs.CommandClauses.{IsRefused, KeepsAny};
 ghost use Rattle.blk_cache.specs.Listing.{OnlyRoomChanges};
-ghost use Rattle.blk_cache.specs.SparseAsking.{early_sparse_refusal};
-ghost use Rattle.blk_cache.specs.SparseTargets.{AsksToStore, HasRoomToStore, NamesTarget};
+ghost use Rattle.blk_cache.specs.SparseTargets.{AsksToStoreFor, HasRoomToStoreFor, NamesTargetFor, NamesTarget, early_store_refusal};
+ghost use Rattle.blk_cache.specs.SparseWriting.{sparse_write_of};
 ghost use Rattle.blk_evict.specs.RoomPrinting.{FailsWhereItRose};
 ghost use Rattle.blk_cache.specs.Stepping.{SaysEvicted, SaysPrefix};
 
@@ -28,6 +28,16 @@ use blk_io::{Fault, Folder, Sink};
 use blk_lru::touch;
 use blk_model::{Answer, Refusal};
 use blk_sparse::Target;
+
+/// A SparseWrite: bytes of sparse data for the object that a handle names, from an offset on, and the moment at which it is
+/// done.
+#[derive(Clone, Copy)]
+pub(crate) struct SparseRequest<'a> {
+    pub(crate) handle: u16,
+    pub(crate) offset: u64,
+    pub(crate) bytes: &'a [u8],
+    pub(crate) moment: u64,
+}
 
 impl Cache {
     /// Writes some bytes of sparse data to the object that a handle names, from an offset on. Space for what is added is
@@ -45,23 +55,20 @@ impl Cache {
         folder: &mut F,
         out: &mut K,
         failed: &mut bool,
-        handle: u16,
-        offset: u64,
-        bytes: &[u8],
-        moment: u64,
+        request: &SparseRequest,
     ) -> Result<Answer, Fault>
         requires is_open { ForSome (F.told folder.old).files (IsOpen self.old.files) }
-        ensures does { IfOk result (λ answer. Does (KeepsState self.old) (KeepsState self.new) (F.told folder.old) (F.told folder.new) moment (to_sparse_write handle offset bytes.now) answer) }
-        ensures stops { MayStopAtEach (KeepsState self.old) (F.told folder.old) (F.told folder.new) moment (to_sparse_write handle offset bytes.now) }
+        ensures does { IfOk result (λ answer. Does (KeepsState self.old) (KeepsState self.new) (F.told folder.old) (F.told folder.new) request.now.moment (sparse_write_of request.now) answer) }
+        ensures stops { MayStopAtEach (KeepsState self.old) (F.told folder.old) (F.told folder.new) request.now.moment (sparse_write_of request.now) }
 
         // What it evicts is printed, and on any answer a prefix of that.
-        ensures says { OnOk result (SaysEvicted self.old (F.told folder.old) moment (to_sparse_write handle offset bytes.now) failed.old failed.new (K.written out.old) (K.written out.new)) }
-        ensures front { SaysPrefix self.old (F.told folder.old) moment (to_sparse_write handle offset bytes.now) (K.written out.old) (K.written out.new) }
+        ensures says { OnOk result (SaysEvicted self.old (F.told folder.old) request.now.moment (sparse_write_of request.now) failed.old failed.new (K.written out.old) (K.written out.new)) }
+        ensures front { SaysPrefix self.old (F.told folder.old) request.now.moment (sparse_write_of request.now) (K.written out.old) (K.written out.new) }
         ensures fails { FailsWhereItRose failed.old failed.new (K.faults out.old) (K.faults out.new) }
 
         // A refusal that the handles and the range alone decide is given on every folder, and a refusal does nothing, but to the buffers for
         // names.
-        ensures refuses { IfSome (early_sparse_refusal self.old.handles handle offset (length bytes.now)) (λ why. result ≡ Ok (answer.Refused why)) }
+        ensures refuses { IfSome (early_store_refusal self.old.handles request.now) (λ why. result ≡ Ok (answer.Refused why)) }
         ensures quiet { IfOk result (λ answer. IsRefused answer → Stays (F.told folder.old) (F.told folder.new)) }
         ensures unchanged { IfOk result (λ answer. IsRefused answer → OnlyRoomChanges self.old self.new) }
 
@@ -75,12 +82,18 @@ impl Cache {
         ensures writes { MayWrite F.told F.faults folder.old folder.new (IfDevice result) }
         ensures sink_later { GoesOn K.is K.faults out.old out.new }
     {
-        let asked = self.ask_target(folder, handle, offset, bytes, moment)?;
+        let asked = self.ask_target(
+            folder,
+            request.handle,
+            request.offset,
+            request.bytes,
+            request.moment,
+        )?;
         match asked {
             AskedTarget::Refused(why) => Ok(Answer::Refused(why)),
-            AskedTarget::Found(target) => self.write_target(
-                folder, out, failed, handle, &target, offset, bytes, moment,
-            ),
+            AskedTarget::Found(target) => {
+                self.write_target(folder, out, failed, request, &target)
+            }
         }
     }
 
@@ -90,27 +103,24 @@ impl Cache {
         folder: &mut F,
         out: &mut K,
         failed: &mut bool,
-        handle: u16,
+        request: &SparseRequest,
         target: &Target,
-        offset: u64,
-        bytes: &[u8],
-        moment: u64,
     ) -> Result<Answer, Fault>
-        requires bound { IsSome (binding_of self.old.handles handle) }
+        requires bound { IsSome (binding_of self.old.handles request.now.handle) }
         requires stands { IsTrue (is_node_among self.old.files target.now.parent.node) }
         requires names { IsTrue (is_record_among self.old.files target.now.parent.entry) }
         requires signature { signature_to target.now < signatures }
-        requires few { length bytes.now ≤ part_size }
-        requires inside { offset + length bytes.now ≤ largest_offset }
+        requires few { length request.now.bytes.now ≤ part_size }
+        requires inside { request.now.offset + length request.now.bytes.now ≤ largest_offset }
         requires is_open { ForSome (F.told folder.old).files (IsOpen self.old.files) }
 
         // The SparseWrite is done as in the model, and after each single write the folder is as a crash in it may leave it.
-        ensures does { NamesTarget self.old (F.told folder.old) moment handle offset (length bytes.now) target.now → IfOk result (λ answer. Does (KeepsState self.old) (KeepsState self.new) (F.told folder.old) (F.told folder.new) moment (to_sparse_write handle offset bytes.now) answer) }
-        ensures stops { NamesTarget self.old (F.told folder.old) moment handle offset (length bytes.now) target.now → MayStopAtEach (KeepsState self.old) (F.told folder.old) (F.told folder.new) moment (to_sparse_write handle offset bytes.now) }
+        ensures does { NamesTargetFor self.old (F.told folder.old) request.now target.now → IfOk result (λ answer. Does (KeepsState self.old) (KeepsState self.new) (F.told folder.old) (F.told folder.new) request.now.moment (sparse_write_of request.now) answer) }
+        ensures stops { NamesTargetFor self.old (F.told folder.old) request.now target.now → MayStopAtEach (KeepsState self.old) (F.told folder.old) (F.told folder.new) request.now.moment (sparse_write_of request.now) }
 
         // What it evicts is printed, and on any answer a prefix of that.
-        ensures says { NamesTarget self.old (F.told folder.old) moment handle offset (length bytes.now) target.now → OnOk result (SaysEvicted self.old (F.told folder.old) moment (to_sparse_write handle offset bytes.now) failed.old failed.new (K.written out.old) (K.written out.new)) }
-        ensures front { NamesTarget self.old (F.told folder.old) moment handle offset (length bytes.now) target.now → SaysPrefix self.old (F.told folder.old) moment (to_sparse_write handle offset bytes.now) (K.written out.old) (K.written out.new) }
+        ensures says { NamesTargetFor self.old (F.told folder.old) request.now target.now → OnOk result (SaysEvicted self.old (F.told folder.old) request.now.moment (sparse_write_of request.now) failed.old failed.new (K.written out.old) (K.written out.new)) }
+        ensures front { NamesTargetFor self.old (F.told folder.old) request.now target.now → SaysPrefix self.old (F.told folder.old) request.now.moment (sparse_write_of request.now) (K.written out.old) (K.written out.new) }
         ensures fails { FailsWhereItRose failed.old failed.new (K.faults out.old) (K.faults out.new) }
 
         // A refusal does nothing, but to the buffers for names.
@@ -121,14 +131,14 @@ impl Cache {
         ensures notes { self.new.notes ≡ self.old.notes }
         ensures mark { self.new.mark ≡ self.old.mark }
         ensures damaged { IfDamaged result (IsFailedCheck self.new.files (F.told folder.new)) }
-        ensures untold { NamesTarget self.old (F.told folder.old) moment handle offset (length bytes.now) target.now → ForSome (F.told folder.old).files (KeepsAny self.old) → IfDamaged result (λ _. (F.told folder.old).files ≡ None) }
+        ensures untold { NamesTargetFor self.old (F.told folder.old) request.now target.now → ForSome (F.told folder.old).files (KeepsAny self.old) → IfDamaged result (λ _. (F.told folder.old).files ≡ None) }
         ensures writes { MayWrite F.told F.faults folder.old folder.new (IfDevice result) }
         ensures sink_later { GoesOn K.is K.faults out.old out.new }
     {
-        if bytes.is_empty() {
-            return self.use_target(folder, target, moment);
+        if request.bytes.is_empty() {
+            return self.use_target(folder, target, request.moment);
         }
-        self.write_some(folder, out, failed, handle, target, offset, bytes, moment)
+        self.write_some(folder, out, failed, request, target)
     }
 
     // Writes some bytes of sparse data to an object that may get them.
@@ -137,28 +147,25 @@ impl Cache {
         folder: &mut F,
         out: &mut K,
         failed: &mut bool,
-        handle: u16,
+        request: &SparseRequest,
         target: &Target,
-        offset: u64,
-        bytes: &[u8],
-        moment: u64,
     ) -> Result<Answer, Fault>
-        requires bound { IsSome (binding_of self.old.handles handle) }
+        requires bound { IsSome (binding_of self.old.handles request.now.handle) }
         requires stands { IsTrue (is_node_among self.old.files target.now.parent.node) }
         requires names { IsTrue (is_record_among self.old.files target.now.parent.entry) }
         requires signature { signature_to target.now < signatures }
-        requires some { 1 ≤ length bytes.now }
-        requires few { length bytes.now ≤ part_size }
-        requires inside { offset + length bytes.now ≤ largest_offset }
+        requires some { 1 ≤ length request.now.bytes.now }
+        requires few { length request.now.bytes.now ≤ part_size }
+        requires inside { request.now.offset + length request.now.bytes.now ≤ largest_offset }
         requires is_open { ForSome (F.told folder.old).files (IsOpen self.old.files) }
 
         // The SparseWrite is done as in the model, and after each single write the folder is as a crash in it may leave it.
-        ensures does { NamesTarget self.old (F.told folder.old) moment handle offset (length bytes.now) target.now → IfOk result (λ answer. Does (KeepsState self.old) (KeepsState self.new) (F.told folder.old) (F.told folder.new) moment (to_sparse_write handle offset bytes.now) answer) }
-        ensures stops { NamesTarget self.old (F.told folder.old) moment handle offset (length bytes.now) target.now → MayStopAtEach (KeepsState self.old) (F.told folder.old) (F.told folder.new) moment (to_sparse_write handle offset bytes.now) }
+        ensures does { NamesTargetFor self.old (F.told folder.old) request.now target.now → IfOk result (λ answer. Does (KeepsState self.old) (KeepsState self.new) (F.told folder.old) (F.told folder.new) request.now.moment (sparse_write_of request.now) answer) }
+        ensures stops { NamesTargetFor self.old (F.told folder.old) request.now target.now → MayStopAtEach (KeepsState self.old) (F.told folder.old) (F.told folder.new) request.now.moment (sparse_write_of request.now) }
 
         // What it evicts is printed, and on any answer a prefix of that.
-        ensures says { NamesTarget self.old (F.told folder.old) moment handle offset (length bytes.now) target.now → OnOk result (SaysEvicted self.old (F.told folder.old) moment (to_sparse_write handle offset bytes.now) failed.old failed.new (K.written out.old) (K.written out.new)) }
-        ensures front { NamesTarget self.old (F.told folder.old) moment handle offset (length bytes.now) target.now → SaysPrefix self.old (F.told folder.old) moment (to_sparse_write handle offset bytes.now) (K.written out.old) (K.written out.new) }
+        ensures says { NamesTargetFor self.old (F.told folder.old) request.now target.now → OnOk result (SaysEvicted self.old (F.told folder.old) request.now.moment (sparse_write_of request.now) failed.old failed.new (K.written out.old) (K.written out.new)) }
+        ensures front { NamesTargetFor self.old (F.told folder.old) request.now target.now → SaysPrefix self.old (F.told folder.old) request.now.moment (sparse_write_of request.now) (K.written out.old) (K.written out.new) }
         ensures fails { FailsWhereItRose failed.old failed.new (K.faults out.old) (K.faults out.new) }
 
         // A refusal does nothing, but to the buffers for names.
@@ -169,14 +176,13 @@ impl Cache {
         ensures notes { self.new.notes ≡ self.old.notes }
         ensures mark { self.new.mark ≡ self.old.mark }
         ensures damaged { IfDamaged result (IsFailedCheck self.new.files (F.told folder.new)) }
-        ensures untold { NamesTarget self.old (F.told folder.old) moment handle offset (length bytes.now) target.now → ForSome (F.told folder.old).files (KeepsAny self.old) → IfDamaged result (λ _. (F.told folder.old).files ≡ None) }
+        ensures untold { NamesTargetFor self.old (F.told folder.old) request.now target.now → ForSome (F.told folder.old).files (KeepsAny self.old) → IfDamaged result (λ _. (F.told folder.old).files ≡ None) }
         ensures writes { MayWrite F.told F.faults folder.old folder.new (IfDevice result) }
         ensures sink_later { GoesOn K.is K.faults out.old out.new }
     {
-        let rise = self.measure_rise(folder, target, offset, bytes.len() as u64)?;
-        self.write_where_room(
-            folder, out, failed, handle, target, &rise, offset, bytes, moment,
-        )
+        let count = request.bytes.len() as u64;
+        let rise = self.measure_rise(folder, target, request.offset, count)?;
+        self.write_where_room(folder, out, failed, request, target, &rise)
     }
 
     // Writes the bytes if there is space for what they add, which is known before anything is evicted or written.
@@ -185,29 +191,26 @@ impl Cache {
         folder: &mut F,
         out: &mut K,
         failed: &mut bool,
-        handle: u16,
+        request: &SparseRequest,
         target: &Target,
         rise: &Rise,
-        offset: u64,
-        bytes: &[u8],
-        moment: u64,
     ) -> Result<Answer, Fault>
-        requires bound { IsSome (binding_of self.old.handles handle) }
+        requires bound { IsSome (binding_of self.old.handles request.now.handle) }
         requires stands { IsTrue (is_node_among self.old.files target.now.parent.node) }
         requires names { IsTrue (is_record_among self.old.files target.now.parent.entry) }
         requires signature { signature_to target.now < signatures }
-        requires some { 1 ≤ length bytes.now }
-        requires few { length bytes.now ≤ part_size }
-        requires inside { offset + length bytes.now ≤ largest_offset }
+        requires some { 1 ≤ length request.now.bytes.now }
+        requires few { length request.now.bytes.now ≤ part_size }
+        requires inside { request.now.offset + length request.now.bytes.now ≤ largest_offset }
         requires is_open { ForSome (F.told folder.old).files (IsOpen self.old.files) }
 
         // The SparseWrite is done as in the model, and after each single write the folder is as a crash in it may leave it.
-        ensures does { AsksToStore self.old (F.told folder.old) moment handle offset bytes.now target.now rise.now → IfOk result (λ answer. Does (KeepsState self.old) (KeepsState self.new) (F.told folder.old) (F.told folder.new) moment (to_sparse_write handle offset bytes.now) answer) }
-        ensures stops { AsksToStore self.old (F.told folder.old) moment handle offset bytes.now target.now rise.now → MayStopAtEach (KeepsState self.old) (F.told folder.old) (F.told folder.new) moment (to_sparse_write handle offset bytes.now) }
+        ensures does { AsksToStoreFor self.old (F.told folder.old) request.now target.now rise.now → IfOk result (λ answer. Does (KeepsState self.old) (KeepsState self.new) (F.told folder.old) (F.told folder.new) request.now.moment (sparse_write_of request.now) answer) }
+        ensures stops { AsksToStoreFor self.old (F.told folder.old) request.now target.now rise.now → MayStopAtEach (KeepsState self.old) (F.told folder.old) (F.told folder.new) request.now.moment (sparse_write_of request.now) }
 
         // What it evicts is printed, and on any answer a prefix of that.
-        ensures says { AsksToStore self.old (F.told folder.old) moment handle offset bytes.now target.now rise.now → OnOk result (SaysEvicted self.old (F.told folder.old) moment (to_sparse_write handle offset bytes.now) failed.old failed.new (K.written out.old) (K.written out.new)) }
-        ensures front { AsksToStore self.old (F.told folder.old) moment handle offset bytes.now target.now rise.now → SaysPrefix self.old (F.told folder.old) moment (to_sparse_write handle offset bytes.now) (K.written out.old) (K.written out.new) }
+        ensures says { AsksToStoreFor self.old (F.told folder.old) request.now target.now rise.now → OnOk result (SaysEvicted self.old (F.told folder.old) request.now.moment (sparse_write_of request.now) failed.old failed.new (K.written out.old) (K.written out.new)) }
+        ensures front { AsksToStoreFor self.old (F.told folder.old) request.now target.now rise.now → SaysPrefix self.old (F.told folder.old) request.now.moment (sparse_write_of request.now) (K.written out.old) (K.written out.new) }
         ensures fails { FailsWhereItRose failed.old failed.new (K.faults out.old) (K.faults out.new) }
 
         // A refusal does nothing, but to the buffers for names.
@@ -218,16 +221,14 @@ impl Cache {
         ensures notes { self.new.notes ≡ self.old.notes }
         ensures mark { self.new.mark ≡ self.old.mark }
         ensures damaged { IfDamaged result (IsFailedCheck self.new.files (F.told folder.new)) }
-        ensures untold { AsksToStore self.old (F.told folder.old) moment handle offset bytes.now target.now rise.now → ForSome (F.told folder.old).files (KeepsAny self.old) → IfDamaged result (λ _. (F.told folder.old).files ≡ None) }
+        ensures untold { AsksToStoreFor self.old (F.told folder.old) request.now target.now rise.now → ForSome (F.told folder.old).files (KeepsAny self.old) → IfDamaged result (λ _. (F.told folder.old).files ≡ None) }
         ensures writes { MayWrite F.told F.faults folder.old folder.new (IfDevice result) }
         ensures sink_later { GoesOn K.is K.faults out.old out.new }
     {
         if self.is_full(rise.bytes, rise.items, &rise.parts) {
             return Ok(Answer::Refused(Refusal::Full));
         }
-        self.write_with_room(
-            folder, out, failed, handle, target, rise, offset, bytes, moment,
-        )
+        self.write_with_room(folder, out, failed, request, target, rise)
     }
 
     // Writes the bytes after all evictions for them, where nothing refuses the SparseWrite.
@@ -236,29 +237,26 @@ impl Cache {
         folder: &mut F,
         out: &mut K,
         failed: &mut bool,
-        handle: u16,
+        request: &SparseRequest,
         target: &Target,
         rise: &Rise,
-        offset: u64,
-        bytes: &[u8],
-        moment: u64,
     ) -> Result<Answer, Fault>
-        requires bound { IsSome (binding_of self.old.handles handle) }
+        requires bound { IsSome (binding_of self.old.handles request.now.handle) }
         requires stands { IsTrue (is_node_among self.old.files target.now.parent.node) }
         requires names { IsTrue (is_record_among self.old.files target.now.parent.entry) }
         requires signature { signature_to target.now < signatures }
-        requires some { 1 ≤ length bytes.now }
-        requires few { length bytes.now ≤ part_size }
-        requires inside { offset + length bytes.now ≤ largest_offset }
+        requires some { 1 ≤ length request.now.bytes.now }
+        requires few { length request.now.bytes.now ≤ part_size }
+        requires inside { request.now.offset + length request.now.bytes.now ≤ largest_offset }
         requires is_open { ForSome (F.told folder.old).files (IsOpen self.old.files) }
 
         // The SparseWrite is done as in the model, and after each single write the folder is as a crash in it may leave it.
-        ensures does { HasRoomToStore self.old (F.told folder.old) moment handle offset bytes.now target.now rise.now → IfOk result (λ answer. Does (KeepsState self.old) (KeepsState self.new) (F.told folder.old) (F.told folder.new) moment (to_sparse_write handle offset bytes.now) answer) }
-        ensures stops { HasRoomToStore self.old (F.told folder.old) moment handle offset bytes.now target.now rise.now → MayStopAtEach (KeepsState self.old) (F.told folder.old) (F.told folder.new) moment (to_sparse_write handle offset bytes.now) }
+        ensures does { HasRoomToStoreFor self.old (F.told folder.old) request.now target.now rise.now → IfOk result (λ answer. Does (KeepsState self.old) (KeepsState self.new) (F.told folder.old) (F.told folder.new) request.now.moment (sparse_write_of request.now) answer) }
+        ensures stops { HasRoomToStoreFor self.old (F.told folder.old) request.now target.now rise.now → MayStopAtEach (KeepsState self.old) (F.told folder.old) (F.told folder.new) request.now.moment (sparse_write_of request.now) }
 
         // What it evicts is printed, and on any answer a prefix of that.
-        ensures says { HasRoomToStore self.old (F.told folder.old) moment handle offset bytes.now target.now rise.now → OnOk result (SaysEvicted self.old (F.told folder.old) moment (to_sparse_write handle offset bytes.now) failed.old failed.new (K.written out.old) (K.written out.new)) }
-        ensures front { HasRoomToStore self.old (F.told folder.old) moment handle offset bytes.now target.now rise.now → SaysPrefix self.old (F.told folder.old) moment (to_sparse_write handle offset bytes.now) (K.written out.old) (K.written out.new) }
+        ensures says { HasRoomToStoreFor self.old (F.told folder.old) request.now target.now rise.now → OnOk result (SaysEvicted self.old (F.told folder.old) request.now.moment (sparse_write_of request.now) failed.old failed.new (K.written out.old) (K.written out.new)) }
+        ensures front { HasRoomToStoreFor self.old (F.told folder.old) request.now target.now rise.now → SaysPrefix self.old (F.told folder.old) request.now.moment (sparse_write_of request.now) (K.written out.old) (K.written out.new) }
         ensures fails { FailsWhereItRose failed.old failed.new (K.faults out.old) (K.faults out.new) }
 
         // A refusal does nothing, but to the buffers for names.
@@ -269,16 +267,14 @@ impl Cache {
         ensures notes { self.new.notes ≡ self.old.notes }
         ensures mark { self.new.mark ≡ self.old.mark }
         ensures damaged { IfDamaged result (IsFailedCheck self.new.files (F.told folder.new)) }
-        ensures untold { HasRoomToStore self.old (F.told folder.old) moment handle offset bytes.now target.now rise.now → ForSome (F.told folder.old).files (KeepsAny self.old) → IfDamaged result (λ _. (F.told folder.old).files ≡ None) }
+        ensures untold { HasRoomToStoreFor self.old (F.told folder.old) request.now target.now rise.now → ForSome (F.told folder.old).files (KeepsAny self.old) → IfDamaged result (λ _. (F.told folder.old).files ≡ None) }
         ensures writes { MayWrite F.told F.faults folder.old folder.new (IfDevice result) }
         ensures sink_later { GoesOn K.is K.faults out.old out.new }
     {
         // That what is kept is within the limits of its types is known once it is read.
         let _bytes = self.kept_bytes();
         self.evict_for(folder, out, failed, rise.bytes, rise.items, &rise.parts)?;
-        self.end_sparse_write(
-            folder, handle, target, offset, bytes, rise.bytes, rise.items, moment,
-        )
+        self.end_sparse_write(folder, request, target, rise.bytes, rise.items)
     }
 
     // The bytes that are kept: that they are those of a u64 is known once they are read.

@@ -20,6 +20,8 @@ ghost use Rattle.blk_cache.specs.Stepping.{IfDone, IfSink, IfStepDamaged, IfStep
 use crate::cache::Cache;
 use crate::fault::StepFault;
 use crate::sparse_reading::Wanted;
+use crate::sparse_writing::SparseRequest;
+use crate::write::WriteRequest;
 use blk_io::{Fault, Folder, Sink};
 use blk_model::{Answer, Command};
 
@@ -179,9 +181,17 @@ impl Cache {
                 offset,
                 cut,
                 bytes,
-            } => self.write(
-                folder, out, failed, handle, stream, offset, cut, bytes, moment,
-            ),
+            } => {
+                let request = WriteRequest {
+                    handle,
+                    stream,
+                    offset,
+                    cut,
+                    bytes,
+                    moment,
+                };
+                self.write(folder, out, failed, &request)
+            }
             Command::Size { handle, stream } => self.size(folder, handle, stream),
             Command::Doom { handle } => self.doom(folder, handle),
             Command::DoomKey { key } => self.doom_key(folder, key),
@@ -194,7 +204,15 @@ impl Cache {
                 handle,
                 offset,
                 bytes,
-            } => self.sparse_write(folder, out, failed, handle, offset, bytes, moment),
+            } => {
+                let request = SparseRequest {
+                    handle,
+                    offset,
+                    bytes,
+                    moment,
+                };
+                self.sparse_write(folder, out, failed, &request)
+            }
             Command::SparseRead {
                 handle,
                 offset,

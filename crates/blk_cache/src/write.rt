@@ -1,12 +1,10 @@
 // The command Write.
-ghost use Rattle.std.specs.Prelude.{◌≡◌, ◌≤◌, ◌<◌, ◌+◌, ◌-◌, ◌^◌, IfOk, IfSome, IsTrue, None, Ok, OnOk, false, length, true, ℕ, Bool};
+ghost use Rattle.std.specs.Prelude.{All, ◌≡◌, ◌≤◌, ◌<◌, ◌+◌, ◌-◌, ◌^◌, IfOk, IfSome, IsTrue, None, Ok, OnOk, false, length, true, ℕ, Bool};
 ghost use Rattle.std.specs.Option.{ForSome};
 ghost use Rattle.spec_image.specs.Told.{Passes, Rises, Stays, MayWrite, ReadsOnly};
 ghost use Rattle.blk_io.specs.Faults.{IfDamaged, IfDevice};
 ghost use Rattle.blk_io.specs.Streams.{GoesOn};
-ghost use Rattle.blk_model.specs.Effects.{written};
 ghost use Rattle.blk_model.specs.Holding.{rest};
-ghost use Rattle.blk_model.specs.Request.{to_write};
 ghost use Rattle.blk_model.specs.Sizes.{longest_stream, most_stream};
 ghost use Rattle.blk_model.specs.State.{State};
 ghost use Rattle.blk_model.specs.declared.Answer.TheVariants as answer;
@@ -23,7 +21,7 @@ ghost use Rattle.blk_cache.specs.CacheKeeping.{KeepsState};
 ghost use Rattle.blk_cache.specs.CommandClauses.{IsRefused, KeepsAny};
 ghost use Rattle.blk_evict.specs.RoomPrinting.{FailsWhereItRose};
 ghost use Rattle.blk_cache.specs.Stepping.{SaysEvicted, SaysPrefix};
-ghost use Rattle.blk_cache.specs.Writing.{CanGetBytes, CountsRise, ForEachToUse, IsAskedToWrite, IsNotRefusedEarly, IsReadyToWrite, IsReadyToWriteSome, IsUsedAndCounted, KeepsToWrite, early_write_refusal};
+ghost use Rattle.blk_cache.specs.Writing.{CanGetFor, CountsRise, ForEachToUse, IsAskedToWrite, IsNotRefusedEarly, IsReadyToWriteFor, IsReadyToWriteForSome, IsUsedAndCounted, KeepsToWriteFor, early_refusal, early_write_refusal, state_written, write_of};
 
 use crate::asking::{Asked, NamedStream};
 use crate::cache::Cache;
@@ -37,6 +35,18 @@ use blk_object::{count_rise, write_object};
 
 // A stream has at most this share of the bytes that a cache keeps.
 const STREAM_SHARE: u64 = 8;
+
+/// A Write: bytes for a stream of the object that a handle names, from an offset on, and the moment at which it is done.
+/// The stream ends with them where it is cut.
+#[derive(Clone, Copy)]
+pub(crate) struct WriteRequest<'a> {
+    pub(crate) handle: u16,
+    pub(crate) stream: u8,
+    pub(crate) offset: u64,
+    pub(crate) cut: bool,
+    pub(crate) bytes: &'a [u8],
+    pub(crate) moment: u64,
+}
 
 impl Cache {
     /// Writes bytes over a stream of the object that a handle names, from an offset on, with zeros before them where it
@@ -53,24 +63,19 @@ impl Cache {
         folder: &mut F,
         out: &mut K,
         failed: &mut bool,
-        handle: u16,
-        stream: u8,
-        offset: u64,
-        cut: bool,
-        bytes: &[u8],
-        moment: u64,
+        request: &WriteRequest,
     ) -> Result<Answer, Fault>
         requires is_open { ForSome (F.told folder.old).files (IsOpen self.old.files) }
-        ensures does { IfOk result (λ answer. Does (KeepsState self.old) (KeepsState self.new) (F.told folder.old) (F.told folder.new) moment (to_write handle stream offset cut bytes.now) answer) }
-        ensures stops { MayStopAtEach (KeepsState self.old) (F.told folder.old) (F.told folder.new) moment (to_write handle stream offset cut bytes.now) }
+        ensures does { IfOk result (λ answer. Does (KeepsState self.old) (KeepsState self.new) (F.told folder.old) (F.told folder.new) request.now.moment (write_of request.now) answer) }
+        ensures stops { MayStopAtEach (KeepsState self.old) (F.told folder.old) (F.told folder.new) request.now.moment (write_of request.now) }
 
         // What it evicts is printed, and on any answer a prefix of that.
-        ensures says { OnOk result (SaysEvicted self.old (F.told folder.old) moment (to_write handle stream offset cut bytes.now) failed.old failed.new (K.written out.old) (K.written out.new)) }
-        ensures front { SaysPrefix self.old (F.told folder.old) moment (to_write handle stream offset cut bytes.now) (K.written out.old) (K.written out.new) }
+        ensures says { OnOk result (SaysEvicted self.old (F.told folder.old) request.now.moment (write_of request.now) failed.old failed.new (K.written out.old) (K.written out.new)) }
+        ensures front { SaysPrefix self.old (F.told folder.old) request.now.moment (write_of request.now) (K.written out.old) (K.written out.new) }
         ensures fails { FailsWhereItRose failed.old failed.new (K.faults out.old) (K.faults out.new) }
 
         // A refusal that the handles, the limits, the stream and the length alone decide is given on every folder, and a refusal does nothing.
-        ensures refuses { IfSome (early_write_refusal self.old handle stream offset (length bytes.now)) (λ why. result ≡ Ok (answer.Refused why)) }
+        ensures refuses { IfSome (early_refusal self.old request.now) (λ why. result ≡ Ok (answer.Refused why)) }
         ensures quiet { IfOk result (λ answer. IsRefused answer → Stays (F.told folder.old) (F.told folder.new)) }
         ensures unchanged { IfOk result (λ answer. IsRefused answer → self.new ≡ self.old) }
 
@@ -84,18 +89,20 @@ impl Cache {
         ensures writes { MayWrite F.told F.faults folder.old folder.new (IfDevice result) }
         ensures sink_later { GoesOn K.is K.faults out.old out.new }
     {
-        let asked = self.refuses_write(folder, handle, stream, offset, bytes)?;
+        let asked = self.refuses_write(
+            folder,
+            request.handle,
+            request.stream,
+            request.offset,
+            request.bytes,
+        )?;
         match asked {
             Asked::Refused(why) => Ok(Answer::Refused(why)),
             Asked::Stream(named) => {
-                let rise = rise(cut, named.size, offset, bytes);
+                let rise = rise(request.cut, named.size, request.offset, request.bytes);
                 match self.make_room(folder, out, failed, rise, 0)? {
                     Room::Full => Ok(Answer::Refused(Refusal::Full)),
-                    Room::Made => {
-                        self.end_write(
-                            folder, handle, stream, offset, cut, bytes, named.size, moment,
-                        )
-                    }
+                    Room::Made => self.end_write(folder, request, named.size),
                 }
             }
         }
@@ -105,32 +112,27 @@ impl Cache {
     pub(crate) fn end_write<F: Folder>(
         &mut self,
         folder: &mut F,
-        handle: u16,
-        stream: u8,
-        offset: u64,
-        cut: bool,
-        bytes: &[u8],
+        request: &WriteRequest,
         size: u32,
-        moment: u64,
     ) -> Result<Answer, Fault>
-        requires passes { early_write_refusal self.old handle stream offset (length bytes.now) ≡ None }
+        requires passes { early_refusal self.old request.now ≡ None }
         requires is_open { ForSome (F.told folder.old).files (IsOpen self.old.files) }
 
         // The Write is done, whatever state it began with, and after each single write the folder is as a crash in it may leave it.
-        ensures does { IfOk result (λ answer. ForSome (F.told folder.old).files (λ from. (state : State) → IsReadyToWrite self.old state moment handle stream offset cut bytes.now size from → IsDone (KeepsState self.new) (F.told folder.new) moment (to_write handle stream offset cut bytes.now) answer state)) }
-        ensures stops { ForSome (F.told folder.old).files (λ from. (state : State) → IsReadyToWrite self.old state moment handle stream offset cut bytes.now size from → Passes (F.told folder.old) (F.told folder.new) (MayStop state moment (to_write handle stream offset cut bytes.now))) }
+        ensures does { IfOk result (λ answer. ForSome (F.told folder.old).files (λ from. (state : State) → IsReadyToWriteFor self.old state request.now size from → IsDone (KeepsState self.new) (F.told folder.new) request.now.moment (write_of request.now) answer state)) }
+        ensures stops { ForSome (F.told folder.old).files (λ from. (state : State) → IsReadyToWriteFor self.old state request.now size from → Passes (F.told folder.old) (F.told folder.new) (MayStop state request.now.moment (write_of request.now))) }
 
-        ensures wrote { IfOk result (λ given. given ≡ answer.Wrote (length bytes.now)) }
+        ensures wrote { IfOk result (λ given. given ≡ answer.Wrote (length request.now.bytes.now)) }
         ensures notes { self.new.notes ≡ self.old.notes }
         ensures mark { self.new.mark ≡ self.old.mark }
         ensures is_open { OnOk result (ForSome (F.told folder.new).files (IsOpen self.new.files)) }
         ensures damaged { IfDamaged result (IsFailedCheck self.new.files (F.told folder.new)) }
-        ensures untold { ForSome (F.told folder.old).files (IsReadyToWriteSome self.old handle stream offset cut bytes.now size) → IfDamaged result (λ _. (F.told folder.old).files ≡ None) }
+        ensures untold { ForSome (F.told folder.old).files (IsReadyToWriteForSome self.old request.now size) → IfDamaged result (λ _. (F.told folder.old).files ≡ None) }
         ensures writes { MayWrite F.told F.faults folder.old folder.new (IfDevice result) }
     {
-        self.set_dirty(folder, handle, true)?;
-        self.write_to_dirty(folder, handle, stream, offset, cut, bytes, size, moment)?;
-        Ok(Answer::Wrote(bytes.len() as u64))
+        self.set_dirty(folder, request.handle, true)?;
+        self.write_to_dirty(folder, request, size)?;
+        Ok(Answer::Wrote(request.bytes.len() as u64))
     }
 
     // Writes bytes over a stream of so many of the dirty object that the handle names; then the item of a live object is accessed, and the change of its cost
@@ -138,42 +140,39 @@ impl Cache {
     fn write_to_dirty<F: Folder>(
         &mut self,
         folder: &mut F,
-        handle: u16,
-        stream: u8,
-        offset: u64,
-        cut: bool,
-        bytes: &[u8],
+        request: &WriteRequest,
         size: u32,
-        moment: u64,
     ) -> Result<(), Fault>
-        requires passes { early_write_refusal self.old handle stream offset (length bytes.now) ≡ None }
+        requires passes { early_refusal self.old request.now ≡ None }
         requires is_open { ForSome (F.told folder.old).files (IsOpen self.old.files) }
 
         // In the end each state that was kept, whose object can get them, is kept with them, and with the item in front.
-        ensures written { OnOk result (ForSome (F.told folder.old).files (λ from. (state : State) → KeepsState self.old state from → CanGetBytes state handle stream offset cut bytes.now size → ForSome (F.told folder.new).files (KeepsState self.new (written handle stream offset cut bytes.now state)))) }
+        ensures written { OnOk result (ForSome (F.told folder.old).files (λ from. (state : State) → KeepsState self.old state from → CanGetFor state request.now size → ForSome (F.told folder.new).files (KeepsState self.new (state_written request.now state)))) }
 
         // At each word the old durable contents are recovered.
-        ensures stops { ForSome (F.told folder.old).files (λ from. (state : State) → KeepsState self.old state from → CanGetBytes state handle stream offset cut bytes.now size → Passes (F.told folder.old) (F.told folder.new) (Finds (rest state))) }
+        ensures stops { ForSome (F.told folder.old).files (λ from. (state : State) → KeepsState self.old state from → CanGetFor state request.now size → Passes (F.told folder.old) (F.told folder.new) (Finds (rest state))) }
 
         ensures notes { self.new.notes ≡ self.old.notes }
         ensures mark { self.new.mark ≡ self.old.mark }
         ensures is_open { OnOk result (ForSome (F.told folder.new).files (IsOpen self.new.files)) }
         ensures damaged { IfDamaged result (IsFailedCheck self.new.files (F.told folder.new)) }
-        ensures untold { ForSome (F.told folder.old).files (KeepsToWrite self.old handle stream offset cut bytes.now size) → IfDamaged result (λ _. (F.told folder.old).files ≡ None) }
+        ensures untold { ForSome (F.told folder.old).files (KeepsToWriteFor self.old request.now size) → IfDamaged result (λ _. (F.told folder.old).files ≡ None) }
         ensures writes { MayWrite F.told F.faults folder.old folder.new (IfDevice result) }
     {
-        let Some(object) = self.handles.object(handle) else {
+        let Some(object) = self.handles.object(request.handle) else {
             unreachable!();
         };
-        let after = length_after(cut, size, offset, bytes);
+        // That they are bytes is known once they are counted.
+        let _count = count_of(request.bytes);
+        let after = length_after(request.cut, size, request.offset, request.bytes);
         write_object(
             folder,
             &mut self.files,
             object.entry,
-            stream,
-            offset,
-            cut,
-            bytes,
+            request.stream,
+            request.offset,
+            request.cut,
+            request.bytes,
         )?;
         let named = NamedStream {
             entry: object.entry,
@@ -181,7 +180,7 @@ impl Cache {
             doomed: object.doomed,
             size,
         };
-        use_and_count(folder, &self.files, &named, after, moment)?;
+        use_and_count(folder, &self.files, &named, after, request.moment)?;
         self.count_bytes(u64::from(size), after);
         Ok(())
     }
@@ -266,6 +265,14 @@ fn use_and_count<F: Folder>(
     }
     touch(folder, files, object.node, moment)?;
     count_rise(folder, files, u64::from(object.size), after)
+}
+
+// How many bytes there are.
+fn count_of(bytes: &[u8]) -> u64
+    ensures is { result ≡ length bytes.now }
+    ensures small { All (λ b. b < 256) bytes.now }
+{
+    bytes.len() as u64
 }
 
 // The most bytes of a stream, where a cache keeps so many.

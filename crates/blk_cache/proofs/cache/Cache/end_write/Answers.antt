@@ -5,30 +5,30 @@ use Rattle.blk_cache.proofs.cache.Cache.end_write.Goals as goal
 
 pub returns-in_err-set_dirty-clause-stops : goal.returns-in_err-set_dirty-clause-stops
 returns-in_err-set_dirty-clause-stops g c =
-    unsettle-stops c.args.self.now c.args.moment c.args.handle c.args.stream c.args.offset c.args.cut c.args.bytes.now c.args.size (g.F.Folder.told c.args.folder.now) (g.F.Folder.told c.set_dirty.new.folder) c.set_dirty.ensures.stops
+    unsettle-stops c.args.self.now c.args.request.now.moment c.args.request.now.handle c.args.request.now.stream c.args.request.now.offset c.args.request.now.cut c.args.request.now.bytes.now c.args.size (g.F.Folder.told c.args.folder.now) (g.F.Folder.told c.set_dirty.new.folder) c.set_dirty.ensures.stops
 
 pub returns-in_err-set_dirty-clause-untold : goal.returns-in_err-set_dirty-clause-untold
 returns-in_err-set_dirty-clause-untold g c any =
     carried c.set_dirty.result c.from_residual.result c.in_err-set_dirty.field-0.0 (λ _. (g.F.Folder.told c.args.folder.now).files ≡ None) c.in_err-set_dirty.was c.from_residual.ensures.1
-    (c.set_dirty.ensures.untold (λ from there. ready-any c.args.self.now c.args.handle c.args.stream c.args.offset c.args.cut c.args.bytes.now c.args.size from (any from there)))
+    (c.set_dirty.ensures.untold (λ from there. ready-any c.args.self.now c.args.request.now.handle c.args.request.now.stream c.args.request.now.offset c.args.request.now.cut c.args.request.now.bytes.now c.args.size from (any from there)))
 
 pub returns-in_err-write_to_dirty-clause-stops : goal.returns-in_err-write_to_dirty-clause-stops
 returns-in_err-write_to_dirty-clause-stops g c =
-    end-stops c.args.self.now c.args.moment c.args.handle c.args.stream c.args.offset c.args.cut c.args.bytes.now c.args.size (g.F.Folder.told c.args.folder.now) (g.F.Folder.told c.set_dirty.new.folder) c.set_dirty.ensures.stops c.set_dirty.new.self c.in_ok-set_dirty.ensures.marked
+    end-stops c.args.self.now c.args.request.now.moment c.args.request.now.handle c.args.request.now.stream c.args.request.now.offset c.args.request.now.cut c.args.request.now.bytes.now c.args.size (g.F.Folder.told c.args.folder.now) (g.F.Folder.told c.set_dirty.new.folder) c.set_dirty.ensures.stops c.set_dirty.new.self c.in_ok-set_dirty.ensures.marked
     (g.F.Folder.told c.write_to_dirty.new.folder) c.write_to_dirty.ensures.stops
 
 pub returns-in_err-write_to_dirty-clause-untold : goal.returns-in_err-write_to_dirty-clause-untold
 returns-in_err-write_to_dirty-clause-untold g c any =
     carried c.write_to_dirty.result c.from_residual-in_err-write_to_dirty.result c.in_err-write_to_dirty.field-0.0 (λ _. (g.F.Folder.told c.args.folder.now).files ≡ None) c.in_err-write_to_dirty.was c.from_residual-in_err-write_to_dirty.ensures.1
-    (end-untold c.write_to_dirty.result c.args.self.now c.args.handle c.args.stream c.args.offset c.args.cut c.args.bytes.now c.args.size (g.F.Folder.told c.args.folder.now) (g.F.Folder.told c.set_dirty.new.folder) c.set_dirty.new.self c.set_dirty.ensures.stops c.in_ok-set_dirty.ensures.marked
+    (end-untold c.write_to_dirty.result c.args.self.now c.args.request.now.handle c.args.request.now.stream c.args.request.now.offset c.args.request.now.cut c.args.request.now.bytes.now c.args.size (g.F.Folder.told c.args.folder.now) (g.F.Folder.told c.set_dirty.new.folder) c.set_dirty.new.self c.set_dirty.ensures.stops c.in_ok-set_dirty.ensures.marked
     c.write_to_dirty.ensures.untold any)
 
 pub returns-clause-does : goal.returns-clause-does
 returns-clause-does g c =
-    end-does c.args.self.now c.args.moment c.args.handle c.args.stream c.args.offset c.args.cut c.args.bytes.now c.args.size (g.F.Folder.told c.args.folder.now) (g.F.Folder.told c.set_dirty.new.folder) c.set_dirty.ensures.stops c.set_dirty.new.self c.in_ok-set_dirty.ensures.marked
+    end-does c.args.self.now c.args.request.now.moment c.args.request.now.handle c.args.request.now.stream c.args.request.now.offset c.args.request.now.cut c.args.request.now.bytes.now c.args.size (g.F.Folder.told c.args.folder.now) (g.F.Folder.told c.set_dirty.new.folder) c.set_dirty.ensures.stops c.set_dirty.new.self c.in_ok-set_dirty.ensures.marked
     (g.F.Folder.told c.write_to_dirty.new.folder) c.write_to_dirty.new.self c.in_ok-write_to_dirty.ensures.written
 
 pub returns-clause-stops : goal.returns-clause-stops
 returns-clause-stops g c =
-    end-stops c.args.self.now c.args.moment c.args.handle c.args.stream c.args.offset c.args.cut c.args.bytes.now c.args.size (g.F.Folder.told c.args.folder.now) (g.F.Folder.told c.set_dirty.new.folder) c.set_dirty.ensures.stops c.set_dirty.new.self c.in_ok-set_dirty.ensures.marked
+    end-stops c.args.self.now c.args.request.now.moment c.args.request.now.handle c.args.request.now.stream c.args.request.now.offset c.args.request.now.cut c.args.request.now.bytes.now c.args.size (g.F.Folder.told c.args.folder.now) (g.F.Folder.told c.set_dirty.new.folder) c.set_dirty.ensures.stops c.set_dirty.new.self c.in_ok-set_dirty.ensures.marked
     (g.F.Folder.told c.write_to_dirty.new.folder) c.write_to_dirty.ensures.stops

@@ -31,29 +31,29 @@ same-told keeps a b P same holds = subst (λ (t : Told). ForKept keeps t (P t)) 
 
 pub returns-in_err-asked-clause-stops : goal.returns-in_err-asked-clause-stops
 returns-in_err-asked-clause-stops g c =
-    nothing-stops (KeepsState c.args.self.now) (says-kept c.args.self.now) (g.F.Folder.told c.args.folder.now) (g.F.Folder.told c.refuses_write.new.folder) c.args.moment (to_write c.args.handle c.args.stream c.args.offset c.args.cut c.args.bytes.now) c.in_err-asked.ensures.reads.stays
+    nothing-stops (KeepsState c.args.self.now) (says-kept c.args.self.now) (g.F.Folder.told c.args.folder.now) (g.F.Folder.told c.refuses_write.new.folder) c.args.request.now.moment (to_write c.args.request.now.handle c.args.request.now.stream c.args.request.now.offset c.args.request.now.cut c.args.request.now.bytes.now) c.in_err-asked.ensures.reads.stays
 
 pub returns-in_err-asked-clause-front : goal.returns-in_err-asked-clause-front
-returns-in_err-asked-clause-front g c = front-before c.args.moment (to_write c.args.handle c.args.stream c.args.offset c.args.cut c.args.bytes.now) c.args.self.now (g.F.Folder.told c.args.folder.now) c.args.failed.now c.args.failed.now (g.K.Sink.written c.args.out.now) (g.K.Sink.written c.args.out.now)
+returns-in_err-asked-clause-front g c = front-before c.args.request.now.moment (to_write c.args.request.now.handle c.args.request.now.stream c.args.request.now.offset c.args.request.now.cut c.args.request.now.bytes.now) c.args.self.now (g.F.Folder.told c.args.folder.now) c.args.failed.now c.args.failed.now (g.K.Sink.written c.args.out.now) (g.K.Sink.written c.args.out.now)
 
 -- It is refused.
 
 pub returns-in-Refused-clause-does : goal.returns-in-Refused-clause-does
 returns-in-Refused-clause-does g c =
-    refusals-done (KeepsState c.args.self.now) (g.F.Folder.told c.args.folder.now) (g.F.Folder.told c.refuses_write.new.folder) c.args.moment (to_write c.args.handle c.args.stream c.args.offset c.args.cut c.args.bytes.now) c.in-Refused.why c.in_ok-asked.ensures.reads.stays
-    (λ image there state k. subst (IsAskedToWrite state k.layout c.args.moment c.args.handle c.args.stream c.args.offset c.args.cut c.args.bytes.now) c.in-Refused.is (c.in_ok-asked.ensures.asked image there state c.args.moment c.args.cut k))
+    refusals-done (KeepsState c.args.self.now) (g.F.Folder.told c.args.folder.now) (g.F.Folder.told c.refuses_write.new.folder) c.args.request.now.moment (to_write c.args.request.now.handle c.args.request.now.stream c.args.request.now.offset c.args.request.now.cut c.args.request.now.bytes.now) c.in-Refused.why c.in_ok-asked.ensures.reads.stays
+    (λ image there state k. subst (IsAskedToWrite state k.layout c.args.request.now.moment c.args.request.now.handle c.args.request.now.stream c.args.request.now.offset c.args.request.now.cut c.args.request.now.bytes.now) c.in-Refused.is (c.in_ok-asked.ensures.asked image there state c.args.request.now.moment c.args.request.now.cut k))
 
 pub returns-in-Refused-clause-stops : goal.returns-in-Refused-clause-stops
 returns-in-Refused-clause-stops g c =
-    nothing-stops (KeepsState c.args.self.now) (says-kept c.args.self.now) (g.F.Folder.told c.args.folder.now) (g.F.Folder.told c.refuses_write.new.folder) c.args.moment (to_write c.args.handle c.args.stream c.args.offset c.args.cut c.args.bytes.now) c.in_ok-asked.ensures.reads.stays
+    nothing-stops (KeepsState c.args.self.now) (says-kept c.args.self.now) (g.F.Folder.told c.args.folder.now) (g.F.Folder.told c.refuses_write.new.folder) c.args.request.now.moment (to_write c.args.request.now.handle c.args.request.now.stream c.args.request.now.offset c.args.request.now.cut c.args.request.now.bytes.now) c.in_ok-asked.ensures.reads.stays
 
 pub returns-in-Refused-clause-says : goal.returns-in-Refused-clause-says
 returns-in-Refused-clause-says g c =
-    refused-says c.args.moment (to_write c.args.handle c.args.stream c.args.offset c.args.cut c.args.bytes.now) c.args.self.now (g.F.Folder.told c.args.folder.now) c.args.failed.now c.args.failed.now (g.K.Sink.written c.args.out.now) (g.K.Sink.written c.args.out.now) c.in-Refused.why
-    (λ image there state k. subst (IsAskedToWrite state k.layout c.args.moment c.args.handle c.args.stream c.args.offset c.args.cut c.args.bytes.now) c.in-Refused.is (c.in_ok-asked.ensures.asked image there state c.args.moment c.args.cut k))
+    refused-says c.args.request.now.moment (to_write c.args.request.now.handle c.args.request.now.stream c.args.request.now.offset c.args.request.now.cut c.args.request.now.bytes.now) c.args.self.now (g.F.Folder.told c.args.folder.now) c.args.failed.now c.args.failed.now (g.K.Sink.written c.args.out.now) (g.K.Sink.written c.args.out.now) c.in-Refused.why
+    (λ image there state k. subst (IsAskedToWrite state k.layout c.args.request.now.moment c.args.request.now.handle c.args.request.now.stream c.args.request.now.offset c.args.request.now.cut c.args.request.now.bytes.now) c.in-Refused.is (c.in_ok-asked.ensures.asked image there state c.args.request.now.moment c.args.request.now.cut k))
 
 pub returns-in-Refused-clause-front : goal.returns-in-Refused-clause-front
-returns-in-Refused-clause-front g c = front-before c.args.moment (to_write c.args.handle c.args.stream c.args.offset c.args.cut c.args.bytes.now) c.args.self.now (g.F.Folder.told c.args.folder.now) c.args.failed.now c.args.failed.now (g.K.Sink.written c.args.out.now) (g.K.Sink.written c.args.out.now)
+returns-in-Refused-clause-front g c = front-before c.args.request.now.moment (to_write c.args.request.now.handle c.args.request.now.stream c.args.request.now.offset c.args.request.now.cut c.args.request.now.bytes.now) c.args.self.now (g.F.Folder.told c.args.folder.now) c.args.failed.now c.args.failed.now (g.K.Sink.written c.args.out.now) (g.K.Sink.written c.args.out.now)
 
 pub returns-in-Refused-clause-is_open : goal.returns-in-Refused-clause-is_open
 returns-in-Refused-clause-is_open g c image now = c.requires.is_open image (ap (λ (t : Told). t.files) (sym c.in_ok-asked.ensures.reads.stays) ∙ now)
@@ -65,15 +65,15 @@ make_room-requires g c = record { is_open = λ image now. c.requires.is_open ima
 
 pub returns-in_err-make_room-in-Stream-clause-stops : goal.returns-in_err-make_room-in-Stream-clause-stops
 returns-in_err-make_room-in-Stream-clause-stops g c =
-    room-stops c.args.moment (to_write c.args.handle c.args.stream c.args.offset c.args.cut c.args.bytes.now) c.rise-rise.result c.args.self.now (g.F.Folder.told c.args.folder.now)
-    (write-wants c.args.moment c.args.handle c.args.stream c.args.offset c.args.cut c.args.bytes.now c.args.self.now (g.F.Folder.told c.args.folder.now) c.in-Stream.named c.rise-rise.result c.rise-rise.ensures (λ image there state k. subst (IsAskedToWrite state k.layout c.args.moment c.args.handle c.args.stream c.args.offset c.args.cut c.args.bytes.now) c.in-Stream.is (c.in_ok-asked.ensures.asked image there state c.args.moment c.args.cut k)))
+    room-stops c.args.request.now.moment (to_write c.args.request.now.handle c.args.request.now.stream c.args.request.now.offset c.args.request.now.cut c.args.request.now.bytes.now) c.rise-rise.result c.args.self.now (g.F.Folder.told c.args.folder.now)
+    (write-wants c.args.request.now.moment c.args.request.now.handle c.args.request.now.stream c.args.request.now.offset c.args.request.now.cut c.args.request.now.bytes.now c.args.self.now (g.F.Folder.told c.args.folder.now) c.in-Stream.named c.rise-rise.result c.rise-rise.ensures (λ image there state k. subst (IsAskedToWrite state k.layout c.args.request.now.moment c.args.request.now.handle c.args.request.now.stream c.args.request.now.offset c.args.request.now.cut c.args.request.now.bytes.now) c.in-Stream.is (c.in_ok-asked.ensures.asked image there state c.args.request.now.moment c.args.request.now.cut k)))
     (g.F.Folder.told c.make_room.new.folder)
     (same-told (KeepsState c.args.self.now) (g.F.Folder.told c.args.folder.now) (g.F.Folder.told c.refuses_write.new.folder) (λ told state. Passes told (g.F.Folder.told c.make_room.new.folder) (IsEvicting (evicted_for (room state [] c.rise-rise.result 0)) state)) c.in_ok-asked.ensures.reads.stays c.make_room.ensures.stops)
 
 pub returns-in_err-make_room-in-Stream-clause-front : goal.returns-in_err-make_room-in-Stream-clause-front
 returns-in_err-make_room-in-Stream-clause-front g c =
-    made-front c.args.moment (to_write c.args.handle c.args.stream c.args.offset c.args.cut c.args.bytes.now) c.rise-rise.result c.args.self.now (g.F.Folder.told c.args.folder.now)
-    (write-wants c.args.moment c.args.handle c.args.stream c.args.offset c.args.cut c.args.bytes.now c.args.self.now (g.F.Folder.told c.args.folder.now) c.in-Stream.named c.rise-rise.result c.rise-rise.ensures (λ image there state k. subst (IsAskedToWrite state k.layout c.args.moment c.args.handle c.args.stream c.args.offset c.args.cut c.args.bytes.now) c.in-Stream.is (c.in_ok-asked.ensures.asked image there state c.args.moment c.args.cut k)))
+    made-front c.args.request.now.moment (to_write c.args.request.now.handle c.args.request.now.stream c.args.request.now.offset c.args.request.now.cut c.args.request.now.bytes.now) c.rise-rise.result c.args.self.now (g.F.Folder.told c.args.folder.now)
+    (write-wants c.args.request.now.moment c.args.request.now.handle c.args.request.now.stream c.args.request.now.offset c.args.request.now.cut c.args.request.now.bytes.now c.args.self.now (g.F.Folder.told c.args.folder.now) c.in-Stream.named c.rise-rise.result c.rise-rise.ensures (λ image there state k. subst (IsAskedToWrite state k.layout c.args.request.now.moment c.args.request.now.handle c.args.request.now.stream c.args.request.now.offset c.args.request.now.cut c.args.request.now.bytes.now) c.in-Stream.is (c.in_ok-asked.ensures.asked image there state c.args.request.now.moment c.args.request.now.cut k)))
     c.args.failed.now c.make_room.new.failed (g.K.Sink.written c.args.out.now) (g.K.Sink.written c.make_room.new.out)
     (same-told (KeepsState c.args.self.now) (g.F.Folder.told c.args.folder.now) (g.F.Folder.told c.refuses_write.new.folder) (λ told state. Appends (g.K.Sink.written c.args.out.now) (g.K.Sink.written c.make_room.new.out) (evicted_text (evicted_for (room state [] c.rise-rise.result 0)))) c.in_ok-asked.ensures.reads.stays c.make_room.ensures.front)
 
@@ -82,27 +82,27 @@ returns-in_err-make_room-in-Stream-clause-front g c =
 pub returns-in-Full-clause-does : goal.returns-in-Full-clause-does
 returns-in-Full-clause-does g c =
     let over = ap says_full c.in-Full.is in
-    subst (λ (s : Cache). Does (KeepsState c.args.self.now) (KeepsState s) (g.F.Folder.told c.args.folder.now) (g.F.Folder.told c.make_room.new.folder) c.args.moment (to_write c.args.handle c.args.stream c.args.offset c.args.cut c.args.bytes.now) (answer.Refused refusal.Full)) (sym (c.in_ok-make_room-in-Stream.ensures.unchanged over))
-    (refusals-done (KeepsState c.args.self.now) (g.F.Folder.told c.args.folder.now) (g.F.Folder.told c.make_room.new.folder) c.args.moment (to_write c.args.handle c.args.stream c.args.offset c.args.cut c.args.bytes.now) refusal.Full (c.in_ok-make_room-in-Stream.ensures.stays over ∙ c.in_ok-asked.ensures.reads.stays)
-    (λ image there state k. refused-full c.args.moment (to_write c.args.handle c.args.stream c.args.offset c.args.cut c.args.bytes.now) c.rise-rise.result state
-    ((write-wants c.args.moment c.args.handle c.args.stream c.args.offset c.args.cut c.args.bytes.now c.args.self.now (g.F.Folder.told c.args.folder.now) c.in-Stream.named c.rise-rise.result c.rise-rise.ensures (λ image there state k. subst (IsAskedToWrite state k.layout c.args.moment c.args.handle c.args.stream c.args.offset c.args.cut c.args.bytes.now) c.in-Stream.is (c.in_ok-asked.ensures.asked image there state c.args.moment c.args.cut k))) image there state k)
+    subst (λ (s : Cache). Does (KeepsState c.args.self.now) (KeepsState s) (g.F.Folder.told c.args.folder.now) (g.F.Folder.told c.make_room.new.folder) c.args.request.now.moment (to_write c.args.request.now.handle c.args.request.now.stream c.args.request.now.offset c.args.request.now.cut c.args.request.now.bytes.now) (answer.Refused refusal.Full)) (sym (c.in_ok-make_room-in-Stream.ensures.unchanged over))
+    (refusals-done (KeepsState c.args.self.now) (g.F.Folder.told c.args.folder.now) (g.F.Folder.told c.make_room.new.folder) c.args.request.now.moment (to_write c.args.request.now.handle c.args.request.now.stream c.args.request.now.offset c.args.request.now.cut c.args.request.now.bytes.now) refusal.Full (c.in_ok-make_room-in-Stream.ensures.stays over ∙ c.in_ok-asked.ensures.reads.stays)
+    (λ image there state k. refused-full c.args.request.now.moment (to_write c.args.request.now.handle c.args.request.now.stream c.args.request.now.offset c.args.request.now.cut c.args.request.now.bytes.now) c.rise-rise.result state
+    ((write-wants c.args.request.now.moment c.args.request.now.handle c.args.request.now.stream c.args.request.now.offset c.args.request.now.cut c.args.request.now.bytes.now c.args.self.now (g.F.Folder.told c.args.folder.now) c.in-Stream.named c.rise-rise.result c.rise-rise.ensures (λ image there state k. subst (IsAskedToWrite state k.layout c.args.request.now.moment c.args.request.now.handle c.args.request.now.stream c.args.request.now.offset c.args.request.now.cut c.args.request.now.bytes.now) c.in-Stream.is (c.in_ok-asked.ensures.asked image there state c.args.request.now.moment c.args.request.now.cut k))) image there state k)
     (sym (c.in_ok-make_room-in-Stream.ensures.full image (ap (λ (t : Told). t.files) c.in_ok-asked.ensures.reads.stays ∙ there) state k) ∙ over)))
 
 pub returns-in-Full-clause-stops : goal.returns-in-Full-clause-stops
 returns-in-Full-clause-stops g c =
-    nothing-stops (KeepsState c.args.self.now) (says-kept c.args.self.now) (g.F.Folder.told c.args.folder.now) (g.F.Folder.told c.make_room.new.folder) c.args.moment (to_write c.args.handle c.args.stream c.args.offset c.args.cut c.args.bytes.now) (c.in_ok-make_room-in-Stream.ensures.stays (ap says_full c.in-Full.is) ∙ c.in_ok-asked.ensures.reads.stays)
+    nothing-stops (KeepsState c.args.self.now) (says-kept c.args.self.now) (g.F.Folder.told c.args.folder.now) (g.F.Folder.told c.make_room.new.folder) c.args.request.now.moment (to_write c.args.request.now.handle c.args.request.now.stream c.args.request.now.offset c.args.request.now.cut c.args.request.now.bytes.now) (c.in_ok-make_room-in-Stream.ensures.stays (ap says_full c.in-Full.is) ∙ c.in_ok-asked.ensures.reads.stays)
 
 pub returns-in-Full-clause-says : goal.returns-in-Full-clause-says
 returns-in-Full-clause-says g c =
-    made-says c.args.moment (to_write c.args.handle c.args.stream c.args.offset c.args.cut c.args.bytes.now) c.rise-rise.result c.args.self.now (g.F.Folder.told c.args.folder.now)
-    (write-wants c.args.moment c.args.handle c.args.stream c.args.offset c.args.cut c.args.bytes.now c.args.self.now (g.F.Folder.told c.args.folder.now) c.in-Stream.named c.rise-rise.result c.rise-rise.ensures (λ image there state k. subst (IsAskedToWrite state k.layout c.args.moment c.args.handle c.args.stream c.args.offset c.args.cut c.args.bytes.now) c.in-Stream.is (c.in_ok-asked.ensures.asked image there state c.args.moment c.args.cut k)))
+    made-says c.args.request.now.moment (to_write c.args.request.now.handle c.args.request.now.stream c.args.request.now.offset c.args.request.now.cut c.args.request.now.bytes.now) c.rise-rise.result c.args.self.now (g.F.Folder.told c.args.folder.now)
+    (write-wants c.args.request.now.moment c.args.request.now.handle c.args.request.now.stream c.args.request.now.offset c.args.request.now.cut c.args.request.now.bytes.now c.args.self.now (g.F.Folder.told c.args.folder.now) c.in-Stream.named c.rise-rise.result c.rise-rise.ensures (λ image there state k. subst (IsAskedToWrite state k.layout c.args.request.now.moment c.args.request.now.handle c.args.request.now.stream c.args.request.now.offset c.args.request.now.cut c.args.request.now.bytes.now) c.in-Stream.is (c.in_ok-asked.ensures.asked image there state c.args.request.now.moment c.args.request.now.cut k)))
     c.args.failed.now c.make_room.new.failed (g.K.Sink.written c.args.out.now) (g.K.Sink.written c.make_room.new.out)
     (same-told (KeepsState c.args.self.now) (g.F.Folder.told c.args.folder.now) (g.F.Folder.told c.refuses_write.new.folder) (λ told state. PrintsUnlessFailed c.args.failed.now c.make_room.new.failed (g.K.Sink.written c.args.out.now) (g.K.Sink.written c.make_room.new.out) (evicted_text (evicted_for (room state [] c.rise-rise.result 0)))) c.in_ok-asked.ensures.reads.stays c.in_ok-make_room-in-Stream.ensures.prints)
 
 pub returns-in-Full-clause-front : goal.returns-in-Full-clause-front
 returns-in-Full-clause-front g c =
-    made-front c.args.moment (to_write c.args.handle c.args.stream c.args.offset c.args.cut c.args.bytes.now) c.rise-rise.result c.args.self.now (g.F.Folder.told c.args.folder.now)
-    (write-wants c.args.moment c.args.handle c.args.stream c.args.offset c.args.cut c.args.bytes.now c.args.self.now (g.F.Folder.told c.args.folder.now) c.in-Stream.named c.rise-rise.result c.rise-rise.ensures (λ image there state k. subst (IsAskedToWrite state k.layout c.args.moment c.args.handle c.args.stream c.args.offset c.args.cut c.args.bytes.now) c.in-Stream.is (c.in_ok-asked.ensures.asked image there state c.args.moment c.args.cut k)))
+    made-front c.args.request.now.moment (to_write c.args.request.now.handle c.args.request.now.stream c.args.request.now.offset c.args.request.now.cut c.args.request.now.bytes.now) c.rise-rise.result c.args.self.now (g.F.Folder.told c.args.folder.now)
+    (write-wants c.args.request.now.moment c.args.request.now.handle c.args.request.now.stream c.args.request.now.offset c.args.request.now.cut c.args.request.now.bytes.now c.args.self.now (g.F.Folder.told c.args.folder.now) c.in-Stream.named c.rise-rise.result c.rise-rise.ensures (λ image there state k. subst (IsAskedToWrite state k.layout c.args.request.now.moment c.args.request.now.handle c.args.request.now.stream c.args.request.now.offset c.args.request.now.cut c.args.request.now.bytes.now) c.in-Stream.is (c.in_ok-asked.ensures.asked image there state c.args.request.now.moment c.args.request.now.cut k)))
     c.args.failed.now c.make_room.new.failed (g.K.Sink.written c.args.out.now) (g.K.Sink.written c.make_room.new.out)
     (same-told (KeepsState c.args.self.now) (g.F.Folder.told c.args.folder.now) (g.F.Folder.told c.refuses_write.new.folder) (λ told state. Appends (g.K.Sink.written c.args.out.now) (g.K.Sink.written c.make_room.new.out) (evicted_text (evicted_for (room state [] c.rise-rise.result 0)))) c.in_ok-asked.ensures.reads.stays c.make_room.ensures.front)
 
@@ -111,7 +111,7 @@ returns-in-Full-clause-front g c =
 pub returns-in-Made-clause-does : goal.returns-in-Made-clause-does
 returns-in-Made-clause-does g c =
     if_ok_weaker c.end_write.result
-    (λ given. whole-does c.args.moment c.args.handle c.args.stream c.args.offset c.args.cut c.args.bytes.now c.args.self.now (g.F.Folder.told c.args.folder.now) c.in-Stream.named c.rise-rise.result c.rise-rise.ensures (λ image there state k. subst (IsAskedToWrite state k.layout c.args.moment c.args.handle c.args.stream c.args.offset c.args.cut c.args.bytes.now) c.in-Stream.is (c.in_ok-asked.ensures.asked image there state c.args.moment c.args.cut k))
+    (λ given. whole-does c.args.request.now.moment c.args.request.now.handle c.args.request.now.stream c.args.request.now.offset c.args.request.now.cut c.args.request.now.bytes.now c.args.self.now (g.F.Folder.told c.args.folder.now) c.in-Stream.named c.rise-rise.result c.rise-rise.ensures (λ image there state k. subst (IsAskedToWrite state k.layout c.args.request.now.moment c.args.request.now.handle c.args.request.now.stream c.args.request.now.offset c.args.request.now.cut c.args.request.now.bytes.now) c.in-Stream.is (c.in_ok-asked.ensures.asked image there state c.args.request.now.moment c.args.request.now.cut k))
     (g.F.Folder.told c.make_room.new.folder)
     (same-told (KeepsState c.args.self.now) (g.F.Folder.told c.args.folder.now) (g.F.Folder.told c.refuses_write.new.folder) (λ told state. Passes told (g.F.Folder.told c.make_room.new.folder) (IsEvicting (evicted_for (room state [] c.rise-rise.result 0)) state)) c.in_ok-asked.ensures.reads.stays c.make_room.ensures.stops)
     (λ image there state k. sym (c.in_ok-make_room-in-Stream.ensures.full image (ap (λ (t : Told). t.files) c.in_ok-asked.ensures.reads.stays ∙ there) state k) ∙ ap says_full c.in-Made.is)
@@ -122,7 +122,7 @@ returns-in-Made-clause-does g c =
 
 pub returns-in-Made-clause-stops : goal.returns-in-Made-clause-stops
 returns-in-Made-clause-stops g c =
-    whole-stops c.args.moment c.args.handle c.args.stream c.args.offset c.args.cut c.args.bytes.now c.args.self.now (g.F.Folder.told c.args.folder.now) c.in-Stream.named c.rise-rise.result c.rise-rise.ensures (λ image there state k. subst (IsAskedToWrite state k.layout c.args.moment c.args.handle c.args.stream c.args.offset c.args.cut c.args.bytes.now) c.in-Stream.is (c.in_ok-asked.ensures.asked image there state c.args.moment c.args.cut k))
+    whole-stops c.args.request.now.moment c.args.request.now.handle c.args.request.now.stream c.args.request.now.offset c.args.request.now.cut c.args.request.now.bytes.now c.args.self.now (g.F.Folder.told c.args.folder.now) c.in-Stream.named c.rise-rise.result c.rise-rise.ensures (λ image there state k. subst (IsAskedToWrite state k.layout c.args.request.now.moment c.args.request.now.handle c.args.request.now.stream c.args.request.now.offset c.args.request.now.cut c.args.request.now.bytes.now) c.in-Stream.is (c.in_ok-asked.ensures.asked image there state c.args.request.now.moment c.args.request.now.cut k))
     (g.F.Folder.told c.make_room.new.folder)
     (same-told (KeepsState c.args.self.now) (g.F.Folder.told c.args.folder.now) (g.F.Folder.told c.refuses_write.new.folder) (λ told state. Passes told (g.F.Folder.told c.make_room.new.folder) (IsEvicting (evicted_for (room state [] c.rise-rise.result 0)) state)) c.in_ok-asked.ensures.reads.stays c.make_room.ensures.stops)
     (λ image there state k. sym (c.in_ok-make_room-in-Stream.ensures.full image (ap (λ (t : Told). t.files) c.in_ok-asked.ensures.reads.stays ∙ there) state k) ∙ ap says_full c.in-Made.is)
@@ -133,21 +133,21 @@ returns-in-Made-clause-stops g c =
 pub returns-in-Made-clause-says : goal.returns-in-Made-clause-says
 returns-in-Made-clause-says g c =
     on-ok c.end_write.result _
-    (made-says c.args.moment (to_write c.args.handle c.args.stream c.args.offset c.args.cut c.args.bytes.now) c.rise-rise.result c.args.self.now (g.F.Folder.told c.args.folder.now)
-    (write-wants c.args.moment c.args.handle c.args.stream c.args.offset c.args.cut c.args.bytes.now c.args.self.now (g.F.Folder.told c.args.folder.now) c.in-Stream.named c.rise-rise.result c.rise-rise.ensures (λ image there state k. subst (IsAskedToWrite state k.layout c.args.moment c.args.handle c.args.stream c.args.offset c.args.cut c.args.bytes.now) c.in-Stream.is (c.in_ok-asked.ensures.asked image there state c.args.moment c.args.cut k)))
+    (made-says c.args.request.now.moment (to_write c.args.request.now.handle c.args.request.now.stream c.args.request.now.offset c.args.request.now.cut c.args.request.now.bytes.now) c.rise-rise.result c.args.self.now (g.F.Folder.told c.args.folder.now)
+    (write-wants c.args.request.now.moment c.args.request.now.handle c.args.request.now.stream c.args.request.now.offset c.args.request.now.cut c.args.request.now.bytes.now c.args.self.now (g.F.Folder.told c.args.folder.now) c.in-Stream.named c.rise-rise.result c.rise-rise.ensures (λ image there state k. subst (IsAskedToWrite state k.layout c.args.request.now.moment c.args.request.now.handle c.args.request.now.stream c.args.request.now.offset c.args.request.now.cut c.args.request.now.bytes.now) c.in-Stream.is (c.in_ok-asked.ensures.asked image there state c.args.request.now.moment c.args.request.now.cut k)))
     c.args.failed.now c.make_room.new.failed (g.K.Sink.written c.args.out.now) (g.K.Sink.written c.make_room.new.out)
     (same-told (KeepsState c.args.self.now) (g.F.Folder.told c.args.folder.now) (g.F.Folder.told c.refuses_write.new.folder) (λ told state. PrintsUnlessFailed c.args.failed.now c.make_room.new.failed (g.K.Sink.written c.args.out.now) (g.K.Sink.written c.make_room.new.out) (evicted_text (evicted_for (room state [] c.rise-rise.result 0)))) c.in_ok-asked.ensures.reads.stays c.in_ok-make_room-in-Stream.ensures.prints))
 
 pub returns-in-Made-clause-front : goal.returns-in-Made-clause-front
 returns-in-Made-clause-front g c =
-    made-front c.args.moment (to_write c.args.handle c.args.stream c.args.offset c.args.cut c.args.bytes.now) c.rise-rise.result c.args.self.now (g.F.Folder.told c.args.folder.now)
-    (write-wants c.args.moment c.args.handle c.args.stream c.args.offset c.args.cut c.args.bytes.now c.args.self.now (g.F.Folder.told c.args.folder.now) c.in-Stream.named c.rise-rise.result c.rise-rise.ensures (λ image there state k. subst (IsAskedToWrite state k.layout c.args.moment c.args.handle c.args.stream c.args.offset c.args.cut c.args.bytes.now) c.in-Stream.is (c.in_ok-asked.ensures.asked image there state c.args.moment c.args.cut k)))
+    made-front c.args.request.now.moment (to_write c.args.request.now.handle c.args.request.now.stream c.args.request.now.offset c.args.request.now.cut c.args.request.now.bytes.now) c.rise-rise.result c.args.self.now (g.F.Folder.told c.args.folder.now)
+    (write-wants c.args.request.now.moment c.args.request.now.handle c.args.request.now.stream c.args.request.now.offset c.args.request.now.cut c.args.request.now.bytes.now c.args.self.now (g.F.Folder.told c.args.folder.now) c.in-Stream.named c.rise-rise.result c.rise-rise.ensures (λ image there state k. subst (IsAskedToWrite state k.layout c.args.request.now.moment c.args.request.now.handle c.args.request.now.stream c.args.request.now.offset c.args.request.now.cut c.args.request.now.bytes.now) c.in-Stream.is (c.in_ok-asked.ensures.asked image there state c.args.request.now.moment c.args.request.now.cut k)))
     c.args.failed.now c.make_room.new.failed (g.K.Sink.written c.args.out.now) (g.K.Sink.written c.make_room.new.out)
     (same-told (KeepsState c.args.self.now) (g.F.Folder.told c.args.folder.now) (g.F.Folder.told c.refuses_write.new.folder) (λ told state. Appends (g.K.Sink.written c.args.out.now) (g.K.Sink.written c.make_room.new.out) (evicted_text (evicted_for (room state [] c.rise-rise.result 0)))) c.in_ok-asked.ensures.reads.stays c.make_room.ensures.front)
 
 pub returns-in-Made-clause-untold : goal.returns-in-Made-clause-untold
 returns-in-Made-clause-untold g c some =
-    whole-untold c.args.moment c.args.handle c.args.stream c.args.offset c.args.cut c.args.bytes.now c.args.self.now (g.F.Folder.told c.args.folder.now) c.in-Stream.named c.rise-rise.result c.rise-rise.ensures (λ image there state k. subst (IsAskedToWrite state k.layout c.args.moment c.args.handle c.args.stream c.args.offset c.args.cut c.args.bytes.now) c.in-Stream.is (c.in_ok-asked.ensures.asked image there state c.args.moment c.args.cut k))
+    whole-untold c.args.request.now.moment c.args.request.now.handle c.args.request.now.stream c.args.request.now.offset c.args.request.now.cut c.args.request.now.bytes.now c.args.self.now (g.F.Folder.told c.args.folder.now) c.in-Stream.named c.rise-rise.result c.rise-rise.ensures (λ image there state k. subst (IsAskedToWrite state k.layout c.args.request.now.moment c.args.request.now.handle c.args.request.now.stream c.args.request.now.offset c.args.request.now.cut c.args.request.now.bytes.now) c.in-Stream.is (c.in_ok-asked.ensures.asked image there state c.args.request.now.moment c.args.request.now.cut k))
     (g.F.Folder.told c.make_room.new.folder)
     (same-told (KeepsState c.args.self.now) (g.F.Folder.told c.args.folder.now) (g.F.Folder.told c.refuses_write.new.folder) (λ told state. Passes told (g.F.Folder.told c.make_room.new.folder) (IsEvicting (evicted_for (room state [] c.rise-rise.result 0)) state)) c.in_ok-asked.ensures.reads.stays c.make_room.ensures.stops)
     (λ image there state k. sym (c.in_ok-make_room-in-Stream.ensures.full image (ap (λ (t : Told). t.files) c.in_ok-asked.ensures.reads.stays ∙ there) state k) ∙ ap says_full c.in-Made.is)

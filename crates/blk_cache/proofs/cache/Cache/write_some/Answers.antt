@@ -23,44 +23,44 @@ use Rattle.blk_cache.proofs.cache.Cache.write_some.Goals as goal
 -- It can't be measured.
 
 pub returns-in_err-rise-clause-stops : goal.returns-in_err-rise-clause-stops
-returns-in_err-rise-clause-stops g c names = nothing-stops (KeepsState c.args.self.now) (says-kept c.args.self.now) (g.F.Folder.told c.args.folder.now) (g.F.Folder.told c.measure_rise.new.folder) c.args.moment (to_sparse_write c.args.handle c.args.offset c.args.bytes.now) c.in_err-rise.ensures.reads.stays
+returns-in_err-rise-clause-stops g c names = nothing-stops (KeepsState c.args.self.now) (says-kept c.args.self.now) (g.F.Folder.told c.args.folder.now) (g.F.Folder.told c.measure_rise.new.folder) c.args.request.now.moment (to_sparse_write c.args.request.now.handle c.args.request.now.offset c.args.request.now.bytes.now) c.in_err-rise.ensures.reads.stays
 
 pub returns-in_err-rise-clause-front : goal.returns-in_err-rise-clause-front
-returns-in_err-rise-clause-front g c names = front-before c.args.moment (to_sparse_write c.args.handle c.args.offset c.args.bytes.now) c.args.self.now (g.F.Folder.told c.args.folder.now) c.args.failed.now c.args.failed.now (g.K.Sink.written c.args.out.now) (g.K.Sink.written c.args.out.now)
+returns-in_err-rise-clause-front g c names = front-before c.args.request.now.moment (to_sparse_write c.args.request.now.handle c.args.request.now.offset c.args.request.now.bytes.now) c.args.self.now (g.F.Folder.told c.args.folder.now) c.args.failed.now c.args.failed.now (g.K.Sink.written c.args.out.now) (g.K.Sink.written c.args.out.now)
 
 pub returns-in_err-rise-clause-untold : goal.returns-in_err-rise-clause-untold
 returns-in_err-rise-clause-untold g c names any =
     by-files c.from_residual.result (g.F.Folder.told c.args.folder.now).files (λ image there.
     let k = any image there in
     carried c.measure_rise.result c.from_residual.result c.in_err-rise.field-0.0 (λ _. (g.F.Folder.told c.args.folder.now).files ≡ None) c.in_err-rise.was c.from_residual.ensures.1
-    (c.measure_rise.ensures.untold image there k.0 k.1 c.args.moment c.args.handle (names image there k.0 k.1)))
+    (c.measure_rise.ensures.untold image there k.0 k.1 c.args.request.now.moment c.args.request.now.handle (names image there k.0 k.1)))
 
 -- It is.
 
 pub returns-clause-does : goal.returns-clause-does
 returns-clause-does g c names =
-    subst (λ (t : Told). IfOk c.write_where_room.result (λ answer. Does (KeepsState c.args.self.now) (KeepsState c.write_where_room.new.self) t (g.F.Folder.told c.write_where_room.new.folder) c.args.moment (to_sparse_write c.args.handle c.args.offset c.args.bytes.now) answer)) c.in_ok-rise.ensures.reads.stays
-    (if_ok_weaker c.write_where_room.result (λ answer. for-kept c.args.self.now c.measure_rise.new.self c.measure_rise.ensures.others (g.F.Folder.told c.measure_rise.new.folder) _) (c.write_where_room.ensures.does (asks-then c.args.self.now c.measure_rise.new.self c.measure_rise.ensures.others (g.F.Folder.told c.args.folder.now) (g.F.Folder.told c.measure_rise.new.folder) c.measure_rise.ensures.reads.stays c.args.moment c.args.handle c.args.offset c.args.bytes.now c.args.target.now c.in_ok-rise.rise names c.in_ok-rise.ensures.rises)))
+    subst (λ (t : Told). IfOk c.write_where_room.result (λ answer. Does (KeepsState c.args.self.now) (KeepsState c.write_where_room.new.self) t (g.F.Folder.told c.write_where_room.new.folder) c.args.request.now.moment (to_sparse_write c.args.request.now.handle c.args.request.now.offset c.args.request.now.bytes.now) answer)) c.in_ok-rise.ensures.reads.stays
+    (if_ok_weaker c.write_where_room.result (λ answer. for-kept c.args.self.now c.measure_rise.new.self c.measure_rise.ensures.others (g.F.Folder.told c.measure_rise.new.folder) _) (c.write_where_room.ensures.does (asks-then c.args.self.now c.measure_rise.new.self c.measure_rise.ensures.others (g.F.Folder.told c.args.folder.now) (g.F.Folder.told c.measure_rise.new.folder) c.measure_rise.ensures.reads.stays c.args.request.now.moment c.args.request.now.handle c.args.request.now.offset c.args.request.now.bytes.now c.args.target.now c.in_ok-rise.rise names c.in_ok-rise.ensures.rises)))
 
 pub returns-clause-stops : goal.returns-clause-stops
 returns-clause-stops g c names =
-    subst (λ (t : Told). MayStopAtEach (KeepsState c.args.self.now) t (g.F.Folder.told c.write_where_room.new.folder) c.args.moment (to_sparse_write c.args.handle c.args.offset c.args.bytes.now)) c.in_ok-rise.ensures.reads.stays
-    (for-kept c.args.self.now c.measure_rise.new.self c.measure_rise.ensures.others (g.F.Folder.told c.measure_rise.new.folder) _ (c.write_where_room.ensures.stops (asks-then c.args.self.now c.measure_rise.new.self c.measure_rise.ensures.others (g.F.Folder.told c.args.folder.now) (g.F.Folder.told c.measure_rise.new.folder) c.measure_rise.ensures.reads.stays c.args.moment c.args.handle c.args.offset c.args.bytes.now c.args.target.now c.in_ok-rise.rise names c.in_ok-rise.ensures.rises)))
+    subst (λ (t : Told). MayStopAtEach (KeepsState c.args.self.now) t (g.F.Folder.told c.write_where_room.new.folder) c.args.request.now.moment (to_sparse_write c.args.request.now.handle c.args.request.now.offset c.args.request.now.bytes.now)) c.in_ok-rise.ensures.reads.stays
+    (for-kept c.args.self.now c.measure_rise.new.self c.measure_rise.ensures.others (g.F.Folder.told c.measure_rise.new.folder) _ (c.write_where_room.ensures.stops (asks-then c.args.self.now c.measure_rise.new.self c.measure_rise.ensures.others (g.F.Folder.told c.args.folder.now) (g.F.Folder.told c.measure_rise.new.folder) c.measure_rise.ensures.reads.stays c.args.request.now.moment c.args.request.now.handle c.args.request.now.offset c.args.request.now.bytes.now c.args.target.now c.in_ok-rise.rise names c.in_ok-rise.ensures.rises)))
 
 pub returns-clause-says : goal.returns-clause-says
 returns-clause-says g c names =
-    subst (λ (t : Told). OnOk c.write_where_room.result (SaysEvicted c.args.self.now t c.args.moment (to_sparse_write c.args.handle c.args.offset c.args.bytes.now) c.args.failed.now c.write_where_room.new.failed (g.K.Sink.written c.args.out.now) (g.K.Sink.written c.write_where_room.new.out))) c.in_ok-rise.ensures.reads.stays
-    (on_ok_weaker c.write_where_room.result (for-kept c.args.self.now c.measure_rise.new.self c.measure_rise.ensures.others (g.F.Folder.told c.measure_rise.new.folder) _) (c.write_where_room.ensures.says (asks-then c.args.self.now c.measure_rise.new.self c.measure_rise.ensures.others (g.F.Folder.told c.args.folder.now) (g.F.Folder.told c.measure_rise.new.folder) c.measure_rise.ensures.reads.stays c.args.moment c.args.handle c.args.offset c.args.bytes.now c.args.target.now c.in_ok-rise.rise names c.in_ok-rise.ensures.rises)))
+    subst (λ (t : Told). OnOk c.write_where_room.result (SaysEvicted c.args.self.now t c.args.request.now.moment (to_sparse_write c.args.request.now.handle c.args.request.now.offset c.args.request.now.bytes.now) c.args.failed.now c.write_where_room.new.failed (g.K.Sink.written c.args.out.now) (g.K.Sink.written c.write_where_room.new.out))) c.in_ok-rise.ensures.reads.stays
+    (on_ok_weaker c.write_where_room.result (for-kept c.args.self.now c.measure_rise.new.self c.measure_rise.ensures.others (g.F.Folder.told c.measure_rise.new.folder) _) (c.write_where_room.ensures.says (asks-then c.args.self.now c.measure_rise.new.self c.measure_rise.ensures.others (g.F.Folder.told c.args.folder.now) (g.F.Folder.told c.measure_rise.new.folder) c.measure_rise.ensures.reads.stays c.args.request.now.moment c.args.request.now.handle c.args.request.now.offset c.args.request.now.bytes.now c.args.target.now c.in_ok-rise.rise names c.in_ok-rise.ensures.rises)))
 
 pub returns-clause-front : goal.returns-clause-front
 returns-clause-front g c names =
-    subst (λ (t : Told). SaysPrefix c.args.self.now t c.args.moment (to_sparse_write c.args.handle c.args.offset c.args.bytes.now) (g.K.Sink.written c.args.out.now) (g.K.Sink.written c.write_where_room.new.out)) c.in_ok-rise.ensures.reads.stays
-    (for-kept c.args.self.now c.measure_rise.new.self c.measure_rise.ensures.others (g.F.Folder.told c.measure_rise.new.folder) _ (c.write_where_room.ensures.front (asks-then c.args.self.now c.measure_rise.new.self c.measure_rise.ensures.others (g.F.Folder.told c.args.folder.now) (g.F.Folder.told c.measure_rise.new.folder) c.measure_rise.ensures.reads.stays c.args.moment c.args.handle c.args.offset c.args.bytes.now c.args.target.now c.in_ok-rise.rise names c.in_ok-rise.ensures.rises)))
+    subst (λ (t : Told). SaysPrefix c.args.self.now t c.args.request.now.moment (to_sparse_write c.args.request.now.handle c.args.request.now.offset c.args.request.now.bytes.now) (g.K.Sink.written c.args.out.now) (g.K.Sink.written c.write_where_room.new.out)) c.in_ok-rise.ensures.reads.stays
+    (for-kept c.args.self.now c.measure_rise.new.self c.measure_rise.ensures.others (g.F.Folder.told c.measure_rise.new.folder) _ (c.write_where_room.ensures.front (asks-then c.args.self.now c.measure_rise.new.self c.measure_rise.ensures.others (g.F.Folder.told c.args.folder.now) (g.F.Folder.told c.measure_rise.new.folder) c.measure_rise.ensures.reads.stays c.args.request.now.moment c.args.request.now.handle c.args.request.now.offset c.args.request.now.bytes.now c.args.target.now c.in_ok-rise.rise names c.in_ok-rise.ensures.rises)))
 
 pub returns-clause-untold : goal.returns-clause-untold
 returns-clause-untold g c names =
     subst (λ (t : Told). ForSome t.files (KeepsAny c.args.self.now) → IfDamaged c.write_where_room.result (λ _. t.files ≡ None)) c.in_ok-rise.ensures.reads.stays
-    (λ any. c.write_where_room.ensures.untold (asks-then c.args.self.now c.measure_rise.new.self c.measure_rise.ensures.others (g.F.Folder.told c.args.folder.now) (g.F.Folder.told c.measure_rise.new.folder) c.measure_rise.ensures.reads.stays c.args.moment c.args.handle c.args.offset c.args.bytes.now c.args.target.now c.in_ok-rise.rise names c.in_ok-rise.ensures.rises) (any-kept c.args.self.now c.measure_rise.new.self c.measure_rise.ensures.others (g.F.Folder.told c.measure_rise.new.folder) any))
+    (λ any. c.write_where_room.ensures.untold (asks-then c.args.self.now c.measure_rise.new.self c.measure_rise.ensures.others (g.F.Folder.told c.args.folder.now) (g.F.Folder.told c.measure_rise.new.folder) c.measure_rise.ensures.reads.stays c.args.request.now.moment c.args.request.now.handle c.args.request.now.offset c.args.request.now.bytes.now c.args.target.now c.in_ok-rise.rise names c.in_ok-rise.ensures.rises) (any-kept c.args.self.now c.measure_rise.new.self c.measure_rise.ensures.others (g.F.Folder.told c.measure_rise.new.folder) any))
 
 pub returns-clause-unchanged : goal.returns-clause-unchanged
 returns-clause-unchanged g c = if_ok_weaker c.write_where_room.result (λ answer same refused. room-then c.args.self.now c.measure_rise.new.self c.write_where_room.new.self c.measure_rise.ensures.others (same refused)) c.write_where_room.ensures.unchanged
