@@ -33,6 +33,7 @@ pub mod SparseCovered
 pub mod CreateEnds
 pub mod Notes
 pub mod RoomPins
+pub mod SparseCommands
 pub mod StepTexts
 pub mod RoomBound
 pub mod RoomLast

@@ -4,7 +4,7 @@ use Rattle.std.specs.declared.option.Option.{Option}
 use Rattle.spec_image.specs.Image.{Image}
 use Rattle.spec_image.specs.Told.{Told}
 use Rattle.blk_io.specs.declared.fault.Damage.{Damage}
-use Rattle.blk_model.specs.Request.{Request, to_flush}
+use Rattle.blk_model.specs.Request.{Request, to_flush, to_sparse_range, to_sparse_read, to_sparse_write}
 use Rattle.blk_model.specs.State.{Object, State}
 use Rattle.blk_model.specs.declared.Answer.{Answer}
 use Rattle.blk_model.specs.declared.Answer.TheVariants as answer
@@ -47,6 +47,15 @@ pub record OnlyNotesChange (old new : Cache) : Type 0 where
   pub handles : new.handles ≡ old.handles
   pub files : new.files ≡ old.files
   pub mark : new.mark ≡ old.mark
+
+-- Sparse data.
+
+-- the request is one of the three on sparse data
+abbrev pub IsOnSparse : Request → Type 0
+IsOnSparse (to_sparse_write handle offset bytes) = Unit {0}
+IsOnSparse (to_sparse_read handle offset count) = Unit {0}
+IsOnSparse (to_sparse_range handle offset count) = Unit {0}
+IsOnSparse _ = ⊥
 
 -- Flush.
 

@@ -13,7 +13,7 @@ ghost use Rattle.law_state.specs.Commands.{Does, ForKept, IsNoted, IsStepped, Ma
 ghost use Rattle.blk_object.specs.FailedChecks.{IsFailedCheck};
 ghost use Rattle.blk_script.specs.Reply.{outcome_text};
 ghost use Rattle.blk_cache.specs.CacheKeeping.{KeepsState};
-ghost use Rattle.blk_cache.specs.CommandClauses.{FlushesClean, IsRefused, KeepsAny, OnlyNotesChange};
+ghost use Rattle.blk_cache.specs.CommandClauses.{FlushesClean, IsOnSparse, IsRefused, KeepsAny, OnlyNotesChange};
 ghost use Rattle.blk_evict.specs.RoomPrinting.{FailsWhereItRose};
 ghost use Rattle.blk_cache.specs.Stepping.{IfDone, IfSink, IfStepDamaged, IfStepDevice, SaysEvicted, SaysPrefix};
 
@@ -200,6 +200,38 @@ impl Cache {
             Command::List => self.list(folder),
             Command::Trim { bytes } => self.trim(folder, out, failed, bytes),
             Command::Total => Ok(self.total()),
+            _ => self.perform_sparse(folder, out, failed, moment, command),
+        }
+    }
+
+    // Does a command on sparse data without its completion marker and its reply.
+    fn perform_sparse<F: Folder, K: Sink>(
+        &mut self,
+        folder: &mut F,
+        out: &mut K,
+        failed: &mut bool,
+        moment: u64,
+        command: &Command,
+    ) -> Result<Answer, Fault>
+        requires is_open { ForSome (F.told folder.old).files (IsOpen self.old.files) }
+        requires on_sparse { IsOnSparse (request_of command.now) }
+        ensures does { IfOk result (λ answer. Does (KeepsState self.old) (KeepsState self.new) (F.told folder.old) (F.told folder.new) moment (request_of command.now) answer) }
+        ensures stops { MayStopAtEach (KeepsState self.old) (F.told folder.old) (F.told folder.new) moment (request_of command.now) }
+        ensures says { OnOk result (SaysEvicted self.old (F.told folder.old) moment (request_of command.now) failed.old failed.new (K.written out.old) (K.written out.new)) }
+        ensures front { SaysPrefix self.old (F.told folder.old) moment (request_of command.now) (K.written out.old) (K.written out.new) }
+        ensures failed { FailsWhereItRose failed.old failed.new (K.faults out.old) (K.faults out.new) }
+        ensures quiet { IfOk result (λ answer. IsRefused answer → Stays (F.told folder.old) (F.told folder.new)) }
+        ensures idle { ForKept (KeepsState self.old) (F.told folder.old) (λ state. FlushesClean state (request_of command.now) → Stays (F.told folder.old) (F.told folder.new)) }
+        ensures notes { self.new.notes ≡ self.old.notes }
+        ensures mark { self.new.mark ≡ self.old.mark }
+        ensures is_open { OnOk result (ForSome (F.told folder.new).files (IsOpen self.new.files)) }
+        ensures damaged { IfDamaged result (IsFailedCheck self.new.files (F.told folder.new)) }
+        ensures untold { ForSome (F.told folder.old).files (KeepsAny self.old) → IfDamaged result (λ _. (F.told folder.old).files ≡ None) }
+        ensures later { F.faults folder.old ≤ F.faults folder.new }
+        ensures printed_later { GoesOn K.is K.faults out.old out.new }
+        ensures device { IfDevice result (Rises (F.faults folder.old) (F.faults folder.new)) }
+    {
+        match *command {
             Command::SparseWrite {
                 handle,
                 offset,
@@ -223,6 +255,7 @@ impl Cache {
                 offset,
                 count,
             } => self.use_sparse(folder, Wanted::Run, handle, offset, count, moment),
+            _ => unreachable!(),
         }
     }
 
