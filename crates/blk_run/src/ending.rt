@@ -21,7 +21,7 @@ pub enum Status {
     /// Out of memory. Nothing was done.
     Memory = 6,
     /// A check of the folder failed. At the start what it found was printed, and where the folder is observable nothing was
-    /// written. Later one fails only in an opaque folder, and nothing of it is printed.
+    /// written. Later one fails only in an opaque folder, and what it found is printed by `inspect` and `verify` alone.
     Damaged = 7,
     /// The input is longer than it may be.
     TooLong = 8,
