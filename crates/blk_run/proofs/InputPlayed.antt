@@ -279,10 +279,6 @@ module _ (input input_new : Option (List ℕ)) (piece bytes : List ℕ) (n usabl
       let front : take n l ≡ bytes ++ byte ∷ [] = ap (λ (k : ℕ). take k l) more ∙ take_more l usable 0 within ∙ ap (λ (x : List ℕ). x ++ byte ∷ []) (sym (front_of (omega (arith, more)) l there)) in
       (byte, (drop n l, (sym (take-append-drop n l) ∙ ap (λ (x : List ℕ). x ++ drop n l) front ∙ append_assoc bytes (byte ∷ []) (drop n l), left_is l there)))
 
--- none was taken
-pub none_taken : (input input_new : Option (List ℕ)) (n : ℕ) → n ≡ 0 → input_new ≡ option_map (drop n) input → ForSome input (λ l. input_new ≡ Some l)
-none_taken input input_new n zero later l there = later ∙ ap (option_map (drop n)) there ∙ ap (λ (k : ℕ). Some (drop k l)) zero
-
 pub taken_as : (budget : ℕ) (input_old input input_new : Option (List ℕ)) → input_new ≡ input → ForSome input_old (IsTakenUpTo budget input) → ForSome input_old (IsTakenUpTo budget input_new)
 taken_as budget input_old input input_new same taken = subst (λ (l : Option (List ℕ)). ForSome input_old (IsTakenUpTo budget l)) (sym same) taken
 

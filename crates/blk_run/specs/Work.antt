@@ -109,7 +109,7 @@ DoesNoWork (folder_text text) old new = DoesNothing old new
 
 -- the contract of the work; `device` and `source` say that the error counter of folder or input rose, `before` and `now` are the error counter of the output
 pub record Performs (work : Work) (result : Status) (limits : Bounds) (device source : Type 0) (before now : ℕ) (old new : Outside) : Type 0 where
-  -- on a folder that is uninitialized or well formed the work is the run in the model
+  -- on a folder that is uninitialized or well formed the work is the run in the model, whatever clock and input tell
   pub plays : ForSome old.folder.files (λ from. IsUsable from → DoesWork work result limits from source (Rises before now) old new)
   -- where nothing fails the whole output is printed, unless memory ran out
   pub complete : ForSome old.folder.files (λ from. IsUsable from → (device → ⊥) → (source → ⊥) → (Rises before now → ⊥) → CompletesWork work result limits from old new)

@@ -51,7 +51,7 @@ pub fn session<F: Folder, S: Source, K: Sink, C: Clock>(
     folder: &mut F,
     clock: &mut C,
 ) -> Status
-    // On a folder that is uninitialized or well formed it is the run of the lines on the map model.
+    // On a folder that is uninitialized or well formed it is the run of the lines on the map model, whatever clock and input tell.
     ensures session { ForSome (F.told folder.old).files (λ from. IsUsable from → ReadsAs (C.readings clock.old) (C.readings clock.new) (λ readings late. TakesAs (S.left input.old) (S.left input.new) (λ bytes rest. Session by_lines result (bounds_of limits) budget from readings bytes (Rises (S.faults input.old) (S.faults input.new)) (Rises (K.faults out.old) (K.faults out.new)) (outside (F.told folder.old) (K.written out.old) (Some bytes) (Some readings)) (outside (F.told folder.new) (K.written out.new) (Some rest) (Some late))))) }
 
     // Where nothing fails and the input is within the budget the whole output is printed, unless it is out of memory.

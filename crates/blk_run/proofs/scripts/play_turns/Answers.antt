@@ -10,6 +10,6 @@ use Rattle.blk_run.proofs.scripts.play_turns.Goals as goal
 pub returns-in-Commands-clause-played : goal.returns-in-Commands-clause-played
 returns-in-Commands-clause-played g c =
     subst (λ (f : Fixed). ReadsAs (g.C.Clock.readings c.args.clock.now) (g.C.Clock.readings c.play_until_refused.new.clock) (λ early late. (far : SoFar) (left : ℕ) → StandsAt far (KeepsState c.args.cache.now) c.args.cache.now.notes (left + 2 * commands_in f) (g.F.Folder.told c.args.folder.now)
-        → PlaysPart c.play_until_refused.result (turns (script_of f)) far (KeepsState c.play_until_refused.new.cache) c.play_until_refused.new.cache.notes left (around (g.F.Folder.told c.args.folder.now) (g.K.Sink.written c.args.out.now) (Some early) c.args.refused.now)
-        (around (g.F.Folder.told c.play_until_refused.new.folder) (g.K.Sink.written c.play_until_refused.new.out) (Some late) c.play_until_refused.new.refused)))
+    → PlaysPart c.play_until_refused.result (turns (script_of f)) far (KeepsState c.play_until_refused.new.cache) c.play_until_refused.new.cache.notes left (around (g.F.Folder.told c.args.folder.now) (g.K.Sink.written c.args.out.now) (Some early) c.args.refused.now)
+    (around (g.F.Folder.told c.play_until_refused.new.folder) (g.K.Sink.written c.play_until_refused.new.out) (Some late) c.play_until_refused.new.refused)))
     (sym c.in-Commands.is) c.play_until_refused.ensures.played

@@ -9,7 +9,7 @@ use Rattle.blk_run.specs.declared.input.InputEnd.{InputEnd}
 use Rattle.blk_model.specs.Sizes.{handle_names}
 use Rattle.blk_run.specs.Statuses.{IfWhole, may_close, status_after}
 use Rattle.blk_cache.specs.CacheKeeping.{KeepsState}
-use Rattle.blk_run.proofs.SessionEnds.{closed_runs, end_failed, end_undamaged, input_cause, input_told, input_undamaged, kept_after, runs_as, stopped_runs, unclosed_runs}
+use Rattle.blk_run.proofs.SessionEnds.{closed_runs, end_failed, end_undamaged, input_cause, input_undamaged, kept_after, runs_as, stopped_runs, unclosed_runs}
 use Rattle.blk_run.proofs.Failures.{fails_somewhere}
 use Rattle.blk_run.proofs.HandedOn.{session_whole}
 use Rattle.blk_run.proofs.OutOfMemory.{session_memory}

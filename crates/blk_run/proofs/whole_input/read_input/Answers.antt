@@ -35,10 +35,12 @@ returns-in-Ok-eq0-clause-given g c =
     (took_none c.in-Ok-eq0.field-0 c.in-Ok-eq0.field-0-test (λ l is. (c.in-Ok-eq0.ensures.bytes l is).end c.in-Ok-eq0.field-0-test (omega (arith, left, buffer, few))) c.in-Ok-eq0.ensures.left)
     (λ bytes mid rest so empty.
     let end : drop c.loop-len.len bytes ≡ [] = some_same (sym so.left_is) ∙ empty.0 in
-    let nothing : drop c.in-Ok-eq0.field-0 mid ≡ [] = ap (drop c.in-Ok-eq0.field-0) empty.0 ∙ drop_all c.in-Ok-eq0.field-0 [] (omega arith) in
-    (c.loop-len-test.true, for_some _ bytes
-    (taken_all c.loop-len.len c.in-Ok-eq0.field-0 c.loop-len.buffer c.take.new.out bytes (omega (arith, buffer, few)) (c.take.auto.out ∙ left)
-    (none_moved c.in-Ok-eq0.field-0 (drop c.loop-len.len bytes) c.in-Ok-eq0.field-0-test) (none_front c.in-Ok-eq0.field-0 c.take.new.out (drop c.loop-len.len bytes) c.in-Ok-eq0.field-0-test) so few end (ap Some (empty.1 ∙ sym nothing)))))
+    let nothing : drop c.in-Ok-eq0.field-0 mid ≡ [] = ap (drop c.in-Ok-eq0.field-0) empty.0 ∙ drop_all c.in-Ok-eq0.field-0 [] (omega arith) in (
+      c.loop-len-test.true,
+      for_some _ bytes
+          (taken_all c.loop-len.len c.in-Ok-eq0.field-0 c.loop-len.buffer c.take.new.out bytes (omega (arith, buffer, few)) (c.take.auto.out ∙ left)
+          (none_moved c.in-Ok-eq0.field-0 (drop c.loop-len.len bytes) c.in-Ok-eq0.field-0-test) (none_front c.in-Ok-eq0.field-0 c.take.new.out (drop c.loop-len.len bytes) c.in-Ok-eq0.field-0-test) so few end (ap Some (empty.1 ∙ sym nothing))),
+    ))
 
 pub returns-in-Err-clause-reads : goal.returns-in-Err-clause-reads
 returns-in-Err-clause-reads g c bytes there = taken_front 1048576 c.loop-len.len c.loop-len.buffer bytes (c.loop-len.invariant.taken bytes there) c.loop-len-test.true c.in-Err.ensures.stays
