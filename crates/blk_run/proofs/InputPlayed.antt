@@ -279,10 +279,6 @@ module _ (input input_new : Option (List ℕ)) (piece bytes : List ℕ) (n usabl
       let front : take n l ≡ bytes ++ byte ∷ [] = ap (λ (k : ℕ). take k l) more ∙ take_more l usable 0 within ∙ ap (λ (x : List ℕ). x ++ byte ∷ []) (sym (front_of (omega (arith, more)) l there)) in
       (byte, (drop n l, (sym (take-append-drop n l) ∙ ap (λ (x : List ℕ). x ++ drop n l) front ∙ append_assoc bytes (byte ∷ []) (drop n l), left_is l there)))
 
--- none was taken
-pub none_taken : (input input_new : Option (List ℕ)) (n : ℕ) → n ≡ 0 → input_new ≡ option_map (drop n) input → ForSome input (λ l. input_new ≡ Some l)
-none_taken input input_new n zero later l there = later ∙ ap (option_map (drop n)) there ∙ ap (λ (k : ℕ). Some (drop k l)) zero
-
 pub taken_as : (budget : ℕ) (input_old input input_new : Option (List ℕ)) → input_new ≡ input → ForSome input_old (IsTakenUpTo budget input) → ForSome input_old (IsTakenUpTo budget input_new)
 taken_as budget input_old input input_new same taken = subst (λ (l : Option (List ℕ)). ForSome input_old (IsTakenUpTo budget l)) (sym same) taken
 
@@ -308,6 +304,21 @@ pub taken_so_far : (budget left : ℕ) (input_old input : Option (List ℕ)) (li
 taken_so_far budget left input_old input line lines_now keeps_old keeps notes_old notes old mid so_far bytes there =
     let l = so_far.of bytes there in
     (so_far.taken, record { behind = l.0; split = l.1.0; left_is = l.1.1; within = let c = so_far.count in omega (arith, c) })
+
+-- where more bytes are left than may be used the input is longer than the budget
+pub long_input : (budget left : ℕ) (bytes mid : List ℕ) (line : Line) (lines_now : ℕ) (keeps_old keeps : State → Image → Type 0) (notes_old notes : ℕ) (old new : Around)
+    → IsInputPlayed budget left (Some bytes) (Some mid) line lines_now keeps_old keeps notes_old notes old new → left < length mid → budget < length bytes
+long_input budget left bytes mid line lines_now keeps_old keeps notes_old notes old new so_far more =
+    let l = so_far.of bytes refl in
+    let same : mid ≡ l.0 = inside l.1.1 in
+    let s = ap length l.1.0 in
+    let a = length-append so_far.taken l.0 in
+    let m = ap length same in
+    let c = so_far.count in
+    omega (arith, s, a, m, c, more)
+  where
+    inside : {x y : List ℕ} → ◌≡◌ {A = Option (List ℕ)} (Some x) (Some y) → x ≡ y
+    inside e = cc
 
 -- more bytes follow than the budget
 pub past_budget : (budget : ℕ) (input : List ℕ) (taken : List ℕ) (left : Option (List ℕ)) → IsPastBudget budget input taken left → budget < length input

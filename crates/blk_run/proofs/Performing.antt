@@ -1,5 +1,8 @@
 -- What is asked for is done, by what the call that does it says.
-use Rattle.std.proofs.Common.{ℕ, ◌+◌, ◌<◌, ◌≤◌, ◌≡◌, inr, inl, List, [], ◌∷◌, ◌++◌, length, take, Option, Result, Ok, refl, sym, ◌∙◌, ap, subst, arith, append_assoc}
+use Rattle.blk_run.specs.Shown.{ShowsText}
+use Rattle.blk_run.proofs.Reading.{reads_map, takes_map, takes_same, reads_told, takes_told}
+use Rattle.blk_run.specs.Telling.{ReadsAs, TakesAs}
+use Rattle.std.proofs.Common.{ℕ, ◌+◌, ◌<◌, ◌≤◌, ◌≡◌, inr, inl, List, [], ◌∷◌, ◌++◌, length, take, Option, Result, Ok, refl, sym, ◌∙◌, ap, subst, arith, append_assoc, Some}
 use Rattle.std.specs.Option.{ForSome}
 use Rattle.std.proofs.lemmas.List.{append-nil, length-append, length-take}
 use Rattle.spec_image.specs.Checks.{Damage}
@@ -13,11 +16,11 @@ use Rattle.blk_run.specs.declared.ending.Status.{Status}
 use Rattle.blk_run.specs.declared.ending.Status.TheVariants as status
 use Rattle.blk_run.specs.Failing.{IsDamagedRun}
 use Rattle.blk_run.specs.Inputs.{IsReadWhole, IsTakenPast, IsTakenUpTo}
-use Rattle.blk_run.specs.Session.{DoesNothing, FixedScript, IsCompleteScript, LeavesUnput, OnDamage, Outside, Put}
+use Rattle.blk_run.specs.Session.{DoesNothing, FixedScript, IsCompleteScript, LeavesUnput, OnDamage, Outside, Put, outside, with_given, with_readings, Session}
 use Rattle.blk_run.specs.Statuses.{CauseOf}
 use Rattle.blk_script.specs.declared.fault.LineFault.{LineFault}
 use Rattle.blk_run.specs.WholeInputs.{IsWholeInBuffer, longest_input}
-use Rattle.blk_run.specs.Work.{Performs, ReadsOnDamage, no_input, whole_input}
+use Rattle.blk_run.specs.Work.{Performs, ReadsOnDamage, no_input, whole_input, DoesWork, Work, budget, folder_text, input_by}
 
 -- a cause, where the source can't have failed and nothing is too long
 pub cause_wider : (s : Status) (damaged device source sink long : Type 0) → CauseOf s damaged device ⊥ sink ⊥ → CauseOf s damaged device source sink long
@@ -84,18 +87,31 @@ past_long most left input past =
 
 -- what a script says that was run
 pub record RunsScript (script : Script) (result : Status) (limits : Bounds) (device : Type 0) (before now : ℕ) (old new : Outside) : Type 0 where
-  pub plays : ForSome old.folder.files (λ from. IsUsable from → ForSome old.clock (λ readings. FixedScript result script limits from readings (Rises before now) old new))
+  pub plays : ForSome old.folder.files (λ from. IsUsable from → ReadsAs old.clock new.clock (λ readings later. (left : Option (List ℕ)) → FixedScript result script limits from readings (Rises before now) (outside old.folder old.written left (Some readings)) (outside new.folder new.written left (Some later))))
   pub complete : ForSome old.folder.files (λ from. IsUsable from → ForSome old.clock (λ readings. (device → ⊥) → (Rises before now → ⊥) → IsCompleteScript result script limits from readings old new))
   pub damage : ForSome old.folder.files (λ from. (damage : Damage) → IsDamagedBy damage from → OnDamage result damage before now old new)
   pub cause : CauseOf result (IsDamagedRun old.folder new.folder old.written new.written before now) device ⊥ (Rises before now) ⊥
   pub memory : result ≡ status.Memory → DoesNothing old new
 
+-- the whole input was read, and then the script of it was run
+put_of : (limits : Bounds) (old new : Outside) (s : Status) (script : List ℕ → Script) (from : Image) (readings : Readings) (input : List ℕ) (sink : Type 0) → IsReadWhole longest_input input new.left → FixedScript s (script input) limits from readings sink (record old { left = new.left }) new
+    → Put s script limits from readings input sink old new
+put_of limits old new status.Ok script from readings input sink whole runs = (whole, runs)
+put_of limits old new status.Refused script from readings input sink whole runs = (whole, runs)
+put_of limits old new status.Words script from readings input sink whole runs = (whole, runs)
+put_of limits old new status.Device script from readings input sink whole runs = (whole, runs)
+put_of limits old new status.Source script from readings input sink whole runs = absurd runs.may_end
+put_of limits old new status.Sink script from readings input sink whole runs = (whole, runs)
+put_of limits old new status.Memory script from readings input sink whole runs = (inr whole, record { unwritten = runs.unwritten; unprinted = runs.unprinted })
+put_of limits old new status.Damaged script from readings input sink whole runs = (whole, runs)
+put_of limits old new status.TooLong script from readings input sink whole runs = absurd runs.may_end
+
 module _ (result : Status) (limits : Bounds) (device source : Type 0) (before now : ℕ) (old new : Outside) where
   -- a script that leaves the input unread
   pub script_performs : (script other : Script) → script ≡ other → new.left ≡ old.left → RunsScript script result limits device before now old new → Performs (no_input other) result limits device source before now old new
   script_performs script other same unread runs = subst (λ (s : Script). Performs (no_input s) result limits device source before now old new) same (record {
-    plays = runs.plays;
-    complete = λ from there usable readings clock no_device no_source no_sink. runs.complete from there usable readings clock no_device no_sink;
+    plays = λ from there usable. reads_map (runs.plays from there usable) (λ readings later does. subst (λ (l : Option (List ℕ)). FixedScript result script limits from readings (Rises before now) (with_readings old readings) (outside new.folder new.written l (Some later))) (sym unread) (does old.left));
+    complete = λ from there usable no_device no_source no_sink readings clock. runs.complete from there usable readings clock no_device no_sink;
     damage = runs.damage;
     cause = cause_wider result (IsDamagedRun old.folder new.folder old.written new.written before now) device source (Rises before now) ⊥ runs.cause;
     takes = unread;
@@ -106,7 +122,7 @@ module _ (result : Status) (limits : Bounds) (device source : Type 0) (before no
   pub performs_wider : (script : Script) → Performs (no_input script) result limits device ⊥ before now old new → Performs (no_input script) result limits device source before now old new
   performs_wider script does = record {
     plays = does.plays;
-    complete = λ from there usable readings clock no_device no_source no_sink. does.complete from there usable readings clock no_device (λ x. x) no_sink;
+    complete = λ from there usable no_device no_source no_sink readings clock. does.complete from there usable no_device (λ x. x) no_sink readings clock;
     damage = does.damage;
     cause = cause_wider result (IsDamagedRun old.folder new.folder old.written new.written before now) device source (Rises before now) ⊥ does.cause;
     takes = does.takes;
@@ -114,18 +130,6 @@ module _ (result : Status) (limits : Bounds) (device source : Type 0) (before no
   }
 
   -- Of the whole input.
-
-  put_of : (s : Status) (script : List ℕ → Script) (from : Image) (readings : Readings) (input : List ℕ) (sink : Type 0) → IsReadWhole longest_input input new.left → FixedScript s (script input) limits from readings sink (record old { left = new.left }) new
-      → Put s script limits from readings input sink old new
-  put_of status.Ok script from readings input sink whole runs = (whole, runs)
-  put_of status.Refused script from readings input sink whole runs = (whole, runs)
-  put_of status.Words script from readings input sink whole runs = (whole, runs)
-  put_of status.Device script from readings input sink whole runs = (whole, runs)
-  put_of status.Source script from readings input sink whole runs = absurd runs.may_end
-  put_of status.Sink script from readings input sink whole runs = (whole, runs)
-  put_of status.Memory script from readings input sink whole runs = (inr whole, record { unwritten = runs.unwritten; unprinted = runs.unprinted })
-  put_of status.Damaged script from readings input sink whole runs = (whole, runs)
-  put_of status.TooLong script from readings input sink whole runs = absurd runs.may_end
 
   reads_of : (s : Status) (damage : Damage) → ForSome old.left (λ input. IsReadWhole longest_input input new.left) → OnDamage s damage before now (record old { left = new.left }) new → ReadsOnDamage s damage before now old new
   reads_of status.Ok damage whole on = absurd on
@@ -140,12 +144,13 @@ module _ (result : Status) (limits : Bounds) (device source : Type 0) (before no
 
   -- the whole input was read, and then the script of it was run
   pub put_performs : (script : List ℕ → Script) (bytes : List ℕ) (played : Script) → played ≡ script bytes → ForSome old.left (λ input. (bytes ≡ input) × IsReadWhole longest_input input new.left)
+      → TakesAs old.left new.left (λ input rest. (bytes ≡ input) × IsReadWhole longest_input input (Some rest))
       → RunsScript played result limits device before now (record old { left = new.left }) new → Performs (whole_input script) result limits device source before now old new
-  put_performs script bytes played same whole runs = record {
-    plays = λ from there usable readings clock input left.
-        put_of result script from readings input (Rises before now) (whole input left).1
-        (subst (λ (s : Script). FixedScript result s limits from readings (Rises before now) (record old { left = new.left }) new) (same ∙ ap script (whole input left).0) (runs.plays from there usable readings clock));
-    complete = λ from there usable readings clock no_device no_source no_sink input left within.
+  put_performs script bytes played same whole given runs = record {
+    plays = λ from there usable. reads_map (runs.plays from there usable) (λ readings later does. takes_map given (λ input rest is.
+        put_of limits (with_given old readings input) (with_given new later rest) result script from readings input (Rises before now) is.1
+        (subst (λ (s : Script). FixedScript result s limits from readings (Rises before now) (outside old.folder old.written (Some rest) (Some readings)) (with_given new later rest)) (same ∙ ap script is.0) (does (Some rest)))));
+    complete = λ from there usable no_device no_source no_sink readings clock input left within.
         subst (λ (s : Script). IsCompleteScript result s limits from readings (record old { left = new.left }) new) (same ∙ ap script (whole input left).0) (runs.complete from there usable readings clock no_device no_sink);
     damage = λ from there damage is. reads_of result damage (λ input left. (whole input left).1) (runs.damage from there damage is);
     cause = cause_wider result (IsDamagedRun old.folder new.folder old.written new.written before now) device source (Rises before now) (ForSome old.left (λ input. longest_input < length input)) runs.cause;
@@ -156,20 +161,20 @@ module _ (result : Status) (limits : Bounds) (device source : Type 0) (before no
 -- Where nothing was done.
 
 -- out of memory
-pub idle_script : (script : Script) (limits : Bounds) (device source : Type 0) (before now : ℕ) (old new : Outside) → DoesNothing old new → Performs (no_input script) status.Memory limits device source before now old new
-idle_script script limits device source before now old new nothing = record {
-  plays = λ from there usable readings clock. nothing;
-  complete = λ from there usable readings clock no_device no_source no_sink. nothing;
+pub idle_script : (script : Script) (limits : Bounds) (device source : Type 0) (before now : ℕ) (old new : Outside) → ReadsAs old.clock new.clock (λ _ _. Unit {0}) → DoesNothing old new → Performs (no_input script) status.Memory limits device source before now old new
+idle_script script limits device source before now old new clock nothing = record {
+  plays = λ from there usable. reads_map clock (λ readings later none. record { unwritten = nothing.unwritten; unread = nothing.unread; unprinted = nothing.unprinted });
+  complete = λ from there usable no_device no_source no_sink readings clock. nothing;
   damage = λ from there damage is. nothing;
   cause = tt;
   takes = nothing.unread;
   memory = λ is. nothing;
 }
 
-pub idle_put : (script : List ℕ → Script) (limits : Bounds) (device source : Type 0) (before now : ℕ) (old new : Outside) → DoesNothing old new → Performs (whole_input script) status.Memory limits device source before now old new
-idle_put script limits device source before now old new nothing = record {
-  plays = λ from there usable readings clock input left. (inl nothing.unread, record { unwritten = nothing.unwritten; unprinted = nothing.unprinted });
-  complete = λ from there usable readings clock no_device no_source no_sink input left within. record { unwritten = nothing.unwritten; unread = refl; unprinted = nothing.unprinted };
+pub idle_put : (script : List ℕ → Script) (limits : Bounds) (device source : Type 0) (before now : ℕ) (old new : Outside) → ReadsAs old.clock new.clock (λ _ _. Unit {0}) → DoesNothing old new → Performs (whole_input script) status.Memory limits device source before now old new
+idle_put script limits device source before now old new clock nothing = record {
+  plays = λ from there usable. reads_map clock (λ readings later none. takes_map (takes_same [] nothing.unread) (λ input rest same. (inl (ap Some same), record { unwritten = nothing.unwritten; unprinted = nothing.unprinted })));
+  complete = λ from there usable no_device no_source no_sink readings clock input left within. record { unwritten = nothing.unwritten; unread = refl; unprinted = nothing.unprinted };
   damage = λ from there damage is. (λ input left. inl nothing.unread, record { unwritten = nothing.unwritten; unprinted = nothing.unprinted });
   cause = tt;
   takes = none_yet (longest_input + 1) old.left new.left nothing.unread;
@@ -177,11 +182,11 @@ idle_put script limits device source before now old new nothing = record {
 }
 
 -- the input failed
-pub unread_put : (script : List ℕ → Script) (limits : Bounds) (device source : Type 0) (before now : ℕ) (old new : Outside) → source → ForSome old.left (IsTakenUpTo longest_input new.left) → LeavesUnput old new
+pub unread_put : (script : List ℕ → Script) (limits : Bounds) (device source : Type 0) (before now : ℕ) (old new : Outside) → source → ReadsAs old.clock new.clock (λ _ _. Unit {0}) → ForSome old.left (IsTakenUpTo longest_input new.left) → TakesAs old.left new.left (λ input rest. IsTakenUpTo longest_input (Some rest) input) → LeavesUnput old new
     → Performs (whole_input script) status.Source limits device source before now old new
-unread_put script limits device source before now old new rose taken nothing = record {
-  plays = λ from there usable readings clock input left. (taken input left, nothing);
-  complete = λ from there usable readings clock no_device no_source no_sink input left within. no_source rose;
+unread_put script limits device source before now old new rose clock taken given nothing = record {
+  plays = λ from there usable. reads_map clock (λ readings later none. takes_map given (λ input rest is. (is, record { unwritten = nothing.unwritten; unprinted = nothing.unprinted })));
+  complete = λ from there usable no_device no_source no_sink readings clock input left within. no_source rose;
   damage = λ from there damage is. (taken, nothing);
   cause = rose;
   takes = λ input left. up_to_more longest_input (longest_input + 1) new.left input (omega arith) (taken input left);
@@ -189,11 +194,11 @@ unread_put script limits device source before now old new rose taken nothing = r
 }
 
 -- it has too many bytes
-pub long_put : (script : List ℕ → Script) (limits : Bounds) (device source : Type 0) (before now : ℕ) (old new : Outside) → ForSome old.left (IsTakenPast longest_input new.left) → LeavesUnput old new
+pub long_put : (script : List ℕ → Script) (limits : Bounds) (device source : Type 0) (before now : ℕ) (old new : Outside) → ReadsAs old.clock new.clock (λ _ _. Unit {0}) → ForSome old.left (IsTakenPast longest_input new.left) → TakesAs old.left new.left (λ input rest. IsTakenPast longest_input (Some rest) input) → LeavesUnput old new
     → Performs (whole_input script) status.TooLong limits device source before now old new
-long_put script limits device source before now old new past nothing = record {
-  plays = λ from there usable readings clock input left. (past input left, nothing);
-  complete = λ from there usable readings clock no_device no_source no_sink input left within. too_many (length input) within (past_long longest_input new.left input (past input left));
+long_put script limits device source before now old new clock past given nothing = record {
+  plays = λ from there usable. reads_map clock (λ readings later none. takes_map given (λ input rest is. (is, record { unwritten = nothing.unwritten; unprinted = nothing.unprinted })));
+  complete = λ from there usable no_device no_source no_sink readings clock input left within. too_many (length input) within (past_long longest_input new.left input (past input left));
   damage = λ from there damage is. (past, nothing);
   cause = λ input left. past_long longest_input new.left input (past input left);
   takes = λ input left. past_taken longest_input new.left input (past input left);
@@ -202,3 +207,25 @@ long_put script limits device source before now old new past nothing = record {
   where
     too_many : (n : ℕ) → n ≤ longest_input → longest_input < n → ⊥
     too_many n few many = absurd (omega (arith, few, many))
+
+-- Where clock and input tell.
+
+-- the contract of the work with the readings and the bytes that are told
+abbrev pub DoesToldWork : Work → Status → Bounds → Image → Readings → List ℕ → (source sink : Type 0) → Outside → Outside → Type 0
+DoesToldWork (input_by protocol) result limits from readings input source sink old new = Session protocol result limits budget from readings input source sink old new
+DoesToldWork (whole_input script) result limits from readings input source sink old new = Put result script limits from readings input sink old new
+DoesToldWork (no_input script) result limits from readings input source sink old new = FixedScript result script limits from readings sink old new
+DoesToldWork (folder_text text) result limits from readings input source sink old new = ShowsText result (text from) old new
+
+-- where clock and input tell the readings and the bytes to come, the work is the run of these
+pub work_of_told : (work : Work) (result : Status) (limits : Bounds) (from : Image) (source sink : Type 0) (old new : Outside) → DoesWork work result limits from source sink old new
+    → (readings : Readings) → old.clock ≡ Some readings → (input : List ℕ) → old.left ≡ Some input → DoesToldWork work result limits from readings input source sink old new
+work_of_told (input_by protocol) result limits from source sink old new does readings clock input left =
+    takes_told (λ (b : List ℕ) (x y : Option (List ℕ)). Session protocol result limits budget from readings b source sink (outside old.folder old.written x old.clock) (outside new.folder new.written y new.clock))
+    (reads_told (λ (r : Readings) (o n : Option Readings). TakesAs old.left new.left (λ b a. Session protocol result limits budget from r b source sink (outside old.folder old.written (Some b) o) (outside new.folder new.written (Some a) n))) does readings clock) input left
+work_of_told (whole_input script) result limits from source sink old new does readings clock input left =
+    takes_told (λ (b : List ℕ) (x y : Option (List ℕ)). Put result script limits from readings b sink (outside old.folder old.written x old.clock) (outside new.folder new.written y new.clock))
+    (reads_told (λ (r : Readings) (o n : Option Readings). TakesAs old.left new.left (λ b a. Put result script limits from r b sink (outside old.folder old.written (Some b) o) (outside new.folder new.written (Some a) n))) does readings clock) input left
+work_of_told (no_input script) result limits from source sink old new does readings clock input left =
+    reads_told (λ (r : Readings) (o n : Option Readings). FixedScript result script limits from r sink (outside old.folder old.written old.left o) (outside new.folder new.written new.left n)) does readings clock
+work_of_told (folder_text text) result limits from source sink old new does readings clock input left = does

@@ -44,11 +44,6 @@ no_true e = cc
 no_false : true ≡ false → ⊥
 no_false e = cc
 
--- what is played of an input that is told
-pub input_told : (r : Result InputEnd StepFault) (budget : ℕ) (given : Option (List ℕ)) (input : List ℕ) (left : Option (List ℕ)) (far : SoFar) (keeps : State → Image → Type 0) (notes spare : ℕ) (old new : Around) → given ≡ Some input
-    → PlaysInput r budget given left far keeps notes spare old new → PlaysInput r budget (Some input) left far keeps notes spare old new
-input_told r budget given input left far keeps notes spare old new is plays = subst (λ (l : Option (List ℕ)). PlaysInput r budget l left far keeps notes spare old new) is plays
-
 module _ (from : Image) (limits : Bounds) (readings : Readings) (old : Outside) (there : old.folder.files ≡ Some from) (clock : old.clock ≡ Some readings) (clock_first : Option Readings) (first_read : clock_first ≡ option_map later_of old.clock)
     (budget : ℕ) (input : List ℕ) (source sink : Type 0) (keeps : State → Image → Type 0) (notes : ℕ) (told : Told) (new : Outside) (takes : IsTakenUpTo (budget + 1) new.left input) (mid : Around) (same_text : new.written ≡ mid.written) where
   abbrev first : Around

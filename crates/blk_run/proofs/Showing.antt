@@ -55,24 +55,24 @@ module _ (text : Image → List ℕ) (limits : Bounds) (device : Type 0) (before
   shown_at : (r : Result (Unit {0}) InspectFault) → ForSome start.files (λ image. PrintsAt r (text image) w_old w_mid) → ForSome start.files (AnswersFor r) → UnlessSink r (w_mid ≡ w_old) → IfInspectDamaged r (IsInspectDamage start) → IfInspectDevice r device
       → IfInspectSink r (Rises before between) → PrintsFault r w_mid w_new between now → Performs (folder_text text) (status_shown r) limits device ⊥ before now old new
   shown_at (Ok done) printed answer unprinted cause_is device_is sink_is behind = record {
-    plays = λ from there usable readings c. record { printed = behind ∙ printed from there; unwritten = stays; unread = refl };
-    complete = λ from there usable readings c no_device no_source no_sink. behind ∙ printed from there;
+    plays = λ from there usable. record { printed = behind ∙ printed from there; unwritten = stays; unread = refl };
+    complete = λ from there usable no_device no_source no_sink. behind ∙ printed from there;
     damage = λ from there damage is. sound damage from (answer from there) is;
     cause = tt;
     takes = refl;
     memory = λ is. absurd (not_memory _ refl is);
   }
   shown_at (Err fault.Device) printed answer unprinted cause_is device_is sink_is behind = record {
-    plays = λ from there usable readings c. record { printed = behind ∙ unprinted; unwritten = stays; unread = refl };
-    complete = λ from there usable readings c no_device no_source no_sink. no_device device_is;
+    plays = λ from there usable. record { printed = behind ∙ unprinted; unwritten = stays; unread = refl };
+    complete = λ from there usable no_device no_source no_sink. no_device device_is;
     damage = λ from there damage is. record { unwritten = stays; unread = refl; unprinted = behind ∙ unprinted };
     cause = device_is;
     takes = refl;
     memory = λ is. absurd (not_memory _ refl is);
   }
   shown_at (Err (fault.Damaged found)) printed answer unprinted cause_is device_is sink_is behind = record {
-    plays = λ from there usable readings c. sound (damage_of found) from usable (answer from there);
-    complete = λ from there usable readings c no_device no_source no_sink. sound (damage_of found) from usable (answer from there);
+    plays = λ from there usable. sound (damage_of found) from usable (answer from there);
+    complete = λ from there usable no_device no_source no_sink. sound (damage_of found) from usable (answer from there);
     damage = λ from there damage is. record {
       unwritten = stays;
       unread = refl;
@@ -89,16 +89,16 @@ module _ (text : Image → List ℕ) (limits : Bounds) (device : Type 0) (before
     memory = λ is. absurd (not_memory _ refl is);
   }
   shown_at (Err fault.Sink) printed answer unprinted cause_is device_is sink_is behind = record {
-    plays = λ from there usable readings c. record { printed = subst (λ (w : Option (List ℕ)). Appends w_old w (text from)) (sym behind) (printed from there); unwritten = stays; unread = refl };
-    complete = λ from there usable readings c no_device no_source no_sink. no_sink (rises_until before between now later sink_is);
+    plays = λ from there usable. record { printed = subst (λ (w : Option (List ℕ)). Appends w_old w (text from)) (sym behind) (printed from there); unwritten = stays; unread = refl };
+    complete = λ from there usable no_device no_source no_sink. no_sink (rises_until before between now later sink_is);
     damage = λ from there damage is. sound damage from (answer from there) is;
     cause = rises_until before between now later sink_is;
     takes = refl;
     memory = λ is. absurd (not_memory _ refl is);
   }
   shown_at (Err fault.Memory) printed answer unprinted cause_is device_is sink_is behind = record {
-    plays = λ from there usable readings c. record { printed = behind ∙ unprinted; unwritten = stays; unread = refl };
-    complete = λ from there usable readings c no_device no_source no_sink. record { unwritten = stays; unread = refl; unprinted = behind ∙ unprinted };
+    plays = λ from there usable. record { printed = behind ∙ unprinted; unwritten = stays; unread = refl };
+    complete = λ from there usable no_device no_source no_sink. record { unwritten = stays; unread = refl; unprinted = behind ∙ unprinted };
     damage = λ from there damage is. record { unwritten = stays; unread = refl; unprinted = behind ∙ unprinted };
     cause = tt;
     takes = refl;
@@ -115,7 +115,7 @@ module _ (text : Image → List ℕ) (limits : Bounds) (device : Type 0) (before
 pub text_wider : (text : Image → List ℕ) (result : Status) (limits : Bounds) (device source : Type 0) (before now : ℕ) (old new : Outside) → Performs (folder_text text) result limits device ⊥ before now old new → Performs (folder_text text) result limits device source before now old new
 text_wider text result limits device source before now old new does = record {
   plays = does.plays;
-  complete = λ from there usable readings clock no_device no_source no_sink. does.complete from there usable readings clock no_device (λ x. x) no_sink;
+  complete = λ from there usable no_device no_source no_sink. does.complete from there usable no_device (λ x. x) no_sink;
   damage = does.damage;
   cause = cause_wider result (IsFailedInReading old.folder old.written new.written before now) device source (Rises before now) ⊥ does.cause;
   takes = does.takes;

@@ -1,4 +1,6 @@
 -- A run that is out of memory for its arguments does nothing.
+use Rattle.blk_run.proofs.Reading.{reads_map, takes_map, takes_same}
+use Rattle.blk_run.specs.Telling.{ReadsAs}
 use Rattle.std.proofs.Common.{◌≡◌, ℕ, List, [], Option, Some, option_map, inl, inr, refl, sym, ◌∙◌, ap, subst, arith}
 use Rattle.spec_image.specs.Image.{Image}
 use Rattle.spec_image.specs.Told.{Told}
@@ -21,34 +23,34 @@ unput : (old new : Outside) → DoesNothing old new → LeavesUnput old new
 unput old new nothing = record { unwritten = nothing.unwritten; unprinted = nothing.unprinted }
 
 -- no work is done when out of memory
-pub performs_nothing : (work : Work) (limits : Bounds) (device source : Type 0) (before now : ℕ) (old new : Outside) → DoesNothing old new → Performs work status.Memory limits device source before now old new
-performs_nothing (input_by protocol) limits device source before now old new nothing = record {
-  plays = λ from there usable readings clock input left. nothing;
-  complete = λ from there usable readings clock no_device no_source no_sink input left within unbroken. nothing;
+pub performs_nothing : (work : Work) (limits : Bounds) (device source : Type 0) (before now : ℕ) (old new : Outside) → ReadsAs old.clock new.clock (λ _ _. Unit {0}) → DoesNothing old new → Performs work status.Memory limits device source before now old new
+performs_nothing (input_by protocol) limits device source before now old new clock nothing = record {
+  plays = λ from there usable. reads_map clock (λ readings later none. takes_map (takes_same [] nothing.unread) (λ input rest same. record { unwritten = nothing.unwritten; unread = ap Some same; unprinted = nothing.unprinted }));
+  complete = λ from there usable no_device no_source no_sink readings told input left within unbroken. nothing;
   damage = λ from there damage is. nothing;
   cause = tt;
   takes = λ input left. none_taken _ new.left input (nothing.unread ∙ left);
   memory = λ is. nothing;
 }
-performs_nothing (whole_input script) limits device source before now old new nothing = record {
-  plays = λ from there usable readings clock input left. (inl nothing.unread, unput old new nothing);
-  complete = λ from there usable readings clock no_device no_source no_sink input left within. record { unwritten = nothing.unwritten; unread = refl; unprinted = nothing.unprinted };
+performs_nothing (whole_input script) limits device source before now old new clock nothing = record {
+  plays = λ from there usable. reads_map clock (λ readings later none. takes_map (takes_same [] nothing.unread) (λ input rest same. (inl (ap Some same), record { unwritten = nothing.unwritten; unprinted = nothing.unprinted })));
+  complete = λ from there usable no_device no_source no_sink readings told input left within. record { unwritten = nothing.unwritten; unread = refl; unprinted = nothing.unprinted };
   damage = λ from there damage is. ((λ input left. inl nothing.unread), unput old new nothing);
   cause = tt;
   takes = λ input left. none_taken _ new.left input (nothing.unread ∙ left);
   memory = λ is. unput old new nothing;
 }
-performs_nothing (no_input script) limits device source before now old new nothing = record {
-  plays = λ from there usable readings clock. nothing;
-  complete = λ from there usable readings clock no_device no_source no_sink. nothing;
+performs_nothing (no_input script) limits device source before now old new clock nothing = record {
+  plays = λ from there usable. reads_map clock (λ readings later none. record { unwritten = nothing.unwritten; unread = nothing.unread; unprinted = nothing.unprinted });
+  complete = λ from there usable no_device no_source no_sink readings told. nothing;
   damage = λ from there damage is. nothing;
   cause = tt;
   takes = nothing.unread;
   memory = λ is. nothing;
 }
-performs_nothing (folder_text text) limits device source before now old new nothing = record {
-  plays = λ from there usable readings clock. record { printed = nothing.unprinted; unwritten = nothing.unwritten; unread = nothing.unread };
-  complete = λ from there usable readings clock no_device no_source no_sink. nothing;
+performs_nothing (folder_text text) limits device source before now old new clock nothing = record {
+  plays = λ from there usable. record { printed = nothing.unprinted; unwritten = nothing.unwritten; unread = nothing.unread };
+  complete = λ from there usable no_device no_source no_sink. nothing;
   damage = λ from there damage is. nothing;
   cause = tt;
   takes = nothing.unread;

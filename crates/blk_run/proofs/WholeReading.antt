@@ -5,7 +5,6 @@ use Rattle.std.proofs.Math.Seq.{take-append-add}
 use Rattle.std.proofs.lemmas.List.{append-nil, drop-drop, drop_all, length-append, length-drop, length-take, take-append-drop, take_all, take_more}
 use Rattle.std.proofs.lemmas.Slice.{take-put_mid_below}
 use borrow.Rule.Slice.PartMut.{mid_of, put_mid}
-use Rattle.blk_io.specs.Streams.{Moves}
 use Rattle.blk_run.specs.Inputs.{IsTakenPast, IsTakenUpTo}
 use Rattle.blk_run.specs.WholeInputs.{IsTakenSoFar, IsWholeInBuffer}
 
@@ -17,7 +16,7 @@ no_rest : (len : ℕ) (buffer new : List ℕ) → len ≤ length buffer → put_
 no_rest len buffer new within =
     ap (λ (l : List ℕ). take len buffer ++ (new ++ l)) (drop_all (length buffer - len) (drop len buffer) (let d = length-drop len buffer in omega (arith, d))) ∙ ap (λ (l : List ℕ). take len buffer ++ l) (append-nil new)
 
-module _ (len n : ℕ) (buffer old new bytes : List ℕ) (within : len < length buffer) (same : length new ≡ length buffer - len) (moves : Moves (drop len bytes) old new n) where
+module _ (len n : ℕ) (buffer new bytes : List ℕ) (within : len < length buffer) (same : length new ≡ length buffer - len) (count : n ≤ length (drop len bytes)) (front : take n new ≡ take n (drop len bytes)) where
   take_len : length (take len buffer) ≡ len
   take_len = length-take len buffer ∙ omega (arith, within)
 
@@ -27,8 +26,8 @@ module _ (len n : ℕ) (buffer old new bytes : List ℕ) (within : len < length 
     are =
         ap (take (len + n)) (no_rest len buffer new (omega (arith, within)))
         ∙ ap (λ (k : ℕ). take (k + n) (take len buffer ++ new)) (sym take_len) ∙ take-append-add (take len buffer) new n
-        ∙ ap (λ (l : List ℕ). l ++ take n new) so.are ∙ ap (λ (l : List ℕ). take len bytes ++ l) moves.front ∙ both;
-    within = let c = moves.count in let d = length-drop len bytes in let w = so.within in omega (arith, c, d, w);
+        ∙ ap (λ (l : List ℕ). l ++ take n new) so.are ∙ ap (λ (l : List ℕ). take len bytes ++ l) front ∙ both;
+    within = let c = count in let d = length-drop len bytes in let w = so.within in omega (arith, c, d, w);
     left_is = is ∙ ap (option_map (drop n)) so.left_is ∙ ap Some (drop-drop n len bytes);
   }
     where
@@ -38,9 +37,8 @@ module _ (len n : ℕ) (buffer old new bytes : List ℕ) (within : len < length 
           sym (take-append-add (take len bytes) (drop len bytes) n) ∙ ap (λ (k : ℕ). take (k + n) (take len bytes ++ drop len bytes)) have ∙ ap (take (len + n)) (take-append-drop len bytes)
 
   -- none is left
-  pub taken_all : {left : Option (List ℕ)} {next : Option (List ℕ)} → IsTakenSoFar len left buffer bytes → len ≤ 1048576 → n ≡ 0 → 0 < length old → next ≡ option_map (drop n) left → IsWholeInBuffer len next (put_mid len (length buffer - len) buffer new) bytes
-  taken_all so few none some is =
-      let end : drop len bytes ≡ [] = moves.end none some in
+  pub taken_all : {left : Option (List ℕ)} {next : Option (List ℕ)} → IsTakenSoFar len left buffer bytes → len ≤ 1048576 → drop len bytes ≡ [] → next ≡ option_map (drop n) left → IsWholeInBuffer len next (put_mid len (length buffer - len) buffer new) bytes
+  taken_all so few end is =
       let long : length bytes ≤ len = (let d = length-drop len bytes in let z : length (drop len bytes) ≡ 0 = ap length end in omega (arith, d, z)) in
       record {
         are = take-put_mid_below len (length buffer - len) buffer new len (omega arith) (omega (arith, within)) ∙ so.are ∙ take_all len bytes long;
@@ -80,3 +78,10 @@ taken_past most len buffer bytes so past =
         left_is = so.left_is;
       },
     )
+
+-- no byte was moved
+pub none_moved : (n : ℕ) (bytes : List ℕ) → n ≡ 0 → n ≤ length bytes
+none_moved n bytes none = omega (arith, none)
+
+pub none_front : (n : ℕ) (new bytes : List ℕ) → n ≡ 0 → take n new ≡ take n bytes
+none_front n new bytes none = ap (λ (k : ℕ). take k new) none ∙ sym (ap (λ (k : ℕ). take k bytes) none)

@@ -33,6 +33,14 @@ pub record Outside : Type 0 where
 abbrev pub outside : Told → (written left : Option (List ℕ)) → Option Readings → Outside
 outside folder written left clock = record { folder = folder; written = written; left = left; clock = clock }
 
+-- what is told outside, with the readings that the clock gives from here on
+abbrev pub with_readings : Outside → Readings → Outside
+with_readings told readings = record { folder = told.folder; written = told.written; left = told.left; clock = Some readings }
+
+-- what is told outside, with the readings and the bytes that clock and input give from here on
+abbrev pub with_given : Outside → Readings → List ℕ → Outside
+with_given told readings input = record { folder = told.folder; written = told.written; left = Some input; clock = Some readings }
+
 -- How the iterations ended.
 
 -- how the iterations of a session ended, before its handles are closed: all were made; only these bytes of the input were read; or the text of the iteration

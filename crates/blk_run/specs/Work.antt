@@ -1,4 +1,5 @@
 -- The contract of what the program does for its arguments, by its status.
+use Rattle.blk_run.specs.Telling.{ReadsAs, TakesAs}
 use Rattle.std.specs.Prelude.{ℕ, ◌≡◌, ◌+◌, ◌<◌, ◌≤◌, ◌^◌, List, false, length}
 use Rattle.std.specs.Option.{ForSome}
 use Rattle.std.specs.declared.option.Option.{Option}
@@ -7,7 +8,6 @@ use Rattle.spec_image.specs.Checks.{Damage}
 use Rattle.spec_image.specs.Image.{Image}
 use Rattle.spec_image.specs.Told.{Rises}
 use Rattle.spec_format.specs.BlockFiles.{IsDamagedBy, IsUsable}
-use Rattle.blk_io.specs.Streams.{Readings}
 use Rattle.blk_model.specs.State.{Bounds}
 use Rattle.spec_run.specs.Inputs.{Protocol, by_lines}
 use Rattle.spec_run.specs.Script.{Script, count_script, doom_script, get_script, list_script, put_script, trim_script}
@@ -19,7 +19,7 @@ use Rattle.blk_run.specs.declared.ending.Status.{Status}
 use Rattle.blk_run.specs.declared.ending.Status.TheVariants as status
 use Rattle.blk_run.specs.Failing.{IsDamagedRun, IsFailedInReading}
 use Rattle.blk_run.specs.Inputs.{IsReadWhole, IsTakenUpTo}
-use Rattle.blk_run.specs.Session.{DoesNothing, FixedScript, IsComplete, IsCompleteScript, LeavesUnput, OnDamage, Outside, Put, Session, TakesUnput}
+use Rattle.blk_run.specs.Session.{DoesNothing, FixedScript, IsComplete, IsCompleteScript, LeavesUnput, OnDamage, Outside, Put, Session, TakesUnput, with_given, with_readings}
 use Rattle.blk_run.specs.Shown.{IsCompleteText, ShowsText}
 use Rattle.blk_run.specs.Statuses.{CauseOf}
 use Rattle.blk_run.specs.WholeInputs.{longest_input}
@@ -49,19 +49,20 @@ work_of (do_inspect part) = folder_text (inspect_text part)
 work_of do_verify = folder_text verify_text
 work_of (do_generate seed turns) = no_input (gen_script seed turns)
 
--- the contract of the work by its status, for an image that is uninitialized or well formed
-abbrev pub DoesWork : Work → Status → Bounds → Image → Readings → (source sink : Type 0) → Outside → Outside → Type 0
-DoesWork (input_by protocol) result limits from readings source sink old new = ForSome old.left (λ input. Session protocol result limits budget from readings input source sink old new)
-DoesWork (whole_input script) result limits from readings source sink old new = ForSome old.left (λ input. Put result script limits from readings input sink old new)
-DoesWork (no_input script) result limits from readings source sink old new = FixedScript result script limits from readings sink old new
-DoesWork (folder_text text) result limits from readings source sink old new = ShowsText result (text from) old new
+-- the contract of the work by its status, for an image that is uninitialized or well formed, whether clock and input tell anything or not: there are readings and
+-- bytes, those that the calls gave, which are the told ones where these are told. Showing a text needs neither
+abbrev pub DoesWork : Work → Status → Bounds → Image → (source sink : Type 0) → Outside → Outside → Type 0
+DoesWork (input_by protocol) result limits from source sink old new = ReadsAs old.clock new.clock (λ readings later. TakesAs old.left new.left (λ input rest. Session protocol result limits budget from readings input source sink (with_given old readings input) (with_given new later rest)))
+DoesWork (whole_input script) result limits from source sink old new = ReadsAs old.clock new.clock (λ readings later. TakesAs old.left new.left (λ input rest. Put result script limits from readings input sink (with_given old readings input) (with_given new later rest)))
+DoesWork (no_input script) result limits from source sink old new = ReadsAs old.clock new.clock (λ readings later. FixedScript result script limits from readings sink (with_readings old readings) (with_readings new later))
+DoesWork (folder_text text) result limits from source sink old new = ShowsText result (text from) old new
 
 -- where nothing failed, and the input isn't too long and doesn't break off, the whole output was printed, or memory ran out
-abbrev pub CompletesWork : Work → Status → Bounds → Image → Readings → Outside → Outside → Type 0
-CompletesWork (input_by protocol) result limits from readings old new = ForSome old.left (λ input. length input ≤ budget → protocol.breaks_off input ≡ false → IsComplete protocol result limits from readings input old new)
-CompletesWork (whole_input script) result limits from readings old new = ForSome old.left (λ input. length input ≤ longest_input → IsCompleteScript result (script input) limits from readings (record old { left = new.left }) new)
-CompletesWork (no_input script) result limits from readings old new = IsCompleteScript result script limits from readings old new
-CompletesWork (folder_text text) result limits from readings old new = IsCompleteText result (text from) old new
+abbrev pub CompletesWork : Work → Status → Bounds → Image → Outside → Outside → Type 0
+CompletesWork (input_by protocol) result limits from old new = ForSome old.clock (λ readings. ForSome old.left (λ input. length input ≤ budget → protocol.breaks_off input ≡ false → IsComplete protocol result limits from readings input old new))
+CompletesWork (whole_input script) result limits from old new = ForSome old.clock (λ readings. ForSome old.left (λ input. length input ≤ longest_input → IsCompleteScript result (script input) limits from readings (record old { left = new.left }) new))
+CompletesWork (no_input script) result limits from old new = ForSome old.clock (λ readings. IsCompleteScript result script limits from readings old new)
+CompletesWork (folder_text text) result limits from old new = IsCompleteText result (text from) old new
 
 -- the contract of a script of the whole input, on a folder of which this check fails: the input wasn't read in full, or memory ran out, and nothing else was
 -- done; or it was read, and the check is printed
@@ -108,10 +109,10 @@ DoesNoWork (folder_text text) old new = DoesNothing old new
 
 -- the contract of the work; `device` and `source` say that the error counter of folder or input rose, `before` and `now` are the error counter of the output
 pub record Performs (work : Work) (result : Status) (limits : Bounds) (device source : Type 0) (before now : ℕ) (old new : Outside) : Type 0 where
-  -- on a folder that is uninitialized or well formed the work is the run in the model
-  pub plays : ForSome old.folder.files (λ from. IsUsable from → ForSome old.clock (λ readings. DoesWork work result limits from readings source (Rises before now) old new))
+  -- on a folder that is uninitialized or well formed the work is the run in the model, whatever clock and input tell
+  pub plays : ForSome old.folder.files (λ from. IsUsable from → DoesWork work result limits from source (Rises before now) old new)
   -- where nothing fails the whole output is printed, unless memory ran out
-  pub complete : ForSome old.folder.files (λ from. IsUsable from → ForSome old.clock (λ readings. (device → ⊥) → (source → ⊥) → (Rises before now → ⊥) → CompletesWork work result limits from readings old new))
+  pub complete : ForSome old.folder.files (λ from. IsUsable from → (device → ⊥) → (source → ⊥) → (Rises before now → ⊥) → CompletesWork work result limits from old new)
   -- on an initialized folder of which a check fails this check is printed, and no more is done
   pub damage : ForSome old.folder.files (λ from. (damage : Damage) → IsDamagedBy damage from → MeetsDamage work result damage before now old new)
   -- the cause of each status, on every folder

@@ -24,6 +24,7 @@ ghost use Rattle.blk_run.specs.Failing.{IsDamagedRun, IsFailedInOpening};
 ghost use Rattle.blk_run.specs.Playing.{StandsAt};
 ghost use Rattle.blk_run.specs.Session.{FixedRuns, FixedScript, IsCompleteScript, OnDamage, outside};
 ghost use Rattle.blk_run.specs.Statuses.{CauseOf, IfWhole};
+ghost use Rattle.blk_run.specs.Telling.{ReadsAs};
 
 use crate::ending::Status;
 use crate::printing::{print_damage, print_totals};
@@ -40,8 +41,9 @@ pub(crate) fn run_count<F: Folder, K: Sink, C: Clock>(
     folder: &mut F,
     clock: &mut C,
 ) -> Status
-    // On a folder that is uninitialized or well formed it is the run of the script of `count` on the map model.
-    ensures script { ForSome (F.told folder.old).files (λ from. IsUsable from → ForSome (C.readings clock.old) (λ readings. (left : Option (List ℕ)) → FixedScript result count_script (bounds_of limits) from readings (Rises (K.faults out.old) (K.faults out.new)) (outside (F.told folder.old) (K.written out.old) left (C.readings clock.old)) (outside (F.told folder.new) (K.written out.new) left (C.readings clock.new)))) }
+    // On a folder that is uninitialized or well formed it is the run of the script of `count` on the map model, whatever the
+    // clock tells.
+    ensures script { ForSome (F.told folder.old).files (λ from. IsUsable from → ReadsAs (C.readings clock.old) (C.readings clock.new) (λ readings late. (left : Option (List ℕ)) → FixedScript result count_script (bounds_of limits) from readings (Rises (K.faults out.old) (K.faults out.new)) (outside (F.told folder.old) (K.written out.old) left (Some readings)) (outside (F.told folder.new) (K.written out.new) left (Some late)))) }
 
     // Where nothing fails the whole output is printed, unless it is out of memory.
     ensures complete { ForSome (F.told folder.old).files (λ from. IsUsable from → ForSome (C.readings clock.old) (λ readings. (left : Option (List ℕ)) → (Rises (F.faults folder.old) (F.faults folder.new) → ⊥) → (Rises (K.faults out.old) (K.faults out.new) → ⊥) → IsCompleteScript result count_script (bounds_of limits) from readings (outside (F.told folder.old) (K.written out.old) left (C.readings clock.old)) (outside (F.told folder.new) (K.written out.new) left (C.readings clock.new)))) }

@@ -1,5 +1,5 @@
 // The iterations of a generator are played.
-ghost use Rattle.std.specs.Prelude.{◌≡◌, ◌≤◌, ◌<◌, ◌+◌, ◌*◌, ◌^◌, ◌++◌, Bool, List, Option, ℕ, length, OnOk, false};
+ghost use Rattle.std.specs.Prelude.{◌≡◌, ◌≤◌, ◌<◌, ◌+◌, ◌*◌, ◌^◌, ◌++◌, Bool, List, Option, ℕ, length, OnOk, false, Some};
 ghost use Rattle.std.specs.Option.{ForSome, option_map};
 ghost use Rattle.spec_image.specs.Told.{Rises};
 ghost use Rattle.blk_io.specs.Streams.{Appends, GoesOn};
@@ -14,6 +14,7 @@ ghost use Rattle.blk_cache.specs.Stepping.{IfDone, IfSink, IfStepDamaged, IfStep
 ghost use Rattle.blk_run.specs.Errors.{IsOnlySink};
 ghost use Rattle.blk_run.specs.Generating.{AreWithin, AsksCounted, Following, IsGeneratedRequest, PlaysCounted, evicted_by, unshown};
 ghost use Rattle.blk_run.specs.Playing.{PlaysPart, SoFar, StandsAt, around};
+ghost use Rattle.blk_run.specs.Telling.{ReadsAs};
 ghost use Rattle.blk_disk.specs.Open.{IsOpen};
 ghost use Rattle.blk_cache.specs.CacheKeeping.{KeepsState};
 
@@ -42,7 +43,7 @@ pub(crate) fn play_generated<F: Folder, K: Sink, C: Clock>(
     clock: &mut C,
 ) -> Result<(), StepFault>
     requires is_open { ForSome (F.told folder.old).files (IsOpen cache.old.files) }
-    ensures played { (refused : Bool) (far : SoFar) (left : ℕ) → StandsAt far (KeepsState cache.old) (cache.old.notes) (left + 2 * (5 * count)) (F.told folder.old) → PlaysPart result (turns (gen_script seed count)) far (KeepsState cache.new) (cache.new.notes) left (around (F.told folder.old) (K.written out.old) (C.readings clock.old) refused) (around (F.told folder.new) (K.written out.new) (C.readings clock.new) refused) }
+    ensures played { ReadsAs (C.readings clock.old) (C.readings clock.new) (λ early late. (refused : Bool) (far : SoFar) (left : ℕ) → StandsAt far (KeepsState cache.old) (cache.old.notes) (left + 2 * (5 * count)) (F.told folder.old) → PlaysPart result (turns (gen_script seed count)) far (KeepsState cache.new) (cache.new.notes) left (around (F.told folder.old) (K.written out.old) (Some early) refused) (around (F.told folder.new) (K.written out.new) (Some late) refused)) }
     ensures is_open { IfDone result (ForSome (F.told folder.new).files (IsOpen cache.new.files)) }
     ensures later { F.faults folder.old ≤ F.faults folder.new }
     ensures printed_later { GoesOn K.is K.faults out.old out.new }
@@ -82,7 +83,7 @@ fn play_turn<F: Folder, C: Clock>(
     requires is_open { ForSome (F.told folder.old).files (IsOpen cache.old.files) }
     requires key { turn.now.key_number < 1000 }
     requires buffer { turn.now.byte_count ≤ length buffer.old }
-    ensures played { (far : SoFar) (left commands : ℕ) (following : Following) (written : Option (List ℕ)) (refused : Bool) → commands + 5 < 2 ^ 36 → AreWithin commands counts.old → StandsAt far (KeepsState cache.old) (cache.old.notes) (left + 10) (F.told folder.old) → PlaysCounted result (commands + 5) counts.new (turn_script number turn.now counts.old following) (following counts.new) far (KeepsState cache.new) (cache.new.notes) left (unshown (F.told folder.old) written (C.readings clock.old) refused) (unshown (F.told folder.new) written (C.readings clock.new) refused) }
+    ensures played { ReadsAs (C.readings clock.old) (C.readings clock.new) (λ early late. (far : SoFar) (left commands : ℕ) (following : Following) (written : Option (List ℕ)) (refused : Bool) → commands + 5 < 2 ^ 36 → AreWithin commands counts.old → StandsAt far (KeepsState cache.old) (cache.old.notes) (left + 10) (F.told folder.old) → PlaysCounted result (commands + 5) counts.new (turn_script number turn.now counts.old following) (following counts.new) far (KeepsState cache.new) (cache.new.notes) left (unshown (F.told folder.old) written (Some early) refused) (unshown (F.told folder.new) written (Some late) refused)) }
     ensures is_open { IfDone result (ForSome (F.told folder.new).files (IsOpen cache.new.files)) }
     ensures later { F.faults folder.old ≤ F.faults folder.new }
     ensures damaged { IfStepDamaged result (IsFailedCheck cache.new.files (F.told folder.new)) }
@@ -115,7 +116,7 @@ fn play_missing<F: Folder, C: Clock>(
     requires is_open { ForSome (F.told folder.old).files (IsOpen cache.old.files) }
     requires key { turn.now.key_number < 1000 }
     requires buffer { turn.now.byte_count ≤ length buffer.old }
-    ensures played { (far : SoFar) (left commands : ℕ) (following : Following) (written : Option (List ℕ)) (refused : Bool) → commands + 4 < 2 ^ 36 → AreWithin commands counts.old → StandsAt far (KeepsState cache.old) (cache.old.notes) (left + 8) (F.told folder.old) → PlaysCounted result (commands + 4) counts.new (created_turn number turn.now counts.old following) (following counts.new) far (KeepsState cache.new) (cache.new.notes) left (unshown (F.told folder.old) written (C.readings clock.old) refused) (unshown (F.told folder.new) written (C.readings clock.new) refused) }
+    ensures played { ReadsAs (C.readings clock.old) (C.readings clock.new) (λ early late. (far : SoFar) (left commands : ℕ) (following : Following) (written : Option (List ℕ)) (refused : Bool) → commands + 4 < 2 ^ 36 → AreWithin commands counts.old → StandsAt far (KeepsState cache.old) (cache.old.notes) (left + 8) (F.told folder.old) → PlaysCounted result (commands + 4) counts.new (created_turn number turn.now counts.old following) (following counts.new) far (KeepsState cache.new) (cache.new.notes) left (unshown (F.told folder.old) written (Some early) refused) (unshown (F.told folder.new) written (Some late) refused)) }
     ensures is_open { IfDone result (ForSome (F.told folder.new).files (IsOpen cache.new.files)) }
     ensures later { F.faults folder.old ≤ F.faults folder.new }
     ensures damaged { IfStepDamaged result (IsFailedCheck cache.new.files (F.told folder.new)) }
@@ -144,7 +145,7 @@ fn play_used<F: Folder, C: Clock>(
 ) -> Result<(), StepFault>
     requires is_open { ForSome (F.told folder.old).files (IsOpen cache.old.files) }
     requires buffer { turn.now.byte_count ≤ length buffer.old }
-    ensures played { (far : SoFar) (left commands : ℕ) (following : Following) (written : Option (List ℕ)) (refused : Bool) → commands + 3 < 2 ^ 36 → AreWithin commands counts.old → StandsAt far (KeepsState cache.old) (cache.old.notes) (left + 6) (F.told folder.old) → PlaysCounted result (commands + 3) counts.new (used_turn number turn.now counts.old following) (following counts.new) far (KeepsState cache.new) (cache.new.notes) left (unshown (F.told folder.old) written (C.readings clock.old) refused) (unshown (F.told folder.new) written (C.readings clock.new) refused) }
+    ensures played { ReadsAs (C.readings clock.old) (C.readings clock.new) (λ early late. (far : SoFar) (left commands : ℕ) (following : Following) (written : Option (List ℕ)) (refused : Bool) → commands + 3 < 2 ^ 36 → AreWithin commands counts.old → StandsAt far (KeepsState cache.old) (cache.old.notes) (left + 6) (F.told folder.old) → PlaysCounted result (commands + 3) counts.new (used_turn number turn.now counts.old following) (following counts.new) far (KeepsState cache.new) (cache.new.notes) left (unshown (F.told folder.old) written (Some early) refused) (unshown (F.told folder.new) written (Some late) refused)) }
     ensures is_open { IfDone result (ForSome (F.told folder.new).files (IsOpen cache.new.files)) }
     ensures later { F.faults folder.old ≤ F.faults folder.new }
     ensures damaged { IfStepDamaged result (IsFailedCheck cache.new.files (F.told folder.new)) }
@@ -190,7 +191,7 @@ fn ask_counted<F: Folder, C: Clock>(
 ) -> Result<Answer, StepFault>
     requires is_open { ForSome (F.told folder.old).files (IsOpen cache.old.files) }
     requires asked { IsGeneratedRequest (request_of command.now) }
-    ensures asked { (far : SoFar) (left : ℕ) → StandsAt far (KeepsState cache.old) (cache.old.notes) (left + 2) (F.told folder.old) → AsksCounted result (request_of command.now) counts.old counts.new far (KeepsState cache.new) (cache.new.notes) left (F.told folder.old) (F.told folder.new) (C.readings clock.old) (C.readings clock.new) }
+    ensures asked { ReadsAs (C.readings clock.old) (C.readings clock.new) (λ early late. (far : SoFar) (left : ℕ) → StandsAt far (KeepsState cache.old) (cache.old.notes) (left + 2) (F.told folder.old) → AsksCounted result (request_of command.now) counts.old counts.new far (KeepsState cache.new) (cache.new.notes) left (F.told folder.old) (F.told folder.new) (Some early) (Some late)) }
     ensures is_open { IfDone result (ForSome (F.told folder.new).files (IsOpen cache.new.files)) }
     ensures later { F.faults folder.old ≤ F.faults folder.new }
     ensures damaged { IfStepDamaged result (IsFailedCheck cache.new.files (F.told folder.new)) }

@@ -22,6 +22,7 @@ ghost use Rattle.blk_run.specs.Pending.{HoldsLine, pending};
 ghost use Rattle.blk_run.specs.Playing.{SoFar, StandsAt};
 ghost use Rattle.blk_run.specs.Session.{IsComplete, OnDamage, Runs, Session, outside};
 ghost use Rattle.blk_run.specs.Statuses.{CauseOf, may_close, status_after, IfWhole};
+ghost use Rattle.blk_run.specs.Telling.{ReadsAs, TakesAs};
 
 use crate::closing::close_all;
 use crate::ending::Status;
@@ -50,8 +51,8 @@ pub fn session<F: Folder, S: Source, K: Sink, C: Clock>(
     folder: &mut F,
     clock: &mut C,
 ) -> Status
-    // On a folder that is uninitialized or well formed it is the run of the lines on the map model.
-    ensures session { ForSome (F.told folder.old).files (λ from. IsUsable from → ForSome (C.readings clock.old) (λ readings. ForSome (S.left input.old) (λ bytes. Session by_lines result (bounds_of limits) budget from readings bytes (Rises (S.faults input.old) (S.faults input.new)) (Rises (K.faults out.old) (K.faults out.new)) (outside (F.told folder.old) (K.written out.old) (S.left input.old) (C.readings clock.old)) (outside (F.told folder.new) (K.written out.new) (S.left input.new) (C.readings clock.new))))) }
+    // On a folder that is uninitialized or well formed it is the run of the lines on the map model, whatever clock and input tell.
+    ensures session { ForSome (F.told folder.old).files (λ from. IsUsable from → ReadsAs (C.readings clock.old) (C.readings clock.new) (λ readings late. TakesAs (S.left input.old) (S.left input.new) (λ bytes rest. Session by_lines result (bounds_of limits) budget from readings bytes (Rises (S.faults input.old) (S.faults input.new)) (Rises (K.faults out.old) (K.faults out.new)) (outside (F.told folder.old) (K.written out.old) (Some bytes) (Some readings)) (outside (F.told folder.new) (K.written out.new) (Some rest) (Some late))))) }
 
     // Where nothing fails and the input is within the budget the whole output is printed, unless it is out of memory.
     ensures complete { ForSome (F.told folder.old).files (λ from. IsUsable from → ForSome (C.readings clock.old) (λ readings. ForSome (S.left input.old) (λ bytes. length bytes ≤ budget → (Rises (F.faults folder.old) (F.faults folder.new) → ⊥) → (Rises (S.faults input.old) (S.faults input.new) → ⊥) → (Rises (K.faults out.old) (K.faults out.new) → ⊥) → IsComplete by_lines result (bounds_of limits) from readings bytes (outside (F.told folder.old) (K.written out.old) (S.left input.old) (C.readings clock.old)) (outside (F.told folder.new) (K.written out.new) (S.left input.new) (C.readings clock.new))))) }
@@ -121,7 +122,7 @@ fn play<F: Folder, S: Source, K: Sink, C: Clock>(
     requires buffer { 2200000 ≤ length buffer.old }
     requires first { pending line.old ≡ 0 }
     requires nothing { HoldsLine line.old [] }
-    ensures runs { (from : Image) (limits : Bounds) (readings : Readings) (bytes : List ℕ) (start : Told) (first : Option Readings) → start.files ≡ Some from → first ≡ Some readings → C.readings clock.old ≡ option_map later_of first → S.left input.old ≡ Some bytes → StandsAt (record { start = start; from = from; opened = open_state (found from) limits; done = [] }) (KeepsState cache) cache.notes (2 * handle_names + (budget + 1)) (F.told folder.old) → Runs by_lines result limits budget from readings bytes (Rises (S.faults input.old) (S.faults input.new)) (Rises (K.faults out.old) (K.faults out.new)) (outside start (K.written out.old) (S.left input.old) first) (outside (F.told folder.new) (K.written out.new) (S.left input.new) (C.readings clock.new)) }
+    ensures runs { ReadsAs (C.readings clock.old) (C.readings clock.new) (λ early late. TakesAs (S.left input.old) (S.left input.new) (λ bytes rest. (from : Image) (limits : Bounds) (readings : Readings) (start : Told) (first : Option Readings) → start.files ≡ Some from → first ≡ Some readings → Some early ≡ option_map later_of first → StandsAt (record { start = start; from = from; opened = open_state (found from) limits; done = [] }) (KeepsState cache) cache.notes (2 * handle_names + (budget + 1)) (F.told folder.old) → Runs by_lines result limits budget from readings bytes (Rises (S.faults input.old) (S.faults input.new)) (Rises (K.faults out.old) (K.faults out.new)) (outside start (K.written out.old) (Some bytes) first) (outside (F.told folder.new) (K.written out.new) (Some rest) (Some late)))) }
     ensures untold { (far : SoFar) → StandsAt far (KeepsState cache) cache.notes (2 * handle_names + (budget + 1)) (F.told folder.old) → result ≢ Status.Damaged }
     ensures memory { result ≢ Status.Memory }
     ensures cause { CauseOf result (IsFailedSomewhere (F.told folder.new)) (Rises (F.faults folder.old) (F.faults folder.new)) (Rises (S.faults input.old) (S.faults input.new)) (Rises (K.faults out.old) (K.faults out.new)) (ForSome (S.left input.old) (λ bytes. budget < length bytes)) }
@@ -188,7 +189,7 @@ pub(crate) fn end<F: Folder, C: Clock>(
     clock: &mut C,
 ) -> Result<(), Fault>
     requires is_open { ForSome (F.told folder.old).files (IsOpen cache.files) }
-    ensures ends { (far : SoFar) (left : ℕ) → StandsAt far (KeepsState cache) cache.notes (left + 2 * handle_names) (F.told folder.old) → EndsRun result far (F.told folder.new) (C.readings clock.old) (C.readings clock.new) }
+    ensures ends { ReadsAs (C.readings clock.old) (C.readings clock.new) (λ early late. (far : SoFar) (left : ℕ) → StandsAt far (KeepsState cache) cache.notes (left + 2 * handle_names) (F.told folder.old) → EndsRun result far (F.told folder.new) (Some early) (Some late)) }
     ensures later { F.faults folder.old ≤ F.faults folder.new }
     ensures damaged { IfDamaged result (IsCommandDamage (F.told folder.new)) }
     ensures device { IfDevice result (Rises (F.faults folder.old) (F.faults folder.new)) }

@@ -1,7 +1,8 @@
 // The whole input is read.
-ghost use Rattle.std.specs.Prelude.{◌≡◌, ◌≤◌, length};
+ghost use Rattle.std.specs.Prelude.{◌≡◌, ◌≤◌, length, Some};
 ghost use Rattle.spec_image.specs.Told.{Rises};
 ghost use Rattle.blk_run.specs.WholeInputs.{IfSource, Reads};
+ghost use Rattle.blk_run.specs.Telling.{TakesAs};
 
 use blk_io::Source;
 
@@ -23,6 +24,9 @@ pub(crate) fn read_input<S: Source>(input: &mut S, buffer: &mut [u8]) -> Result<
     requires buffer { length buffer.old ≡ 1048577 }
     ensures buffer { length buffer.new ≡ 1048577 }
     ensures reads { Reads result (S.left input.old) (S.left input.new) buffer.new }
+
+    // Whether the input tells its bytes or not.
+    ensures given { TakesAs (S.left input.old) (S.left input.new) (λ bytes rest. Reads result (Some bytes) (Some rest) buffer.new) }
     ensures later { S.faults input.old ≤ S.faults input.new }
     ensures source { IfSource result (Rises (S.faults input.old) (S.faults input.new)) }
 {

@@ -1,14 +1,15 @@
-use Rattle.std.proofs.Common.{◌≡◌, None, sym, ◌∙◌, arith}
+use Rattle.std.proofs.Common.{◌≡◌, None, sym, ◌∙◌, arith, Some}
 use Rattle.std.specs.Prelude.{is_some, position, slice_set}
 use Rattle.blk_run.proofs.ClosingAll.{all_closed, close_failed, close_handed, fewer_bound, name_at, no_name, none_so_far, of_some, one_closed}
 use Rattle.blk_run.proofs.HeadlineBridge.{names_bound}
 use Rattle.blk_cache.specs.CacheKeeping.{KeepsState}
+use Rattle.blk_run.proofs.Reading.{reads_map, reads_next, reads_none}
 use Rattle.blk_run.proofs.closing.close_all.Goals as goal
 
 pub loop-cache-init : goal.loop-cache-init
 loop-cache-init g c = record {
   is_open = c.requires.is_open;
-  closed = λ far left at. none_so_far far (KeepsState c.args.cache.now) (c.args.cache.now.notes) left (g.F.Folder.told c.args.folder.now) (g.C.Clock.readings c.args.clock.now) (λ state image k. k.kept.entries.valid) at;
+  closed = reads_none (λ here far left at. none_so_far far (KeepsState c.args.cache.now) (c.args.cache.now.notes) left (g.F.Folder.told c.args.folder.now) (Some here) (λ state image k. k.kept.entries.valid) at);
   later = omega arith;
 }
 
@@ -20,27 +21,29 @@ loop-cache-smaller g c =
 pub loop-cache-preserved : goal.loop-cache-preserved
 loop-cache-preserved g c = record {
   is_open = c.in_ok-close_next.ensures.is_open;
-  closed = λ far left at.
+  closed = reads_next c.loop-cache.invariant.closed c.now.result c.now.ensures.reading c.now.ensures.later (λ early mid late so_far reading later far left at.
       let name = name_at (position is_some (c.loop-cache.cache.handles)) (sym c.has_names.ensures ∙ c.loop-cache-test.true) in
       one_closed (c.loop-cache.cache.handles) (KeepsState c.loop-cache.cache) (λ state image k. k.kept.entries.valid) (λ state image k. names_bound c.loop-cache.cache state image k)
-      far (c.loop-cache.cache.notes) left (g.F.Folder.told c.loop-cache.folder) (g.C.Clock.readings c.args.clock.now) (g.C.Clock.readings c.loop-cache.clock) (c.loop-cache.invariant.closed far left at) name.0 c.now.result name.1 c.now.ensures.reading
-      (KeepsState c.close_next.new.self) (c.close_next.new.self.notes) (g.F.Folder.told c.close_next.new.f) (g.C.Clock.readings c.now.new.self) c.now.ensures.later
+      far (c.loop-cache.cache.notes) left (g.F.Folder.told c.loop-cache.folder) (Some early) (Some mid) (so_far far left at) name.0 c.now.result name.1 reading
+      (KeepsState c.close_next.new.self) (c.close_next.new.self.notes) (g.F.Folder.told c.close_next.new.f) (Some late) later
       (of_some (position is_some (c.loop-cache.cache.handles)) name.0 (λ handle. _) name.1 c.in_ok-close_next.ensures.noted)
       (of_some (position is_some (c.loop-cache.cache.handles)) name.0 (λ handle. _) name.1 c.in_ok-close_next.ensures.kept)
-      (of_some (position is_some (c.loop-cache.cache.handles)) name.0 (λ handle. _) name.1 c.in_ok-close_next.ensures.counts);
+      (of_some (position is_some (c.loop-cache.cache.handles)) name.0 (λ handle. _) name.1 c.in_ok-close_next.ensures.counts));
   later = let now = c.loop-cache.invariant.later in let next = c.in_ok-close_next.ensures.later in omega (arith, now, next);
 }
 
 pub returns-in_err-close_next-clause-closed : goal.returns-in_err-close_next-clause-closed
-returns-in_err-close_next-clause-closed g c far left at =
+returns-in_err-close_next-clause-closed g c =
+    reads_next c.loop-cache.invariant.closed c.now.result c.now.ensures.reading c.now.ensures.later (λ early mid late so_far reading later far left at.
     let name = name_at (position is_some (c.loop-cache.cache.handles)) (sym c.has_names.ensures ∙ c.loop-cache-test.true) in
-    close_handed c.from_residual.result c.in_err-close_next.field-0.0 far (KeepsState c.close_next.new.self) (c.close_next.new.self.notes) left (g.F.Folder.told c.close_next.new.f) (g.C.Clock.readings c.args.clock.now) (g.C.Clock.readings c.now.new.self) c.from_residual.ensures.1
+    close_handed c.from_residual.result c.in_err-close_next.field-0.0 far (KeepsState c.close_next.new.self) (c.close_next.new.self.notes) left (g.F.Folder.told c.close_next.new.f) (Some early) (Some late) c.from_residual.ensures.1
     (close_failed (c.loop-cache.cache.handles) (KeepsState c.loop-cache.cache) (λ state image k. k.kept.entries.valid) (λ state image k. names_bound c.loop-cache.cache state image k)
-    far (c.loop-cache.cache.notes) left (g.F.Folder.told c.loop-cache.folder) (g.C.Clock.readings c.args.clock.now) (g.C.Clock.readings c.loop-cache.clock) (c.loop-cache.invariant.closed far left at) name.0 c.now.result name.1 c.now.ensures.reading
-    (KeepsState c.close_next.new.self) (c.close_next.new.self.notes) (g.F.Folder.told c.close_next.new.f) (g.C.Clock.readings c.now.new.self) c.in_err-close_next.field-0.0
-    (of_some (position is_some (c.loop-cache.cache.handles)) name.0 (λ handle. _) name.1 c.in_err-close_next.ensures.stepped) c.in_err-close_next.ensures.untold)
+    far (c.loop-cache.cache.notes) left (g.F.Folder.told c.loop-cache.folder) (Some early) (Some mid) (so_far far left at) name.0 c.now.result name.1 reading
+    (KeepsState c.close_next.new.self) (c.close_next.new.self.notes) (g.F.Folder.told c.close_next.new.f) (Some late) c.in_err-close_next.field-0.0
+    (of_some (position is_some (c.loop-cache.cache.handles)) name.0 (λ handle. _) name.1 c.in_err-close_next.ensures.stepped) c.in_err-close_next.ensures.untold))
 
 pub returns-clause-closed : goal.returns-clause-closed
-returns-clause-closed g c far left at =
+returns-clause-closed g c =
+    reads_map c.loop-cache.invariant.closed (λ early late so_far far left at.
     all_closed (c.loop-cache.cache.handles) (KeepsState c.loop-cache.cache) (λ state image k. k.kept.entries.valid) (λ state image k. names_bound c.loop-cache.cache state image k)
-    far (c.loop-cache.cache.notes) left (g.F.Folder.told c.loop-cache.folder) (g.C.Clock.readings c.args.clock.now) (g.C.Clock.readings c.loop-cache.clock) (no_name (position is_some (c.loop-cache.cache.handles)) (sym c.has_names.ensures ∙ c.loop-cache-test.false)) (c.loop-cache.invariant.closed far left at)
+    far (c.loop-cache.cache.notes) left (g.F.Folder.told c.loop-cache.folder) (Some early) (Some late) (no_name (position is_some (c.loop-cache.cache.handles)) (sym c.has_names.ensures ∙ c.loop-cache-test.false)) (so_far far left at))

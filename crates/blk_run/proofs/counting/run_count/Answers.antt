@@ -1,4 +1,4 @@
-use Rattle.std.proofs.Common.{◌≡◌, ◌≢◌, ◌*◌, ◌⊎◌, inl, inr, refl, sym, ◌∙◌, arith}
+use Rattle.std.proofs.Common.{◌≡◌, ◌≢◌, ◌*◌, ◌⊎◌, inl, inr, refl, sym, ◌∙◌, arith, Some, List, ℕ, Option, rules}
 use Rattle.blk_model.specs.Bounds.{bounds_of}
 use Rattle.blk_model.specs.Sizes.{handle_names}
 use Rattle.blk_repair.proofs.Endings.{either-pass}
@@ -14,6 +14,10 @@ use Rattle.blk_run.proofs.ScriptCauses.{count_cause}
 use Rattle.blk_run.proofs.ScriptEnds.{script_of_runs}
 use Rattle.blk_run.proofs.Showing.{sound}
 use Rattle.blk_run.proofs.SessionEnds.{begins_at, device_cause, rises_since, sink_cause}
+use Rattle.blk_run.proofs.Reading.{reads_once, reads_told}
+use Rattle.blk_io.specs.Streams.{Readings}
+use Rattle.blk_run.specs.Session.{FixedScript}
+use Rattle.spec_image.specs.Told.{Rises}
 use Rattle.blk_run.proofs.counting.run_count.Goals as goal
 
 pub count-requires-clause-is_open : goal.count-requires-clause-is_open
@@ -63,16 +67,18 @@ returns-in-Ok-clause-made g c well from there un image here readings told =
     c.count.ensures.made well mid.0 mid.1 image here ∙ c.in-Ok.ensures.made from there un mid.0 mid.1 ∙ c.now.ensures.reading readings told
 
 pub returns-in-Ok-clause-script : goal.returns-in-Ok-clause-script
-returns-in-Ok-clause-script g c from there usable readings clock left =
-    let stands = begins_at from (bounds_of c.args.limits) readings (record { folder = g.F.Folder.told c.args.folder.now; written = g.K.Sink.written c.args.out.now; left = left; clock = g.C.Clock.readings c.args.clock.now }) there clock
+returns-in-Ok-clause-script g c from there usable =
+    reads_once c.now.result c.now.ensures.reading c.now.ensures.later (λ readings late reading later left.
+    let stands = begins_at from (bounds_of c.args.limits) readings (record { folder = g.F.Folder.told c.args.folder.now; written = g.K.Sink.written c.args.out.now; left = left; clock = Some readings }) there refl
     (KeepsState c.in-Ok.cache) (g.F.Folder.told c.start.new.f) c.in-Ok.cache.notes (2 * handle_names) usable (c.in-Ok.ensures.last from there) (c.in-Ok.ensures.keeps from there) c.in-Ok.ensures.notes (omega arith) in
     script_of_runs c.count.result count_script (bounds_of c.args.limits) from readings _ _ _
-    (c.count.ensures.runs from (bounds_of c.args.limits) readings left (g.F.Folder.told c.args.folder.now) (g.C.Clock.readings c.args.clock.now) (g.C.Clock.readings c.now.new.self) there clock c.now.ensures.later stands)
+    (c.count.ensures.runs from (bounds_of c.args.limits) readings left (g.F.Folder.told c.args.folder.now) (Some readings) (Some late) there refl later stands))
 
 pub returns-in-Err-Device-clause-script : goal.returns-in-Err-Device-clause-script
-returns-in-Err-Device-clause-script g c from there usable readings clock left =
-    inr (exit_unopened from (bounds_of c.args.limits) readings (record { folder = g.F.Folder.told c.args.folder.now; written = g.K.Sink.written c.args.out.now; left = left; clock = g.C.Clock.readings c.args.clock.now }) there clock
-    (record { folder = g.F.Folder.told c.start.new.f; written = g.K.Sink.written c.args.out.now; left = left; clock = g.C.Clock.readings c.now.new.self }) usable (failed_by_start from (bounds_of c.args.limits) (g.F.Folder.told c.args.folder.now) (g.F.Folder.told c.start.new.f) there (c.start.ensures.stops from there)) refl refl)
+returns-in-Err-Device-clause-script g c from there usable =
+    reads_once c.now.result c.now.ensures.reading c.now.ensures.later (λ readings late reading later left.
+    inr (exit_unopened from (bounds_of c.args.limits) readings (record { folder = g.F.Folder.told c.args.folder.now; written = g.K.Sink.written c.args.out.now; left = left; clock = Some readings }) there refl
+    (record { folder = g.F.Folder.told c.start.new.f; written = g.K.Sink.written c.args.out.now; left = left; clock = Some late }) usable (failed_by_start from (bounds_of c.args.limits) (g.F.Folder.told c.args.folder.now) (g.F.Folder.told c.start.new.f) there (c.start.ensures.stops from there)) refl refl))
 
 pub returns-in-Ok-clause-cause : goal.returns-in-Ok-clause-cause
 returns-in-Ok-clause-cause g c =
@@ -84,7 +90,10 @@ returns-in-Ok-clause-complete g c from there usable readings clock left no_devic
     let cause = returns-in-Ok-clause-cause g c in
     complete_script count_script (bounds_of c.args.limits) from readings _ _ _ _ no_device no_sink c.count.result
     (device_cause c.count.result _ _ ⊥ _ ⊥ cause) (sink_cause c.count.result _ _ ⊥ _ ⊥ cause)
-    (returns-in-Ok-clause-script g c from there usable readings clock left)
+    (reads_told
+    (λ (r : Readings) (o n : Option Readings). (l : Option (List ℕ)) → FixedScript c.count.result count_script (bounds_of c.args.limits) from r (Rises (g.K.Sink.faults c.args.out.now) (g.K.Sink.faults c.count.new.out))
+    (record { folder = g.F.Folder.told c.args.folder.now; written = g.K.Sink.written c.args.out.now; left = l; clock = o }) (record { folder = g.F.Folder.told c.count.new.folder; written = g.K.Sink.written c.count.new.out; left = l; clock = n }))
+    (returns-in-Ok-clause-script g c from there usable) readings clock left)
 
 -- nothing is refused
 none_refused : (s : Status) → (s ≡ status.Ok) ⊎ ((s ≡ status.Sink) ⊎ (s ≡ status.Device)) → s ≢ status.Refused
@@ -108,3 +117,9 @@ pub returns-in-Err-Damaged-clause-unwritten : goal.returns-in-Err-Damaged-clause
 returns-in-Err-Damaged-clause-unwritten g c is from there =
     let damaged = returns-in-Err-Damaged-clause-answer g c from there in
     c.start.ensures.unwritten from there (λ usable. sound damaged.0 from usable damaged.1)
+
+pub returns-in-Err-Memory-clause-script : goal.returns-in-Err-Memory-clause-script
+returns-in-Err-Memory-clause-script g c from there usable = reads_once c.now.result c.now.ensures.reading c.now.ensures.later (λ readings late reading later left. search rules)
+
+pub returns-in-Err-Damaged-clause-script : goal.returns-in-Err-Damaged-clause-script
+returns-in-Err-Damaged-clause-script g c from there usable = reads_once c.now.result c.now.ensures.reading c.now.ensures.later (λ readings late reading later left. search rules)

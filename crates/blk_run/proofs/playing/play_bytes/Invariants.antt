@@ -1,4 +1,5 @@
-use Rattle.std.proofs.Common.{◌≤◌, ◌≡◌, ◌+◌, ℕ, List, length, false}
+use Rattle.blk_run.specs.Telling.{ReadsAs}
+use Rattle.std.proofs.Common.{◌≤◌, ◌≡◌, ◌+◌, ℕ, List, length, false, Some}
 use Rattle.std.specs.Option.{ForSome}
 use Rattle.blk_disk.specs.Open.{IsOpen}
 use Rattle.blk_cache.specs.CacheKeeping.{KeepsState}
@@ -11,9 +12,9 @@ use Rattle.blk_run.proofs.playing.play_bytes.Given as goal
 abbrev pub invariant-loop-end : goal.invariant-loop-end
 invariant-loop-end g l = record {
   is_open : ForSome (g.F.Folder.told l.folder).files (IsOpen l.cache.files);
-  played : (before : List ℕ) → HoldsLine l.initial.line before
+  played : ReadsAs (g.C.Clock.readings l.initial.clock) (g.C.Clock.readings l.clock) (λ early late. (before : List ℕ) → HoldsLine l.initial.line before
       → ArePlayed before l.bytes l.rest l.line l.initial.played.lines l.played.lines (KeepsState l.initial.cache) (KeepsState l.cache) (l.initial.cache.notes) (l.cache.notes)
-      (around (g.F.Folder.told l.initial.folder) (g.K.Sink.written l.initial.out) (g.C.Clock.readings l.initial.clock) l.initial.played.refused) (around (g.F.Folder.told l.folder) (g.K.Sink.written l.out) (g.C.Clock.readings l.clock) l.played.refused);
+      (around (g.F.Folder.told l.initial.folder) (g.K.Sink.written l.initial.out) (Some early) l.initial.played.refused) (around (g.F.Folder.told l.folder) (g.K.Sink.written l.out) (Some late) l.played.refused));
   lines : l.played.lines + pending l.line + length l.rest ≤ l.initial.played.lines + pending l.initial.line + length l.bytes;
   buffer : length l.buffer ≡ length l.initial.buffer;
   later : g.F.Folder.faults l.initial.folder ≤ g.F.Folder.faults l.folder;
