@@ -1,6 +1,6 @@
 # What users read: README, the manual page, --help, the completion and the changes. Sentences and lines are short, the examples print what the
-# program prints, each list of the manual page is the one that the others shorten, and its names and limits are those of the sources. Each check is
-# shown to refuse an error that is planted.
+# program prints, each list of the manual page is the one that the others shorten, and its names and limits are those of the sources, as are the
+# defaults and limits in --help and README. Each check is shown to refuse an error that is planted.
 . "$(dirname "${BASH_SOURCE[0]}")/common.sh"
 
 # Prints the pieces of README on lines of their own: each begins with the number of its line, and a paragraph, an item of a list, a cell of a
