@@ -1,6 +1,6 @@
 # What users read: README, the manual page, --help, the completion and the changes. Sentences and lines are short, the examples print what the
-# program prints, each list of the manual page is the one that the others shorten, and its names and limits are those of the sources. Each check is
-# shown to refuse an error that is planted.
+# program prints, each list of the manual page is the one that the others shorten, and its names and limits are those of the sources, as are the
+# defaults and limits in --help and README. Each check is shown to refuse an error that is planted.
 . "$(dirname "${BASH_SOURCE[0]}")/common.sh"
 
 # Prints the pieces of README on lines of their own: each begins with the number of its line, and a paragraph, an item of a list, a cell of a
@@ -344,11 +344,23 @@ refusals_of_model() {
     done <"$1"
 }
 
+# Adds the numbers in a line to numbers. Some of them are spelled out.
+add_numbers() {
+    local it
+    local -A spelled=([three]=3 [eighth]=8 [nine]=9 [sixteenth]=16)
+    set -f
+    for it in ${1,,}; do
+        it=${it//[!a-z0-9^]/}
+        it=${spelled[${it:-none}]-$it}
+        [[ $it != [0-9]* ]] || numbers+=" $it"
+    done
+    set +f
+}
+
 # Prints the numbers in the text of an item of the manual page, in what comes before the first item where none is given, or in what follows the
-# last one where it is -: SECTION ITEM MANUAL. Three of them are spelled out.
+# last one where it is -: SECTION ITEM MANUAL.
 numbers_of_manual() {
-    local line section= item= it head numbers=
-    local -A spelled=([three]=3 [eighth]=8 [sixteenth]=16)
+    local line section= item= head numbers=
     while IFS= read -r line; do
         case $line in
             .S[hs]*) section=${line#.S? } item= ;;
@@ -359,27 +371,99 @@ numbers_of_manual() {
                 ;;
             *)
                 [[ $section == "$1" && $item == "$2" ]] || continue
-                set -f
-                for it in ${line,,}; do
-                    it=${it//[!a-z0-9^]/}
-                    it=${spelled[${it:-none}]-$it}
-                    [[ $it != [0-9]* ]] || numbers+=" $it"
-                done
-                set +f
+                add_numbers "$line"
                 ;;
         esac
     done <"$3"
     echo "${numbers# }"
 }
 
+# Prints each command and option of a page of --help in whose text there are numbers, with these.
+numbers_of_help() {
+    local line kind= head= numbers=
+    while IFS= read -r line; do
+        case $line in
+            Commands: | Options: | Alone*:) kind=item ;;
+            '  '[!\ ]*)
+                [ -z "$kind" ] || {
+                    [ -z "$numbers" ] || echo "$head:$numbers"
+                    line=${line:2} numbers=
+                    head=${line%%  *}
+                    add_numbers "${line#"$head"}"
+                }
+                ;;
+            '   '*) [ -z "$kind" ] || add_numbers "$line" ;;
+            *)
+                [ -z "$numbers" ] || echo "$head:$numbers"
+                kind= numbers=
+                ;;
+        esac
+    done <<<"$1"
+}
+
+# The same of the table of commands of README, and of its paragraph on what an entry has, whose head is its first words.
+numbers_of_readme() {
+    local line within= numbers= told
+    while IFS= read -r line; do
+        case $line in
+            '| Command |'*) within=row && continue ;;
+            'An entry has '*) within=text ;;
+            '|--'*) continue ;;
+            '|'* | ?*) ;;
+            *)
+                [ "$within" != text ] || echo "An entry has:$numbers"
+                within= numbers=
+                ;;
+        esac
+        case $within in
+            text) add_numbers "$line" ;;
+            row)
+                told=${line#'| '*' | '} numbers=
+                add_numbers "$told"
+                [ -z "$numbers" ] || { line=${line%" | $told"} && echo "${line#'| '}:$numbers"; }
+                numbers=
+                ;;
+        esac
+    done <"$1"
+}
+
+# Tells each line in which the numbers of --help, or of README, differ from those of the definitions: NUMBERS PAGE FILE... The manual page is
+# compared with the same definitions below.
+wrong_numbers() {
+    local page item names it told=$1 wanted=
+    local -A sizes=()
+    while IFS=: read -r page item names; do
+        [ "$page" = "$2" ] || continue
+        [ -n "${sizes[bytes]-}" ] || read_sizes "${@:3}"
+        wanted+=$item:
+        for it in $names; do wanted+=" ${sizes[$it]-$it}"; done
+        wanted+=$'\n'
+    done <<'END_OF_NUMBERS'
+help:get KEY STREAM:0 last_stream
+help:put KEY STREAM:longest_input
+help:--max N:bytes
+help:--items N:items
+help:--wait SECONDS:longest_wait
+readme:An entry has:stream_count 0 last_stream stream_count stream_count
+readme:`put KEY STREAM`, `get KEY STREAM`:longest_input
+END_OF_NUMBERS
+    differing "$told" "${wanted%$'\n'}"
+}
+
 # Leaves in sizes the numbers that files of definitions name, and what follows from them: FILE..
 read_sizes() {
-    local line
+    local line digits
     while IFS= read -r line; do
         [[ ! $line =~ ^([a-z_]+)\ =\ ([0-9]+|2\ \^\ [0-9]+)$ ]] || sizes[${BASH_REMATCH[1]}]=${BASH_REMATCH[2]// /}
         [[ ! $line =~ at_most_once\ ([0-9]+)\ parts.counts ]] || sizes[items]=${BASH_REMATCH[1]}
         [[ ! $line =~ at_most_once\ ([0-9]+)\ parts.maxes ]] || sizes[bytes]=${BASH_REMATCH[1]}
+        # (the script has it twice, and 0 digits stand for two that differ)
+        [[ $line =~ \(0\|\[1-9\]\[0-9\]\{0,([0-9])\}\) ]] || continue
+        digits=$((BASH_REMATCH[1] + 1))
+        [ "${sizes[wait_digits]-$digits}" = "$digits" ] || digits=0
+        sizes[wait_digits]=$digits
     done < <(cat "$@")
+    sizes[longest_wait]=$((10 ** sizes[wait_digits] - 1))
     sizes[mebibytes]=$((sizes[bytes] >> 20)) sizes[gibibytes]=$((sizes[largest_offset] >> 30))
     sizes[stream_bytes]=$((sizes[bytes] / sizes[stream_share])) sizes[last_stream]=$((sizes[stream_count] - 1))
 }
@@ -397,10 +481,14 @@ wrong_limits() {
         [ "${wanted# }" = "$got" ] || echo "$section, $item: $got on the page, ${wanted# } in the sources"
     done <<'END_OF_LIMITS'
 DESCRIPTION::1 longest_key stream_count 0 1 last_stream 1 last_stream gibibytes 0700
+COMMANDS:put KEY STREAM:longest_input 3 stream_count
+COMMANDS:gen SEED N:most_turns
 SESSION SCRIPTS::handle_names
 SESSION SCRIPTS:-:part_size 0 part_block_size
 OPTIONS:--max N:1 most_bytes bytes mebibytes
 OPTIONS:--items N:1 most_items items
+OPTIONS:--wait SECONDS:0 longest_wait
+ENVIRONMENT:BLKCACHE_WAIT:0 wait_digits
 Refusals:1 BadHandle:handle_names
 Refusals:5 BadStream:last_stream
 Refusals:6 TooLarge:part_size
@@ -596,7 +684,8 @@ plant "$model" '| BadKey, Missing |' '| BadKey, Absent |'
 is 'planted: another refusal in docs/MODEL.md' $'Absent\nMemory\nNoHandle' "$(differing "$refusals" "$(refusals_of_model "$room/planted")")"
 
 # The limits are those of the definitions: of each item the numbers of its text, in their order.
-limits=("$top"/crates/{blk_model/specs/Sizes,blk_args/specs/Words,blk_run/specs/WholeInputs,blk_run/specs/Work,blk_script/specs/Fields,blk_script/specs/Line}.antt)
+limits=("$top"/crates/{blk_model/specs/Sizes,blk_args/specs/{Words,Tasks},blk_run/specs/WholeInputs,blk_run/specs/Work,blk_script/specs/{Fields,Line}}.antt)
+limits+=("$top/blkcache")
 is 'the manual page: limits' '' "$(wrong_limits "$manual" "${limits[@]}")"
 plant "$manual" '4096 at a time.' '4095 at a time.'
 is 'planted: another limit' 'LIMITS, Handles: 4095 on the page, 4096 in the sources' "$(wrong_limits "$room/planted" "${limits[@]}")"
@@ -605,6 +694,30 @@ is 'planted: another limit, spelled out' 'LIMITS, -: 8256 192 8 on the page, 825
 plant "${limits[0]}" 'most_items = 131072' 'most_items = 131073'
 is 'planted: another limit in the sources' 'OPTIONS, --items N: 1 131072 65536 on the page, 1 131073 65536 in the sources' \
     "$(wrong_limits "$manual" "$room/planted" "${limits[@]:1}")"
+is '--help: limits' '' "$(wrong_numbers "$(numbers_of_help "$help")" help "${limits[@]}")"
+is 'README: limits' '' "$(wrong_numbers "$(numbers_of_readme "$readme")" readme "${limits[@]}")"
+
+# What is planted in one of these pages: the page, what it tells wrongly, the right number and the wrong one.
+while IFS=: read -r page item right wrong; do
+    case $page in
+        help) plant <(echo "$help") "$right" "$wrong" && said=$(numbers_of_help "$(<"$room/planted")") ;;
+        readme) plant "$readme" "$right" "$wrong" && said=$(numbers_of_readme "$room/planted") ;;
+    esac
+    said=$(wrong_numbers "$said" "$page" "${limits[@]}")
+    is "planted: another limit in $page, $item" 2 "$(count_like "$item:*" <<<"$said")"
+    is "planted: another limit in $page, $item, and no more is told" 2 "$(count_like '*' <<<"$said")"
+done <<'END_OF_WRONG_NUMBERS'
+help:--max N:83886080:83886081
+help:--items N:65536:65535
+help:--wait SECONDS:999999999:99999999
+help:put KEY STREAM:1048576:1048567
+help:get KEY STREAM:(0 to 2):(0 to 3)
+readme:`put KEY STREAM`, `get KEY STREAM`:1048576:1048567
+readme:An entry has:streams, 0 to 2:streams, 0 to 3
+END_OF_WRONG_NUMBERS
+plant "$top/blkcache" '[1-9][0-9]{0,8}' '[1-9][0-9]{0,7}'
+is 'planted: another longest wait in the script' $'--wait SECONDS: 0\n--wait SECONDS: 999999999' \
+    "$(wrong_numbers "$(numbers_of_help "$help")" help "${limits[@]::${#limits[@]}-1}" "$room/planted")"
 
 # What the script and its build say on standard error.
 is 'the manual page: diagnostics' '' "$(untold_texts "$manual" "$top/blkcache" "$top/dist/build.sh")"
