@@ -2,6 +2,7 @@
 use Rattle.std.specs.Prelude.{ℕ, ◌≡◌, ◌⊎◌, ◌+◌, ◌<◌, true, false, List, ◌++◌, length, take}
 use Rattle.std.specs.Option.{option_map, ForSome}
 use Rattle.std.specs.declared.option.Option.{Option}
+use Rattle.std.specs.declared.option.Option.TheVariants.{Some}
 use Rattle.spec_image.specs.Checks.{Damage}
 use Rattle.spec_image.specs.Image.{Image}
 use Rattle.spec_image.specs.Notes.{notes_in}
