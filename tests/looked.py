@@ -142,7 +142,8 @@ class Folder:
         there = {name for name in self.files if name.startswith("f_")}
         for name, file in self.files.items():
             if name.startswith("data_"):
-                there.update((name, it) for it in range((HEADER - MAP) * 8) if file[MAP + it // 8] >> it % 8 & 1)
+                marks = [(it, byte) for it, byte in enumerate(file[MAP:HEADER]) if byte]
+                there.update((name, it * 8 + bit) for it, byte in marks for bit in range(8) if byte >> bit & 1)
         return digits, len(there ^ owned)
 
 
