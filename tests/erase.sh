@@ -188,15 +188,18 @@ is_blank() {
 # Prints these four numbers of each folder, and with a file of lines a sum of what the program answers to them: LINES FOLDERS. With python3
 # one process does so for all of them.
 looks() {
-    local folder sum
+    local folder rest sum
     if [ "$has_python" = yes ]; then
         "$python" -S -B "$top/tests/looked.py" "$program" "$room/pieces" "$sparse_places" "$@"
         return
     fi
     for folder in "${@:2}"; do
+        # What is in its blocks comes first, since an opening that asks for its streams may mend what nobody owns.
+        rest="$(blocks_left_in "$folder") $(behind_ends_in "$folder") $(unowned_in "$folder")"
+        rest="$(left_in "$folder") $rest"
         sum=
         [ -z "$1" ] || sum=$(timeout 60 "$program" "$folder" session <"$1" 2>/dev/null | sha256sum)
-        echo "$(left_in "$folder") $(blocks_left_in "$folder") $(behind_ends_in "$folder") $(unowned_in "$folder") ${sum%% *}"
+        echo "$rest ${sum%% *}"
     done
 }
 # Leaves the four numbers of a folder.
@@ -440,10 +443,12 @@ is 'free blocks with the same bytes' 5 "$blocks"
 # nobody owns, and behind the key in a record.
 remains() {
     local left blocks behind unowned
+    cp -a "$room/kept" "$room/again"
     look "$room/kept"
     is "remains $1: found" "$2" "$blocks $behind $unowned"
-    both_look "remains $1" "$room/kept"
-    rm -rf "$room/kept"
+    has_python=no look "$room/again"
+    is "remains $1: found by the shell" "$2" "$blocks $behind $unowned"
+    rm -rf "$room/kept" "$room/again"
     cp -a "$room/listed" "$room/kept"
 }
 rm -rf "$room/kept"
