@@ -3,12 +3,13 @@
 # before each write, after its first word, midway and before its last; or words, those between any two words that are written. ERASE_PART=K/N tries
 # the K-th of N parts of these places alone. ERASE_SEED is what the places, the script and some lengths are drawn from.
 # Of each place it is asked that the next opening ends well, also where it is killed too (behind each third place); that no piece of what was
-# removed is in any file then, no byte in a block that is free or behind the end of a stream or a long key; and that what the command leaves alone
-# has its bytes. But for all of them, the places are replayed from a record of what the command wrote as it ran once (tests/replayed.py): a folder
-# that was tried isn't tried again, and it is asked besides, of each write, that what gets out of use is blank before it does. At each place that is
-# drawn, and at 16 of words, the program is killed indeed, and has to leave the replayed folder. Without python3 the program is killed at so many
-# places in even steps instead. In every run five records are replayed that leave out one byte of the zeros, one of a program that doesn't erase, and
-# one of openings that don't: each has to be refused, five of the seven by what is found behind a kill.
+# removed is in any file then, and no byte in a block that is free or behind the end of a stream or a key; that each block that is marked and each
+# external file has an owner; and that what the command leaves alone has its bytes. But for all of them, the places are replayed from a record of
+# what the command wrote as it ran once (tests/replayed.py): a folder that was tried isn't tried again, and it is asked besides, of each write, that
+# what gets out of use is blank before it does. At each place that is drawn, and at 16 of words, the program is killed indeed, and has to leave the
+# replayed folder. Without python3 the program is killed at so many places in even steps instead. In every run five records are replayed that leave
+# out one byte of the zeros, one of a program that doesn't erase, and one of openings that don't: each has to be refused, five of the seven by what
+# is found behind a kill. So has a replay that puts no folder aside, and one that compares no kill.
 . "$(dirname "${BASH_SOURCE[0]}")/common.sh"
 
 for tool in awk grep basenc; do
@@ -105,40 +106,78 @@ bytes_in() {
     tail -c +8193 "$1" | tr -d '\0' | wc -c
 }
 
-# Prints how many digits that are not 0 a folder has after the ends of its streams and long keys, in the blocks or in the file of each.
+# Prints how many digits that are not 0 are in the storage of a folder's entries without being explained by them: behind the ends of streams and
+# keys, in the blocks or in the file of each, and where a record has no field. What they own is left in the file owned.
 behind_ends_in() {
-    local sum=0 words word name value it at size place room_of file rest
+    local sum=0 words word node name value it at size place room_of file rest key_at
     local -A of
-    words=$("$program" "$1" inspect list | awk '$1 == "node" { print $4 }')
-    for word in $words; do
+    # (digits of a file from a place on: FILE PLACE COUNT)
+    add_digits() {
+        [ "$3" -gt 0 ] || return
+        rest=$(od -An -v -tx1 -j"$2" -N"$3" "$1")
+        rest=${rest//[ 0$'\n']/}
+        sum=$((sum + ${#rest}))
+    }
+    # (an address: its file, place and size)
+    find_at() {
+        at=$1
+        case $((at >> 28 & 7)) in
+            0)
+                printf -v file 'f_%06x' $((at & 268435455))
+                echo "$file" >>"$room/owned"
+                place=0 room_of=0
+                [ ! -f "$folder_of/$file" ] || room_of=$(stat -c %s "$folder_of/$file")
+                return
+                ;;
+            1) room_of=36 ;;
+            2) room_of=256 ;;
+            3) room_of=1024 ;;
+            4) room_of=4096 ;;
+        esac
+        file=data_$((at >> 16 & 255))
+        for ((it = 0; it <= (at >> 24 & 3); it++)); do
+            echo "$file $(((at & 65535) + it))"
+        done >>"$room/owned"
+        place=$((8192 + (at & 65535) * room_of)) room_of=$((((at >> 24 & 3) + 1) * room_of))
+    }
+    local folder_of=$1
+    : >"$room/owned"
+    words=$("$program" "$1" inspect list | awk '$1 == "node" { print $2, $4 }')
+    while read -r node word; do
+        [ -n "$word" ] || continue
         of=()
         while read -r name value; do
             of[$name]=$value
         done < <("$program" "$1" inspect entry "$word")
+        find_at $((16#$node))
+        find_at $((16#$word))
+        key_at=96
+        [ $((16#${of[long_key]})) != 0 ] || key_at=$((96 + 16#${of[key_len]}))
+        add_digits "$1/$file" $((place + 12)) 8
+        add_digits "$1/$file" $((place + 76)) 16
+        add_digits "$1/$file" $((place + key_at)) $((room_of - key_at))
         of[addr4]=${of[long_key]} of[size4]=${of[key_len]}
-        for it in 0 1 2 3 4; do
-            at=$((16#${of[addr$it]})) size=$((16#${of[size$it]}))
-            case $((at >> 28 & 7)) in
-                0)
-                    [ "$at" != 0 ] || continue
-                    printf -v file 'f_%06x' $((at & 268435455))
-                    place=0 room_of=$(stat -c %s "$1/$file")
-                    ;;
-                2) room_of=256 ;;
-                3) room_of=1024 ;;
-                4) room_of=4096 ;;
-            esac
-            if [ $((at >> 28 & 7)) != 0 ]; then
-                file=data_$((at >> 16 & 255))
-                place=$((8192 + (at & 65535) * room_of)) room_of=$((((at >> 24 & 3) + 1) * room_of))
-            fi
-            [ "$room_of" -gt "$size" ] || continue
-            rest=$(od -An -v -tx1 -j$((place + size)) -N$((room_of - size)) "$1/$file")
-            rest=${rest//[ 0$'\n']/}
-            sum=$((sum + ${#rest}))
+        for name in 0 1 2 3 4; do
+            at=$((16#${of[addr$name]})) size=$((16#${of[size$name]}))
+            [ "$at" != 0 ] || continue
+            find_at "$at"
+            add_digits "$1/$file" $((place + size)) $((room_of - size))
         done
-    done
+    done <<<"$words"
     echo "$sum"
+}
+
+# Prints how many blocks of a folder are marked that are not in the file owned, or are in it without a mark, and how many external files
+# are not in it, or are missing.
+unowned_in() {
+    local file
+    for file in "$1"/*; do
+        case ${file##*/} in
+            f_*) echo "${file##*/}" ;;
+            data_*) od -An -v -tu1 -w8112 -j80 -N8112 "$file" | awk -v name="${file##*/}" '
+                { for (it = 1; it <= NF; it++) if ($it > 0) for (bit = 0; bit < 8; bit++) if (int($it / 2 ^ bit) % 2) print name, (it - 1) * 8 + bit }' ;;
+        esac
+    done | sort | comm -3 - <(sort -u "$room/owned") | wc -l
 }
 
 # Nothing is left: the block files hold zeros after their headers, and there is no other.
@@ -146,23 +185,26 @@ is_blank() {
     is "$1" '0 0 0 0 ' "$(bytes_in "$2/data_0") $(bytes_in "$2/data_1") $(bytes_in "$2/data_2") $(bytes_in "$2/data_3") $(cd "$2" && ls | grep -E '^(f_|data_[4-9])')"
 }
 
-# Prints these three numbers of each folder, and with a file of lines a sum of what the program answers to them: LINES FOLDERS. With python3
+# Prints these four numbers of each folder, and with a file of lines a sum of what the program answers to them: LINES FOLDERS. With python3
 # one process does so for all of them.
 looks() {
-    local folder sum
+    local folder rest sum
     if [ "$has_python" = yes ]; then
         "$python" -S -B "$top/tests/looked.py" "$program" "$room/pieces" "$sparse_places" "$@"
         return
     fi
     for folder in "${@:2}"; do
+        # What is in its blocks comes first, since an opening that asks for its streams may mend what nobody owns.
+        rest="$(blocks_left_in "$folder") $(behind_ends_in "$folder") $(unowned_in "$folder")"
+        rest="$(left_in "$folder") $rest"
         sum=
         [ -z "$1" ] || sum=$(timeout 60 "$program" "$folder" session <"$1" 2>/dev/null | sha256sum)
-        echo "$(left_in "$folder") $(blocks_left_in "$folder") $(behind_ends_in "$folder") ${sum%% *}"
+        echo "$rest ${sum%% *}"
     done
 }
-# Leaves the three numbers of a folder.
+# Leaves the four numbers of a folder.
 look() {
-    read -r left blocks behind < <(looks '' "$1")
+    read -r left blocks behind unowned < <(looks '' "$1")
 }
 # The two ways to look find the same in a folder.
 both_look() {
@@ -177,11 +219,12 @@ fi
 
 # What is left is none of what was removed.
 is_gone() {
-    local left blocks behind
+    local left blocks behind unowned
     look "$2"
     is "$1: no piece is left" 0 "$left"
     is "$1: no block that is free holds a byte" 0 "$blocks"
-    is "$1: no byte is left behind the end of a stream or a long key" 0 "$behind"
+    is "$1: no byte is left behind the end of a stream or a key" 0 "$behind"
+    is "$1: each block that is marked has an owner, and each external file" 0 "$unowned"
 }
 
 # Runs a script, of which no line may be refused.
@@ -396,6 +439,31 @@ is 'free blocks with the same bytes, by the shell' 5 "$(blocks_left_in "$room/ke
 look "$room/kept"
 is 'free blocks with the same bytes' 5 "$blocks"
 
+# Remains of fewer bytes than a piece are found where nothing live explains them: in a marked block that no entry owns, in an external file that
+# nobody owns, and behind the key in a record.
+remains() {
+    local left blocks behind unowned
+    cp -a "$room/kept" "$room/again"
+    look "$room/kept"
+    is "remains $1: found" "$2" "$blocks $behind $unowned"
+    has_python=no look "$room/again"
+    is "remains $1: found by the shell" "$2" "$blocks $behind $unowned"
+    rm -rf "$room/kept" "$room/again"
+    cp -a "$room/listed" "$room/kept"
+}
+rm -rf "$room/kept"
+cp -a "$room/listed" "$room/kept"
+remains 'of none' '0 0 0'
+patch "$room/kept/data_1" 80 '\003'
+patch "$room/kept/data_1" $((8192 + 256 + 64)) remains-12-b
+remains 'of 12 bytes in a marked block' '0 0 1'
+printf 'remains-of-23-bytes-here' | head -c 23 >"$room/kept/f_000001"
+remains 'of 23 bytes in an external file' '0 0 1'
+: >"$room/kept/f_000001"
+remains 'of a name of an external file' '0 0 1'
+patch "$room/kept/data_1" $((8192 + 96 + 2)) UUUUUUUUUUUUUUU
+remains 'of 15 bytes behind the key in a record' '0 30 0'
+
 # Streams that grow into another storage, that are written anew by put, and an entry that is made anew under its key.
 grown() {
     local size
@@ -554,7 +622,7 @@ is_clean() {
     patch "$2/index" 40 '\0\0\0\0\0\0\0\0'
     sum=$(cksum -- "$2"/*)
     [ -n "${looked[$sum]-}" ] || looked[$sum]=$(looks "$room/told" "$2")
-    is "$1: pieces, bytes of free blocks, bytes behind ends, what stays" "0 0 0 $told" "${looked[$sum]}"
+    is "$1: pieces, free blocks with bytes, bytes behind ends, what has no owner, what stays" "0 0 0 0 $told" "${looked[$sum]}"
 }
 # A copy of the folder on which the commands are tried.
 base=$room/base
@@ -577,12 +645,14 @@ feed() {
 }
 # Replays places of a command, and leaves what was wrong, and the counts: PART COUNT NAMES OPENINGS NAME INPUT WORDS. Where there is a COUNT, so
 # many places are drawn. Where there are NAMES, a byte is left out of the zeros over the files whose names begin so. Where there is a value
-# OPENINGS, the openings have that one of BLKCACHE_ERASE.
+# OPENINGS, the openings have that one of BLKCACHE_ERASE. Where without is folders or kills, none is put aside, or compared.
+without=
 replay() {
     local options=()
     [ -z "$2" ] || options+=(--drawn "$2" "$seed $5")
     [ -z "$3" ] || options+=(--leave "$3")
     [ -z "$4" ] || options+=(--openings "$4")
+    [ -z "$without" ] || options+=(--without "$without")
     feed "$6"
     rm -rf "${scratch:?}/out"
     mkdir "$scratch/out"
@@ -591,6 +661,14 @@ replay() {
         >"$room/replayed" 2>&1 || echo 'wrong: it did not come to its end' >>"$room/replayed"
     wrong=$(grep -vx '[0-9 ]*' "$room/replayed")
     read -r tried total tried_images openings folders compared < <(grep -x '[0-9][0-9 ]*' "$room/replayed")
+}
+# Prints what a replay has too few of, by its counts: each puts a folder aside, and the program is killed at as many places as it tried where
+# these are drawn, and at one at least where it tried all.
+too_few_of_replay() {
+    local least=$tried
+    [ "$places_of_each" != words ] || least=$((tried > 0))
+    [ "$folders" -ge 1 ] || echo 'no folder'
+    [ "$compared" -ge "$least" ] || echo "$compared kills of $least"
 }
 # Kills between any two words, replayed, those that are drawn or all: NAME INPUT WORDS
 replays() {
@@ -602,9 +680,11 @@ replays() {
     fi
     is "$1: what is replayed$by_seed" '' "$wrong"
     is "$1: there are places" yes "$([ "$total" -gt 16 ] && echo yes)"
+    is "$1: what is put aside and compared$by_seed" '' "$(too_few_of_replay)"
     for ((number = 1; number <= folders; number++)); do
         read -r found
-        is "$1, $(cat "$scratch/out/left/$number.place")$by_seed: pieces, bytes of free blocks, bytes behind ends, what stays" "0 0 0 $told" "$found"
+        is "$1, $(cat "$scratch/out/left/$number.place")$by_seed: pieces, free blocks with bytes, bytes behind ends, what has no owner, what stays" \
+            "0 0 0 0 $told" "$found"
     done < <(looks "$room/told" $(seq -f "$scratch/out/left/%g" "$folders"))
     places=$((places + tried)) killed_openings=$((killed_openings + openings)) images=$((${images:-0} + tried_images))
     echo "$1: $tried of $total places, and $openings of the next openings: $tried_images folders, which openings made $folders;" \
@@ -625,12 +705,19 @@ planted() {
     [[ $wrong != *'did not come to its end'* ]] || by='by a replay that broke off'
     for ((number = 1; number <= folders; number++)); do
         read -r found
-        [ "$found" = "0 0 0 $told" ] || case $(cat "$scratch/out/left/$number.place") in
+        [ "$found" = "0 0 0 0 $told" ] || case $(cat "$scratch/out/left/$number.place") in
             place*) left=' by what is left behind a kill' ;;
             *) [ -n "$left" ] || left=' by what is left' ;;
         esac
     done < <(looks "$room/told" $(seq -f "$scratch/out/left/%g" "$folders"))
     is "refused: $3, with zeros left out: $2" "$1" "$by$left"
+}
+# A replay without folders that are put aside, or without kills that are compared, is refused by its counts: WITHOUT COUNTS NAME INPUT WORDS
+planted_without() {
+    local told wrong tried total tried_images openings folders compared without=$1 places_of_each=3
+    [ "$has_python" = yes ] || return
+    replay 1/1 3 '' '' "${@:3}"
+    is "refused: $3, without $1" "$2" "$wrong$(too_few_of_replay)"
 }
 # Of each so many places one is tried, where all are asked for.
 step=1
@@ -688,7 +775,7 @@ kills() {
 }
 stay=("$second" "$third" sparse)
 kills 'doom of blocks' '' doom "$first"
-kills 'put in fewer blocks' "$new" put "$first" 1
+kills 'put in smaller blocks' "$new" put "$first" 1
 kills 'put in the same blocks' "$same" put "$first" 1
 kills 'a cut within its blocks' "open 0 $first\ncut 0 2 8000 -\nclose 0\n" session
 kills 'growth within a kind' "open 0 $first\nwrite 0 0 112 ${longer:0:1024}\nwrite 0 1 2000 ${longer:0:3200}\nwrite 0 2 8192 $longer\nclose 0\n" session
@@ -723,6 +810,8 @@ planted 'at its word' f_ 'a file that is cut' "open 0 $second\ncut 0 0 16400 -\n
 planted ' by what is left behind a kill' data_ 'a cut in a block' "open 0 $first\ncut 0 2 8000 -\nclose 0\n" session
 planted 'at its word by what is left behind a kill' all 'doom of blocks' '' doom "$first"
 planted 'at its word by what is left behind a kill' openings 'doom of blocks' '' doom "$first"
+planted_without folders 'no folder' 'doom of blocks' '' doom "$first"
+planted_without kills '0 kills of 3' 'doom of blocks' '' doom "$first"
 
 # Sparse data that are evicted: the others were used since.
 take turned "$room/base"
@@ -789,28 +878,70 @@ is 'a folder of the first version' 00020000 "$(words_of "$room/dirty_old" 4)"
 base=$room/dirty_old
 kills 'an opening that raises a folder' '' count
 
-# Keys in blocks of 1024 and in a file of their own, and the keys of parts, which have that of their entry.
+# Keys in blocks of 256 and of 1024 and in a file of their own, and the keys of parts, which have that of their entry.
 mkdir "$room/keyed"
 drawn=0
 secret 2000; first=$text
 secret 20000; second=$text
 secret 17008; third=$text
+secret 1008; fourth=$text
 {
     secret 304; printf 'create 0 %s\nwrite 0 0 0 %s\nclose 0\n' "$first" "$data"
     secret 1008; printf 'create 0 %s\nwrite 0 1 0 %s\nclose 0\n' "$second" "$data"
     secret 1008; printf 'create 0 %s\nswrite 0 1024 %s\n' "$third" "$data"
     secret 3008; printf 'swrite 0 1048576 %s\nclose 0\n' "$data"
+    secret 304; printf 'create 0 %s\nwrite 0 2 0 %s\nclose 0\n' "$fourth" "$data"
     secret 1600; printf 'create 0 stays\nwrite 0 0 0 %s\nclose 0\n' "$data"
 } >"$room/input"
 plays "$room/keyed"
 looks_for_drawn
 base=$room/keyed
-stay=("$second" "$third" stays)
+stay=("$second" "$third" "$fourth" stays)
 kills 'doom with a key in blocks of 1024' '' doom "$first"
-stay=("$first" "$third" stays)
+stay=("$first" "$third" "$fourth" stays)
 kills 'doom with a key in a file' '' doom "$second"
-stay=("$first" "$second" stays)
+stay=("$first" "$second" "$fourth" stays)
 kills 'doom of sparse data with a key in files' '' doom "$third"
+stay=("$first" "$second" "$third" stays)
+kills 'doom with a key in blocks of 256' '' doom "$fourth"
+stay=()
+kills 'trim with keys of each size' '' trim 0
+kills 'eviction with keys of each size' a put more 0 --items 1
+kills 'eviction by bytes with keys of each size' "create 0 more\nwrite 0 0 0 6d6f7265\nclose 0\n" session --max 3000
+stay=(stays)
+kills 'trim of all but one' '' trim 1700
+
+# From each storage into the others, those that no command above goes, and sparse data in blocks of 4096.
+mkdir "$room/sized"
+drawn=0
+{
+    printf 'create 0 grows\n'
+    secret 112; printf 'write 0 0 0 %s\n' "$data"
+    secret 304; printf 'write 0 1 0 %s\n' "$data"
+    secret 2000; printf 'write 0 2 0 %s\nclose 0\ncreate 0 cut\n' "$data"
+    secret 1008; printf 'write 0 0 0 %s\n' "$data"
+    secret 4000; printf 'write 0 1 0 %s\n' "$data"
+    secret 8192; printf 'write 0 2 0 %s\nclose 0\ncreate 0 files\n' "$data"
+    secret 17008; printf 'write 0 0 0 %s\n' "$data"
+    secret 17008; printf 'write 0 1 0 %s\nclose 0\n' "$data"
+    secret 5008; printf 'create 0 sparse\nswrite 0 1024 %s\n' "$data"
+    secret 9008; printf 'swrite 0 1048576 %s\nclose 0\n' "$data"
+} >"$room/input"
+plays "$room/sized"
+secret 5008; longer=$data
+secret 16400; much=$data
+looks_for_drawn
+base=$room/sized
+stay=(cut files sparse)
+kills 'growth from 256 to 4096, and from 256 and 1024 into files' \
+    "open 0 grows\nwrite 0 0 112 $longer\nwrite 0 1 304 $much\nwrite 0 2 2000 $much\nclose 0\n" session
+stay=(grows files sparse)
+kills 'cuts within 256 and 1024, from 1024 to 256 and from 4096 to 1024' \
+    "open 0 cut\ncut 0 0 592 -\ncut 0 1 2000 -\ncut 0 1 208 -\ncut 0 2 3008 -\nclose 0\n" session
+stay=(grows cut sparse)
+kills 'cuts from files to 1024 and 256' "open 0 files\ncut 0 0 3008 -\ncut 0 1 208 -\nclose 0\n" session
+stay=(grows cut files)
+kills 'doom of sparse data in blocks of 4096' '' doom sparse
 
 # Streams from lengths that are drawn to others, by a cut, by a write behind the end, or written anew.
 lengths=(16 240 256 272 512 784 1008 1024 2048 3088 4080 4096 8192 12304 16384 16400 24000)

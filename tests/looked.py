@@ -4,8 +4,10 @@
 tests/looked.py PROGRAM PIECES PLACES INPUT FOLDER ..
 
 Prints a line for each folder: how many of the pieces (the lines of the file PIECES, of 16 letters and digits) are in its files that are none of
-what it holds, or are there more often; how many blocks that are not marked have a byte that isn't 0; how many digits that aren't 0 follow the ends
-of its streams and long keys, in the blocks or in the file of each; and a sum of what the program answers to the lines of the file INPUT, where there is one.
+what it holds, or are there more often; how many blocks that are not marked have a byte that isn't 0; how many digits that aren't 0 are in what
+entries own, behind the ends of their streams and keys and where a record has no field; how many blocks are marked that no entry owns, or are
+owned without a mark, and how many external files nobody owns, or are missing; and a sum of what the program answers to the lines of the file
+INPUT, where there is one.
 At PLACES the runs of sparse data begin.
 """
 import collections
@@ -20,7 +22,11 @@ PAGE = 4096
 HEADER = 8192
 MAP = 80
 LONG = re.compile(rb"[0-9A-Za-z]{16,}")
-SIZES = {2: 256, 3: 1024, 4: 4096}
+SIZES = {1: 36, 2: 256, 3: 1024, 4: 4096}
+NODE = 36
+# Of a record's 96 bytes those that aren't always 0; its key follows, where it has no storage of its own.
+FIELDS = [(0, 12), (20, 76), (92, 96)]
+RECORD = 96
 
 
 def count_pieces(data, pieces, found):
@@ -97,25 +103,48 @@ class Folder:
                     left += 1
         return left
 
-    def digits_behind_ends(self):
-        digits = 0
+    def unexplained(self):
+        """How many digits that aren't 0 are in the storage of live entries without being explained by them, and how many blocks and files have
+        an owner and no mark, or the other way round."""
+        owned, digits = set(), 0
+
+        def take(address, parts):
+            """An entry owns this storage, of which these parts are explained."""
+            nonlocal digits
+            kind = address >> 28 & 7
+            if address == 0:
+                return
+            if kind == 0:
+                name = "f_%06x" % (address & 0xFFFFFFF)
+                owned.add(name)
+                rest = bytearray(self.files.get(name, b""))
+            else:
+                name, first, count = "data_%d" % (address >> 16 & 255), address & 0xFFFF, (address >> 24 & 3) + 1
+                owned.update((name, first + it) for it in range(count))
+                at = HEADER + first * SIZES[kind]
+                rest = bytearray(self.files[name][at : at + count * SIZES[kind]])
+            for start, end in parts:
+                end = min(end, len(rest))
+                rest[start:end] = bytes(max(0, end - start))
+            digits += len(rest.hex().replace("0", ""))
+
         for line in self.run("inspect", "list").split(b"\n"):
             node = line.split()
             if node[:1] != [b"node"]:
                 continue
             entry = dict(it.split(b" ", 1) for it in self.run("inspect", "entry", node[3].decode()).splitlines() if b" " in it)
+            entry = {name: int(value, 16) for name, value in entry.items() if name != b"key"}
+            take(int(node[1], 16), [(0, NODE)])
+            key_here = 0 if entry[b"long_key"] else entry[b"key_len"]
+            take(int(node[3], 16), [*FIELDS, (RECORD, RECORD + key_here)])
             for words in [(b"addr%d" % it, b"size%d" % it) for it in range(4)] + [(b"long_key", b"key_len")]:
-                address, size = (int(entry[it], 16) for it in words)
-                kind = address >> 28 & 7
-                if address == 0:
-                    continue
-                if kind == 0:
-                    rest = self.files["f_%06x" % (address & 0xFFFFFFF)][size:]
-                else:
-                    at = HEADER + (address & 0xFFFF) * SIZES[kind]
-                    rest = self.files["data_%d" % (address >> 16 & 255)][at + size : at + ((address >> 24 & 3) + 1) * SIZES[kind]]
-                digits += len(rest.hex().replace("0", ""))
-        return digits
+                take(entry[words[0]], [(0, entry[words[1]])])
+        there = {name for name in self.files if name.startswith("f_")}
+        for name, file in self.files.items():
+            if name.startswith("data_"):
+                marks = [(it, byte) for it, byte in enumerate(file[MAP:HEADER]) if byte]
+                there.update((name, it * 8 + bit) for it, byte in marks for bit in range(8) if byte >> bit & 1)
+        return digits, len(there ^ owned)
 
 
 def main():
@@ -124,7 +153,7 @@ def main():
         pieces = set(file.read().split())
     for path in folders:
         folder = Folder(program, path)
-        left = folder.pieces_left(pieces, [int(it) for it in places.split()]), folder.blocks_left(), folder.digits_behind_ends()
+        left = folder.pieces_left(pieces, [int(it) for it in places.split()]), folder.blocks_left(), *folder.unexplained()
         told = ""
         if given:
             with open(given, "rb") as file:

@@ -1,7 +1,7 @@
 #!/usr/bin/env python3
 """Every place between two words at which a kill may stop a command, replayed in one process.
 
-tests/replayed.py [--drawn COUNT SEED] [--leave NAMES] [--openings ERASE] PROGRAM STOPPED BASE INPUT OUT PART/PARTS -- WORDS
+tests/replayed.py [--drawn COUNT SEED] [--leave NAMES] [--openings ERASE] [--without WHAT] PROGRAM STOPPED BASE INPUT OUT PART/PARTS -- WORDS
 
 The program runs once with WORDS and INPUT on a copy of the folder BASE, under the library STOPPED (tests/stopped.c), which records each call
 that changes a file. The record is then made word by word in one folder, so each image is built from the one before. Those images are tried
@@ -24,7 +24,8 @@ is drawn), and at those of openings behind some of these, the program is killed 
 the folder is what it is taken for.
 
 With --leave one byte is left out of the zeros, midway among those over bytes of files whose names begin with NAMES. With --openings the openings
-have ERASE as the value of BLKCACHE_ERASE. With either of them no kill is compared.
+have ERASE as the value of BLKCACHE_ERASE. With either of them no kill is compared. With --without folders none is put into OUT/left, and with
+--without kills none is compared: its caller has to refuse both.
 
 Each fault is a line that begins with 'wrong'. The last line has numbers: the places that were tried, all places, the images that were opened,
 the openings that were stopped, the folders that openings left, the kills that were compared.
@@ -302,7 +303,7 @@ class Replay:
     def __init__(self, program, library, base, given, out, part, parts):
         self.program, self.base, self.given, self.out = program, base, given, out
         self.part, self.parts = part, parts
-        self.drawn, self.random, self.is_planted = None, None, False
+        self.drawn, self.random, self.is_planted, self.without = None, None, False, None
         self.faults = 0
         self.at = "before the first place"
         self.tried, self.left = set(), set()
@@ -359,7 +360,7 @@ class Replay:
         for call in calls:
             image.make(call, False)
         left = image.left_sum()
-        if left not in self.left:
+        if left not in self.left and self.without != "folders":
             self.left.add(left)
             path = os.path.join(self.out, "left", str(len(self.left)))
             image.put(path)
@@ -528,18 +529,21 @@ def leave_out(before, calls, names):
 
 def main():
     words = sys.argv[1:]
-    left_out = drawn = openings = None
+    left_out = drawn = openings = without = None
     if words[0] == "--drawn":
         drawn, words = words[1:3], words[3:]
     if words[0] == "--leave":
         left_out, words = words[1], words[2:]
     if words[0] == "--openings":
         openings, words = words[1], words[2:]
+    if words[0] == "--without":
+        without, words = words[1], words[2:]
     split = words.index("--")
     program, library, base, given, out, part = words[:split]
     part, parts = (int(it) for it in part.split("/"))
     replay = Replay(program, library, base, given, out, part, parts)
-    replay.is_planted = left_out is not None or openings is not None
+    replay.is_planted = left_out is not None or openings is not None or without == "kills"
+    replay.without = without
     if openings is not None:
         replay.of_openings = {"BLKCACHE_ERASE": openings}
     if drawn is not None:
