@@ -38,6 +38,10 @@ kept image = kept_by held_rule (completed (view_of image))
 unfoldable pub dropped : Image → List (ℕ × Reason)
 dropped image = dropped_by held_rule (completed (view_of image))
 
+-- the rows of the kept records, in the order of the LRU list, whether or not the index is finished
+abbrev pub held : Image → List Row
+held image = map row_of_loaded (kept image)
+
 -- the recovered contents of a folder: the rows of the kept records, in the order of the LRU list; none of an unfinished folder
 unfoldable pub found : Image → List Row
-found image = if unfinished image then [] else map row_of_loaded (kept image)
+found image = if unfinished image then [] else held image

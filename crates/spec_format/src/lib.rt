@@ -4,7 +4,7 @@
 #![tactic(auto)]
 
 ghost use Rattle.spec_format.specs.Headers.{UnfinishedAgrees};
-ghost use Rattle.spec_format.specs.BlockFiles.{WellFormedIsFinished, WellFormedHasWholeIndex};
+ghost use Rattle.spec_format.specs.BlockFiles.{KeptHeadersStayFormed, SoundHasWholeIndex, WellFormedIsFinished, WellFormedIsSound, WellFormedHasWholeIndex};
 ghost use Rattle.spec_format.specs.Names.{ReadsNames};
 ghost use Rattle.spec_format.specs.Sealed.{WholeUpdatesAreMade};
 
@@ -22,6 +22,13 @@ pub fn reads_names()
 pub fn well_formed_is_finished()
     ensures finished { WellFormedIsFinished }
     ensures whole { WellFormedHasWholeIndex }
+{}
+
+/// Well formed is sound headers and the magic word of a finished index; headers that are kept keep it, and sound ones have the index's whole length.
+pub fn well_formed_is_sound()
+    ensures sound { WellFormedIsSound }
+    ensures kept { KeptHeadersStayFormed }
+    ensures whole { SoundHasWholeIndex }
 {}
 
 /// A whole sealed update is one with all its changes made.
