@@ -8,7 +8,7 @@ use Rattle.blk_model.specs.Items.{PartValue, main, part}
 use Rattle.blk_model.specs.State.{Object, State, object_at}
 use Rattle.blk_model.specs.Totals.{is_doomed_slot}
 use Rattle.spec_image.specs.Image.{Image}
-use Rattle.spec_format.specs.BlockFiles.{IsWellFormed}
+use Rattle.spec_format.specs.BlockFiles.{HasSoundHeaders}
 use Rattle.spec_folder.specs.Completion.{insert}
 use Rattle.spec_folder.specs.Creation.{with_first}
 use Rattle.spec_folder.specs.Layout.{Layout, order, rule_of}
@@ -32,7 +32,7 @@ PartInsertsFindEither = (state : State) (objects : List (Option Object)) (layout
 
 -- a part is being made: its node is in the list, and all nodes but the part's and its parent's are as they were, with these chains
 pub record IsMakingPart (state : State) (layout : Layout) (key : List ℕ) (loaded : Loaded) (chains : ℕ → List ℕ) (image : Image) : Type 0 where
-  pub well_formed : IsWellFormed image
+  pub sound : HasSoundHeaders image
   pub list : HasListAtRest (loaded.node ∷ order state layout) image
   pub others : IsMidPart (store_of image) layout key loaded chains
 

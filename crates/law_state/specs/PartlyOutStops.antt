@@ -13,8 +13,8 @@ use Rattle.blk_model.specs.State.{IsValidState, Object, State, is_named, object_
 use Rattle.spec_image.specs.Footprint.{SameOutside, whole}
 use Rattle.spec_image.specs.Image.{External, Image}
 use Rattle.spec_format.specs.Address.{external, external_number, kind_of}
-use Rattle.spec_format.specs.BlockFiles.{IsWellFormed}
 use Rattle.spec_format.specs.Growth.{HaveGrown}
+use Rattle.spec_format.specs.BlockFiles.{KeepsHeaders}
 use Rattle.spec_folder.specs.Layout.{Layout, is_listed}
 use Rattle.spec_folder.specs.Removal.{is_of_another}
 use Rattle.law_state.specs.Changes.{Finds}
@@ -57,7 +57,7 @@ UnlinkingItemsFindsDoomed = (state : State) (layout : Layout) (number : ℕ) (ob
 -- the durable contents with an object doomed are recovered while blocks are freed, once its main item is out
 abbrev pub FreeingFindsDoomed : Type 0
 FreeingFindsDoomed = (state : State) (layout : Layout) (number : ℕ) (object : Object) (keep : Item → Bool) (chains : ℕ → List ℕ) (unlinked : List ℕ) (from image : Image) → object_at state number ≡ Some object → LeavesOtherKeys object.key keep
-    → KeepsPartlyOut state layout keep chains unlinked from → HaveGrown from image → (IsWellFormed from → IsWellFormed image) → Finds (rest (doomed number state (Some object))) image
+    → KeepsPartlyOut state layout keep chains unlinked from → HaveGrown from image → KeepsHeaders from image → Finds (rest (doomed number state (Some object))) image
 
 -- the durable contents with an object doomed are recovered while the external file of an unlinked word is changed or deleted, once its main item is out
 abbrev pub DeletingFindsDoomed : Type 0

@@ -7,7 +7,7 @@ use Rattle.blk_model.specs.Items.{Item, same_item}
 use Rattle.blk_model.specs.State.{State, Object, IsValidState, object_at}
 use Rattle.blk_model.specs.Totals.{is_doomed_slot}
 use Rattle.spec_image.specs.Image.{Image}
-use Rattle.spec_format.specs.BlockFiles.{is_among, IsWellFormed}
+use Rattle.spec_format.specs.BlockFiles.{is_among, KeepsHeaders}
 use Rattle.spec_format.specs.Headers.{table_length}
 use Rattle.spec_folder.specs.Chains.{IsChain}
 use Rattle.spec_folder.specs.Completion.{remove}
@@ -70,7 +70,7 @@ pub record IsUnlinking (layout : Layout) (chains : ℕ → List ℕ) (from image
   pub only : OnlyLinksChange word (store_of from) (store_of image)
   pub list : list_of image ≡ list_of from
   pub whole : (other : ℕ) → other < table_length → IsChain (store_of image) other (chains other)
-  pub well_formed : IsWellFormed from → IsWellFormed image
+  pub headers : KeepsHeaders from image
 
 -- while the record of an item that is out of the list goes out of its chain, the durable contents without the item are recovered
 abbrev pub UnlinkingFindsTheOthers : Type 0

@@ -1,7 +1,6 @@
 -- Where each command may crash, at each word of its calls: uses of items, dirty words, removals and groups.
 use Rattle.std.specs.Prelude.{◌≡◌, ◌⊎◌, ℕ, Bool, List, [], ◌∷◌, ◌++◌, None, Some, filter, false, not, if◌then◌else◌, nat_lt, true}
 use Rattle.spec_image.specs.Image.{Image}
-use Rattle.spec_format.specs.BlockFiles.{IsWellFormed}
 use Rattle.blk_model.specs.EvictionLaws.{EvictsFirst}
 use Rattle.blk_model.specs.Items.{Item, key_of, main, part, same_item}
 use Rattle.blk_model.specs.State.{IsValidState, Object, State, is_named, object_at}
@@ -11,6 +10,7 @@ use Rattle.blk_model.specs.ListSteps.{dooms, uses_of}
 use Rattle.blk_model.specs.Refusals.{refused}
 use Rattle.blk_model.specs.Request.{IsRequest, Request, to_close, to_flush}
 use Rattle.blk_model.specs.Room.{Group, single, whole, without}
+use Rattle.spec_format.specs.BlockFiles.{HasSoundHeaders}
 use Rattle.spec_folder.specs.Completion.{remove}
 use Rattle.spec_folder.specs.Layout.{HoldsExcept, Layout, is_listed, nodes_of}
 use Rattle.spec_folder.specs.ListImages.{HasListAtRest}
@@ -74,7 +74,7 @@ DoomsFindEither = (state : State) (layout : Layout) (unlinked : List ℕ) (from 
 -- some items are still listed, among them all of other keys and not the main item of this key, and what lies at their nodes is there, whatever lies at the
 -- others
 pub record IsOut (state : State) (layout : Layout) (key : List ℕ) (keep : Item → Bool) (image : Image) : Type 0 where
-  pub well_formed : IsWellFormed image
+  pub sound : HasSoundHeaders image
   pub except : ℕ → Bool
   pub holds : HoldsExcept except (store_of image) state layout
   pub out : keep (main key) ≡ false
@@ -105,7 +105,7 @@ PartsFindEither = (state : State) (layout : Layout) (unlinked : List ℕ) (from 
 
 -- all items but a part are listed, and what lies at their nodes is there, whatever lies at the part's
 pub record IsPartOut (state : State) (layout : Layout) (key : List ℕ) (n : ℕ) (image : Image) : Type 0 where
-  pub well_formed : IsWellFormed image
+  pub sound : HasSoundHeaders image
   pub except : ℕ → Bool
   pub holds : HoldsExcept except (store_of image) state layout
   pub there : (item : Item) → is_listed state item ≡ true → same_item (part key n) item ≡ false → except (layout.place item) ≡ false

@@ -1,8 +1,10 @@
 //! What a folder keeps between two calls of a command, and what the calls do to it: definitions, and laws that are the contracts of functions with empty bodies.
 #![tactic(auto)]
 
+ghost use Rattle.law_state.specs.Changes.{HeldIsFound};
+ghost use Rattle.law_state.specs.Commands.{FinishedFoldersMayStop};
 ghost use Rattle.law_state.specs.Keeping.{KeepsSome};
-ghost use Rattle.law_state.specs.KeepingLaws.{KeptStatesAreFound, KeptStatesAreStoodFor, KeptStatesAreSound, FoldersWithoutEntriesKeepTheEmptyState, OpenedFoldersKeepTheirState};
+ghost use Rattle.law_state.specs.KeepingLaws.{KeptStatesAreHeld, KeptStatesAreFound, KeptStatesAreStoodFor, KeptStatesAreSound, FoldersWithoutEntriesKeepTheEmptyState, OpenedFoldersKeepTheirState};
 ghost use Rattle.law_state.specs.TouchLaws.{TouchesFindEither, OpensMayStop};
 ghost use Rattle.law_state.specs.CommandLaws.{RequestsMayStopBefore, RequestsMayStopAfter, RequestsMayStopOnceEvicted, KeptStatesMayStop, SaysKept, NothingMayStop, NothingIsDone, RefusalsAreDone, QuietRequestsKeepTheState, CallsMayStop};
 ghost use Rattle.law_state.specs.ChangeLaws.{WhatIsKeptIsFound, SameCountersCountTheSame, UnlinkedPlacesMayChange, BlockWritesChangeOnly, ExternalWritesChangeOnly, OtherWordsChangeOnly, GrowthFindsTheSame, AllocatedBlocksAreUnlinked, FreedBlocksAreGone, MadeFilesAreUnlinked, DeletedFilesAreGone};
@@ -32,6 +34,7 @@ pub use commands::{
 /// What is found in a folder that keeps a state is the durable contents of it. With nothing unlinked the folder stands for the state, and it is sound where each object is live and
 /// clean.
 pub fn kept_states_are_stood_for()
+    ensures held { KeptStatesAreHeld }
     ensures found { KeptStatesAreFound }
     ensures stands { KeptStatesAreStoodFor }
     ensures sound { KeptStatesAreSound }
@@ -50,6 +53,7 @@ pub fn opened_folders_keep_their_state()
 /// Where a call keeps the state the durable contents are recovered, and where it leaves the counters of the index they count
 /// the same.
 pub fn calls_keep_states()
+    ensures held { HeldIsFound }
     ensures found { WhatIsKeptIsFound }
     ensures counters { SameCountersCountTheSame }
 {}
@@ -77,6 +81,7 @@ pub fn requests_may_be_stopped()
     ensures after { RequestsMayStopAfter }
     ensures evicted { RequestsMayStopOnceEvicted }
     ensures kept { KeptStatesMayStop }
+    ensures finished { FinishedFoldersMayStop }
 {}
 
 /// How a command ends: nothing is written, and it may crash, and is done where the map says so, as for a refusal, a List, a Total and a Size; or after a call.

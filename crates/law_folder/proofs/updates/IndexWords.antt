@@ -14,7 +14,7 @@ use Rattle.spec_format.specs.Headers.{field_checks, list_checks, zero_places, in
 use Rattle.spec_format.proofs.Counts.{same-count}
 use Rattle.spec_format.proofs.Finished.{sound-version}
 use Rattle.spec_format.specs.Standing.{stands, stands_as_blocks}
-use Rattle.spec_format.specs.BlockFiles.{is_among, linked, next_file_in, max_entries_in, stands_in, HasSoundHeaders, KeepsHeaders}
+use Rattle.spec_format.specs.BlockFiles.{is_among, linked, next_file_in, max_entries_in, stands_in, KeepsHeaders}
 use Rattle.spec_folder.specs.ListView.{ListView, put}
 use Rattle.spec_folder.specs.View.{StoreView, list_of, checks_at, next_at, prev_at, store_of, node_fields_at, fields_at, follow_at, key_place_at, stored_at}
 use Rattle.spec_folder.specs.ShownChanges.{ShowsTheSame}
