@@ -24,8 +24,8 @@ pub fn free<F: Folder>(f: &mut F, files: &BlockFiles, addr: Addr) -> Result<(), 
     ensures freed { OnOk result (ForSome (F.told f.old).files (λ from. ForSome (F.told f.new).files (IsFreed from addr))) }
     ensures agrees { ForSome (F.told f.new).files (Agrees files.now) }
 
-    // At each word only map, counters and updating of the file have changed, and updating is 1 until the last word, with which all of it is done; each block that was there still is, with its bytes, and a well-formed folder is well
-    // formed.
+    // At each word only map, counters and updating of the file have changed, and updating is 1 until the last word, with which all of it is done; each block that was there still is, with its bytes, and the headers are
+    // kept.
     ensures stops { ForSome (F.told f.old).files (λ from. PassesTo (F.told f.old) (F.told f.new) (FreesInProgress addr from) (FreesOrStops addr from)) }
 
     // Whatever it answers, no hint has changed.

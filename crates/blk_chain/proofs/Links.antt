@@ -74,7 +74,7 @@ module _ (from : Image) (entry : ℕ) (can : CanBeLinked entry from) where
         store = w.1;
         chain_now = subst (λ (s : StoreView). IsChain s b (entry ∷ chained_with from entry)) (sym w.1) (linked-front (store_of from) b entry (chained_with from entry) can.whole in_bucket can.next apart);
         others = λ other e. ap (λ (s : StoreView). chain s other) w.1 ∙ others-stay (store_of from) b other entry e;
-        well_formed = buckets-unchecked from image b is.outside;
+        headers = buckets-unchecked from image b is.outside;
         outside = is.outside;
       }
 

@@ -14,13 +14,13 @@ use Rattle.spec_image.proofs.WordSteps.{quiet-words}
 use Rattle.spec_format.specs.Address.{kind_of, block_count, external, external_number, file_selector, place, byte_size, blocks_256}
 use Rattle.spec_format.specs.Storage.{entry_blocks}
 use Rattle.spec_image.proofs.Splices.{length-zeros}
-use Rattle.spec_format.specs.BlockFiles.{IsWellFormed}
+use Rattle.spec_format.specs.BlockFiles.{KeepsHeaders}
 use Rattle.blk_disk.specs.declared.tables.BlockFiles.{BlockFiles}
 use Rattle.blk_disk.specs.Tables.{Agrees, stands_among}
 use Rattle.spec_format.specs.Sealed.{record_range, record_size}
 use Rattle.spec_format.proofs.SpareHeaders.{SparesHeaders, heads_still, next_same, past_header}
 use Rattle.blk_disk.proofs.Agreeing.{agrees_still}
-use Rattle.blk_disk.proofs.Enlarging.{well_formed_still}
+use Rattle.blk_disk.proofs.Enlarging.{kept_headers}
 use Rattle.spec_format.specs.Headers.{HasWholeIndex}
 use Rattle.blk_io.proofs.Carried.{silent_part, told_at_end}
 use Rattle.blk_entry.specs.Writing.{WritesEntryInProgress}
@@ -231,10 +231,10 @@ module _ (files : BlockFiles) (new : NewEntry) (key : List ℕ) (moment : ℕ) (
     pub agrees_kept : Agrees files from → Agrees files image
     agrees_kept agrees = agrees_still (places_of new (length key)) from image spared same files (λ n. no_sizes (Block n)) agrees
 
-    pub formed_kept : IsWellFormed from → IsWellFormed image
-    formed_kept formed =
-        well_formed_still from image (λ i. same.bytes Index i (no_index i)) (same.lengths Index (no_sizes Index))
-        (undamaged_still from image (next_same (places_of new (length key)) from image spared same) (heads_still (places_of new (length key)) from image spared same (λ m. let e = same.lengths (Block m) (no_sizes (Block m)) in omega (arith, e)))) formed
+    pub headers_kept : KeepsHeaders from image
+    headers_kept =
+        kept_headers from image (λ i. same.bytes Index i (no_index i)) (same.lengths Index (no_sizes Index))
+        (undamaged_still from image (next_same (places_of new (length key)) from image spared same) (heads_still (places_of new (length key)) from image spared same (λ m. let e = same.lengths (Block m) (no_sizes (Block m)) in omega (arith, e))))
 
   -- whatever was done of the steps
   module _ (a b : Told) (part : AppliesPrefix a b (entry_steps new key moment)) where
@@ -250,7 +250,7 @@ module _ (files : BlockFiles) (new : NewEntry) (key : List ℕ) (moment : ℕ) (
     at_each from there =
         let moment : (image : Image) → SameOutside (places_of new (length key)) from image → WritesEntryInProgress new (length key) from image = (λ image same. record {
           outside = same;
-          well_formed = formed_kept from image same;
+          headers = headers_kept from image same;
           complete = λ whole. same.lengths Index (no_sizes Index) ∙ whole;
         }) in
         passes_weaker (stops from there) moment moment

@@ -32,7 +32,7 @@ pub fn drop_streams<F: Folder>(f: &mut F, files: &BlockFiles, entry: Addr) -> Re
     ensures dropped { OnOk result (ForSome (F.told f.old).files (λ from. ForSome (F.told f.new).files (AreDropped 3 entry from))) }
     ensures agrees { ForSome (F.told f.new).files (Agrees files.now) }
 
-    // At each word the record checks, and nothing but the words of the streams and their places has changed; until the record names a stream no longer, its place is as it was; and a well-formed folder is well formed.
+    // At each word the record checks, and nothing but the words of the streams and their places has changed; until the record names a stream no longer, its place is as it was; and the headers are kept.
     ensures stops { ForSome (F.told f.old).files (λ from. RecordChecks entry from → Passes (F.told f.old) (F.told f.new) (DropsInProgress entry from)) }
 
     // An observable folder reports corruption only where the record doesn't check, or a stream isn't stored and allocated alone.

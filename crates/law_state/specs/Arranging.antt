@@ -10,7 +10,7 @@ use Rattle.spec_folder.specs.View.{view_of}
 use Rattle.law_state.specs.Changes.{SameHeaders, SameSession}
 use Rattle.law_state.specs.Keeping.{AllAreSealed, AreMarkedBy, AreOwners, AreUnlinked, KeepsUncounted, all_loaded, words_in_use}
 
--- the headers, the lengths and the session are as before, and a well-formed folder stays so
+-- the headers, the lengths and the session are as before, and the headers are kept
 pub record LeavesFiles (from image : Image) : Type 0 where
   pub headers : SameHeaders from image
   pub session : SameSession from image
