@@ -31,7 +31,7 @@ pub record IsAtStage (words : List ℕ) (state : State) (moment : ℕ) (request 
   pub kept : KeepsUncounted inner layout (words ++ unlinked) image
   pub left : MayLeave state moment request (rest inner)
 
--- the folder is well formed, and its recovered contents are a crash outcome of the request
+-- the headers are sound, and what is held is a crash outcome of the request
 pub record FindsLeft (state : State) (moment : ℕ) (request : Request) (image : Image) : Type 0 where
   pub held : List Row
   pub left : MayLeave state moment request held
