@@ -13,6 +13,7 @@ use Rattle.spec_format.specs.Address.{file_selector, place}
 use Rattle.spec_format.specs.Records.{entry_in}
 use Rattle.spec_format.specs.Headers.{place_of_bucket}
 use Rattle.spec_format.proofs.Finished.{headers-kept}
+use Rattle.spec_format.proofs.Buckets.{bucket-quiet}
 use Rattle.spec_folder.specs.ListView.{put}
 use Rattle.spec_folder.specs.View.{StoreView, RecordFields, store_of}
 use Rattle.spec_folder.specs.Chains.{chain, IsChain, bucket_at}
@@ -103,7 +104,7 @@ module _ (files : BlockFiles) (a b : Told) (entry hash next : ℕ) (tells : Tell
       record {
         part = mine;
         commits = λ from there can.
-            commits_prefix 1 a b from (IsStillLinked from entry None) (IsUnlinked from entry None) (unlink_steps from entry None) there (quiet-word_step Index (place_of_front from entry) (next_record from entry))
+            commits_prefix 1 a b from (IsStillLinked from entry None) (IsUnlinked from entry None) (unlink_steps from entry None) there (quiet-word_step Index (place_of_front from entry) (next_record from entry) (bucket-quiet (bucket_at from entry) (next_record from entry)))
             (commits_word (IsStillLinked from entry None) (IsUnlinked from entry None) Index (place_of_front from entry) (next_record from entry) from (unchanged from entry None) (after-first from there can)) (mine from there);
         agrees = index_agrees files a b (place_of_bucket (hash % 65536)) next here agrees;
       }

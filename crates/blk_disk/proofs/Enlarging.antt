@@ -259,7 +259,7 @@ module _ (files : BlockFiles) (image : Image) (n : ℕ) (agrees : Agrees files i
     grow_ends = after-append (lengthen_steps files n size) (word_steps (Block n) ((36, counter) ∷ (20, grown old_blocks) ∷ [])) image
 
     pub grow_quiet : IsQuiet all_steps
-    grow_quiet = quiet-append (lengthen_steps files n size) (word_steps (Block n) ((36, counter) ∷ (20, grown old_blocks) ∷ [])) (by_test (nat_lt (length_in files n) size)) (quiet-word_steps (Block n) ((36, counter) ∷ (20, grown old_blocks) ∷ []))
+    grow_quiet = quiet-append (lengthen_steps files n size) (word_steps (Block n) ((36, counter) ∷ (20, grown old_blocks) ∷ [])) (by_test (nat_lt (length_in files n) size)) (quiet-word_steps (Block n) ((36, counter) ∷ (20, grown old_blocks) ∷ []) tt)
       where
         by_test : (t : Bool) → IsQuiet (if t then SetLength (Block n) size ∷ [] else [])
         by_test true = tt

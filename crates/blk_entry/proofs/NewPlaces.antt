@@ -33,6 +33,7 @@ use Rattle.blk_entry.specs.Writing.{FitsKey, HoldsLongKey, IsLongPlace, address_
 use Rattle.blk_entry.proofs.KeyPlaces.{storage_room, short_room}
 use Rattle.blk_entry.proofs.NewSteps.{node_length, record_length}
 use Rattle.blk_entry.proofs.Windows.{entry_room_least, not_external}
+use Rattle.blk_entry.proofs.DataSteps.{data-beside}
 
 -- where data lies
 pub file_of_blocks : (w : ℕ) → kind_of w ≢ external → data_file w ≡ Block (file_selector w)
@@ -167,10 +168,10 @@ module _ (files : BlockFiles) (new : NewEntry) (key : List ℕ) (moment : ℕ) (
       let one : List TrailStep = words (data_file w) (data_start w + before_key new.long_key) key in
       let two : List TrailStep = words (data_file w) (data_start w + (before_key new.long_key + length key)) (0 ∷ []) in
       quiet-append (one ++ two) (record_steps new key moment ++ node_steps new moment)
-      (quiet-append one two (quiet-words (data_file w) (data_start w + before_key new.long_key) key) (quiet-words (data_file w) (data_start w + (before_key new.long_key + length key)) (0 ∷ [])))
+      (quiet-append one two (quiet-words (data_file w) (data_start w + before_key new.long_key) key (data-beside w)) (quiet-words (data_file w) (data_start w + (before_key new.long_key + length key)) (0 ∷ []) (data-beside w)))
       (quiet-append (record_steps new key moment) (node_steps new moment)
-      (quiet-words (Block (file_selector new.entry)) (place new.entry) (entry_bytes (new_record new key moment) ++ empty_key_place new.long_key))
-      (quiet-words (Block (file_selector new.node)) (place new.node) (node_bytes (new_node new moment))))
+      (quiet-words (Block (file_selector new.entry)) (place new.entry) (entry_bytes (new_record new key moment) ++ empty_key_place new.long_key) tt)
+      (quiet-words (Block (file_selector new.node)) (place new.node) (node_bytes (new_node new moment)) tt))
 
   along : (from : Image) → Along (SameOutside (places_of new (length key)) from) from (entry_steps new key moment)
   along from = outside_steps (places_of new (length key)) (entry_steps new key moment) from from steps_within (outside-refl (places_of new (length key)) from)

@@ -25,3 +25,4 @@ pub mod SealedFields
 pub mod Growths
 pub mod LinkedHeads
 pub mod Groups
+pub mod Buckets

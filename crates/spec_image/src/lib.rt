@@ -3,7 +3,7 @@
 //! The crate has definitions that the contracts of the other crates cite, and their laws.
 #![tactic(auto)]
 
-ghost use Rattle.spec_image.specs.Laws.{WordsWriteTheBytes, WordsAreAligned, WordsStayInside, StepsStayInside, StepsOfOneCallAreOne, NotesGoOn};
+ghost use Rattle.spec_image.specs.Laws.{WordsWriteTheBytes, WordsAreAligned, WordsStayInside, StepsStayInside, StepsOfOneCallAreOne, QuietStepsKeepTheSession, CommandsKeepTheSession, QuietStepsHaveNoNote, NotesGoOn};
 
 /// The word steps of a write leave its bytes in the file, and nothing else changes.
 pub fn words_write_the_bytes()
@@ -29,6 +29,13 @@ pub fn steps_stay_inside()
 /// same steps.
 pub fn steps_of_one_call_are_one()
     ensures { StepsOfOneCallAreOne }
+{}
+
+/// A call of a command touches no word that says what session it is, and makes no note.
+pub fn commands_keep_the_session()
+    ensures along { QuietStepsKeepTheSession }
+    ensures after { CommandsKeepTheSession }
+    ensures unnoted { QuietStepsHaveNoNote }
 {}
 
 /// True notes go on after true notes.

@@ -280,19 +280,19 @@ writes-made image writes ready can = (writes_show writes image ready can).ends
 pub writable-writes : (writes : List ListWrite) (image : Image) → IsWritable image → IsWritable (after (steps_of_writes writes image) image)
 writable-writes writes image is = until_last IsWritable IsWritable (steps_of_writes writes image) image (writes-go_on image writes is)
 
--- no step is a note
+-- each step is one that a command may make
 pub quiet-sealed : (image : Image) (w : ℕ) (changes : List (ℕ × ℕ)) → IsQuiet (sealed_steps image w changes)
 unfolding update_steps
-quiet-sealed image w changes = quiet-word_steps (Block (file_selector w)) (placed (place w) (update_words (seal_place w) changes (new_seal image w changes)))
+quiet-sealed image w changes = quiet-word_steps (Block (file_selector w)) (placed (place w) (update_words (seal_place w) changes (new_seal image w changes))) tt
 
 quiet-write : (write : ListWrite) (image : Image) → IsQuiet (write_steps write image)
 unfolding write_steps
 quiet-write (Next w x) image = quiet-sealed image w ((16, x) ∷ [])
 quiet-write (Prev w x) image = quiet-sealed image w ((20, x) ∷ [])
-quiet-write (Head x) image = quiet-word_step Index 288 x
-quiet-write (Tail x) image = quiet-word_step Index 308 x
-quiet-write (Transaction x) image = quiet-word_step Index 328 x
-quiet-write (Operation x) image = quiet-word_step Index 332 x
+quiet-write (Head x) image = quiet-word_step Index 288 x refl
+quiet-write (Tail x) image = quiet-word_step Index 308 x refl
+quiet-write (Transaction x) image = quiet-word_step Index 328 x refl
+quiet-write (Operation x) image = quiet-word_step Index 332 x refl
 
 pub quiet-writes : (writes : List ListWrite) (image : Image) → IsQuiet (steps_of_writes writes image)
 quiet-writes [] image = tt
