@@ -15,7 +15,7 @@ use Rattle.law_state.specs.Changes.{AddsAllocation, AddsExternal, AreOfWords, Ch
 
 -- Any call.
 
--- where a call keeps each state that was kept, the durable contents of such a state are recovered after it
+-- where a call keeps each state that was kept, the durable contents of such a state are held after it
 abbrev pub WhatIsKeptIsFound : Type 0
 WhatIsKeptIsFound = (before after : List ℕ) (from image : Image) → KeepsWith before after from image → StillFinds before from image
 
@@ -50,8 +50,7 @@ OtherWordsChangeOnly = (from image : Image) (at : ℕ) → at % 4 ≡ 0 → at <
 
 -- Growth.
 
--- while block files grow or are added, their maps and counters change, in a folder that stays well formed, the durable contents are
--- recovered
+-- while block files grow or are added, their maps and counters change, and the headers are kept, the durable contents are held
 abbrev pub GrowthFindsTheSame : Type 0
 GrowthFindsTheSame = (words : List ℕ) (from image : Image) → HaveGrown from image → KeepsHeaders from image → StillFinds words from image
 

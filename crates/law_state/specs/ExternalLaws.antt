@@ -12,7 +12,7 @@ pub record IsMakingExternal (from : Image) (n : ℕ) (image : Image) : Type 0 wh
   pub absent : has_file from (External n) ≡ false
   pub same : SameOutside (either (whole (External n)) (one_word Index 16)) from image
 
--- while an external file is being made the old durable contents are recovered, whatever is unlinked
+-- while an external file is being made the old durable contents are held, whatever is unlinked
 abbrev pub MakingFilesFindsTheSame : Type 0
 MakingFilesFindsTheSame = (from image : Image) (n : ℕ) → IsMakingExternal from n image → StillFinds [] from image
 
@@ -20,7 +20,7 @@ MakingFilesFindsTheSame = (from image : Image) (n : ℕ) → IsMakingExternal fr
 abbrev pub MadeFilesAreAdded : Type 0
 MadeFilesAreAdded = (from image : Image) (w : ℕ) → HasSoundHeaders from → kind_of w ≡ external → IsMakingExternal from (external_number w) image → has_file image (External (external_number w)) ≡ true → stands_in image w ≡ true → AddsExternal from w image
 
--- while the external file of an unlinked word is changed or deleted, the old durable contents are recovered
+-- while the external file of an unlinked word is changed or deleted, the old durable contents are held
 abbrev pub DeletingFilesFindsTheSame : Type 0
 DeletingFilesFindsTheSame = (from image : Image) (w : ℕ) → kind_of w ≡ external → SameOutside (whole (External (external_number w))) from image → StillFinds (w ∷ []) from image
 

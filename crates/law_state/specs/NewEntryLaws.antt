@@ -50,12 +50,12 @@ pub record HasRecordInFront (from : Image) (w : ℕ) (image : Image) : Type 0 wh
   pub headers : KeepsHeaders from image
   pub outside : SameOutside (one_word Index (place_of_bucket (bucket_at from w))) from image
 
--- at each word of the insert of a new entry's node the old durable contents are recovered
+-- at each word of the insert of a new entry's node the old durable contents are held
 abbrev pub InsertsFindTheSame : Type 0
 InsertsFindTheSame = (state : State) (layout : Layout) (unlinked key : List ℕ) (loaded : Loaded) (from image : Image) → KeepsUncounted state layout unlinked from → IsNewEntryOf state layout key loaded from
     → IsPartly from (writes_of insert loaded.node (list_of from)) image → Finds (rest state) image
 
--- the old durable contents are recovered also where a new entry's record is linked after the insert
+-- the old durable contents are held also where a new entry's record is linked after the insert
 abbrev pub LinksFindTheSame : Type 0
 LinksFindTheSame = (state : State) (layout : Layout) (unlinked key : List ℕ) (loaded : Loaded) (handle : ℕ) (from between image : Image) → KeepsUncounted state layout unlinked from → IsNewEntryOf state layout key loaded from
     → IsValidState (created handle key state) → IsInsertDone from loaded.node between → HasRecordInFront between loaded.contents image → Finds (rest state) image

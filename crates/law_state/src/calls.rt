@@ -41,7 +41,7 @@ pub fn objects_are_marked()
     ensures counted { MarkingKeepsTheCounters }
 {}
 
-/// The dirty word of a doomed object may be set and cleared: the old durable contents are recovered at each word, and in the end the object is dirty or clean, which is not
+/// The dirty word of a doomed object may be set and cleared: the old durable contents are held at each word, and in the end the object is dirty or clean, which is not
 /// counted.
 pub fn doomed_objects_are_marked()
     ensures find { DoomedMarkingFindsTheSame }
@@ -56,7 +56,7 @@ pub fn counters_are_written()
     ensures counted { WrittenCountersCount }
 {}
 
-/// While an external file is made or deleted the durable contents are recovered, and in the end it is made or deleted.
+/// While an external file is made or deleted the durable contents are held, and in the end it is made or deleted.
 pub fn external_files_come_and_go()
     ensures making { MakingFilesFindsTheSame }
     ensures made { MadeFilesAreAdded }
@@ -64,7 +64,7 @@ pub fn external_files_come_and_go()
     ensures deleted { DeletedFilesAreRemoved }
 {}
 
-/// While the entry of a new object comes into the list and its chain the old durable contents are recovered; then the state with the object is kept, which has
+/// While the entry of a new object comes into the list and its chain the old durable contents are held; then the state with the object is kept, which has
 /// one item more.
 pub fn new_entries_are_kept()
     ensures inserting { InsertsFindTheSame }
@@ -85,7 +85,7 @@ pub fn new_parts_are_shown()
     ensures ends { NewPartsEnd }
 {}
 
-/// So it is in a folder: while a part is made the durable contents are recovered, and in the end the state with the part is kept, whose words are unlinked
+/// So it is in a folder: while a part is made the durable contents are held, and in the end the state with the part is kept, whose words are unlinked
 /// no longer.
 pub fn new_parts_are_kept()
     ensures inserting { PartInsertsFindEither }
@@ -107,7 +107,7 @@ pub fn handles_are_not_kept()
     ensures counted { HandlesAreNotCounted }
 {}
 
-/// While a dirty or a doomed object changes the old durable contents are recovered, and in the end the state with the changed object
+/// While a dirty or a doomed object changes the old durable contents are held, and in the end the state with the changed object
 /// is kept.
 pub fn changed_objects_are_kept()
     ensures unsettled { UnsettledItemsFindTheSame }
@@ -122,7 +122,7 @@ pub fn gone_objects_are_unlinked()
     ensures counted { GoneObjectsAreNotCounted }
 {}
 
-/// While an item goes out of the list the old durable contents are recovered, or those without it, and these while it goes out of its chain; then its words
+/// While an item goes out of the list the old durable contents are held, or those without it, and these while it goes out of its chain; then its words
 /// are unlinked.
 pub fn removed_items_are_unlinked()
     ensures removing { RemovalsFindEither }

@@ -128,7 +128,7 @@ pub fn uses_may_be_stopped()
     ensures cleans { CleaningMayStop }
 {}
 
-/// At each word of the removal of an object's main item the old durable contents are recovered, or those with it doomed, and these from then on; a part that goes alone is found, or not, likewise. So a Doom may crash, and a request while a
+/// At each word of the removal of an object's main item the old durable contents are held, or those with it doomed, and these from then on; a part that goes alone is found, or not, likewise. So a Doom may crash, and a request while a
 /// group is evicted.
 pub fn removals_may_be_stopped()
     ensures either { DoomsFindEither }
@@ -171,7 +171,7 @@ pub fn commands_of_one_call()
     ensures unsettling_stops { UnsettlingMarksMayStop }
 {}
 
-/// While a plain object that no handle names, or a part that goes alone, is removed, the durable contents without it are recovered, and in the end the state without it is kept and its words are unlinked. So a Doom or a DoomKey of a plain object ends, with or without a handle, and so the next
+/// While a plain object that no handle names, or a part that goes alone, is removed, the durable contents without it are held, and in the end the state without it is kept and its words are unlinked. So a Doom or a DoomKey of a plain object ends, with or without a handle, and so the next
 /// group is evicted.
 pub fn plain_objects_are_removed()
     ensures part { PartGoneIsWithout }
@@ -207,7 +207,7 @@ pub fn held_objects_go_part_after_part()
     ensures dooms { HeldOutDoomsEnd }
 {}
 
-/// While the parts of an object go out, its main item first, the durable contents with it doomed are recovered, also at each word of the removal of a part, of the unlinking of an item, of a freeing and of a deletion. So a Doom or a DoomKey may crash there, and a request whose next group
+/// While the parts of an object go out, its main item first, the durable contents with it doomed are held, also at each word of the removal of a part, of the unlinking of an item, of a freeing and of a deletion. So a Doom or a DoomKey may crash there, and a request whose next group
 /// is evicted.
 pub fn parts_may_be_stopped_between()
     ensures leave { ItemsOfAKeyLeaveOthers }

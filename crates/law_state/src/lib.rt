@@ -50,7 +50,7 @@ pub fn opened_folders_keep_their_state()
     ensures { OpenedFoldersKeepTheirState }
 {}
 
-/// Where a call keeps the state the durable contents are recovered, and where it leaves the counters of the index they count
+/// Where a call keeps the state the durable contents are held, and where it leaves the counters of the index they count
 /// the same.
 pub fn calls_keep_states()
     ensures held { HeldIsFound }
@@ -66,7 +66,7 @@ pub fn unlinked_places_may_change()
     ensures index { OtherWordsChangeOnly }
 {}
 
-/// While block files grow, the durable contents are recovered; blocks that are allocated are unlinked, and unlinked ones that are freed are in use
+/// While block files grow, the durable contents are held; blocks that are allocated are unlinked, and unlinked ones that are freed are in use
 /// no longer.
 pub fn blocks_are_allocated()
     ensures growth { GrowthFindsTheSame }
@@ -74,7 +74,7 @@ pub fn blocks_are_allocated()
     ensures freed { FreedBlocksAreGone }
 {}
 
-/// A request may crash where the durable contents before it are recovered, and so before its first word; where the durable contents after it are recovered; and once its first
+/// A request may crash where the durable contents before it are held, and so before its first word; where the durable contents after it are held; and once its first
 /// groups are evicted.
 pub fn requests_may_be_stopped()
     ensures before { RequestsMayStopBefore }
