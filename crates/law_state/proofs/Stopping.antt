@@ -3,7 +3,7 @@ use Rattle.std.proofs.Common.{◌≡◌, ℕ, List, [], Option, None, Some, refl
 use Rattle.std.specs.Option.{ForSome}
 use Rattle.spec_image.specs.Image.{Image}
 use Rattle.spec_image.specs.Told.{Told}
-use Rattle.spec_image.proofs.Runs.{passes_none, passes_weaker}
+use Rattle.spec_image.proofs.Runs.{passes_none, passes_weaker, until_both, until_weaker2}
 use Rattle.blk_model.specs.declared.Refusal.{Refusal}
 use Rattle.blk_model.specs.Items.{Row}
 use Rattle.blk_model.specs.Reply.{answer_of}
@@ -17,7 +17,9 @@ use Rattle.blk_model.specs.Stops.{StopOutcome}
 use Rattle.blk_model.proofs.EvictedFirst.{evictions-stop}
 use Rattle.blk_model.proofs.Refused.{refusal_from, refused_nothing}
 use Rattle.blk_model.proofs.StopRests.{rest_after, rest_before}
-use Rattle.law_state.specs.Commands.{FinishedFoldersMayStop, MayStop}
+use Rattle.law_state.specs.Commands.{FinishedFoldersMayStop, FinishedFoldersMayStopAlong, MayStop, MayStopFinished}
+use Rattle.spec_format.specs.Session.{KeepsSessionWords}
+use Rattle.spec_format.proofs.Session.{quiet-words-kept}
 use Rattle.law_state.specs.Changes.{HeldIsFound}
 use Rattle.spec_folder.specs.Found.{found}
 use Rattle.law_state.specs.CommandLaws.{CallsMayStop, KeptStatesMayStop, NothingIsDone, NothingMayStop, QuietRequestsKeepTheState, RefusalsAreDone, RequestsMayStopAfter, RequestsMayStopBefore, RequestsMayStopOnceEvicted, SaysKept}
@@ -56,6 +58,15 @@ unfolding found
 finished-stop state moment request image stops magic =
     let well = formed-of image stops.sound magic in
     record { well_formed = well; left = rw (well_formed-finished image well) stops.left }
+
+pub finished-along : FinishedFoldersMayStopAlong
+finished-along state moment request image steps quiet magic stops =
+    let P : Image → Type 0 = MayStop state moment request in
+    let W : Image → Type 0 = KeepsSessionWords image in
+    let B : Image → Type 0 = λ i. P i × W i in
+    let R : Image → Type 0 = MayStopFinished state moment request in
+    let now : (i : Image) → B i → R i = λ i both. finished-stop state moment request i both.0 (both.1.magic ∙ magic) in
+    until_weaker2 B R B R steps image now now (until_both P W P W steps image stops (quiet-words-kept steps image quiet))
 
 -- ---- exits
 

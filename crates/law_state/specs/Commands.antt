@@ -29,6 +29,12 @@ pub record MayStopFinished (state : State) (moment : ℕ) (request : Request) (i
 abbrev pub FinishedFoldersMayStop : Type 0
 FinishedFoldersMayStop = (state : State) (moment : ℕ) (request : Request) (image : Image) → MayStop state moment request image → magic_of (byte image Index) ≡ index_magic → MayStopFinished state moment request image
 
+-- so it is at each of some steps that a command may make, where the index is finished before the first
+abbrev pub FinishedFoldersMayStopAlong : Type 0
+FinishedFoldersMayStopAlong =
+    (state : State) (moment : ℕ) (request : Request) (image : Image) (steps : List TrailStep) → IsQuiet steps → magic_of (byte image Index) ≡ index_magic
+    → Along (MayStop state moment request) image steps → Along (MayStopFinished state moment request) image steps
+
 -- P holds of each state that the cache's condition has with the image, where the folder is observable
 abbrev pub ForKept : (State → Image → Type 0) → Told → (State → Type 0) → Type 0
 ForKept keeps told P = ForSome told.files (λ image. (state : State) → keeps state image → P state)

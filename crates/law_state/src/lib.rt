@@ -2,7 +2,7 @@
 #![tactic(auto)]
 
 ghost use Rattle.law_state.specs.Changes.{HeldIsFound};
-ghost use Rattle.law_state.specs.Commands.{FinishedFoldersMayStop};
+ghost use Rattle.law_state.specs.Commands.{FinishedFoldersMayStop, FinishedFoldersMayStopAlong};
 ghost use Rattle.law_state.specs.Keeping.{KeepsSome};
 ghost use Rattle.law_state.specs.KeepingLaws.{KeptStatesAreHeld, KeptStatesAreFound, KeptStatesAreStoodFor, KeptStatesAreSound, FoldersWithoutEntriesKeepTheEmptyState, OpenedFoldersKeepTheirState};
 ghost use Rattle.law_state.specs.TouchLaws.{TouchesFindEither, OpensMayStop};
@@ -82,6 +82,7 @@ pub fn requests_may_be_stopped()
     ensures evicted { RequestsMayStopOnceEvicted }
     ensures kept { KeptStatesMayStop }
     ensures finished { FinishedFoldersMayStop }
+    ensures along { FinishedFoldersMayStopAlong }
 {}
 
 /// How a command ends: nothing is written, and it may crash, and is done where the map says so, as for a refusal, a List, a Total and a Size; or after a call.

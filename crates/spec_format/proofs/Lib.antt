@@ -26,3 +26,4 @@ pub mod Growths
 pub mod LinkedHeads
 pub mod Groups
 pub mod Buckets
+pub mod Session

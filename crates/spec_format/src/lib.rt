@@ -6,6 +6,7 @@
 ghost use Rattle.spec_format.specs.Headers.{UnfinishedAgrees};
 ghost use Rattle.spec_format.specs.BlockFiles.{KeptHeadersStayFormed, SoundHasWholeIndex, WellFormedIsFinished, WellFormedIsSound, WellFormedHasWholeIndex};
 ghost use Rattle.spec_format.specs.Names.{ReadsNames};
+ghost use Rattle.spec_format.specs.Session.{CommandsKeepSessionWords, QuietStepsKeepSessionWords};
 ghost use Rattle.spec_format.specs.Sealed.{WholeUpdatesAreMade};
 
 /// The test for an unfinished index agrees with what it tests.
@@ -29,6 +30,12 @@ pub fn well_formed_is_sound()
     ensures sound { WellFormedIsSound }
     ensures kept { KeptHeadersStayFormed }
     ensures whole { SoundHasWholeIndex }
+{}
+
+/// A call of a command leaves the magic word, the version, the number of the session and the crash word.
+pub fn commands_keep_session_words()
+    ensures along { QuietStepsKeepSessionWords }
+    ensures after { CommandsKeepSessionWords }
 {}
 
 /// A whole sealed update is one with all its changes made.
