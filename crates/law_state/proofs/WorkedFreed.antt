@@ -136,23 +136,24 @@ module _ (from : Image) where
   head-word : (m i : ℕ) → i + 4 ≤ 16 → word freed_folder (Block m) i ≡ word from (Block m) i
   head-word m i low = same_word_outside touched from freed_folder (Block m) i same (λ k from below. early m k (omega arith))
 
+  still-headers-sound : HasSoundHeaders from → HasSoundHeaders freed_folder
+  unfolding field_checks list_checks
+  still-headers-sound well =
+      let p = none_parts (field_checks (byte from Index) (length_of from Index)) (list_checks (byte from Index) ++ block_checks from) well in
+      let q = none_parts (list_checks (byte from Index)) (block_checks from) p.1 in
+      none_both (field_checks (byte from Index) (length_of from Index)) (list_checks (byte from Index) ++ block_checks freed_folder) p.0
+      (none_both (list_checks (byte from Index)) (block_checks freed_folder) q.0
+      (undamaged_still from freed_folder next-same (λ m. record {
+        longer = let l = same.lengths (Block m) refl in omega (arith, l);
+        magic = head-word m 0 (lit≤ tt);
+        is_version = head-word m 4 (lit≤ tt);
+        this_file = λ j. same.bytes (Block m) 8 (early m 8 (lit< tt)) j + 256 * same.bytes (Block m) 9 (early m 9 (lit< tt)) j;
+        entry_size = head-word m 12 (lit≤ tt);
+        count = λ right. subst (λ (n : ℕ). is_block_count n ≡ true) (sym (blocks-same m)) right;
+      }) q.1))
+
   pub still-headers : KeepsHeaders from freed_folder
-  still-headers = record { sound = sound; magic = refl } where
-    sound : HasSoundHeaders from → HasSoundHeaders freed_folder
-    unfolding field_checks list_checks
-    sound well =
-        let p = none_parts (field_checks (byte from Index) (length_of from Index)) (list_checks (byte from Index) ++ block_checks from) well in
-        let q = none_parts (list_checks (byte from Index)) (block_checks from) p.1 in
-        none_both (field_checks (byte from Index) (length_of from Index)) (list_checks (byte from Index) ++ block_checks freed_folder) p.0
-        (none_both (list_checks (byte from Index)) (block_checks freed_folder) q.0
-        (undamaged_still from freed_folder next-same (λ m. record {
-          longer = let l = same.lengths (Block m) refl in omega (arith, l);
-          magic = head-word m 0 (lit≤ tt);
-          is_version = head-word m 4 (lit≤ tt);
-          this_file = λ j. same.bytes (Block m) 8 (early m 8 (lit< tt)) j + 256 * same.bytes (Block m) 9 (early m 9 (lit< tt)) j;
-          entry_size = head-word m 12 (lit≤ tt);
-          count = λ right. subst (λ (n : ℕ). is_block_count n ≡ true) (sym (blocks-same m)) right;
-        }) q.1))
+  still-headers = record { sound = still-headers-sound; magic = refl }
 
   stays-whole : StaysWhole from freed_folder
   stays-whole = record {

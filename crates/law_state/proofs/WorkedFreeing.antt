@@ -63,23 +63,24 @@ module _ (from : Image) where
   unfolding max_entries_in
   counts-same m = head-word m 20 (lit≤ tt)
 
+  begun-headers-sound : HasSoundHeaders from → HasSoundHeaders begun
+  unfolding field_checks list_checks
+  begun-headers-sound well =
+      let p = none_parts (field_checks (byte from Index) (length_of from Index)) (list_checks (byte from Index) ++ block_checks from) well in
+      let q = none_parts (list_checks (byte from Index)) (block_checks from) p.1 in
+      none_both (field_checks (byte from Index) (length_of from Index)) (list_checks (byte from Index) ++ block_checks begun) p.0
+      (none_both (list_checks (byte from Index)) (block_checks begun) q.0
+      (undamaged_still from begun next-same (λ m. record {
+        longer = let l = lengths m in omega (arith, l);
+        magic = head-word m 0 (lit≤ tt);
+        is_version = head-word m 4 (lit≤ tt);
+        this_file = λ j. early m 8 (lit< tt) j + 256 * early m 9 (lit< tt) j;
+        entry_size = head-word m 12 (lit≤ tt);
+        count = λ right. subst (λ (n : ℕ). is_block_count n ≡ true) (sym (counts-same m)) right;
+      }) q.1))
+
   pub begun-headers : KeepsHeaders from begun
-  begun-headers = record { sound = sound; magic = refl } where
-    sound : HasSoundHeaders from → HasSoundHeaders begun
-    unfolding field_checks list_checks
-    sound well =
-        let p = none_parts (field_checks (byte from Index) (length_of from Index)) (list_checks (byte from Index) ++ block_checks from) well in
-        let q = none_parts (list_checks (byte from Index)) (block_checks from) p.1 in
-        none_both (field_checks (byte from Index) (length_of from Index)) (list_checks (byte from Index) ++ block_checks begun) p.0
-        (none_both (list_checks (byte from Index)) (block_checks begun) q.0
-        (undamaged_still from begun next-same (λ m. record {
-          longer = let l = lengths m in omega (arith, l);
-          magic = head-word m 0 (lit≤ tt);
-          is_version = head-word m 4 (lit≤ tt);
-          this_file = λ j. early m 8 (lit< tt) j + 256 * early m 9 (lit< tt) j;
-          entry_size = head-word m 12 (lit≤ tt);
-          count = λ right. subst (λ (n : ℕ). is_block_count n ≡ true) (sym (counts-same m)) right;
-        }) q.1))
+  begun-headers = record { sound = begun-headers-sound; magic = refl }
 
 freeing_finds : Finds (rest (doomed 0 both (Some plain_object))) (begun without_b)
 freeing_finds = freeing-finds both worked_layout 0 plain_object but_b (chains_but chain_of (records 2)) (words_of the_plain ++ []) without_b (begun without_b) refl (own-items-leave (codes "b")).0 b_is_out (begun-grown without_b) (begun-headers without_b)

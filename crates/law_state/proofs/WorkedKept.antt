@@ -59,16 +59,17 @@ module _ (image : Image) (m length : ℕ) (longer : length_of image (Block m) �
   spares : SparesHeaders (size_of (Block m))
   spares = record { bytes = λ n i small. refl }
 
+  longer-headers-sound : HasSoundHeaders image → HasSoundHeaders lengthened
+  unfolding field_checks list_checks
+  longer-headers-sound well =
+      let p = none_parts (field_checks (byte image Index) (length_of image Index)) (list_checks (byte image Index) ++ block_checks image) well in
+      let q = none_parts (list_checks (byte image Index)) (block_checks image) p.1 in
+      none_both (field_checks (byte image Index) (length_of image Index)) (list_checks (byte image Index) ++ block_checks lengthened) p.0
+      (none_both (list_checks (byte image Index)) (block_checks lengthened) q.0
+      (undamaged_still image lengthened (next_same (size_of (Block m)) image lengthened spares longer-same) (heads_still (size_of (Block m)) image lengthened spares longer-same rises) q.1))
+
   pub longer-headers : KeepsHeaders image lengthened
-  longer-headers = record { sound = sound; magic = refl } where
-    sound : HasSoundHeaders image → HasSoundHeaders lengthened
-    unfolding field_checks list_checks
-    sound well =
-        let p = none_parts (field_checks (byte image Index) (length_of image Index)) (list_checks (byte image Index) ++ block_checks image) well in
-        let q = none_parts (list_checks (byte image Index)) (block_checks image) p.1 in
-        none_both (field_checks (byte image Index) (length_of image Index)) (list_checks (byte image Index) ++ block_checks lengthened) p.0
-        (none_both (list_checks (byte image Index)) (block_checks lengthened) q.0
-        (undamaged_still image lengthened (next_same (size_of (Block m)) image lengthened spares longer-same) (heads_still (size_of (Block m)) image lengthened spares longer-same rises) q.1))
+  longer-headers = record { sound = longer-headers-sound; magic = refl }
 
 -- ---- the folder
 

@@ -18,18 +18,23 @@ before_range file other at n i below = by_file (same_file file other)
     by_file true = grind (arith, nat_tests)
     by_file false = refl
 
--- the headers are kept where none of a block file changes, and no length of one, and the magic word and the checks of the index give the same
+-- sound headers stay sound where none of a block file changes, and no length of one, and the checks of the index give the same
+sound_still : (F : Footprint) (from image : Image) → SparesHeaders F → ((n : ℕ) → F.sizes (Block n) ≡ false) → SameOutside F from image
+    → first_of (field_checks (byte image Index) (length_of image Index)) ≡ first_of (field_checks (byte from Index) (length_of from Index))
+    → first_of (list_checks (byte image Index)) ≡ first_of (list_checks (byte from Index))
+    → HasSoundHeaders from → HasSoundHeaders image
+unfolding field_checks list_checks
+sound_still F from image spares sizes same head lists well =
+    let p = none_parts (field_checks (byte from Index) (length_of from Index)) (list_checks (byte from Index) ++ block_checks from) well in
+    let q = none_parts (list_checks (byte from Index)) (block_checks from) p.1 in
+    none_both (field_checks (byte image Index) (length_of image Index)) (list_checks (byte image Index) ++ block_checks image) (head ∙ p.0)
+    (none_both (list_checks (byte image Index)) (block_checks image) (lists ∙ q.0)
+    (undamaged_still from image (next_same F from image spares same) (heads_still F from image spares same (λ m. let e = same.lengths (Block m) (sizes m) in omega (arith, e))) q.1))
+
+-- so the headers are kept where the magic word is the same too
 pub headers_still : (F : Footprint) (from image : Image) → SparesHeaders F → ((n : ℕ) → F.sizes (Block n) ≡ false) → SameOutside F from image
     → magic_of (byte image Index) ≡ magic_of (byte from Index)
     → first_of (field_checks (byte image Index) (length_of image Index)) ≡ first_of (field_checks (byte from Index) (length_of from Index))
     → first_of (list_checks (byte image Index)) ≡ first_of (list_checks (byte from Index))
     → KeepsHeaders from image
-headers_still F from image spares sizes same magic head lists = record { sound = sound; magic = magic } where
-  sound : HasSoundHeaders from → HasSoundHeaders image
-  unfolding field_checks list_checks
-  sound well =
-      let p = none_parts (field_checks (byte from Index) (length_of from Index)) (list_checks (byte from Index) ++ block_checks from) well in
-      let q = none_parts (list_checks (byte from Index)) (block_checks from) p.1 in
-      none_both (field_checks (byte image Index) (length_of image Index)) (list_checks (byte image Index) ++ block_checks image) (head ∙ p.0)
-      (none_both (list_checks (byte image Index)) (block_checks image) (lists ∙ q.0)
-      (undamaged_still from image (next_same F from image spares same) (heads_still F from image spares same (λ m. let e = same.lengths (Block m) (sizes m) in omega (arith, e))) q.1))
+headers_still F from image spares sizes same magic head lists = record { sound = sound_still F from image spares sizes same head lists; magic = magic }
