@@ -17,7 +17,7 @@ use Rattle.blk_model.specs.State.{Object, State, is_named, named_by}
 use Rattle.blk_model.specs.Step.{reply, step}
 use Rattle.blk_model.specs.declared.Answer.TheVariants as answer
 use Rattle.blk_model.specs.declared.Refusal.TheVariants as refusal
-use Rattle.spec_format.specs.BlockFiles.{IsWellFormed}
+use Rattle.spec_format.specs.BlockFiles.{HasSoundHeaders}
 use Rattle.spec_format.specs.Sealed.{RecordChecks}
 use Rattle.spec_folder.specs.Loads.{Loaded}
 use Rattle.spec_folder.specs.View.{list_of}
@@ -218,7 +218,7 @@ module _ (cache : Cache) (handle : ℕ) (small : handle < 2 ^ 16) (b : Binding) 
         -- the dirty word was made 0
         marked-end : (i : Image) → now.files ≡ Some i → ForSome mid.files (λ from. Applies mid now (mark_steps from b.node 0)) → KeepsState new (step state moment (to_close handle)).state i
         marked-end i there steps =
-            let well = λ (z : Image) (at : mid.files ≡ Some z). subst IsWellFormed (some_inj (sym (mid-here image here state k) ∙ at)) k.kept.entries.well_formed in
+            let well = λ (z : Image) (at : mid.files ≡ Some z). subst HasSoundHeaders (some_inj (sym (mid-here image here state k) ∙ at)) k.kept.entries.sound in
             let good = λ (z : Image) (at : mid.files ≡ Some z). subst (λ (y : Image). (list_of y).checks b.node ≡ true) (some_inj (sym (mid-here image here state k) ∙ at)) (nodes-check state k.layout [] image b.node (it image here state k).loaded k.kept.entries (at-node image here state k)) in
             let done : IsMarked image b.node 0 i = marks-set b.node 0 mid now bytes well good (omega arith) steps image (mid-here image here state k) i there in
             let done-at : IsMarked image (k.layout.place (main (it image here state k).object.key)) 0 i = subst (λ (w : ℕ). IsMarked image w 0 i) (node-is image here state k) done in

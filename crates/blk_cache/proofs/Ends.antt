@@ -10,7 +10,7 @@ use Rattle.spec_format.specs.Headers.{HasWholeIndex, index_version, version_of}
 use Rattle.spec_image.specs.Footprint.{SameOutside, one_word}
 use Rattle.blk_model.specs.State.{State, is_named, named_by}
 use Rattle.spec_format.proofs.Counts.{its-version}
-use Rattle.spec_format.proofs.Finished.{whole_index}
+use Rattle.spec_format.proofs.Finished.{sound-whole}
 use Rattle.spec_folder.specs.Layout.{Layout}
 use Rattle.law_folder.proofs.updates.IndexWords.{word-still}
 use Rattle.law_state.specs.CounterLaws.{charged}
@@ -31,7 +31,7 @@ use Rattle.blk_cache.specs.Opening.{HoldsStill}
 use Rattle.blk_cache.proofs.Unnamed.{none-among, unnamed-rests}
 
 pub kept-open : KeptFoldersAreOpen
-kept-open cache state image k = record { agrees = k.files; whole_index = whole_index image k.kept.entries.well_formed }
+kept-open cache state image k = record { agrees = k.files; whole_index = sound-whole image k.kept.entries.sound }
 
 -- where no name is bound, the state names nothing
 free-named : (state : State) (layout : Layout) (o : Option ℕ) → IsBoundAs state layout o None → o ≡ None

@@ -28,7 +28,7 @@ use Rattle.law_folder.proofs.commands.Removing.{in-filter}
 use Rattle.blk_lru.specs.Lists.{first_node_of}
 use Rattle.law_state.specs.Changes.{Finds}
 use Rattle.law_state.proofs.CommandEnding.{groups-turn}
-use Rattle.law_state.proofs.Keeping.{kept-found}
+use Rattle.law_state.proofs.Keeping.{kept-held}
 use Rattle.blk_object.specs.RemovingObjects.{FindsEither}
 use Rattle.blk_object.proofs.MakingRoom.{uses-few}
 use Rattle.blk_cache.specs.declared.cache.Cache.{Cache}
@@ -162,7 +162,7 @@ pub record HasEvicted (enough : State → Bool) (state : State) (covered : List 
   pub passes : Passes told now (IsEvicting (evicted_until enough state covered) state)
 
 pub none-finds : (cache : Cache) (state : State) (image : Image) → KeepsState cache state image → Finds (rest state) image
-none-finds cache state image k = (k.kept.entries.well_formed, kept-found state k.layout [] image k.kept.entries)
+none-finds cache state image k = (k.kept.entries.sound, kept-held state k.layout [] image k.kept.entries)
 
 pub none-yet : (enough : State → Bool) (state : State) (covered : List Item) (parts : Covered) (cache : Cache) (told : Told) (failed : Bool) (w : Option (List ℕ)) (image : Image) → told.files ≡ Some image → (k : KeepsState cache state image) → LieCovered state k.layout covered parts → HasEvicted enough state covered parts cache cache None 0 told told failed failed w w
 none-yet enough state covered parts cache told failed w image there k lie =

@@ -9,7 +9,7 @@ use Rattle.spec_image.proofs.Runs.{passes_none, passes_weaker, some_inj}
 use Rattle.blk_io.specs.declared.fault.Fault.{Fault}
 use Rattle.blk_model.specs.Holding.{rest}
 use Rattle.blk_model.specs.State.{Object, State}
-use Rattle.spec_format.specs.BlockFiles.{IsWellFormed}
+use Rattle.spec_format.specs.BlockFiles.{HasSoundHeaders}
 use Rattle.spec_format.specs.Sealed.{RecordChecks}
 use Rattle.spec_folder.specs.View.{list_of}
 use Rattle.law_folder.specs.CommandLaws.{marked}
@@ -24,7 +24,7 @@ use Rattle.blk_handles.proofs.BindingLemmas.{binding_of-change}
 use Rattle.law_state.specs.Changes.{Finds}
 use Rattle.law_state.specs.OneCallLaws.{Names}
 use Rattle.law_state.specs.RecordLaws.{IsMarked, IsMarking}
-use Rattle.law_state.proofs.Keeping.{kept-found}
+use Rattle.law_state.proofs.Keeping.{kept-held}
 use Rattle.blk_object.proofs.KeptMarks.{being-set, check-as-records, marks-set, nodes-check}
 use Rattle.blk_cache.specs.declared.cache.Cache.{Cache}
 use Rattle.blk_cache.specs.BoundNames.{AreBoundAmong}
@@ -98,7 +98,7 @@ module _ (cache : Cache) (handle : ℕ) (b : Binding) (bound : binding_of cache.
 
     pub same-stops : ForSome told.files (λ from. ForEachNamed cache handle from (λ state number object. Passes told told (Either state number object dirty)))
     same-stops from here state number object k names =
-        passes_none (Either state number object dirty) refl (λ i there. inl (subst (λ (z : Image). Finds (rest state) z) (some_inj (sym here ∙ there)) (k.kept.entries.well_formed, kept-found state k.layout [] from k.kept.entries)))
+        passes_none (Either state number object dirty) refl (λ i there. inl (subst (λ (z : Image). Finds (rest state) z) (some_inj (sym here ∙ there)) (k.kept.entries.sound, kept-held state k.layout [] from k.kept.entries)))
 
   -- its node checks
   module _ (old : Told) (bytes : TellsBytes old) (stands : is_node_among cache.files b.node ≡ true) where
@@ -130,7 +130,7 @@ module _ (cache : Cache) (handle : ℕ) (b : Binding) (bound : binding_of cache.
         mark-keeps from here state number object k names i there =
             let few : cache.mark < 2 ^ 32 = subst (λ (n : ℕ). n < 2 ^ 32) (sym k.mark) (word-fits (byte from Index) (bytes from here Index) 20) in
             let small : dirty_word cache dirty < 2 ^ 32 = word-small cache dirty few in
-            let well = λ (z : Image) (at : old.files ≡ Some z). subst IsWellFormed (some_inj (sym here ∙ at)) k.kept.entries.well_formed in
+            let well = λ (z : Image) (at : old.files ≡ Some z). subst HasSoundHeaders (some_inj (sym here ∙ at)) k.kept.entries.sound in
             let good = λ (z : Image) (at : old.files ≡ Some z). subst (λ (y : Image). (list_of y).checks b.node ≡ true) (some_inj (sym here ∙ at)) (node-good from state number object k names) in
             let done : IsMarked from b.node (dirty_word cache dirty) i = marks-set b.node (dirty_word cache dirty) old now bytes well good small (ok (ForSome old.files (λ z. Applies old now (mark_steps z b.node (dirty_word cache dirty)))) sets.steps) from here i there in
             marked-keeps cache state from k handle number object names b bound dirty i done new changes others charged (still i there).agrees

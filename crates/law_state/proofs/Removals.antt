@@ -276,7 +276,7 @@ module _ (state : State) (layout : Layout) (unlinked : List ℕ) (objects : List
     pub found-now : Finds (rest later) image
     found-now = (
       well-now,
-      held-kept image-now ∙ ap (λ (ns : List ℕ). map row_of_loaded (kept_among (store_of image) held_rule ns)) (walk-idle (list_of image) list-now.idle ∙ walk_list (list_of image) (nodes_of layout (filter keep state.uses)) list-now.whole)
+      held-kept image ∙ ap (λ (ns : List ℕ). map row_of_loaded (kept_among (store_of image) held_rule ns)) (walk-idle (list_of image) list-now.idle ∙ walk_list (list_of image) (nodes_of layout (filter keep state.uses)) list-now.whole)
           ∙ listed-rest (λ n. false) (store_of image) later (record (layout_unlisted layout its-node) { chains = chains }) holds-now w.valid (once-then state layout unlinked objects keep item was from k w here) (λ i there. refl),
     )
 
