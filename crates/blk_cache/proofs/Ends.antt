@@ -25,7 +25,7 @@ use Rattle.law_recovery.proofs.SoundFolders.{sound-mended}
 use Rattle.blk_handles.specs.Bindings.{Binding}
 use Rattle.blk_cache.specs.declared.cache.Cache.{Cache}
 use Rattle.blk_cache.specs.BoundNames.{AreAllFree}
-use Rattle.blk_cache.specs.CacheKeeping.{IsBoundAs, KeepsState}
+use Rattle.blk_cache.specs.CacheKeeping.{IsBoundAs, HoldsState, KeepsState}
 use Rattle.blk_cache.specs.OpeningLaws.{FreeCachesEndSound, FreeCachesHoldStill, KeptFoldersAreOpen}
 use Rattle.blk_cache.specs.Opening.{HoldsStill}
 use Rattle.blk_cache.proofs.Unnamed.{none-among, unnamed-rests}
@@ -38,17 +38,20 @@ free-named : (state : State) (layout : Layout) (o : Option ℕ) → IsBoundAs st
 free-named state layout None is = refl
 free-named state layout (Some number) is = absurd is
 
-free-unnamed : (cache : Cache) (state : State) (image : Image) → KeepsState cache state image → AreAllFree cache.handles → (number : ℕ) → is_named state number ≡ false
+free-unnamed : (cache : Cache) (state : State) (image : Image) → HoldsState cache state image → AreAllFree cache.handles → (number : ℕ) → is_named state number ≡ false
 free-unnamed cache state image k free number =
     none-among state.names number (λ i. free-named state k.layout (named_by state i) (subst (λ (o : Option Binding). IsBoundAs state k.layout (named_by state i) o) (free i) (k.names i)))
 
 -- then it is repaired
-module _ (cache : Cache) (state : State) (from image : Image) (k : KeepsState cache state from) (free : AreAllFree cache.handles) (outside : SameOutside (one_word Index 32) from image) where
+module _ (cache : Cache) (state : State) (from image : Image) (keeps-it : KeepsState cache state from) (free : AreAllFree cache.handles) (outside : SameOutside (one_word Index 32) from image) where
+  k : HoldsState cache state from
+  k = keeps-it.holds
+
   version-was : version_of (byte from Index) ≡ index_version
   version-was = its-version (byte from Index) (length state.uses) (charged state k.layout) k.kept.counters
 
   was : IsMended from
-  was = sound-mended from (kept-sound state k.layout from k.kept (unnamed-rests state k.kept.entries.valid (free-unnamed cache state from k free))) version-was
+  was = sound-mended from (kept-sound state k.layout from k.kept keeps-it.finished (unnamed-rests state k.kept.entries.valid (free-unnamed cache state from k free))) version-was
 
   -- the version stays
   version-now : version_of (byte image Index) ≡ index_version

@@ -17,7 +17,7 @@ use Rattle.law_state.specs.Keeping.{KeepsSome}
 use Rattle.spec_format.specs.BlockFiles.{first_damage, IsWellFormed}
 use Rattle.spec_format.specs.Headers.{index_length, IsUnfinished, this_id_of, unfinished}
 use Rattle.spec_format.specs.NewFolder.{IsMade, new_index_words}
-use Rattle.spec_format.proofs.Finished.{finished_whole, well_formed-finished}
+use Rattle.spec_format.proofs.Finished.{finished_whole, magic-of, well_formed-finished}
 use Rattle.spec_format.proofs.HeaderLemmas.{unfinished_agrees}
 use Rattle.spec_folder.specs.Found.{found}
 use Rattle.spec_folder.specs.StandsFor.{StandsFor}
@@ -90,6 +90,7 @@ opened-as scan entry image opened can r are agrees items_told bytes_told mark = 
   files = agrees;
   mark = mark;
   id_is = r.id_is ∙ sym (finished-id entry can.well_formed);
+  finished = magic-of image r.mended.links.well_formed;
 }
 
 -- ---- a made folder
@@ -105,6 +106,7 @@ made-opened entry made image opened un is left =
       files = left.files;
       mark = left.mark;
       id_is = left.id_is ∙ made-next made is ∙ sym (unfinished-next entry un);
+      finished = left.finished;
     }
 
 -- by the empty scan it may be repaired

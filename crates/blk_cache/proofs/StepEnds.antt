@@ -55,7 +55,9 @@ by-files P (Some image) none some = some image refl
 
 module _ (noted last : Cache) (mid now : Told) (others : OnlyRoomChanges noted last) (stays : now ≡ mid) where
   pub kept-behind : (state : State) → ForSome mid.files (KeepsState noted state) → ForSome now.files (KeepsState last state)
-  kept-behind state kept image here = kept-still noted last state image others (kept image (ap (λ (t : Told). t.files) (sym stays) ∙ here))
+  kept-behind state kept image here =
+      let k : KeepsState noted state image = kept image (ap (λ (t : Told). t.files) (sym stays) ∙ here) in
+      record { holds = kept-still noted last state image others k.holds; finished = k.finished }
 
   pub open-behind : ForSome mid.files (IsOpen noted.files) → ForSome now.files (IsOpen last.files)
   open-behind is_open image here = subst (λ (fs : BlockFiles). IsOpen fs image) (sym others.files) (is_open image (ap (λ (t : Told). t.files) (sym stays) ∙ here))

@@ -53,7 +53,7 @@ named_objects state = named_from state 0 state.objects
 -- The invariant.
 
 -- the invariant of a cache: it keeps the state on the image of its folder, by some layout
-pub record KeepsState (cache : Cache) (state : State) (image : Image) : Type 0 where
+pub record HoldsState (cache : Cache) (state : State) (image : Image) : Type 0 where
   pub layout : Layout
   -- the folder keeps the state by the layout, with no address unlinked
   pub kept : Keeps state layout [] image
@@ -72,3 +72,9 @@ pub record KeepsState (cache : Cache) (state : State) (image : Image) : Type 0 w
   pub files : Agrees cache.files image
   -- the dirty flag that the cache sets is the number of its session
   pub mark : cache.mark ≡ this_id_of (byte image Index)
+
+
+-- a cache keeps a state on a folder: it holds it, and the index is finished
+pub record KeepsState (cache : Cache) (state : State) (image : Image) : Type 0 where
+  pub holds : HoldsState cache state image
+  pub finished : HasMagic image

@@ -14,7 +14,7 @@ ghost use Rattle.law_state.specs.Changes.{Finds};
 ghost use Rattle.law_state.specs.Commands.{IsDone, MayStop};
 ghost use Rattle.blk_object.specs.FailedChecks.{IsFailedCheck};
 ghost use Rattle.blk_sparse.specs.SparseWrites.{signature_to, sparse_state};
-ghost use Rattle.blk_cache.specs.CacheKeeping.{KeepsState};
+ghost use Rattle.blk_cache.specs.CacheKeeping.{HoldsState};
 ghost use Rattle.blk_cache.specs.SparseWriting.{CanStore, CountsParts, IsReadyToStore, IsReadyToStoreSome, KeepsToStore, own_target};
 
 use crate::cache::Cache;
@@ -48,7 +48,7 @@ impl Cache {
         requires is_open { ForSome (F.told folder.old).files (IsOpen self.old.files) }
 
         // The SparseWrite is done, whatever state it began with, and after each single write the folder is as a crash in it may leave it.
-        ensures does { IfOk result (λ answer. ForSome (F.told folder.old).files (λ from. (state : State) → IsReadyToStore self.old state moment handle offset bytes.now target.now more_bytes more_items from → IsDone (KeepsState self.new) (F.told folder.new) moment (to_sparse_write handle offset bytes.now) answer state)) }
+        ensures does { IfOk result (λ answer. ForSome (F.told folder.old).files (λ from. (state : State) → IsReadyToStore self.old state moment handle offset bytes.now target.now more_bytes more_items from → IsDone (HoldsState self.new) (F.told folder.new) moment (to_sparse_write handle offset bytes.now) answer state)) }
         ensures stops { ForSome (F.told folder.old).files (λ from. (state : State) → IsReadyToStore self.old state moment handle offset bytes.now target.now more_bytes more_items from → Passes (F.told folder.old) (F.told folder.new) (MayStop state moment (to_sparse_write handle offset bytes.now))) }
 
         ensures wrote { IfOk result (λ given. given ≡ answer.Wrote (length bytes.now)) }
@@ -86,10 +86,10 @@ impl Cache {
         requires is_open { ForSome (F.told folder.old).files (IsOpen self.old.files) }
 
         // In the end each state that was kept, whose object can get them, is kept with them, and with its items in front.
-        ensures stored { OnOk result (ForSome (F.told folder.old).files (λ from. (state : State) → KeepsState self.old state from → (can : CanStore state handle offset bytes.now target.now more_bytes more_items) → ForSome (F.told folder.new).files (KeepsState self.new (sparse_state state can.number can.object (signature_to target.now) offset bytes.now)))) }
+        ensures stored { OnOk result (ForSome (F.told folder.old).files (λ from. (state : State) → HoldsState self.old state from → (can : CanStore state handle offset bytes.now target.now more_bytes more_items) → ForSome (F.told folder.new).files (HoldsState self.new (sparse_state state can.number can.object (signature_to target.now) offset bytes.now)))) }
 
         // At each word the old durable contents are recovered.
-        ensures stops { ForSome (F.told folder.old).files (λ from. (state : State) → KeepsState self.old state from → CanStore state handle offset bytes.now target.now more_bytes more_items → Passes (F.told folder.old) (F.told folder.new) (Finds (rest state))) }
+        ensures stops { ForSome (F.told folder.old).files (λ from. (state : State) → HoldsState self.old state from → CanStore state handle offset bytes.now target.now more_bytes more_items → Passes (F.told folder.old) (F.told folder.new) (Finds (rest state))) }
 
         ensures notes { self.new.notes ≡ self.old.notes }
         ensures mark { self.new.mark ≡ self.old.mark }

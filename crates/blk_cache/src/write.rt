@@ -19,7 +19,7 @@ ghost use Rattle.law_state.specs.Changes.{Finds};
 ghost use Rattle.law_state.specs.Commands.{Does, IsDone, MayStop, MayStopAtEach};
 ghost use Rattle.blk_object.specs.FailedChecks.{IsFailedCheck};
 ghost use Rattle.blk_cache.specs.declared.asking.Asked.TheVariants as asked;
-ghost use Rattle.blk_cache.specs.CacheKeeping.{KeepsState};
+ghost use Rattle.blk_cache.specs.CacheKeeping.{HoldsState};
 ghost use Rattle.blk_cache.specs.CommandClauses.{IsRefused, KeepsAny};
 ghost use Rattle.blk_evict.specs.RoomPrinting.{FailsWhereItRose};
 ghost use Rattle.blk_cache.specs.Stepping.{SaysEvicted, SaysPrefix};
@@ -61,8 +61,8 @@ impl Cache {
         moment: u64,
     ) -> Result<Answer, Fault>
         requires is_open { ForSome (F.told folder.old).files (IsOpen self.old.files) }
-        ensures does { IfOk result (λ answer. Does (KeepsState self.old) (KeepsState self.new) (F.told folder.old) (F.told folder.new) moment (to_write handle stream offset cut bytes.now) answer) }
-        ensures stops { MayStopAtEach (KeepsState self.old) (F.told folder.old) (F.told folder.new) moment (to_write handle stream offset cut bytes.now) }
+        ensures does { IfOk result (λ answer. Does (HoldsState self.old) (HoldsState self.new) (F.told folder.old) (F.told folder.new) moment (to_write handle stream offset cut bytes.now) answer) }
+        ensures stops { MayStopAtEach (HoldsState self.old) (F.told folder.old) (F.told folder.new) moment (to_write handle stream offset cut bytes.now) }
 
         // What it evicts is printed, and on any answer a prefix of that.
         ensures says { OnOk result (SaysEvicted self.old (F.told folder.old) moment (to_write handle stream offset cut bytes.now) failed.old failed.new (K.written out.old) (K.written out.new)) }
@@ -117,7 +117,7 @@ impl Cache {
         requires is_open { ForSome (F.told folder.old).files (IsOpen self.old.files) }
 
         // The Write is done, whatever state it began with, and after each single write the folder is as a crash in it may leave it.
-        ensures does { IfOk result (λ answer. ForSome (F.told folder.old).files (λ from. (state : State) → IsReadyToWrite self.old state moment handle stream offset cut bytes.now size from → IsDone (KeepsState self.new) (F.told folder.new) moment (to_write handle stream offset cut bytes.now) answer state)) }
+        ensures does { IfOk result (λ answer. ForSome (F.told folder.old).files (λ from. (state : State) → IsReadyToWrite self.old state moment handle stream offset cut bytes.now size from → IsDone (HoldsState self.new) (F.told folder.new) moment (to_write handle stream offset cut bytes.now) answer state)) }
         ensures stops { ForSome (F.told folder.old).files (λ from. (state : State) → IsReadyToWrite self.old state moment handle stream offset cut bytes.now size from → Passes (F.told folder.old) (F.told folder.new) (MayStop state moment (to_write handle stream offset cut bytes.now))) }
 
         ensures wrote { IfOk result (λ given. given ≡ answer.Wrote (length bytes.now)) }
@@ -150,10 +150,10 @@ impl Cache {
         requires is_open { ForSome (F.told folder.old).files (IsOpen self.old.files) }
 
         // In the end each state that was kept, whose object can get them, is kept with them, and with the item in front.
-        ensures written { OnOk result (ForSome (F.told folder.old).files (λ from. (state : State) → KeepsState self.old state from → CanGetBytes state handle stream offset cut bytes.now size → ForSome (F.told folder.new).files (KeepsState self.new (written handle stream offset cut bytes.now state)))) }
+        ensures written { OnOk result (ForSome (F.told folder.old).files (λ from. (state : State) → HoldsState self.old state from → CanGetBytes state handle stream offset cut bytes.now size → ForSome (F.told folder.new).files (HoldsState self.new (written handle stream offset cut bytes.now state)))) }
 
         // At each word the old durable contents are recovered.
-        ensures stops { ForSome (F.told folder.old).files (λ from. (state : State) → KeepsState self.old state from → CanGetBytes state handle stream offset cut bytes.now size → Passes (F.told folder.old) (F.told folder.new) (Finds (rest state))) }
+        ensures stops { ForSome (F.told folder.old).files (λ from. (state : State) → HoldsState self.old state from → CanGetBytes state handle stream offset cut bytes.now size → Passes (F.told folder.old) (F.told folder.new) (Finds (rest state))) }
 
         ensures notes { self.new.notes ≡ self.old.notes }
         ensures mark { self.new.mark ≡ self.old.mark }
@@ -195,7 +195,7 @@ impl Cache {
         offset: u64,
         bytes: &[u8],
     ) -> Result<Asked, Fault>
-        ensures asked { IfOk result (λ answer. ForSome (F.told folder.old).files (λ image. (state : State) (moment : ℕ) (cut : Bool) → (k : KeepsState self.now state image) → IsAskedToWrite state k.layout moment handle stream offset cut bytes.now answer)) }
+        ensures asked { IfOk result (λ answer. ForSome (F.told folder.old).files (λ image. (state : State) (moment : ℕ) (cut : Bool) → (k : HoldsState self.now state image) → IsAskedToWrite state k.layout moment handle stream offset cut bytes.now answer)) }
 
         // What the names, the stream and the length tell is refused on every folder, and where a stream is found they tell nothing.
         ensures refuses { IfSome (early_write_refusal self.now handle stream offset (length bytes.now)) (λ why. result ≡ Ok (asked.Refused why)) }
