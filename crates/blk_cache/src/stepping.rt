@@ -14,7 +14,7 @@ ghost use Rattle.blk_object.specs.FailedChecks.{IsFailedCheck};
 ghost use Rattle.blk_cache.specs.CacheKeeping.{HoldsState, KeepsState};
 ghost use Rattle.blk_cache.specs.CommandClauses.{FlushesClean, IsRefused, KeepsAny, OnlyNotesChange};
 ghost use Rattle.blk_evict.specs.RoomPrinting.{FailsWhereItRose};
-ghost use Rattle.blk_cache.specs.Stepping.{IfDone, IfSink, IfStepDamaged, IfStepDevice, SaysEvicted, SaysPrefix, outcome_text};
+ghost use Rattle.blk_cache.specs.Stepping.{IfDone, IfSink, IfStepDamaged, IfStepDevice, SaysEvicted, SaysPrefix, outcome_text, SaysKeptPrefix};
 
 use crate::cache::Cache;
 use crate::fault::StepFault;
@@ -67,7 +67,7 @@ impl Cache {
         // What it evicts is printed, and then the reply; where there is no answer, a prefix of it; where the folder failed nothing of the reply, or it failed in the reply, after the note.
         ensures printed { OnOk result (ForKept (KeepsState self.old) (F.told f.old) (λ state. K.written out.new ≡ option_map (λ w. w ++ outcome_text (step state moment (request_of command.now))) (K.written out.old))) }
         ensures front { ForKept (KeepsState self.old) (F.told f.old) (λ state. Appends (K.written out.old) (K.written out.new) (outcome_text (step state moment (request_of command.now)))) }
-        ensures unanswered { IfStepDevice result (SaysPrefix self.old (F.told f.old) moment (request_of command.now) (K.written out.old) (K.written out.new) ⊎ ForKept (KeepsState self.old) (F.told f.old) (IsNoted (F.told f.old) (F.told f.new) moment (request_of command.now) (note_number (self.old.notes + 1)))) }
+        ensures unanswered { IfStepDevice result (SaysKeptPrefix self.old (F.told f.old) moment (request_of command.now) (K.written out.old) (K.written out.new) ⊎ ForKept (KeepsState self.old) (F.told f.old) (IsNoted (F.told f.old) (F.told f.new) moment (request_of command.now) (note_number (self.old.notes + 1)))) }
 
         ensures is_open { IfDone result (ForSome (F.told f.new).files (IsOpen self.new.files)) }
         ensures damaged { IfStepDamaged result (IsFailedCheck self.new.files (F.told f.new)) }

@@ -8,7 +8,7 @@ use Rattle.blk_run.proofs.closing.close_all.Goals as goal
 pub loop-cache-init : goal.loop-cache-init
 loop-cache-init g c = record {
   is_open = c.requires.is_open;
-  closed = λ far left at. none_so_far far (KeepsState c.args.cache.now) (c.args.cache.now.notes) left (g.F.Folder.told c.args.folder.now) (g.C.Clock.readings c.args.clock.now) (λ state image k. k.kept.entries.valid) at;
+  closed = λ far left at. none_so_far far (KeepsState c.args.cache.now) (c.args.cache.now.notes) left (g.F.Folder.told c.args.folder.now) (g.C.Clock.readings c.args.clock.now) (λ state image k. k.holds.kept.entries.valid) at;
   later = omega arith;
 }
 
@@ -22,7 +22,7 @@ loop-cache-preserved g c = record {
   is_open = c.in_ok-close_next.ensures.is_open;
   closed = λ far left at.
       let name = name_at (position is_some (c.loop-cache.cache.handles)) (sym c.has_names.ensures ∙ c.loop-cache-test.true) in
-      one_closed (c.loop-cache.cache.handles) (KeepsState c.loop-cache.cache) (λ state image k. k.kept.entries.valid) (λ state image k. names_bound c.loop-cache.cache state image k)
+      one_closed (c.loop-cache.cache.handles) (KeepsState c.loop-cache.cache) (λ state image k. k.holds.kept.entries.valid) (λ state image k. names_bound c.loop-cache.cache state image k)
       far (c.loop-cache.cache.notes) left (g.F.Folder.told c.loop-cache.folder) (g.C.Clock.readings c.args.clock.now) (g.C.Clock.readings c.loop-cache.clock) (c.loop-cache.invariant.closed far left at) name.0 c.now.result name.1 c.now.ensures.reading
       (KeepsState c.close_next.new.self) (c.close_next.new.self.notes) (g.F.Folder.told c.close_next.new.f) (g.C.Clock.readings c.now.new.self) c.now.ensures.later
       (of_some (position is_some (c.loop-cache.cache.handles)) name.0 (λ handle. _) name.1 c.in_ok-close_next.ensures.noted)
@@ -35,12 +35,12 @@ pub returns-in_err-close_next-clause-closed : goal.returns-in_err-close_next-cla
 returns-in_err-close_next-clause-closed g c far left at =
     let name = name_at (position is_some (c.loop-cache.cache.handles)) (sym c.has_names.ensures ∙ c.loop-cache-test.true) in
     close_handed c.from_residual.result c.in_err-close_next.field-0.0 far (KeepsState c.close_next.new.self) (c.close_next.new.self.notes) left (g.F.Folder.told c.close_next.new.f) (g.C.Clock.readings c.args.clock.now) (g.C.Clock.readings c.now.new.self) c.from_residual.ensures.1
-    (close_failed (c.loop-cache.cache.handles) (KeepsState c.loop-cache.cache) (λ state image k. k.kept.entries.valid) (λ state image k. names_bound c.loop-cache.cache state image k)
+    (close_failed (c.loop-cache.cache.handles) (KeepsState c.loop-cache.cache) (λ state image k. k.holds.kept.entries.valid) (λ state image k. names_bound c.loop-cache.cache state image k)
     far (c.loop-cache.cache.notes) left (g.F.Folder.told c.loop-cache.folder) (g.C.Clock.readings c.args.clock.now) (g.C.Clock.readings c.loop-cache.clock) (c.loop-cache.invariant.closed far left at) name.0 c.now.result name.1 c.now.ensures.reading
     (KeepsState c.close_next.new.self) (c.close_next.new.self.notes) (g.F.Folder.told c.close_next.new.f) (g.C.Clock.readings c.now.new.self) c.in_err-close_next.field-0.0
-    (of_some (position is_some (c.loop-cache.cache.handles)) name.0 (λ handle. _) name.1 c.in_err-close_next.ensures.stepped) c.in_err-close_next.ensures.untold)
+    (of_some (position is_some (c.loop-cache.cache.handles)) name.0 (λ handle. _) name.1 c.in_err-close_next.ensures.stepped) (λ any. c.in_err-close_next.ensures.untold (λ image there. let one = any image there in (one.0, one.1.holds))))
 
 pub returns-clause-closed : goal.returns-clause-closed
 returns-clause-closed g c far left at =
-    all_closed (c.loop-cache.cache.handles) (KeepsState c.loop-cache.cache) (λ state image k. k.kept.entries.valid) (λ state image k. names_bound c.loop-cache.cache state image k)
+    all_closed (c.loop-cache.cache.handles) (KeepsState c.loop-cache.cache) (λ state image k. k.holds.kept.entries.valid) (λ state image k. names_bound c.loop-cache.cache state image k)
     far (c.loop-cache.cache.notes) left (g.F.Folder.told c.loop-cache.folder) (g.C.Clock.readings c.args.clock.now) (g.C.Clock.readings c.loop-cache.clock) (no_name (position is_some (c.loop-cache.cache.handles)) (sym c.has_names.ensures ∙ c.loop-cache-test.false)) (c.loop-cache.invariant.closed far left at)
