@@ -236,6 +236,7 @@ module _ (image : Image) (m : State) (y : Layout) (r : Represents (view_of image
 
 -- a finished folder that represents a state holds the durable contents
 pub held-at_rest : HeldIsAtRest
+unfolding kept
 held-at_rest image m y r valid = found-rest (view_of image) m y r valid
 
 pub found-at_rest : FoundIsAtRest
