@@ -152,7 +152,7 @@ module _ (state : State) (layout : Layout) (keep : Item → Bool) (chains : ℕ 
   out-links = table-links between out bucket 0 was.contents out-store
 
   pub out-leaves : LeavesFiles between out
-  out-leaves = table-files between out bucket (outside between well-between ready-between chains bucket was.contents alone whole-between) (well-now between well-between ready-between chains bucket was.contents alone whole-between)
+  out-leaves = table-files between out bucket (outside between well-between ready-between chains bucket was.contents alone whole-between) (headers-now between well-between ready-between chains bucket was.contents alone whole-between)
 
   pub out-sealed : (loaded : Loaded) → AreSealed between loaded → AreSealed out loaded
   out-sealed loaded = table-sealed between out bucket loaded (outside between well-between ready-between chains bucket was.contents alone whole-between)

@@ -28,7 +28,7 @@ use Rattle.law_state.specs.Commands.{IsStepped, MayStop}
 use Rattle.law_state.specs.Keeping.{Keeps}
 use Rattle.law_state.specs.StageLaws.{MayStopBetween, IsAtStage}
 use Rattle.law_state.specs.WordStops.{IsMidRemoval, IsMidUse, IsOut}
-use Rattle.law_state.proofs.Examples.{doomed-keeps, opened, whole-keeps}
+use Rattle.law_state.proofs.Examples.{doomed-keeps, opened, whole-keeps, whole-magic}
 use Rattle.law_state.proofs.Keeping.{kept-stands, kept-held}
 use Rattle.spec_folder.specs.Sound.{words_of}
 use Rattle.law_state.specs.GoneLaws.{layout_without}

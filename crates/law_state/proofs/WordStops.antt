@@ -15,7 +15,7 @@ use Rattle.blk_model.proofs.EvictedFirst.{evictions-stop}
 use Rattle.blk_model.proofs.StopRests.{rest_before}
 use Rattle.spec_folder.specs.Audit.{kept_among, kept_by}
 use Rattle.spec_folder.specs.Completion.{remove}
-use Rattle.spec_folder.specs.Found.{completed, found, row_of_loaded}
+use Rattle.spec_folder.specs.Found.{completed, held, row_of_loaded}
 use Rattle.spec_folder.specs.Layout.{HoldsExcept, Represents, nodes_of}
 use Rattle.spec_folder.specs.ListPlans.{writes_of}
 use Rattle.spec_folder.specs.ListSteps.{IsPartly}
