@@ -230,7 +230,7 @@ module _ (from : Image) (n start count : ℕ) (used : Bool) (plan : Plan) (long 
   pub change_stops : {a b : Told} → a.files ≡ Some from → AppliesPrefix a b (word_steps f (plan_words plan)) → PassesTo a b (IsMapInProgress n from) (λ i. IsMapInProgress n from i ⊎ IsChanged from n start count used i)
   change_stops {a} {b} there part =
       let Q : Image → Type 0 = λ i. IsMapInProgress n from i ⊎ IsChanged from n start count used i in
-      passes_part (IsMapInProgress n from) Q part (quiet-word_steps f (plan_words plan)) (λ i midst. inl midst)
+      passes_part (IsMapInProgress n from) Q part (quiet-word_steps f (plan_words plan) tt) (λ i midst. inl midst)
       (λ i is_. subst (λ (j : Image). Until (IsMapInProgress n from) Q j (word_steps f (plan_words plan))) (some_inj (sym there ∙ is_)) (plan_until n plan low high from Q long (inr changed_is)))
 
   -- all of its words make the change

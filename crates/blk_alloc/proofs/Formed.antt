@@ -8,13 +8,13 @@ use Rattle.spec_image.specs.Footprint.{SameOutside}
 use Rattle.spec_image.proofs.Footprints.{same_file_outside}
 use Rattle.spec_format.specs.Headers.{allocations_of}
 use Rattle.spec_format.specs.Standing.{stands}
-use Rattle.spec_format.specs.BlockFiles.{linked, kind_among, files_along, next_file_in, max_entries_in, is_block_count, stands_in, IsWellFormed}
+use Rattle.spec_format.specs.BlockFiles.{linked, kind_among, files_along, next_file_in, max_entries_in, is_block_count, stands_in, KeepsHeaders}
 use Rattle.spec_format.specs.Maps.{is_block_marked, EmptyAgrees, KeepsFile}
 use Rattle.blk_disk.specs.declared.tables.BlockFiles.{BlockFiles}
 use Rattle.blk_disk.specs.Tables.{Agrees}
 use Rattle.spec_format.proofs.SpareHeaders.{other_file}
 use Rattle.spec_format.proofs.Keeping.{KeepsHead, undamaged_still}
-use Rattle.blk_disk.proofs.Enlarging.{well_formed_still}
+use Rattle.blk_disk.proofs.Enlarging.{kept_headers}
 use Rattle.blk_alloc.specs.Changes.{map_of}
 
 module _ (n : ℕ) (from image : Image) (same : SameOutside (map_of n) from image) where
@@ -50,8 +50,8 @@ module _ (n : ℕ) (from image : Image) (same : SameOutside (map_of n) from imag
     count = λ is. ap is_block_count (blocks_kept m) ∙ is;
   }
 
-  pub formed_kept : IsWellFormed from → IsWellFormed image
-  formed_kept formed = well_formed_still from image (λ i. same.bytes Index i refl) (same.lengths Index refl) (undamaged_still from image next_kept heads_kept) formed
+  pub headers_kept : KeepsHeaders from image
+  headers_kept = kept_headers from image (λ i. same.bytes Index i refl) (same.lengths Index refl) (undamaged_still from image next_kept heads_kept)
 
   pub agrees_kept : (files : BlockFiles) → Agrees files from → Agrees files image
   agrees_kept files agrees = record {

@@ -19,7 +19,7 @@ use Rattle.spec_format.proofs.LinkedHeads.{HasHead, linked_checked, count_whole}
 use Rattle.blk_alloc.proofs.Formed.{stands_kept, other_kept, file_kept}
 use Rattle.blk_alloc.proofs.Standing.{StandsHere, stands_here, all_among}
 use Rattle.blk_disk.proofs.WholeHeaders.{all_head}
-use Rattle.blk_alloc.proofs.Sparing.{formed_spared, grown_spared, map_spares}
+use Rattle.blk_alloc.proofs.Sparing.{headers_stay, grown_spared, map_spares}
 use Rattle.blk_disk.proofs.Ranges.{stands_linked}
 use Rattle.blk_disk.specs.declared.tables.BlockFiles.{BlockFiles}
 use Rattle.blk_disk.specs.Tables.{Agrees, all_files, blocks_of, files_of, length_in, stands_among}
@@ -124,4 +124,4 @@ standing_blocks files image w agrees stands =
 pub frees_whole : (from image : Image) (w : ℕ) → SameOutside (map_of (file_selector w)) from image → StaysWhole from image
 frees_whole from image w same =
     let longer : (m : ℕ) → length_of from (Block m) ≤ length_of image (Block m) = (λ m. let e = same.lengths (Block m) refl in omega (arith, e)) in
-    record { grown = grown_spared (map_of (file_selector w)) from image (map_spares (file_selector w)) same longer; formed = formed_spared (map_of (file_selector w)) from image (map_spares (file_selector w)) same longer }
+    record { grown = grown_spared (map_of (file_selector w)) from image (map_spares (file_selector w)) same longer; headers = headers_stay (map_of (file_selector w)) from image (map_spares (file_selector w)) same longer }

@@ -67,7 +67,7 @@ unfolding word_step
 hint_stops {a} {b} n place at value is part from there =
     let same = SameOutside (one_word (Block n) place) from in
     let moved : AppliesPrefix a b (word_step (Block n) place value) = subst (λ (k : ℕ). AppliesPrefix a b (word_step (Block n) k value)) is part in
-    passes_part same same moved (quiet-word_step (Block n) place value) (λ image s. s)
+    passes_part same same moved (quiet-word_step (Block n) place value refl) (λ image s. s)
     (λ image here. subst (λ (i : Image). Until same same i (word_step (Block n) place value)) (some_inj (sym there ∙ here))
     (until_word same same (Block n) place value from (outside-refl (one_word (Block n) place) from) (outside_write (Block n) place (word_bytes value) from)))
 

@@ -13,7 +13,7 @@ use Rattle.blk_addr.specs.declared.claim_set.Claims.{Claims}
 use Rattle.blk_alloc.specs.Changes.{map_of}
 use Rattle.blk_alloc.specs.Rebuilding.{is_block_file, is_counted_place, is_updating_place, rebuilding_of, IsInHand, IsOldOrClaimed, IsRebuilding, IsRebuilt, KeepsBytes, RemakesInProgress}
 use Rattle.blk_alloc.proofs.Mended.{each_begin, each_same}
-use Rattle.blk_alloc.proofs.Sparing.{SparesFields, formed_spared, grown_spared}
+use Rattle.blk_alloc.proofs.Sparing.{SparesFields, headers_stay, grown_spared}
 
 -- One file.
 
@@ -151,7 +151,7 @@ rebuilding_is claims numbers from image same longer each words right = record {
   each = each;
   words = words;
   right = right;
-  stays = record { grown = grown_spared (rebuilding_of numbers) from image (rebuilding_spares numbers) same longer; formed = formed_spared (rebuilding_of numbers) from image (rebuilding_spares numbers) same longer };
+  stays = record { grown = grown_spared (rebuilding_of numbers) from image (rebuilding_spares numbers) same longer; headers = headers_stay (rebuilding_of numbers) from image (rebuilding_spares numbers) same longer };
 }
 
 -- nothing is done yet

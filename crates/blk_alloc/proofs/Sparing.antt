@@ -3,11 +3,11 @@ use Rattle.std.proofs.Common.{◌≡◌, ℕ, ◌+◌, ◌-◌, ◌*◌, ◌<◌
 use Rattle.std.proofs.lemmas.Bool.Decides.{nat_tests}
 use Rattle.spec_image.specs.Image.{Image, Index, Block, External, byte, length_of, same_file}
 use Rattle.spec_image.specs.Footprint.{Footprint, SameOutside, either, size_of}
-use Rattle.spec_format.specs.BlockFiles.{linked, kind_among, files_along, next_file_in, max_entries_in, is_block_count, IsWellFormed}
+use Rattle.spec_format.specs.BlockFiles.{linked, kind_among, files_along, next_file_in, max_entries_in, is_block_count, KeepsHeaders}
 use Rattle.spec_format.specs.Growth.{HaveGrown}
 use Rattle.spec_image.proofs.Footprints.{same_file_outside}
 use Rattle.spec_format.proofs.Keeping.{KeepsHead, undamaged_still}
-use Rattle.blk_disk.proofs.Enlarging.{well_formed_still}
+use Rattle.blk_disk.proofs.Enlarging.{kept_headers}
 use Rattle.blk_alloc.specs.Changes.{map_of}
 use Rattle.blk_alloc.specs.Marking.{hints_of_file}
 
@@ -98,9 +98,9 @@ module _ (F : Footprint) (from image : Image) (spares : SparesFields F) (same : 
     count = λ is. ap is_block_count (blocks_spared m) ∙ is;
   }
 
-  -- a well-formed folder is still so
-  pub formed_spared : IsWellFormed from → IsWellFormed image
-  formed_spared formed = well_formed_still from image (λ i. same.bytes Index i (spares.index i)) (same.lengths Index spares.index_size) (undamaged_still from image next_spared heads_spared) formed
+  -- the headers are kept
+  pub headers_stay : KeepsHeaders from image
+  headers_stay = kept_headers from image (λ i. same.bytes Index i (spares.index i)) (same.lengths Index spares.index_size) (undamaged_still from image next_spared heads_spared)
 
   -- files have grown at most
   pub grown_spared : HaveGrown from image

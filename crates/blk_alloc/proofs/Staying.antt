@@ -14,7 +14,7 @@ use Rattle.blk_disk.specs.declared.tables.BlockFiles.{BlockFiles}
 use Rattle.blk_disk.specs.Growth.{addition_of, free_number, growth_of}
 use Rattle.blk_alloc.specs.Changes.{map_of}
 use Rattle.blk_alloc.specs.Marking.{hints_of_file, taking_of}
-use Rattle.blk_alloc.proofs.Sparing.{SparesFields, both_spare, formed_spared, grown_spared, hints_spares, map_spares, size_spares}
+use Rattle.blk_alloc.proofs.Sparing.{SparesFields, both_spare, headers_stay, grown_spared, hints_spares, map_spares, size_spares}
 use Rattle.blk_alloc.proofs.Written.{passes_on}
 
 -- a wider footprint
@@ -47,7 +47,7 @@ taking_spares n = both_spare (size_of (Block n)) (either (hints_of_file n) (map_
 pub taking_whole : (n : ℕ) (from image : Image) → SameOutside (taking_of n) from image → length_of from (Block n) ≤ length_of image (Block n) → StaysWhole from image
 taking_whole n from image same longer = record {
   grown = grown_spared (taking_of n) from image (taking_spares n) same lengths;
-  formed = formed_spared (taking_of n) from image (taking_spares n) same lengths;
+  headers = headers_stay (taking_of n) from image (taking_spares n) same lengths;
 }
   where
     lengths : (m : ℕ) → length_of from (Block m) ≤ length_of image (Block m)

@@ -134,8 +134,8 @@ AllocatesIn files kind from n image = SameOutside (taking_of n) from image ⊎ E
 abbrev pub updating_word : ℕ → Footprint
 updating_word n = one_word (Block n) updating_place
 
--- a file is being extended, or added and extended: nothing but what that touches and its `updating` has changed, block files have grown at most, and a
--- well-formed folder is well formed
+-- a file is being extended, or added and extended: nothing but what that touches and its `updating` has changed, block files have grown at most, and the
+-- headers are kept
 pub record MakesRoomInProgress (files : BlockFiles) (kind : ℕ) (from image : Image) : Type 0 where
   pub file : ℕ
   pub within : ExtendsAnd updating_word files kind from file image
@@ -162,7 +162,7 @@ AllocatesByStage files kind count from image =
     ⊎ ((place : Blocks) × IsFit from (files_of files kind) count place × MarksUsedInProgress place.file from image)
     ⊎ (HaveNoRoom files kind count from × ExtendsInProgress files kind from image)
 
--- invariant of an allocation, after each write but the last: its stage, and that block files have grown at most and a well-formed folder is well formed
+-- invariant of an allocation, after each write but the last: its stage, and that block files have grown at most and the headers are kept
 pub record AllocatesInProgress (files : BlockFiles) (kind count : ℕ) (from image : Image) : Type 0 where
   pub stage : AllocatesByStage files kind count from image
   pub stays : StaysWhole from image
@@ -174,7 +174,7 @@ AllocatesByChoice files kind count from image =
     ((place : Blocks) × IsFit from (files_of files kind) count place × MarksUsed files from (block_word kind place.file place.start count) image)
     ⊎ (HaveNoRoom files kind count from × ExtendsAndAllocates files kind count from image)
 
--- the state after an allocation, from its last write on: its outcome, and that block files have grown at most and a well-formed folder is well formed
+-- the state after an allocation, from its last write on: its outcome, and that block files have grown at most and the headers are kept
 pub record AllocatesAtLast (files : BlockFiles) (kind count : ℕ) (from image : Image) : Type 0 where
   pub choice : AllocatesByChoice files kind count from image
   pub stays : StaysWhole from image

@@ -51,12 +51,12 @@ pub record IsFreed (from : Image) (w : ℕ) (image : Image) : Type 0 where
   pub elsewhere : (n : ℕ) → n ≢ file_selector w → KeepsFile from image n
 
 -- invariant of a free, after each write but the last: nothing but map, counters and updating of the file has changed, and where more than updating has,
--- updating is 1; block files have grown at most, and a well-formed folder is well formed
+-- updating is 1; block files have grown at most, and the headers are kept
 pub record FreesInProgress (w : ℕ) (from image : Image) : Type 0 where
   pub marks : IsMapInProgress (file_selector w) from image
   pub stays : StaysWhole from image
 
--- a free is done, as its last write leaves it; block files have grown at most, and a well-formed folder is well formed
+-- a free is done, as its last write leaves it; block files have grown at most, and the headers are kept
 pub record FreesAtLast (w : ℕ) (from image : Image) : Type 0 where
   pub freed : IsFreed from w image
   pub stays : StaysWhole from image

@@ -168,7 +168,7 @@ pub record RemakesInProgress (claims : Claims) (n : ℕ) (from image : Image) : 
   pub right : IsRebuilt claims from n → (i : ℕ) → byte image (Block n) i ≡ byte from (Block n) i
 
 -- in the midst of a rebuild of these files: nothing but their lengths, maps, counters and updating has changed, none is shorter, each mark and counter has its
--- old value or the new one, a file whose map and counters agreed has the same header, and a well-formed folder is well formed
+-- old value or the new one, a file whose map and counters agreed has the same header, and the headers are kept
 pub record IsRebuilding (claims : Claims) (numbers : List ℕ) (from image : Image) : Type 0 where
   pub same : SameOutside (rebuilding_of numbers) from image
   pub longer : (n : ℕ) → length_of from (Block n) ≤ length_of image (Block n)

@@ -25,7 +25,7 @@ use Rattle.blk_cache.specs.declared.asking.NamedStream.{NamedStream}
 use Rattle.blk_cache.specs.declared.cache.Cache.{Cache}
 use Rattle.blk_cache.specs.BoundNames.{AreBoundAmong}
 use Rattle.blk_cache.specs.Asking.{IsNamedStream, early_stream_refusal, keeps_stream, stream_refusal}
-use Rattle.blk_cache.specs.CacheKeeping.{IsBoundTo, KeepsState}
+use Rattle.blk_cache.specs.CacheKeeping.{IsBoundTo, HoldsState}
 use Rattle.blk_cache.specs.CommandClauses.{KeepsAny}
 use Rattle.blk_cache.proofs.BoundRecords.{SaysObject, bound-checks, bound-node, bound-says}
 use Rattle.blk_cache.proofs.Closes.{is, named, number}
@@ -68,7 +68,7 @@ handle-bound cache handle stream passes = by (binding_of cache.handles handle) r
   by None e = absurd (let c : true ≡ false = sym (ap is_none e) ∙ not-first (is_none (binding_of cache.handles handle)) (no_stream stream) refusal.BadHandle refusal.BadStream passes in cc)
   by (Some b) e = (b, e)
 
-module _ (cache : Cache) (state : State) (image : Image) (k : KeepsState cache state image) (handle stream : ℕ) where
+module _ (cache : Cache) (state : State) (image : Image) (k : HoldsState cache state image) (handle stream : ℕ) where
   -- a handle names no object where its name is free
   pub none-named : names_none state handle ≡ is_none (binding_of cache.handles handle)
   none-named = by (no_name handle) refl ∙ none-not (named_by state handle) ∙ ap not (sym (busy cache state image k handle)) ∙ sym (none-not (binding_of cache.handles handle)) where

@@ -22,7 +22,7 @@ use Rattle.law_state.specs.OneCallLaws.{Names}
 use Rattle.law_state.proofs.Dirtying.{set-at, set-else}
 use Rattle.blk_object.specs.Writing.{node_of_object}
 use Rattle.blk_cache.specs.declared.cache.Cache.{Cache}
-use Rattle.blk_cache.specs.CacheKeeping.{IsBoundAs, IsBoundTo, KeepsState, named_from, named_objects}
+use Rattle.blk_cache.specs.CacheKeeping.{IsBoundAs, IsBoundTo, HoldsState, named_from, named_objects}
 use Rattle.blk_cache.proofs.BoundObjects.{named-at, one-object, same-bound, same-entry}
 use Rattle.blk_cache.proofs.NamedObjects.{named-same}
 
@@ -82,7 +82,7 @@ entries-same change same entry (Some b ∷ bindings) = ap₂ (λ (n : ℕ) (l : 
 
 -- ---- the object of a handle
 
-module _ (cache : Cache) (state : State) (from : Image) (k : KeepsState cache state from) (handle number : ℕ) (object : Object) (names : Names state handle number object) where
+module _ (cache : Cache) (state : State) (from : Image) (k : HoldsState cache state from) (handle number : ℕ) (object : Object) (names : Names state handle number object) where
   -- it is what the handle is bound to
   pub bound-to : (b : Binding) → binding_of cache.handles handle ≡ Some b → IsBoundTo state k.layout number b
   bound-to b bound = subst (λ (o : Option Binding). IsBoundAs state k.layout (Some number) o) bound (subst (λ (o : Option ℕ). IsBoundAs state k.layout o (binding_of cache.handles handle)) names.names (k.names handle))
@@ -111,7 +111,7 @@ pub record CountsAs (old new : Cache) (o p : Object) : Type 0 where
   pub limits : new.limits ≡ old.limits
   pub mark : new.mark ≡ old.mark
 
-module _ (cache : Cache) (state : State) (from : Image) (k : KeepsState cache state from) (handle number : ℕ) (object other : Object) (names : Names state handle number object) (key : other.key ≡ object.key) (live : other.live ≡ object.live)
+module _ (cache : Cache) (state : State) (from : Image) (k : HoldsState cache state from) (handle number : ℕ) (object other : Object) (names : Names state handle number object) (key : other.key ≡ object.key) (live : other.live ≡ object.live)
     (uses : List Item) (there : Layout) (was now : Loaded) (at : k.layout.at (node_of_object k.layout number object) ≡ Some was) (lies : LiesChanged k.layout there (node_of_object k.layout number object) was now) where
   abbrev kept : KeepsUncounted state k.layout [] from
   kept = k.kept.entries
@@ -208,7 +208,7 @@ module _ (cache : Cache) (state : State) (from : Image) (k : KeepsState cache st
 
   -- so the cache keeps the state with it
   pub changed-keeps : (new : Cache) (image : Image) → Keeps next there [] image → other.parts ≡ object.parts → CountsAs cache new object other → Agrees new.files image → this_id_of (byte image Index) ≡ this_id_of (byte from Index)
-      → open_count new.handles ≡ open_count cache.handles → ((name : ℕ) → IsBoundAs next there (named_by state name) (binding_of new.handles name)) → KeepsState new next image
+      → open_count new.handles ≡ open_count cache.handles → ((name : ℕ) → IsBoundAs next there (named_by state name) (binding_of new.handles name)) → HoldsState new next image
   changed-keeps new image keeps parts counts files id opened bound-as =
       let count : items next + (1 + length object.parts) ≡ items state + (1 + length other.parts) = sum-changed item_count state.objects number object other names.here in
       let long = ap length parts in

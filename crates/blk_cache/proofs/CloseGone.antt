@@ -34,7 +34,7 @@ use Rattle.blk_object.proofs.FreedPlaces.{all-counted, all-gone, freeable, going
 use Rattle.blk_object.proofs.OwnedPlaces.{kept-load}
 use Rattle.blk_object.specs.Writing.{node_of_object}
 use Rattle.blk_cache.specs.declared.cache.Cache.{Cache}
-use Rattle.blk_cache.specs.CacheKeeping.{IsBoundTo, KeepsState}
+use Rattle.blk_cache.specs.CacheKeeping.{IsBoundTo, HoldsState}
 use Rattle.blk_cache.specs.Closing.{CountsClosed}
 use Rattle.blk_cache.specs.CommandClauses.{KeepsAny, OnlyNamesChange}
 use Rattle.blk_evict.specs.Looking.{charge_at}
@@ -48,7 +48,7 @@ index-stays [] from image is i = ap (λ (x : Image). byte x Index i) is
 index-stays (w ∷ words) from image r i = index-stays words r.0 image r.1.1 i ∙ r.1.0.index i
 
 module _ (cache : Cache) (handle : ℕ) (small : handle < 2 ^ 16) (b : Binding) (bound : binding_of cache.handles handle ≡ Some b) (last : is_open (set cache.handles handle None) b.entry ≡ false) (doomed : b.doomed ≡ true) where
-  module _ (image : Image) (state : State) (k : KeepsState cache state image) where
+  module _ (image : Image) (state : State) (k : HoldsState cache state image) where
     abbrev n : ℕ
     n = number cache state image k handle b bound
 
@@ -116,7 +116,7 @@ module _ (cache : Cache) (handle : ℕ) (small : handle < 2 ^ 16) (b : Binding) 
 
     module _ {A : Type 0} (result : Result A Fault) (frees : FreesAll mid now b.entry result) (moment : ℕ) where
       -- at each word
-      pub gone-stops : MayStopAtEach (KeepsState cache) old now moment (to_close handle)
+      pub gone-stops : MayStopAtEach (HoldsState cache) old now moment (to_close handle)
       gone-stops image here state k =
           let there : mid.files ≡ Some image = ap (λ (t : Told). t.files) stays ∙ here in
           let run : Passes mid now (AreGoing (words image state k) image) = frees.stops image there (it image state k).loaded (its-freeable image state k) in
@@ -125,7 +125,7 @@ module _ (cache : Cache) (handle : ℕ) (small : handle < 2 ^ 16) (b : Binding) 
 
       -- in the end
       pub gone-done : (ok : (P : Type 0) → OnOk result P → P) (new : Cache) → ForSome now.files (IsOpen cache.files) → new.handles ≡ set cache.handles handle None → ForSome old.files (λ image. CountsGone cache new (charge_at image b.entry))
-          → Does (KeepsState cache) (KeepsState new) old now moment (to_close handle) answer.Done
+          → Does (HoldsState cache) (HoldsState new) old now moment (to_close handle) answer.Done
       gone-done ok new still same counts image here state k = record {
         answered = answered-as cache handle small b bound state image k moment;
         kept = λ i there.
@@ -133,7 +133,7 @@ module _ (cache : Cache) (handle : ℕ) (small : handle < 2 ^ 16) (b : Binding) 
             let freed = ok (ForSome mid.files (λ from. _)) frees.freed in
             let r : Removes (words image state k) image i = freed image at (it image state k).loaded (its-freeable image state k) i there in
             let charge : charge_at image b.entry ≡ own_charge (it image state k).object = (bound-says state k.layout [] image k.kept.entries (n image state k) b (it image state k)).charge in
-            subst (λ (s : State). KeepsState new s i) (sym (ends image state k moment))
+            subst (λ (s : State). HoldsState new s i) (sym (ends image state k moment))
             (gone-keeps cache state image k handle b bound (none image state k) (dead image state k) new i
             (subst (λ (s : State). Keeps s (left image state k moment) [] i) (ends image state k moment) (freed-keeps image state k moment i r))
             (still i there).agrees (freed-id image state k moment i r) (subst (CountsGone cache new) charge (counts image here)) same);
@@ -160,7 +160,7 @@ module _ (cache : Cache) (old mid now : Told) (stays : mid ≡ old) (handle : �
     its-freeing : object.doomed ≡ true → FreesAll mid now b.entry result
     its-freeing e = subst (λ (o : OpenObject). FreesAll mid now o.entry result) was.object_is (freeing e)
 
-    pub closed-stops : MayStopAtEach (KeepsState cache) old now moment (to_close handle)
+    pub closed-stops : MayStopAtEach (HoldsState cache) old now moment (to_close handle)
     closed-stops = ⊎_elim
         (λ (e : object.doomed ≡ true). gone-stops cache handle small b bound shut (sym same-mark ∙ e) old mid now stays result (its-freeing e) moment)
         (λ (e : object.doomed ≡ false). cleaned-stops cache old mid now stays handle small b bound new frees others object was (sym same-mark ∙ e) bytes result (cleans e) stands moment)
@@ -188,7 +188,7 @@ module _ (cache : Cache) (old mid now : Told) (stays : mid ≡ old) (handle : �
         notes = counts.notes;
       }
 
-      pub closed-done : Does (KeepsState cache) (KeepsState last) old now moment (to_close handle) answer.Done
+      pub closed-done : Does (HoldsState cache) (HoldsState last) old now moment (to_close handle) answer.Done
       closed-done = ⊎_elim
           (λ (e : object.doomed ≡ true).
           gone-done cache handle small b bound shut (sym same-mark ∙ e) old mid now stays result (its-freeing e) moment ok last (λ image here. subst (λ (fs : BlockFiles). IsOpen fs image) others.files (still image here)) (counts.handles ∙ frees)

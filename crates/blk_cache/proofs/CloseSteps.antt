@@ -17,7 +17,7 @@ use Rattle.blk_model.specs.State.{Object, State, is_named, named_by}
 use Rattle.blk_model.specs.Step.{reply, step}
 use Rattle.blk_model.specs.declared.Answer.TheVariants as answer
 use Rattle.blk_model.specs.declared.Refusal.TheVariants as refusal
-use Rattle.spec_format.specs.BlockFiles.{IsWellFormed}
+use Rattle.spec_format.specs.BlockFiles.{HasSoundHeaders}
 use Rattle.spec_format.specs.Sealed.{RecordChecks}
 use Rattle.spec_folder.specs.Loads.{Loaded}
 use Rattle.spec_folder.specs.View.{list_of}
@@ -45,7 +45,7 @@ use Rattle.law_state.proofs.Stopping.{nothing-stops}
 use Rattle.blk_object.proofs.KeptMarks.{being-set, check-as-records, marks-set, nodes-check}
 use Rattle.blk_cache.specs.declared.cache.Cache.{Cache}
 use Rattle.blk_cache.specs.BoundNames.{AreBoundAmong}
-use Rattle.blk_cache.specs.CacheKeeping.{IsBoundTo, KeepsState}
+use Rattle.blk_cache.specs.CacheKeeping.{IsBoundTo, HoldsState}
 use Rattle.blk_cache.specs.CommandClauses.{KeepsAny, OnlyNamesChange}
 use Rattle.blk_evict.specs.Looking.{charge_at}
 use Rattle.blk_cache.proofs.BoundObjects.{free-of}
@@ -97,7 +97,7 @@ unnamed-refused state moment handle none = by (nat_le 4096 handle) refl where
   by true e = rw e refl
   by false e = rw (e, none) refl
 
-pub free-refused : (cache : Cache) (state : State) (image : Image) (k : KeepsState cache state image) (moment handle : ℕ) → binding_of cache.handles handle ≡ None → refused moment (to_close handle) state ≡ Some refusal.BadHandle
+pub free-refused : (cache : Cache) (state : State) (image : Image) (k : HoldsState cache state image) (moment handle : ℕ) → binding_of cache.handles handle ≡ None → refused moment (to_close handle) state ≡ Some refusal.BadHandle
 free-refused cache state image k moment handle free = unnamed-refused state moment handle (free-of state k.layout [] image k.kept.entries state.names cache.handles k.names handle free)
 
 named-passes : (state : State) (moment handle number : ℕ) → handle < 4096 → named_by state handle ≡ Some number → refused moment (to_close handle) state ≡ None
@@ -111,14 +111,14 @@ close-answer state moment handle goes = ap answer_of (passed state moment (to_cl
 -- ---- several names
 
 module _ (cache : Cache) (handle : ℕ) (small : handle < 2 ^ 16) (b : Binding) (bound : binding_of cache.handles handle ≡ Some b) where
-  pub below : (state : State) (image : Image) (k : KeepsState cache state image) → handle < 4096
+  pub below : (state : State) (image : Image) (k : HoldsState cache state image) → handle < 4096
   below state image k = let w = within-some state.names handle (number cache state image k handle b bound) (named cache state image k handle b bound) in let l = k.kept.entries.valid.names in omega (arith, w, l)
 
-  pub answered-as : (state : State) (image : Image) (k : KeepsState cache state image) (moment : ℕ) → answer.Done ≡ answer_of (step state moment (to_close handle)).reply
+  pub answered-as : (state : State) (image : Image) (k : HoldsState cache state image) (moment : ℕ) → answer.Done ≡ answer_of (step state moment (to_close handle)).reply
   answered-as state image k moment = sym (close-answer state moment handle (named-passes state moment handle (number cache state image k handle b bound) (below state image k) (named cache state image k handle b bound)))
 
   pub several-done : (new : Cache) (told : Told) → is_open (set cache.handles handle None) b.entry ≡ true → new.handles ≡ set cache.handles handle None → new.open_bytes ≡ cache.open_bytes → OnlyNamesChange cache new
-      → (moment : ℕ) → Does (KeepsState cache) (KeepsState new) told told moment (to_close handle) answer.Done
+      → (moment : ℕ) → Does (HoldsState cache) (HoldsState new) told told moment (to_close handle) answer.Done
   several-done new told more frees charges others moment image here state k = record {
     answered = answered-as state image k moment;
     kept = λ i there.
@@ -126,8 +126,8 @@ module _ (cache : Cache) (handle : ℕ) (small : handle < 2 ^ 16) (b : Binding) 
         let several : is_named (less cache state image k handle b bound) (number cache state image k handle b bound) ≡ true = sym (less-open cache state image k handle b bound) ∙ more in
         let keeps : Keeps (step state moment (to_close handle)).state k.layout [] image = closes-of-many-next state moment handle (number cache state image k handle b bound) k.kept.entries.valid small (named cache state image k handle b bound) several k.layout [] image k.kept in
         let ends : (step state moment (to_close handle)).state ≡ less cache state image k handle b bound = closes-free state moment handle (number cache state image k handle b bound) k.kept.entries.valid (named cache state image k handle b bound) several in
-        subst (λ (z : Image). KeepsState new (step state moment (to_close handle)).state z) same
-        (subst (λ (s : State). KeepsState new s image) (sym ends)
+        subst (λ (z : Image). HoldsState new (step state moment (to_close handle)).state z) same
+        (subst (λ (s : State). HoldsState new s image) (sym ends)
         (less-keeps cache state image k handle b bound new image (subst (λ (s : State). Keeps s k.layout [] image) ends keeps) k.files refl others frees
         (charges ∙ sym (ap (λ (t : Bool). if t then cache.open_bytes else cache.open_bytes - own_charge (is cache state image k handle b bound).object) several))));
   }
@@ -139,7 +139,7 @@ module _ (cache : Cache) (handle : ℕ) (small : handle < 2 ^ 16) (b : Binding) 
     not-false true e = refl
     not-false false e = e
 
-    module _ (image : Image) (here : old.files ≡ Some image) (state : State) (k : KeepsState cache state image) where
+    module _ (image : Image) (here : old.files ≡ Some image) (state : State) (k : HoldsState cache state image) where
       abbrev n : ℕ
       n = number cache state image k handle b bound
 
@@ -182,7 +182,7 @@ module _ (cache : Cache) (handle : ℕ) (small : handle < 2 ^ 16) (b : Binding) 
 
     -- at each word
     pub last-stops : TellsBytes mid → is_node_among cache.files b.node ≡ true → (b.dirty ≡ true → ForSome mid.files (λ from. RecordChecks b.node from → Passes mid now (SetsDirtyInProgress from b.node 0))) → (b.dirty ≡ false → Stays mid now)
-        → (moment : ℕ) → MayStopAtEach (KeepsState cache) old now moment (to_close handle)
+        → (moment : ℕ) → MayStopAtEach (HoldsState cache) old now moment (to_close handle)
     last-stops bytes stands marks rests moment = ⊎_elim
         (λ (dirty : b.dirty ≡ true). λ image here state k.
         let checks : ForSome mid.files (RecordChecks b.node) = λ i there. subst (RecordChecks b.node) (some_inj (sym (mid-here image here state k) ∙ there)) (node-checks image here state k (bytes image (mid-here image here state k)) stands) in
@@ -192,7 +192,7 @@ module _ (cache : Cache) (handle : ℕ) (small : handle < 2 ^ 16) (b : Binding) 
         closes-stop-by-mark state k.layout [] image i moment handle (n image here state k) (it image here state k).object (it image here state k).loaded k.kept.entries small (is-last image here state k) (placed image here state k)
         (subst (λ (w : ℕ). IsMarking image w 0 i) (node-is image here state k) marking) in
         passes_weaker from-old may may)
-        (λ (clean : b.dirty ≡ false). nothing-stops (KeepsState cache) (says-kept cache) old now moment (to_close handle) (rests clean ∙ stays))
+        (λ (clean : b.dirty ≡ false). nothing-stops (HoldsState cache) (says-kept cache) old now moment (to_close handle) (rests clean ∙ stays))
         (cases_Bool b.dirty)
 
     settled-same : (o : Object) → o.settled ≡ true → record o { settled = true } ≡ o
@@ -206,7 +206,7 @@ module _ (cache : Cache) (handle : ℕ) (small : handle < 2 ^ 16) (b : Binding) 
     -- in the end
     module _ (new : Cache) (bytes : TellsBytes mid) (still : ForSome now.files (IsOpen cache.files)) (frees : new.handles ≡ set cache.handles handle None)
         (charges : ForSome old.files (λ image. new.open_bytes ≡ cache.open_bytes - charge_at image b.entry)) (others : OnlyNamesChange cache new) (moment : ℕ) where
-      module _ (image : Image) (here : old.files ≡ Some image) (state : State) (k : KeepsState cache state image) where
+      module _ (image : Image) (here : old.files ≡ Some image) (state : State) (k : HoldsState cache state image) where
         charged : new.open_bytes ≡ (if is_named (less cache state image k handle b bound) (n image here state k) then cache.open_bytes else cache.open_bytes - own_charge (it image here state k).object)
         charged =
             charges image here ∙ ap (λ (c : ℕ). cache.open_bytes - c) (its-charge image here state k)
@@ -216,19 +216,19 @@ module _ (cache : Cache) (handle : ℕ) (small : handle < 2 ^ 16) (b : Binding) 
         ends = closes-settle state moment handle (n image here state k) (it image here state k).object k.kept.entries.valid (is-last image here state k)
 
         -- the dirty word was made 0
-        marked-end : (i : Image) → now.files ≡ Some i → ForSome mid.files (λ from. Applies mid now (mark_steps from b.node 0)) → KeepsState new (step state moment (to_close handle)).state i
+        marked-end : (i : Image) → now.files ≡ Some i → ForSome mid.files (λ from. Applies mid now (mark_steps from b.node 0)) → HoldsState new (step state moment (to_close handle)).state i
         marked-end i there steps =
-            let well = λ (z : Image) (at : mid.files ≡ Some z). subst IsWellFormed (some_inj (sym (mid-here image here state k) ∙ at)) k.kept.entries.well_formed in
+            let well = λ (z : Image) (at : mid.files ≡ Some z). subst HasSoundHeaders (some_inj (sym (mid-here image here state k) ∙ at)) k.kept.entries.sound in
             let good = λ (z : Image) (at : mid.files ≡ Some z). subst (λ (y : Image). (list_of y).checks b.node ≡ true) (some_inj (sym (mid-here image here state k) ∙ at)) (nodes-check state k.layout [] image b.node (it image here state k).loaded k.kept.entries (at-node image here state k)) in
             let done : IsMarked image b.node 0 i = marks-set b.node 0 mid now bytes well good (omega arith) steps image (mid-here image here state k) i there in
             let done-at : IsMarked image (k.layout.place (main (it image here state k).object.key)) 0 i = subst (λ (w : ℕ). IsMarked image w 0 i) (node-is image here state k) done in
             let keeps = closes-end-by-mark state k.layout [] image i moment handle (n image here state k) (it image here state k).object (it image here state k).loaded k.kept small (is-last image here state k) (placed image here state k) done-at in
             let id = (leaves state k.layout [] image i k.kept.entries (k.layout.place (main (it image here state k).object.key)) 0 (it image here state k).loaded (placed image here state k) done-at.marking).session.id in
-            subst (λ (s : State). KeepsState new s i) (sym (ends))
+            subst (λ (s : State). HoldsState new s i) (sym (ends))
             (settled-keeps cache state image k handle b bound (none image here state k) (live image here state k) new i (subst (λ (s : State). Keeps s (layout-now cache state image k handle b bound (none image here state k) (live image here state k)) [] i) (ends) keeps) (still i there).agrees id others frees (charged))
 
         -- it was 0
-        clean-end : b.dirty ≡ false → (i : Image) → now.files ≡ Some i → Stays mid now → KeepsState new (step state moment (to_close handle)).state i
+        clean-end : b.dirty ≡ false → (i : Image) → now.files ≡ Some i → Stays mid now → HoldsState new (step state moment (to_close handle)).state i
         clean-end clean i there rests =
             let same : image ≡ i = some_inj (sym here ∙ sym (ap (λ (t : Told). t.files) (rests ∙ stays)) ∙ there) in
             let rested : (it image here state k).object.settled ≡ true = not-false (it image here state k).object.settled (sym clean ∙ (it image here state k).dirty) in
@@ -238,11 +238,11 @@ module _ (cache : Cache) (handle : ℕ) (small : handle < 2 ^ 16) (b : Binding) 
             let turned-same : turned state (n image here state k) (it image here state k).object true (set state.names handle None) ≡ less cache state image k handle b bound = ap (λ (os : List (Option Object)). record (less cache state image k handle b bound) { objects = os }) slots in
             let keeps : Keeps (step state moment (to_close handle)).state k.layout [] image = closes-next state moment handle (n image here state k) (it image here state k).object k.kept.entries.valid small (is-last image here state k) k.layout [] image
             (subst (λ (s : State). Keeps s k.layout [] image) (sym marked-same) k.kept) in
-            subst (λ (z : Image). KeepsState new (step state moment (to_close handle)).state z) same
-            (subst (λ (s : State). KeepsState new s image) (sym (ends ∙ turned-same))
+            subst (λ (z : Image). HoldsState new (step state moment (to_close handle)).state z) same
+            (subst (λ (s : State). HoldsState new s image) (sym (ends ∙ turned-same))
             (less-keeps cache state image k handle b bound new image (subst (λ (s : State). Keeps s k.layout [] image) (ends ∙ turned-same) keeps) k.files refl others frees (charged)))
 
-      pub last-done : (b.dirty ≡ true → ForSome mid.files (λ from. Applies mid now (mark_steps from b.node 0))) → (b.dirty ≡ false → Stays mid now) → Does (KeepsState cache) (KeepsState new) old now moment (to_close handle) answer.Done
+      pub last-done : (b.dirty ≡ true → ForSome mid.files (λ from. Applies mid now (mark_steps from b.node 0))) → (b.dirty ≡ false → Stays mid now) → Does (HoldsState cache) (HoldsState new) old now moment (to_close handle) answer.Done
       last-done marks rests image here state k = record {
         answered = answered-as state image k moment;
         kept = λ i there. ⊎_elim (λ (dirty : b.dirty ≡ true). marked-end image here state k i there (marks dirty)) (λ (clean : b.dirty ≡ false). clean-end image here state k clean i there (rests clean)) (cases_Bool b.dirty);
@@ -266,7 +266,7 @@ pub last-entry : (cache : Cache) (old : Told) (handle : ℕ) (b : Binding) (boun
     → ForSome old.files (KeepsAny cache) → ForSome old.files (λ image. (loaded : Loaded) × LoadsWith object.entry loaded image)
 last-entry cache old handle b bound new object was any image there =
     let one : KeepsAny cache image = any image there in
-    let k : KeepsState cache one.0 image = one.1 in
+    let k : HoldsState cache one.0 image = one.1 in
     let it = is cache one.0 image k handle b bound in
     (it.loaded, subst (λ (o : OpenObject). LoadsWith o.entry it.loaded image) (sym was.object_is) (bound-loads one.0 k.layout [] image k.kept.entries (number cache one.0 image k handle b bound) b it))
 
@@ -275,12 +275,12 @@ module _ {A : Type 0} (cache : Cache) (old mid now : Told) (stays : mid ≡ old)
   abbrev cleaned : Cleans new.files mid now (open_object cache.handles b) result
   cleaned = subst (λ (o : OpenObject). Cleans new.files mid now o result) was.object_is cleans
 
-  pub cleaned-stops : (moment : ℕ) → MayStopAtEach (KeepsState cache) old now moment (to_close handle)
+  pub cleaned-stops : (moment : ℕ) → MayStopAtEach (HoldsState cache) old now moment (to_close handle)
   cleaned-stops =
       last-stops cache handle small b bound old mid now stays (freed-last cache.handles new.handles handle b object frees was) alive bytes (subst (λ (o : OpenObject). is_node_among cache.files o.node ≡ true) was.object_is stands) (λ dirty. (cleaned.cleans dirty).stops) cleaned.stays
 
   pub cleaned-done : (ok : (P : Type 0) → OnOk result P → P) (last : Cache) → ForSome now.files (IsOpen new.files) → last.handles ≡ new.handles → OnlyNamesChange new last → new.open_bytes ≡ cache.open_bytes → (charge : ℕ) → last.open_bytes ≡ new.open_bytes - charge
-      → ForSome old.files (λ image. charge ≡ charge_at image object.entry) → (moment : ℕ) → Does (KeepsState cache) (KeepsState last) old now moment (to_close handle) answer.Done
+      → ForSome old.files (λ image. charge ≡ charge_at image object.entry) → (moment : ℕ) → Does (HoldsState cache) (HoldsState last) old now moment (to_close handle) answer.Done
   cleaned-done ok last still same rest charged charge falls says moment =
       let sum : ForSome old.files (λ image. last.open_bytes ≡ cache.open_bytes - charge_at image b.entry) = λ image here.
       falls ∙ ap (λ (n : ℕ). n - charge) charged ∙ ap (λ (n : ℕ). cache.open_bytes - n) (says image here ∙ ap (λ (o : OpenObject). charge_at image o.entry) was.object_is) in

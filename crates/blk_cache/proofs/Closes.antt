@@ -22,7 +22,7 @@ use Rattle.law_state.specs.GoneLaws.{layout_without}
 use Rattle.law_state.specs.Keeping.{Keeps, KeepsUncounted}
 use Rattle.blk_object.specs.Writing.{node_of_object}
 use Rattle.blk_cache.specs.declared.cache.Cache.{Cache}
-use Rattle.blk_cache.specs.CacheKeeping.{IsBoundAs, IsBoundTo, KeepsState, named_objects}
+use Rattle.blk_cache.specs.CacheKeeping.{IsBoundAs, IsBoundTo, HoldsState, named_objects}
 use Rattle.blk_cache.specs.CommandClauses.{OnlyNamesChange}
 use Rattle.blk_cache.proofs.BoundObjects.{bound-less, named-at, number-of, one-object, open-is-named, set-free}
 use Rattle.blk_cache.proofs.NamedObjects.{IsOneMore, count-more, named-before, named-new, named-same, named-set, set-back}
@@ -75,7 +75,7 @@ settled-charge : (o : Object) → charge (record o { settled = true }) ≡ charg
 unfolding charge
 settled-charge o = refl
 
-module _ (cache : Cache) (state : State) (from : Image) (k : KeepsState cache state from) (handle : ℕ) (b : Binding) (bound : binding_of cache.handles handle ≡ Some b) where
+module _ (cache : Cache) (state : State) (from : Image) (k : HoldsState cache state from) (handle : ℕ) (b : Binding) (bound : binding_of cache.handles handle ≡ Some b) where
   abbrev kept : KeepsUncounted state k.layout [] from
   kept = k.kept.entries
 
@@ -145,7 +145,7 @@ module _ (cache : Cache) (state : State) (from : Image) (k : KeepsState cache st
     open_bytes : new.open_bytes ≡ (if is_named less number then cache.open_bytes else cache.open_bytes - own_charge is.object)
 
   closes-keep : (new : Cache) (image : Image) (layout : Layout) (next : State) → next.limits ≡ state.limits → named_objects next ≡ named_objects less
-      → ((name : ℕ) → IsBoundAs next layout (named_by next name) (binding_of bindings name)) → Keeps next layout [] image → Agrees cache.files image → this_id_of (byte image Index) ≡ this_id_of (byte from Index) → IsKeptAs new next → KeepsState new next image
+      → ((name : ℕ) → IsBoundAs next layout (named_by next name) (binding_of bindings name)) → Keeps next layout [] image → Agrees cache.files image → this_id_of (byte image Index) ≡ this_id_of (byte from Index) → IsKeptAs new next → HoldsState new next image
   closes-keep new image layout next limits same-named names keeps files id so =
       let left : AreLeft (open_count bindings) new.open_bytes = are-left new.open_bytes so.open_bytes in
       record {
@@ -184,7 +184,7 @@ module _ (cache : Cache) (state : State) (from : Image) (k : KeepsState cache st
 
   -- where the objects are as before
   pub less-keeps : (new : Cache) (image : Image) → Keeps less k.layout [] image → Agrees cache.files image → this_id_of (byte image Index) ≡ this_id_of (byte from Index) → OnlyNamesChange cache new
-      → new.handles ≡ bindings → new.open_bytes ≡ (if is_named less number then cache.open_bytes else cache.open_bytes - own_charge is.object) → KeepsState new less image
+      → new.handles ≡ bindings → new.open_bytes ≡ (if is_named less number then cache.open_bytes else cache.open_bytes - own_charge is.object) → HoldsState new less image
   less-keeps new image keeps files id others frees charges =
       closes-keep new image k.layout less refl refl (λ name. less-names (named_by less name) (binding_of bindings name) (bound-less state k.layout [] from kept state.names cache.handles k.names handle name)) keeps files id (kept-as new less refl refl others frees charges)
 
@@ -228,7 +228,7 @@ module _ (cache : Cache) (state : State) (from : Image) (k : KeepsState cache st
     settled-names name (Some m) None e n = absurd n
 
     pub settled-keeps : (new : Cache) (image : Image) → Keeps settled layout-now [] image → Agrees cache.files image → this_id_of (byte image Index) ≡ this_id_of (byte from Index) → OnlyNamesChange cache new
-        → new.handles ≡ bindings → new.open_bytes ≡ (if is_named less number then cache.open_bytes else cache.open_bytes - own_charge is.object) → KeepsState new settled image
+        → new.handles ≡ bindings → new.open_bytes ≡ (if is_named less number then cache.open_bytes else cache.open_bytes - own_charge is.object) → HoldsState new settled image
     settled-keeps new image keeps files id others frees charges =
         closes-keep new image layout-now settled refl
         (named-same less settled (λ n. refl) 0 settled.objects ∙ named-set less number last 0 number (omega arith) state.objects (Some (record is.object { settled = true })))
@@ -289,7 +289,7 @@ module _ (cache : Cache) (state : State) (from : Image) (k : KeepsState cache st
     its-bytes = sum-out charge state.objects number is.object is.here ∙ ap (λ (n : ℕ). n + total gone) (bare-charge is.object no-parts)
 
     pub gone-keeps : (new : Cache) (image : Image) → Keeps gone layout-gone [] image → Agrees cache.files image → this_id_of (byte image Index) ≡ this_id_of (byte from Index) → CountsGone cache new (own_charge is.object)
-        → new.handles ≡ bindings → KeepsState new gone image
+        → new.handles ≡ bindings → HoldsState new gone image
     gone-keeps new image keeps files id counts frees =
         let one = one-item in
         let bytes = its-bytes in

@@ -9,7 +9,7 @@ use Rattle.law_state.specs.Commands.{ForKept}
 use Rattle.blk_evict.specs.RoomLaws.{AreOfNamed}
 use Rattle.blk_cache.specs.declared.cache.Cache.{Cache}
 use Rattle.blk_cache.specs.declared.covered.Covered.{Covered}
-use Rattle.blk_cache.specs.CacheKeeping.{KeepsState}
+use Rattle.blk_cache.specs.CacheKeeping.{HoldsState}
 use Rattle.blk_cache.specs.Covering.{AreCovered, ForCovered, NoPartsAreCovered, no_parts}
 
 none-more : (n : ℕ) → n ≡ n + 0
@@ -19,7 +19,7 @@ pub none-covered : NoPartsAreCovered
 none-covered state layout = record { lie = record { of_named = tt; nodes = λ item listed. refl }; bytes = none-more _; items = none-more _ }
 
 -- what holds whatever is covered holds where nothing is
-pub for-none : (cache : Cache) (parts : Covered) (told : Told) (P : State → List Item → Type 0) → parts ≡ no_parts → ForCovered cache parts told P → ForKept (KeepsState cache) told (λ state. P state [])
+pub for-none : (cache : Cache) (parts : Covered) (told : Told) (P : State → List Item → Type 0) → parts ≡ no_parts → ForCovered cache parts told P → ForKept (HoldsState cache) told (λ state. P state [])
 for-none cache parts told P is holds image there state k = holds image there state k [] (subst (AreCovered state k.layout []) (sym is) (none-covered state k.layout))
 
 -- no main item is covered

@@ -20,7 +20,7 @@ use Rattle.law_state.proofs.CommandEnding.{creates-end, passed}
 use Rattle.law_state.proofs.Orders.{left-stops, room-left}
 use Rattle.blk_object.specs.Making.{CanHaveNew}
 use Rattle.blk_cache.specs.declared.cache.Cache.{Cache}
-use Rattle.blk_cache.specs.CacheKeeping.{KeepsState}
+use Rattle.blk_cache.specs.CacheKeeping.{HoldsState}
 use Rattle.blk_cache.specs.Creating.{HasRoomFor, IsReadyForSome, IsReadyToCreate, KeepsWithRoom}
 use Rattle.blk_cache.proofs.CreateRoom.{have-room, limits-without}
 
@@ -42,7 +42,7 @@ module _ (cache : Cache) (handle : ℕ) (key : List ℕ) (small : handle < 2 ^ 1
       record { state = with_room one.state one.moment (to_create handle key); kept = one.ready.kept; can = room.can }
 
   module _ (old now : Told) (moment : ℕ) where
-    pub ready-stops : ForSome old.files (λ from. (state : State) → KeepsState cache state from → CanHaveNew state handle key → Passes old now (Finds (rest state)))
+    pub ready-stops : ForSome old.files (λ from. (state : State) → HoldsState cache state from → CanHaveNew state handle key → Passes old now (Finds (rest state)))
         → ForSome old.files (λ from. (state : State) → IsReadyToCreate cache state moment handle key from → Passes old now (MayStop state moment (to_create handle key)))
     ready-stops stops from there state ready =
         let room = ready-room state moment from ready in
@@ -50,9 +50,9 @@ module _ (cache : Cache) (handle : ℕ) (key : List ℕ) (small : handle < 2 ^ 1
         = λ i finds. left-stops state moment (to_create handle key) (rest (with_room state moment (to_create handle key))) i (room-left state moment (to_create handle key) ready.valid ready.passes) finds in
         passes_weaker (stops from there (with_room state moment (to_create handle key)) ready.kept room.can) may may
 
-    pub ready-does : (new : Cache) → ForSome old.files (λ from. (state : State) → KeepsState cache state from → HasRoomFor state handle key → ForSome now.files (KeepsState new (created handle key state)))
-        → ForSome old.files (λ from. (state : State) → IsReadyToCreate cache state moment handle key from → IsDone (KeepsState new) now moment (to_create handle key) answer.Done state)
+    pub ready-does : (new : Cache) → ForSome old.files (λ from. (state : State) → HoldsState cache state from → HasRoomFor state handle key → ForSome now.files (HoldsState new (created handle key state)))
+        → ForSome old.files (λ from. (state : State) → IsReadyToCreate cache state moment handle key from → IsDone (HoldsState new) now moment (to_create handle key) answer.Done state)
     ready-does new made from there state ready = record {
       answered = sym (create-answer moment handle key state ready.passes);
-      kept = λ i is. subst (λ (s : State). KeepsState new s i) (sym (creates-end state moment handle key ready.passes)) (made from there (with_room state moment (to_create handle key)) ready.kept (ready-room state moment from ready) i is);
+      kept = λ i is. subst (λ (s : State). HoldsState new s i) (sym (creates-end state moment handle key ready.passes)) (made from there (with_room state moment (to_create handle key)) ready.kept (ready-room state moment from ready) i is);
     }

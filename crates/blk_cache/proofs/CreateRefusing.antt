@@ -8,7 +8,7 @@ use Rattle.blk_model.specs.State.{State, live_with}
 use Rattle.blk_model.specs.declared.Refusal.{Refusal}
 use Rattle.blk_model.specs.declared.Refusal.TheVariants as refusal
 use Rattle.blk_cache.specs.declared.cache.Cache.{Cache}
-use Rattle.blk_cache.specs.CacheKeeping.{KeepsState}
+use Rattle.blk_cache.specs.CacheKeeping.{HoldsState}
 use Rattle.blk_cache.specs.CommandClauses.{open_refusal}
 use Rattle.blk_cache.specs.Creating.{create_refusal}
 use Rattle.blk_cache.proofs.Refusing.{busy}
@@ -26,7 +26,7 @@ none-early false true c d e p q r s t is = cc
 none-early false false true d e p q r s t is = cc
 none-early false false false d e p q r s t is = refl
 
-module _ (cache : Cache) (state : State) (image : Image) (k : KeepsState cache state image) (moment handle : ℕ) (key : List ℕ) where
+module _ (cache : Cache) (state : State) (image : Image) (k : HoldsState cache state image) (moment handle : ℕ) (key : List ℕ) where
   pub create-early : (why : Refusal) → open_refusal cache.handles handle key ≡ Some why → refused moment (to_create handle key) state ≡ Some why
   unfolding refusals
   create-early why e = some-early (no_key key) (no_name handle) (names_one state handle) (is_some (live_with state key)) (no_room moment (to_create handle key) state) refusal.BadKey refusal.BadHandle refusal.HandleBusy refusal.Exists refusal.Full why

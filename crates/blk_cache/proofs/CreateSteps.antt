@@ -17,7 +17,7 @@ use Rattle.law_state.specs.Changes.{Finds}
 use Rattle.blk_object.specs.Making.{CanHaveNew, FindsWhileMade, HasRoomForNew}
 use Rattle.blk_cache.specs.BoundNames.{AreBoundAmong}
 use Rattle.blk_cache.specs.declared.cache.Cache.{Cache}
-use Rattle.blk_cache.specs.CacheKeeping.{KeepsState}
+use Rattle.blk_cache.specs.CacheKeeping.{HoldsState}
 use Rattle.blk_cache.specs.Creating.{KeepsWithRoom}
 
 -- what was valid among the block files by its kind is so among those that keep it
@@ -35,14 +35,14 @@ bound-stays old new bindings keeps stand name binding is =
     (still-among old new keeps rankings binding.node here.0, still-among old new keeps blocks_256 binding.entry here.1)
 
 module _ (cache : Cache) (old now : Told) (handle : ℕ) (key : List ℕ) where
-  has-room : (state : State) (from : Image) → KeepsState cache state from → CanHaveNew state handle key → HasRoomForNew key cache.mark from
+  has-room : (state : State) (from : Image) → HoldsState cache state from → CanHaveNew state handle key → HasRoomForNew key cache.mark from
   has-room state from k can = record { state = state; layout = k.layout; handle = handle; kept = k.kept; session = sym k.mark; can = can }
 
   pub new-room : ForSome old.files (KeepsWithRoom cache handle key) → ForSome old.files (HasRoomForNew key cache.mark)
   new-room any from there = let one = any from there in has-room one.state from one.kept one.can
 
   pub new-stops : ForSome old.files (λ from. HasRoomForNew key cache.mark from → Passes old now (FindsWhileMade key from))
-      → ForSome old.files (λ from. (state : State) → KeepsState cache state from → CanHaveNew state handle key → Passes old now (Finds (rest state)))
+      → ForSome old.files (λ from. (state : State) → HoldsState cache state from → CanHaveNew state handle key → Passes old now (Finds (rest state)))
   new-stops stops from there state k can =
       let finds : (i : Image) → FindsWhileMade key from i → Finds (rest state) i = λ i while. while state k.layout handle k.kept can in
       passes_weaker (stops from there (has-room state from k can)) finds finds

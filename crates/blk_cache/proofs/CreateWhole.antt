@@ -25,7 +25,7 @@ use Rattle.law_state.proofs.Stopping.{stop-evicted}
 use Rattle.blk_script.specs.Reply.{evicted_text}
 use Rattle.blk_cache.specs.declared.cache.Cache.{Cache}
 use Rattle.blk_cache.specs.declared.covered.Covered.{Covered}
-use Rattle.blk_cache.specs.CacheKeeping.{KeepsState}
+use Rattle.blk_cache.specs.CacheKeeping.{HoldsState}
 use Rattle.blk_cache.specs.CommandClauses.{IsRefused, KeepsAny}
 use Rattle.blk_cache.specs.Covering.{no_parts}
 use Rattle.blk_cache.specs.Creating.{IsNotRefused, IsReadyForSome, IsReadyToCreate, WantsRoomAlone, create_refusal}
@@ -84,7 +84,7 @@ module _ (moment handle : ℕ) (key : List ℕ) where
 
   module _ (cache : Cache) (told : Told) (failed_before failed : Bool) (old new : Option (List ℕ)) where
     -- a refusal prints nothing of this
-    pub refused-says : (why : Refusal) → ForKept (KeepsState cache) told (λ state. refused moment (to_create handle key) state ≡ Some why) → SaysEvicted cache told moment (to_create handle key) failed_before failed_before old old
+    pub refused-says : (why : Refusal) → ForKept (HoldsState cache) told (λ state. refused moment (to_create handle key) state ≡ Some why) → SaysEvicted cache told moment (to_create handle key) failed_before failed_before old old
     refused-says why is image there state k = subst (λ (groups : List Group). PrintsUnlessFailed failed_before failed_before old old (evicted_text groups)) (sym (refused-groups state why (is image there state k))) (none-printed failed_before old)
 
     -- nor does what fails before
@@ -92,26 +92,26 @@ module _ (moment handle : ℕ) (key : List ℕ) where
     front-before image there state k = record { front = []; rest = evicted_text (step state moment (to_create handle key)).groups; split = refl; written = none-behind old }
 
     module _ (passes : IsNotRefused cache told moment handle key) where
-      pub made-says : ForKept (KeepsState cache) told (λ state. PrintsUnlessFailed failed_before failed old new (evicted_text (evicted_for (room state [] (length key) 1)))) → SaysEvicted cache told moment (to_create handle key) failed_before failed old new
+      pub made-says : ForKept (HoldsState cache) told (λ state. PrintsUnlessFailed failed_before failed old new (evicted_text (evicted_for (room state [] (length key) 1)))) → SaysEvicted cache told moment (to_create handle key) failed_before failed old new
       made-says prints image there state k = subst (λ (groups : List Group). PrintsUnlessFailed failed_before failed old new (evicted_text groups)) (sym (groups-made state (passes image there state k))) (prints image there state k)
 
-      pub made-front : ForKept (KeepsState cache) told (λ state. Appends old new (evicted_text (evicted_for (room state [] (length key) 1)))) → SaysPrefix cache told moment (to_create handle key) old new
+      pub made-front : ForKept (HoldsState cache) told (λ state. Appends old new (evicted_text (evicted_for (room state [] (length key) 1)))) → SaysPrefix cache told moment (to_create handle key) old new
       made-front front image there state k = subst (λ (groups : List Group). Appends old new (evicted_text groups)) (sym (groups-made state (passes image there state k))) (front image there state k)
 
 -- ---- lack of space
 
 module _ (cache : Cache) (told : Told) (moment handle : ℕ) (key : List ℕ) (alone : WantsRoomAlone cache told moment handle key) where
   -- where nothing else is wanted, it is refused where there is no space
-  pub full-refused : ForKept (KeepsState cache) told (λ state. is_full (room state [] (length key) 1) ≡ true) → ForKept (KeepsState cache) told (λ state. refused moment (to_create handle key) state ≡ Some refusal.Full)
+  pub full-refused : ForKept (HoldsState cache) told (λ state. is_full (room state [] (length key) 1) ≡ true) → ForKept (HoldsState cache) told (λ state. refused moment (to_create handle key) state ≡ Some refusal.Full)
   full-refused over image there state k = refused-full moment handle key state (alone image there state k) (over image there state k)
 
   -- and not where there is
-  pub free-passes : ForKept (KeepsState cache) told (λ state. is_full (room state [] (length key) 1) ≡ false) → IsNotRefused cache told moment handle key
+  pub free-passes : ForKept (HoldsState cache) told (λ state. is_full (room state [] (length key) 1) ≡ false) → IsNotRefused cache told moment handle key
   free-passes free image there state k = not-refused moment handle key state (alone image there state k) (free image there state k)
 
 -- what is evicted where there is space is evicted for a Create that isn't refused
 pub room-groups : (cache : Cache) (told : Told) (moment handle : ℕ) (key : List ℕ) (parts : Covered) (P : State → List Group → Type 0) → parts ≡ no_parts → IsNotRefused cache told moment handle key
-    → ForRoom cache parts told (length key) 1 P → ForKept (KeepsState cache) told (λ state. P state (evicted_for (room state [] (length key) 1)))
+    → ForRoom cache parts told (length key) 1 P → ForKept (HoldsState cache) told (λ state. P state (evicted_for (room state [] (length key) 1)))
 room-groups cache told moment handle key parts P none passes holds image there state k =
     for-none cache parts told (λ state covered. is_full (room state covered (length key) 1) ≡ false → P state (evicted_for (room state covered (length key) 1))) none holds image there state k
     (has-room moment handle key state (passes image there state k))
@@ -124,37 +124,37 @@ there-after told mid P p image there = (after p.steps image, p.applies.files ∙
 
 module _ (cache : Cache) (told mid : Told) (moment handle : ℕ) (key : List ℕ)
     (passes : IsNotRefused cache told moment handle key)
-    (evicting : ForKept (KeepsState cache) told (λ state. Passes told mid (IsEvicting (evicted_for (room state [] (length key) 1)) state))) where
+    (evicting : ForKept (HoldsState cache) told (λ state. Passes told mid (IsEvicting (evicted_for (room state [] (length key) 1)) state))) where
   -- at a word at which space is made it may crash
-  room-stop : (image i : Image) (state : State) → told.files ≡ Some image → KeepsState cache state image → IsEvicting (evicted_for (room state [] (length key) 1)) state i → MayStop state moment (to_create handle key) i
+  room-stop : (image i : Image) (state : State) → told.files ≡ Some image → HoldsState cache state image → IsEvicting (evicted_for (room state [] (length key) 1)) state i → MayStop state moment (to_create handle key) i
   room-stop image i state there k e = stop-evicted state moment (to_create handle key) e.first e.others i k.kept.entries.valid (record { passes = passes image there state k; groups = evicted-is moment handle key state ∙ e.split }) e.finds
 
-  pub room-stops : MayStopAtEach (KeepsState cache) told mid moment (to_create handle key)
+  pub room-stops : MayStopAtEach (HoldsState cache) told mid moment (to_create handle key)
   room-stops image there state k =
       let may : (i : Image) → IsEvicting (evicted_for (room state [] (length key) 1)) state i → MayStop state moment (to_create handle key) i = λ i e. room-stop image i state there k e in
       passes_weaker (evicting image there state k) may may
 
-  module _ (new : Cache) (made : ForKept (KeepsState cache) told (λ state. ForSome mid.files (KeepsState new (without (evicted_for (room state [] (length key) 1)) state)))) where
+  module _ (new : Cache) (made : ForKept (HoldsState cache) told (λ state. ForSome mid.files (HoldsState new (without (evicted_for (room state [] (length key) 1)) state)))) where
     -- then the object is to be made
-    pub ready : (image from : Image) (state : State) → told.files ≡ Some image → mid.files ≡ Some from → KeepsState cache state image → IsReadyToCreate new state moment handle key from
+    pub ready : (image from : Image) (state : State) → told.files ≡ Some image → mid.files ≡ Some from → HoldsState cache state image → IsReadyToCreate new state moment handle key from
     ready image from state there here k = record {
       valid = k.kept.entries.valid;
       passes = passes image there state k;
-      kept = subst (λ (groups : List Group). KeepsState new (without groups state) from) (sym (evicted-is moment handle key state)) (made image there state k from here);
+      kept = subst (λ (groups : List Group). HoldsState new (without groups state) from) (sym (evicted-is moment handle key state)) (made image there state k from here);
     }
 
     pub ready-for-some : (image : Image) → told.files ≡ Some image → KeepsAny cache image → ForSome mid.files (IsReadyForSome new handle key)
     ready-for-some image there some from here = record { state = some.0; moment = moment; ready = ready image from some.0 there here some.1 }
 
     module _ (now : Told) where
-      pub whole-stops : ForSome mid.files (λ from. (state : State) → IsReadyToCreate new state moment handle key from → Passes mid now (MayStop state moment (to_create handle key))) → MayStopAtEach (KeepsState cache) told now moment (to_create handle key)
+      pub whole-stops : ForSome mid.files (λ from. (state : State) → IsReadyToCreate new state moment handle key from → Passes mid now (MayStop state moment (to_create handle key))) → MayStopAtEach (HoldsState cache) told now moment (to_create handle key)
       whole-stops stops image there state k =
           let first : Passes told mid (MayStop state moment (to_create handle key)) = room-stops image there state k in
           let at = there-after told mid (MayStop state moment (to_create handle key)) first image there in
           passes_then first (stops at.0 at.1 state (ready image at.0 state there at.1 k))
 
-      pub whole-does : (last : Cache) (answer : Answer) → ForSome mid.files (λ from. (state : State) → IsReadyToCreate new state moment handle key from → IsDone (KeepsState last) now moment (to_create handle key) answer state)
-          → Does (KeepsState cache) (KeepsState last) told now moment (to_create handle key) answer
+      pub whole-does : (last : Cache) (answer : Answer) → ForSome mid.files (λ from. (state : State) → IsReadyToCreate new state moment handle key from → IsDone (HoldsState last) now moment (to_create handle key) answer state)
+          → Does (HoldsState cache) (HoldsState last) told now moment (to_create handle key) answer
       whole-does last answer does image there state k =
           let at = there-after told mid (MayStop state moment (to_create handle key)) (room-stops image there state k) image there in
           does at.0 at.1 state (ready image at.0 state there at.1 k)

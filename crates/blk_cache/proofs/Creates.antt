@@ -31,7 +31,7 @@ use Rattle.blk_object.specs.declared.making.Made.{Made}
 use Rattle.blk_object.specs.Making.{CanHaveNew, HasNewObject}
 use Rattle.blk_object.specs.Writing.{node_of_object}
 use Rattle.blk_cache.specs.declared.cache.Cache.{Cache}
-use Rattle.blk_cache.specs.CacheKeeping.{IsBoundAs, IsBoundTo, KeepsState, named_from, named_objects}
+use Rattle.blk_cache.specs.CacheKeeping.{IsBoundAs, IsBoundTo, HoldsState, named_from, named_objects}
 use Rattle.blk_cache.specs.Creating.{sum_within}
 use Rattle.blk_cache.proofs.BoundObjects.{bound-more, free-of, number-of, one-object, same-bound}
 use Rattle.blk_cache.proofs.NamedObjects.{IsOneMore, count-more, named-new, named-total}
@@ -103,7 +103,7 @@ module _ (state : State) (handle : ℕ) (key : List ℕ) where
 
 -- ---- the cache
 
-module _ (cache : Cache) (state : State) (from image : Image) (k : KeepsState cache state from) (handle : ℕ) (key : List ℕ) (made : Made) (can : CanHaveNew state handle key) (has : HasNewObject state k.layout handle key made from image) where
+module _ (cache : Cache) (state : State) (from image : Image) (k : HoldsState cache state from) (handle : ℕ) (key : List ℕ) (made : Made) (can : CanHaveNew state handle key) (has : HasNewObject state k.layout handle key made from image) where
   abbrev next : State
   next = created handle key state
 
@@ -218,7 +218,7 @@ module _ (cache : Cache) (state : State) (from image : Image) (k : KeepsState ca
 
     pub created-keeps : (new : Cache) (files : BlockFiles) → Agrees files image → total state + length key ≤ state.limits.max_bytes
         → new.handles ≡ set cache.handles handle (Some (binding_for cache.handles made.entry node true)) → new.items ≡ sum_within cache.items 1 → new.bytes ≡ sum_within cache.bytes (length key) → new.open_bytes ≡ sum_within cache.open_bytes (length key)
-        → new.limits ≡ cache.limits → new.files ≡ files → new.mark ≡ cache.mark → KeepsState new next image
+        → new.limits ≡ cache.limits → new.files ≡ files → new.mark ≡ cache.mark → HoldsState new next image
     created-keeps new files agrees room binds items-now bytes-now open-now limits-now files-now mark-now =
         let binds-new : new.handles ≡ now = binds ∙ ap (λ (b : Binding). set cache.handles handle (Some b)) bound-now in
         let few = can.few in

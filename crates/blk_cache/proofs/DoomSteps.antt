@@ -25,7 +25,7 @@ use Rattle.blk_object.specs.RemovingObjects.{FindsEither}
 use Rattle.blk_object.specs.Writing.{node_of_object}
 use Rattle.blk_cache.specs.declared.cache.Cache.{Cache}
 use Rattle.blk_cache.specs.declared.dooming_objects.Target.{Target}
-use Rattle.blk_cache.specs.CacheKeeping.{IsBoundTo, KeepsState}
+use Rattle.blk_cache.specs.CacheKeeping.{IsBoundTo, HoldsState}
 use Rattle.blk_cache.specs.Dooming.{ForEachKept, ForEachOpen, doom_refusal}
 use Rattle.blk_cache.specs.DoomingObjects.{IsTargetAt, LiesOpen}
 use Rattle.blk_cache.proofs.BoundObjects.{free-of, named-at, number-of}
@@ -81,19 +81,19 @@ record Dooms (state : State) (moment : ℕ) (request : Request) (number : ℕ) (
   is : IsDoomOf request state number
   here : object_at state number ≡ Some object
 
-either-stops : (cache : Cache) (state : State) (from : Image) (k : KeepsState cache state from) (moment : ℕ) (request : Request) (number : ℕ) (object : Object) → Dooms state moment request number object → (image : Image) → FindsEither state (doomed number state (Some object)) image → MayStop state moment request image
+either-stops : (cache : Cache) (state : State) (from : Image) (k : HoldsState cache state from) (moment : ℕ) (request : Request) (number : ℕ) (object : Object) → Dooms state moment request number object → (image : Image) → FindsEither state (doomed number state (Some object)) image → MayStop state moment request image
 either-stops cache state from k moment request number object d image finds = ⊎_elim
     (λ found. dooms-stop state moment request number object true image k.kept.entries.valid d.can d.passes d.is d.here found)
     (λ found. dooms-stop state moment request number object false image k.kept.entries.valid d.can d.passes d.is d.here found)
     finds
 
-doom-kept : (new : Cache) (state : State) (image : Image) (moment : ℕ) (request : Request) (number : ℕ) (object : Object) → Dooms state moment request number object → KeepsState new (doomed number state (Some object)) image → KeepsState new (step state moment request).state image
-doom-kept new state image moment request number object d kept = subst (λ (s : State). KeepsState new s image) (sym (dooms-end state moment request number object d.passes d.is d.here)) kept
+doom-kept : (new : Cache) (state : State) (image : Image) (moment : ℕ) (request : Request) (number : ℕ) (object : Object) → Dooms state moment request number object → HoldsState new (doomed number state (Some object)) image → HoldsState new (step state moment request).state image
+doom-kept new state image moment request number object d kept = subst (λ (s : State). HoldsState new s image) (sym (dooms-end state moment request number object d.passes d.is d.here)) kept
 
 -- ---- Doom
 
 module _ (cache : Cache) (handle : ℕ) (small : handle < 2 ^ 16) (b : Binding) (bound : binding_of cache.handles handle ≡ Some b) where
-  module _ (state : State) (image : Image) (k : KeepsState cache state image) where
+  module _ (state : State) (image : Image) (k : HoldsState cache state image) where
     abbrev number : ℕ
     number = (number-of state k.layout [] image k.kept.entries state.names cache.handles k.names handle b bound).0
 
@@ -138,39 +138,39 @@ module _ (cache : Cache) (handle : ℕ) (small : handle < 2 ^ 16) (b : Binding) 
       dooms moment = record { can = small; passes = live-passes state moment handle number it.object below named it.here (alive lives); is = named; here = it.here }
 
   module _ (lives : b.doomed ≡ false) (old now : Told) (moment : ℕ) where
-    pub doom-stops : ForSome old.files (λ from. ForEachOpen cache b.node b.entry from (λ state number object. Passes old now (FindsEither state (doomed number state (Some object))))) → MayStopAtEach (KeepsState cache) old now moment (to_doom handle)
+    pub doom-stops : ForSome old.files (λ from. ForEachOpen cache b.node b.entry from (λ state number object. Passes old now (FindsEither state (doomed number state (Some object))))) → MayStopAtEach (HoldsState cache) old now moment (to_doom handle)
     doom-stops stops image here state k =
         let may = either-stops cache state image k moment (to_doom handle) (number state image k) (it state image k).object (dooms state image k lives moment) in
         passes_weaker (stops image here state k (number state image k) (it state image k).object (lies-open state image k lives)) may may
 
-    pub doom-done : (new : Cache) → ForSome old.files (λ from. ForEachOpen cache b.node b.entry from (λ state number object. ForSome now.files (KeepsState new (doomed number state (Some object))))) → Does (KeepsState cache) (KeepsState new) old now moment (to_doom handle) answer.Done
+    pub doom-done : (new : Cache) → ForSome old.files (λ from. ForEachOpen cache b.node b.entry from (λ state number object. ForSome now.files (HoldsState new (doomed number state (Some object))))) → Does (HoldsState cache) (HoldsState new) old now moment (to_doom handle) answer.Done
     doom-done new done image here state k = record {
       answered = sym (doom-answer state moment handle (dooms state image k lives moment).passes);
       kept = λ i there. doom-kept new state i moment (to_doom handle) (number state image k) (it state image k).object (dooms state image k lives moment)
           (done image here state k (number state image k) (it state image k).object (lies-open state image k lives) i there);
     }
 
-pub free-refused : (cache : Cache) (state : State) (image : Image) (k : KeepsState cache state image) (moment handle : ℕ) → binding_of cache.handles handle ≡ None → refused moment (to_doom handle) state ≡ Some refusal.BadHandle
+pub free-refused : (cache : Cache) (state : State) (image : Image) (k : HoldsState cache state image) (moment handle : ℕ) → binding_of cache.handles handle ≡ None → refused moment (to_doom handle) state ≡ Some refusal.BadHandle
 free-refused cache state image k moment handle free = unnamed-refused state moment handle (free-of state k.layout [] image k.kept.entries state.names cache.handles k.names handle free)
 
 -- ---- DoomKey
 
 module _ (cache : Cache) (key : List ℕ) (bytes : IsBytes key) (some : no_key key ≡ false) (target : Target) where
-  key-dooms : (state : State) (image : Image) (k : KeepsState cache state image) (at : IsTargetAt state k.layout key target) (moment : ℕ) → Dooms state moment (to_doom_key key) at.number at.object
+  key-dooms : (state : State) (image : Image) (k : HoldsState cache state image) (at : IsTargetAt state k.layout key target) (moment : ℕ) → Dooms state moment (to_doom_key key) at.number at.object
   key-dooms state image k at moment = record { can = bytes; passes = key-passes state moment key at.number some at.is; is = at.is; here = at.lies.here }
 
-  module _ (old mid now : Told) (stays : mid ≡ old) (moment : ℕ) (found : ForSome old.files (λ image. (state : State) (k : KeepsState cache state image) → IsTargetAt state k.layout key target)) where
+  module _ (old mid now : Told) (stays : mid ≡ old) (moment : ℕ) (found : ForSome old.files (λ image. (state : State) (k : HoldsState cache state image) → IsTargetAt state k.layout key target)) where
     now-here : (image : Image) → old.files ≡ Some image → mid.files ≡ Some image
     now-here image here = ap (λ (t : Told). t.files) stays ∙ here
 
-    pub key-stops : ForSome mid.files (λ from. ForEachKept cache key target from (λ state number object. Passes mid now (FindsEither state (doomed number state (Some object))))) → MayStopAtEach (KeepsState cache) old now moment (to_doom_key key)
+    pub key-stops : ForSome mid.files (λ from. ForEachKept cache key target from (λ state number object. Passes mid now (FindsEither state (doomed number state (Some object))))) → MayStopAtEach (HoldsState cache) old now moment (to_doom_key key)
     key-stops stops image here state k =
         let at = found image here state k in
         let may = either-stops cache state image k moment (to_doom_key key) at.number at.object (key-dooms state image k at moment) in
         subst (λ (t : Told). Passes t now (MayStop state moment (to_doom_key key))) stays
         (passes_weaker (stops image (now-here image here) state k at.number at.object at.lies at.of_key) may may)
 
-    pub key-done : (new : Cache) → ForSome mid.files (λ from. ForEachKept cache key target from (λ state number object. ForSome now.files (KeepsState new (doomed number state (Some object))))) → Does (KeepsState cache) (KeepsState new) old now moment (to_doom_key key) answer.Done
+    pub key-done : (new : Cache) → ForSome mid.files (λ from. ForEachKept cache key target from (λ state number object. ForSome now.files (HoldsState new (doomed number state (Some object))))) → Does (HoldsState cache) (HoldsState new) old now moment (to_doom_key key) answer.Done
     key-done new done image here state k =
         let at = found image here state k in
         record {
@@ -194,7 +194,7 @@ bound-object bindings handle r object e is = by (binding_of bindings handle) ref
   by (Some b) at h = record { binding = b; bound = at; same = some_inj (h ∙ ap (option_map (open_object bindings)) at) }
 
 module _ (cache : Cache) (handle : ℕ) (small : handle < 2 ^ 16) (object : OpenObject) (given : IsGivenFor cache.handles handle object) where
-  pub given-refused : object.doomed ≡ true → (moment : ℕ) (state : State) (image : Image) (k : KeepsState cache state image) → refused moment (to_doom handle) state ≡ Some refusal.Doomed
+  pub given-refused : object.doomed ≡ true → (moment : ℕ) (state : State) (image : Image) (k : HoldsState cache state image) → refused moment (to_doom handle) state ≡ Some refusal.Doomed
   given-refused dead moment state image k = doomed-refused cache handle small given.binding given.bound state image k (ap (λ (o : OpenObject). o.doomed) (sym given.same) ∙ dead) moment
 
   module _ (lives : object.doomed ≡ false) where
@@ -202,16 +202,16 @@ module _ (cache : Cache) (handle : ℕ) (small : handle < 2 ^ 16) (object : Open
     lives-so = ap (λ (o : OpenObject). o.doomed) (sym given.same) ∙ lives
 
     module _ (old now : Told) where
-      pub given-stops : ForSome old.files (λ from. ForEachOpen cache object.node object.entry from (λ state number object. Passes old now (FindsEither state (doomed number state (Some object))))) → (moment : ℕ) → MayStopAtEach (KeepsState cache) old now moment (to_doom handle)
+      pub given-stops : ForSome old.files (λ from. ForEachOpen cache object.node object.entry from (λ state number object. Passes old now (FindsEither state (doomed number state (Some object))))) → (moment : ℕ) → MayStopAtEach (HoldsState cache) old now moment (to_doom handle)
       given-stops stops moment = doom-stops cache handle small given.binding given.bound lives-so old now moment
           (subst (λ (o : OpenObject). ForSome old.files (λ from. ForEachOpen cache o.node o.entry from (λ state number object. Passes old now (FindsEither state (doomed number state (Some object)))))) given.same stops)
 
-      pub given-done : (new : Cache) → ForSome old.files (λ from. ForEachOpen cache object.node object.entry from (λ state number object. ForSome now.files (KeepsState new (doomed number state (Some object))))) → (moment : ℕ) → Does (KeepsState cache) (KeepsState new) old now moment (to_doom handle) answer.Done
+      pub given-done : (new : Cache) → ForSome old.files (λ from. ForEachOpen cache object.node object.entry from (λ state number object. ForSome now.files (HoldsState new (doomed number state (Some object))))) → (moment : ℕ) → Does (HoldsState cache) (HoldsState new) old now moment (to_doom handle) answer.Done
       given-done new done moment = doom-done cache handle small given.binding given.bound lives-so old now moment new
-          (subst (λ (o : OpenObject). ForSome old.files (λ from. ForEachOpen cache o.node o.entry from (λ state number object. ForSome now.files (KeepsState new (doomed number state (Some object)))))) given.same done)
+          (subst (λ (o : OpenObject). ForSome old.files (λ from. ForEachOpen cache o.node o.entry from (λ state number object. ForSome now.files (HoldsState new (doomed number state (Some object)))))) given.same done)
 
     -- where a state is kept its object lies open
-    pub given-lies : (P : Type 0) (image : Image) (state : State) (k : KeepsState cache state image) → ForEachOpen cache object.node object.entry image (λ state number object. P) → P
+    pub given-lies : (P : Type 0) (image : Image) (state : State) (k : HoldsState cache state image) → ForEachOpen cache object.node object.entry image (λ state number object. P) → P
     given-lies P image state k all =
         subst (λ (o : OpenObject). ForEachOpen cache o.node o.entry image (λ state number object. P)) given.same all state k
         (number cache handle small given.binding given.bound state image k) (it cache handle small given.binding given.bound state image k).object (lies-open cache handle small given.binding given.bound state image k lives-so)

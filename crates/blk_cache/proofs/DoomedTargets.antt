@@ -28,7 +28,7 @@ use Rattle.law_state.specs.GroupLaws.{gone_nodes, layout_less}
 use Rattle.law_state.specs.Keeping.{Keeps}
 use Rattle.law_state.specs.RemovalLaws.{chains_without, layout_removed}
 use Rattle.law_state.specs.WholeRemovals.{layout_doomed_whole}
-use Rattle.law_state.proofs.Keeping.{kept-found}
+use Rattle.law_state.proofs.Keeping.{kept-held}
 use Rattle.blk_object.specs.Dooming.{layout_held}
 use Rattle.blk_object.specs.Owning.{LoadsWith}
 use Rattle.blk_object.specs.RemovingFound.{LiesAsFound}
@@ -83,7 +83,7 @@ module _ {held : Bool} (state : State) (layout : Layout) (image : Image) (number
 
   -- the durable contents are recovered
   pub at-rest : FindsEither state (doomed number state (Some object)) image
-  at-rest = inl (k.entries.well_formed, kept-found state layout [] image k.entries)
+  at-rest = inl (k.entries.sound, kept-held state layout [] image k.entries)
 
   -- its record loads
   pub loads : LoadsWith target.found.entry was image

@@ -18,7 +18,7 @@ use Rattle.blk_sparse.specs.declared.dropping.Gone.{Gone}
 use Rattle.blk_object.specs.Writing.{node_of_object}
 use Rattle.blk_cache.specs.declared.cache.Cache.{Cache}
 use Rattle.blk_cache.specs.BoundNames.{AreBoundAmong}
-use Rattle.blk_cache.specs.CacheKeeping.{IsBoundAs, IsBoundTo, KeepsState}
+use Rattle.blk_cache.specs.CacheKeeping.{IsBoundAs, IsBoundTo, HoldsState}
 use Rattle.blk_cache.specs.Dooming.{CountsDoomed}
 use Rattle.blk_cache.specs.DoomingObjects.{IsDoomed}
 use Rattle.blk_cache.proofs.BoundObjects.{open-is-named}
@@ -35,7 +35,7 @@ doomed-stand files bindings stand entry name c here = by (binding_of bindings na
   by None is e = absurd (let z : ◌≡◌ {A = Option Binding} None (Some c) = e in cc)
   by (Some b) is e = one b is (entry == b.entry) (some_inj e)
 
-module _ (old : Cache) (state : State) (from : Image) (k : KeepsState old state from) (number : ℕ) (object : Object) (loaded : Loaded) (p : IsPlacedAsLive state k.layout number object loaded) where
+module _ (old : Cache) (state : State) (from : Image) (k : HoldsState old state from) (number : ℕ) (object : Object) (loaded : Loaded) (p : IsPlacedAsLive state k.layout number object loaded) where
   at-node : k.layout.at (node_of_object k.layout number object) ≡ Some loaded
   at-node = ap (λ (b : Bool). k.layout.at (if b then k.layout.place (main object.key) else k.layout.place_of_doomed number)) p.live ∙ p.at
 
@@ -52,7 +52,7 @@ module _ (old : Cache) (state : State) (from : Image) (k : KeepsState old state 
   limits-same = refl
 
   -- the cache keeps the state with the object doomed
-  pub doomed-keeps : (new : Cache) (entry : ℕ) → loaded.contents ≡ entry → (gone : Gone) (image : Image) → IsDoomed state k.layout number object gone from image → CountsDoomed old new entry gone → Agrees new.files image → KeepsState new (doomed number state (Some object)) image
+  pub doomed-keeps : (new : Cache) (entry : ℕ) → loaded.contents ≡ entry → (gone : Gone) (image : Image) → IsDoomed state k.layout number object gone from image → CountsDoomed old new entry gone → Agrees new.files image → HoldsState new (doomed number state (Some object)) image
   doomed-keeps new entry entry_is gone image o c agrees =
       let same = named-after state number object p.here in
       let items_were = k.items_are in

@@ -10,7 +10,7 @@ use Rattle.spec_format.specs.Headers.{HasWholeIndex, index_version, version_of}
 use Rattle.spec_image.specs.Footprint.{SameOutside, one_word}
 use Rattle.blk_model.specs.State.{State, is_named, named_by}
 use Rattle.spec_format.proofs.Counts.{its-version}
-use Rattle.spec_format.proofs.Finished.{whole_index}
+use Rattle.spec_format.proofs.Finished.{sound-whole}
 use Rattle.spec_folder.specs.Found.{HoldsStill}
 use Rattle.spec_folder.specs.Layout.{Layout}
 use Rattle.law_folder.proofs.updates.IndexWords.{word-still}
@@ -26,29 +26,32 @@ use Rattle.law_recovery.proofs.SoundFolders.{sound-mended}
 use Rattle.blk_handles.specs.Bindings.{Binding}
 use Rattle.blk_cache.specs.declared.cache.Cache.{Cache}
 use Rattle.blk_cache.specs.BoundNames.{AreAllFree}
-use Rattle.blk_cache.specs.CacheKeeping.{IsBoundAs, KeepsState}
+use Rattle.blk_cache.specs.CacheKeeping.{IsBoundAs, HoldsState, KeepsState}
 use Rattle.blk_cache.specs.OpeningLaws.{FreeCachesEndSound, FreeCachesHoldStill, KeptFoldersAreOpen}
 use Rattle.blk_cache.proofs.Unnamed.{none-among, unnamed-rests}
 
 pub kept-open : KeptFoldersAreOpen
-kept-open cache state image k = record { agrees = k.files; whole_index = whole_index image k.kept.entries.well_formed }
+kept-open cache state image k = record { agrees = k.files; whole_index = sound-whole image k.kept.entries.sound }
 
 -- where no name is bound, the state names nothing
 free-named : (state : State) (layout : Layout) (o : Option ℕ) → IsBoundAs state layout o None → o ≡ None
 free-named state layout None is = refl
 free-named state layout (Some number) is = absurd is
 
-free-unnamed : (cache : Cache) (state : State) (image : Image) → KeepsState cache state image → AreAllFree cache.handles → (number : ℕ) → is_named state number ≡ false
+free-unnamed : (cache : Cache) (state : State) (image : Image) → HoldsState cache state image → AreAllFree cache.handles → (number : ℕ) → is_named state number ≡ false
 free-unnamed cache state image k free number =
     none-among state.names number (λ i. free-named state k.layout (named_by state i) (subst (λ (o : Option Binding). IsBoundAs state k.layout (named_by state i) o) (free i) (k.names i)))
 
 -- then it is repaired
-module _ (cache : Cache) (state : State) (from image : Image) (k : KeepsState cache state from) (free : AreAllFree cache.handles) (outside : SameOutside (one_word Index 32) from image) where
+module _ (cache : Cache) (state : State) (from image : Image) (keeps-it : KeepsState cache state from) (free : AreAllFree cache.handles) (outside : SameOutside (one_word Index 32) from image) where
+  k : HoldsState cache state from
+  k = keeps-it.holds
+
   version-was : version_of (byte from Index) ≡ index_version
   version-was = its-version (byte from Index) (length state.uses) (charged state k.layout) k.kept.counters
 
   was : IsMended from
-  was = sound-mended from (kept-sound state k.layout from k.kept (unnamed-rests state k.kept.entries.valid (free-unnamed cache state from k free))) version-was
+  was = sound-mended from (kept-sound state k.layout from k.kept keeps-it.finished (unnamed-rests state k.kept.entries.valid (free-unnamed cache state from k free))) version-was
 
   -- the version stays
   version-now : version_of (byte image Index) ≡ index_version

@@ -8,7 +8,7 @@ use Rattle.blk_disk.specs.Tables.{Agrees}
 use Rattle.blk_cache.specs.declared.cache.Cache.{Cache}
 use Rattle.blk_sparse.specs.declared.dropping.Gone.{Gone}
 use Rattle.blk_evict.specs.declared.list_places.Unpinned.{Unpinned}
-use Rattle.blk_cache.specs.CacheKeeping.{KeepsState}
+use Rattle.blk_cache.specs.CacheKeeping.{HoldsState}
 use Rattle.blk_cache.specs.Evicting.{KeepsInPlaces, OnlyItemsChange}
 use Rattle.blk_evict.specs.EvictingGroups.{IsGroupOut}
 use Rattle.blk_evict.specs.RoomLaws.{group_for}
@@ -16,7 +16,7 @@ use Rattle.blk_evict.specs.ListPlaces.{MayGoAt}
 use Rattle.blk_evict.proofs.RoomCounts.{counted-less}
 use Rattle.blk_cache.proofs.RoomKept.{evicted-kept}
 
-pub out-kept : (old new : Cache) (state : State) (from image : Image) (k : KeepsState old state from) (found : Unpinned) (at : MayGoAt state k.layout found) (gone : Gone) → IsGroupOut state k.layout (group_for at.item at.front) gone from image
+pub out-kept : (old new : Cache) (state : State) (from image : Image) (k : HoldsState old state from) (found : Unpinned) (at : MayGoAt state k.layout found) (gone : Gone) → IsGroupOut state k.layout (group_for at.item at.front) gone from image
     → new.items ≡ old.items - gone.items → new.bytes ≡ old.bytes - gone.bytes → OnlyItemsChange old new → Agrees new.files image
     → KeepsInPlaces new (without (group_for at.item at.front ∷ []) state) k.layout image
 out-kept old new state from image k found at gone o items bytes only agrees =

@@ -18,7 +18,7 @@ use Rattle.law_state.specs.Commands.{Does, ForKept, IsDone, MayStop, MayStopAtEa
 use Rattle.law_state.proofs.Stopping.{stop-evicted}
 use Rattle.blk_script.specs.Reply.{evicted_text}
 use Rattle.blk_cache.specs.declared.cache.Cache.{Cache}
-use Rattle.blk_cache.specs.CacheKeeping.{KeepsState}
+use Rattle.blk_cache.specs.CacheKeeping.{HoldsState}
 use Rattle.blk_cache.specs.CommandClauses.{KeepsAny}
 use Rattle.blk_cache.specs.Evicting.{IsEvicting}
 use Rattle.blk_evict.specs.RoomPrinting.{PrintsUnlessFailed}
@@ -31,32 +31,32 @@ pub passed-groups : (moment : ℕ) (request : Request) (state : State) → refus
 unfolding step outcome
 passed-groups moment request state is = ap (λ (o : Option Refusal). (outcome moment request state o).groups) is
 
-module _ (moment : ℕ) (request : Request) (cache : Cache) (told : Told) (passes : ForKept (KeepsState cache) told (λ state. refused moment request state ≡ None)) where
+module _ (moment : ℕ) (request : Request) (cache : Cache) (told : Told) (passes : ForKept (HoldsState cache) told (λ state. refused moment request state ≡ None)) where
   -- what is evicted is printed
-  pub passed-says : (failed_before failed : Bool) (old new : Option (List ℕ)) → ForKept (KeepsState cache) told (λ state. PrintsUnlessFailed failed_before failed old new (evicted_text (evicted moment request state))) → SaysEvicted cache told moment request failed_before failed old new
+  pub passed-says : (failed_before failed : Bool) (old new : Option (List ℕ)) → ForKept (HoldsState cache) told (λ state. PrintsUnlessFailed failed_before failed old new (evicted_text (evicted moment request state))) → SaysEvicted cache told moment request failed_before failed old new
   passed-says failed_before failed old new prints image there state k = subst (λ (groups : List Group). PrintsUnlessFailed failed_before failed old new (evicted_text groups)) (sym (passed-groups moment request state (passes image there state k))) (prints image there state k)
 
   -- or a prefix of it
-  pub passed-front : (old new : Option (List ℕ)) → ForKept (KeepsState cache) told (λ state. Appends old new (evicted_text (evicted moment request state))) → SaysPrefix cache told moment request old new
+  pub passed-front : (old new : Option (List ℕ)) → ForKept (HoldsState cache) told (λ state. Appends old new (evicted_text (evicted moment request state))) → SaysPrefix cache told moment request old new
   passed-front old new front image there state k = subst (λ (groups : List Group). Appends old new (evicted_text groups)) (sym (passed-groups moment request state (passes image there state k))) (front image there state k)
 
-  module _ (mid : Told) (evicting : ForKept (KeepsState cache) told (λ state. Passes told mid (IsEvicting (evicted moment request state) state))) where
+  module _ (mid : Told) (evicting : ForKept (HoldsState cache) told (λ state. Passes told mid (IsEvicting (evicted moment request state) state))) where
     -- at a word at which it evicts it may crash
-    pub evicting-stops : MayStopAtEach (KeepsState cache) told mid moment request
+    pub evicting-stops : MayStopAtEach (HoldsState cache) told mid moment request
     evicting-stops image there state k =
         let may : (i : Image) → IsEvicting (evicted moment request state) state i → MayStop state moment request i
         = λ i e. stop-evicted state moment request e.first e.others i k.kept.entries.valid (record { passes = passes image there state k; groups = e.split }) e.finds in
         passes_weaker (evicting image there state k) may may
 
     -- and then it is to be ended
-    module _ (Ready : State → Image → Type 0) (ready : (image from : Image) (state : State) → told.files ≡ Some image → mid.files ≡ Some from → KeepsState cache state image → Ready state from) where
+    module _ (Ready : State → Image → Type 0) (ready : (image from : Image) (state : State) → told.files ≡ Some image → mid.files ≡ Some from → HoldsState cache state image → Ready state from) where
       module _ (now : Told) where
-        pub then-stops : ForSome mid.files (λ from. (state : State) → Ready state from → Passes mid now (MayStop state moment request)) → MayStopAtEach (KeepsState cache) told now moment request
+        pub then-stops : ForSome mid.files (λ from. (state : State) → Ready state from → Passes mid now (MayStop state moment request)) → MayStopAtEach (HoldsState cache) told now moment request
         then-stops stops image there state k =
             let at = there-after told mid (MayStop state moment request) (evicting-stops image there state k) image there in
             passes_then (evicting-stops image there state k) (stops at.0 at.1 state (ready image at.0 state there at.1 k))
 
-        pub then-does : (last : Cache) (answer : Answer) → ForSome mid.files (λ from. (state : State) → Ready state from → IsDone (KeepsState last) now moment request answer state) → Does (KeepsState cache) (KeepsState last) told now moment request answer
+        pub then-does : (last : Cache) (answer : Answer) → ForSome mid.files (λ from. (state : State) → Ready state from → IsDone (HoldsState last) now moment request answer state) → Does (HoldsState cache) (HoldsState last) told now moment request answer
         then-does last answer does image there state k =
             let at = there-after told mid (MayStop state moment request) (evicting-stops image there state k) image there in
             does at.0 at.1 state (ready image at.0 state there at.1 k)

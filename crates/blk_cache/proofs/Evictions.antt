@@ -28,13 +28,13 @@ use Rattle.law_folder.proofs.commands.Removing.{in-filter}
 use Rattle.blk_lru.specs.Lists.{first_node_of}
 use Rattle.law_state.specs.Changes.{Finds}
 use Rattle.law_state.proofs.CommandEnding.{groups-turn}
-use Rattle.law_state.proofs.Keeping.{kept-found}
+use Rattle.law_state.proofs.Keeping.{kept-held}
 use Rattle.blk_object.specs.RemovingObjects.{FindsEither}
 use Rattle.blk_object.proofs.MakingRoom.{uses-few}
 use Rattle.blk_cache.specs.declared.cache.Cache.{Cache}
 use Rattle.blk_evict.specs.declared.list_places.Unpinned.{Unpinned}
 use Rattle.blk_cache.specs.declared.covered.Covered.{Covered}
-use Rattle.blk_cache.specs.CacheKeeping.{KeepsState}
+use Rattle.blk_cache.specs.CacheKeeping.{HoldsState}
 use Rattle.blk_cache.specs.Covering.{LieCovered, covers}
 use Rattle.blk_cache.specs.Evicting.{IsEvicting, KeepsInPlaces, count_of_groups}
 use Rattle.blk_evict.specs.RoomLaws.{AreAllPinned, AreOfNamed, IsOfNamed, MayGo, group_for}
@@ -144,7 +144,7 @@ text-both first others = ap (flat_map evicted_line) (flat_map-append items_of_gr
 
 -- a cache keeps a state, whose items are pinned from a node on, where parts are covered
 pub record KeepsFrom (cache : Cache) (state : State) (covered : List Item) (parts : Covered) (behind : Option ℕ) (image : Image) : Type 0 where
-  pub kept : KeepsState cache state image
+  pub kept : HoldsState cache state image
   pub lie : LieCovered state kept.layout covered parts
   pub pinned : IsPinnedFrom state kept.layout covered behind
 
@@ -161,10 +161,10 @@ pub record HasEvicted (enough : State → Bool) (state : State) (covered : List 
   pub prints : PrintsUnlessFailed failed_before failed w0 w1 (evicted_text first)
   pub passes : Passes told now (IsEvicting (evicted_until enough state covered) state)
 
-pub none-finds : (cache : Cache) (state : State) (image : Image) → KeepsState cache state image → Finds (rest state) image
-none-finds cache state image k = (k.kept.entries.well_formed, kept-found state k.layout [] image k.kept.entries)
+pub none-finds : (cache : Cache) (state : State) (image : Image) → HoldsState cache state image → Finds (rest state) image
+none-finds cache state image k = (k.kept.entries.sound, kept-held state k.layout [] image k.kept.entries)
 
-pub none-yet : (enough : State → Bool) (state : State) (covered : List Item) (parts : Covered) (cache : Cache) (told : Told) (failed : Bool) (w : Option (List ℕ)) (image : Image) → told.files ≡ Some image → (k : KeepsState cache state image) → LieCovered state k.layout covered parts → HasEvicted enough state covered parts cache cache None 0 told told failed failed w w
+pub none-yet : (enough : State → Bool) (state : State) (covered : List Item) (parts : Covered) (cache : Cache) (told : Told) (failed : Bool) (w : Option (List ℕ)) (image : Image) → told.files ≡ Some image → (k : HoldsState cache state image) → LieCovered state k.layout covered parts → HasEvicted enough state covered parts cache cache None 0 told told failed failed w w
 none-yet enough state covered parts cache told failed w image there k lie =
     record {
       first = [];
@@ -212,8 +212,8 @@ module _ (enough : State → Bool) (state : State) (covered : List Item) (parts 
 
   -- what holds in the end
   module _ (done : evicted_until enough state covered ≡ h.first) where
-    pub gone-kept : ForSome now.files (KeepsState new (without (evicted_until enough state covered) state))
-    gone-kept image there = subst (λ (gs : List Group). KeepsState new (without gs state) image) (sym done) (subst (KeepsState new (without h.first state)) (some_inj (sym h.there ∙ there)) h.at.kept)
+    pub gone-kept : ForSome now.files (HoldsState new (without (evicted_until enough state covered) state))
+    gone-kept image there = subst (λ (gs : List Group). HoldsState new (without gs state) image) (sym done) (subst (HoldsState new (without h.first state)) (some_inj (sym h.there ∙ there)) h.at.kept)
 
     pub gone-count : old.items ≡ new.items + count_of_groups (evicted_until enough state covered)
     gone-count = subst (λ (gs : List Group). old.items ≡ new.items + count_of_groups gs) (sym done) h.count

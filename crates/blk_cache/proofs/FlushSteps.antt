@@ -24,7 +24,7 @@ use Rattle.law_state.proofs.Stopping.{nothing-stops}
 use Rattle.law_state.proofs.WordStops.{cleaning-stops}
 use Rattle.blk_object.specs.RemovingObjects.{FindsEither}
 use Rattle.blk_cache.specs.declared.cache.Cache.{Cache}
-use Rattle.blk_cache.specs.CacheKeeping.{IsBoundTo, KeepsState}
+use Rattle.blk_cache.specs.CacheKeeping.{IsBoundTo, HoldsState}
 use Rattle.blk_cache.specs.CommandClauses.{FlushesClean}
 use Rattle.blk_cache.specs.Marking.{ForEachNamed}
 use Rattle.blk_cache.proofs.BoundObjects.{free-of, number-of}
@@ -45,7 +45,7 @@ dead-refused : (state : State) (moment handle number : ℕ) (object : Object) �
 unfolding refusals
 dead-refused state moment handle number object below names here dead = let b : nat_le 4096 handle ≡ false = grind (arith, nat_tests, below) in rw (b, names, here, dead) refl
 
-pub flush-unbound : (cache : Cache) (state : State) (image : Image) (k : KeepsState cache state image) (moment handle : ℕ) → binding_of cache.handles handle ≡ None → refused moment (to_flush handle) state ≡ Some refusal.BadHandle
+pub flush-unbound : (cache : Cache) (state : State) (image : Image) (k : HoldsState cache state image) (moment handle : ℕ) → binding_of cache.handles handle ≡ None → refused moment (to_flush handle) state ≡ Some refusal.BadHandle
 flush-unbound cache state image k moment handle free = unnamed-refused state moment handle (free-of state k.layout [] image k.kept.entries state.names cache.handles k.names handle free)
 
 flush-answer : (state : State) (moment handle : ℕ) → refused moment (to_flush handle) state ≡ None → answer_of (step state moment (to_flush handle)).reply ≡ answer.Done
@@ -64,7 +64,7 @@ module _ (cache : Cache) (handle : ℕ) (small : handle < 2 ^ 16) (object : Open
   abbrev b : Binding
   b = given.binding
 
-  module _ (state : State) (image : Image) (k : KeepsState cache state image) where
+  module _ (state : State) (image : Image) (k : HoldsState cache state image) where
     abbrev number : ℕ
     number = (number-of state k.layout [] image k.kept.entries state.names cache.handles k.names handle b given.bound).0
 
@@ -102,34 +102,34 @@ module _ (cache : Cache) (handle : ℕ) (small : handle < 2 ^ 16) (object : Open
   clean-mark true only clean = sym marks ∙ only refl
   clean-mark false only clean = clean
 
-  pub flush-idle : {dirty : Bool} (old now : Told) → IfSome (binding_of cache.handles handle) (λ binding. binding.dirty ≡ dirty → Stays old now) → (dirty ≡ true → object.dirty ≡ true) → ForKept (KeepsState cache) old (λ state. FlushesClean state (to_flush handle) → Stays old now)
+  pub flush-idle : {dirty : Bool} (old now : Told) → IfSome (binding_of cache.handles handle) (λ binding. binding.dirty ≡ dirty → Stays old now) → (dirty ≡ true → object.dirty ≡ true) → ForKept (HoldsState cache) old (λ state. FlushesClean state (to_flush handle) → Stays old now)
   flush-idle {dirty} old now idle only image there state k flushes =
       subst (λ (o : Option Binding). IfSome o (λ binding. binding.dirty ≡ dirty → Stays old now)) given.bound idle (clean-mark dirty only (is-clean state image k flushes))
 
-  pub flush-refused : object.doomed ≡ true → (moment : ℕ) (state : State) (image : Image) (k : KeepsState cache state image) → refused moment (to_flush handle) state ≡ Some refusal.Doomed
+  pub flush-refused : object.doomed ≡ true → (moment : ℕ) (state : State) (image : Image) (k : HoldsState cache state image) → refused moment (to_flush handle) state ≡ Some refusal.Doomed
   flush-refused dead moment state image k =
       dead-refused state moment handle (number state image k) (it state image k).object (below state image k) (named state image k) (it state image k).here (is-doomed state image k true dead)
 
   module _ (lives : object.doomed ≡ false) (old now : Told) (moment : ℕ) where
     -- a word of the old contents, or of those of the clean object
-    cleaned : ForSome old.files (λ from. ForEachNamed cache handle from (λ state number object. Passes old now (FindsEither state (marked state number object true)))) → MayStopAtEach (KeepsState cache) old now moment (to_flush handle)
+    cleaned : ForSome old.files (λ from. ForEachNamed cache handle from (λ state number object. Passes old now (FindsEither state (marked state number object true)))) → MayStopAtEach (HoldsState cache) old now moment (to_flush handle)
     cleaned stops image here state k =
         let may : (i : Image) → FindsEither state (marked state (number state image k) (it state image k).object true) i → MayStop state moment (to_flush handle) i = λ i finds.
         cleaning-stops state moment handle (number state image k) (it state image k).object i k.kept.entries.valid small (opened state image k lives) finds in
         passes_weaker (stops image here state (number state image k) (it state image k).object k (names state image k)) may may
 
-    pub flush-stops : {dirty : Bool} → IfSome (binding_of cache.handles handle) (λ binding. binding.dirty ≡ dirty → Stays old now) → (dirty ≡ true → object.dirty ≡ true) → ForSome old.files (λ from. ForEachNamed cache handle from (λ state number object. Passes old now (FindsEither state (marked state number object (not dirty))))) → MayStopAtEach (KeepsState cache) old now moment (to_flush handle)
+    pub flush-stops : {dirty : Bool} → IfSome (binding_of cache.handles handle) (λ binding. binding.dirty ≡ dirty → Stays old now) → (dirty ≡ true → object.dirty ≡ true) → ForSome old.files (λ from. ForEachNamed cache handle from (λ state number object. Passes old now (FindsEither state (marked state number object (not dirty))))) → MayStopAtEach (HoldsState cache) old now moment (to_flush handle)
     flush-stops {dirty} idle only stops = by dirty refl where
-      by : (t : Bool) → dirty ≡ t → MayStopAtEach (KeepsState cache) old now moment (to_flush handle)
+      by : (t : Bool) → dirty ≡ t → MayStopAtEach (HoldsState cache) old now moment (to_flush handle)
       by true e =
-          nothing-stops (KeepsState cache) (says-kept cache) old now moment (to_flush handle)
+          nothing-stops (HoldsState cache) (says-kept cache) old now moment (to_flush handle)
           (subst (λ (o : Option Binding). IfSome o (λ binding. binding.dirty ≡ dirty → Stays old now)) given.bound idle (sym marks ∙ only e ∙ sym e))
       by false e =
           cleaned (subst (λ (t : Bool). ForSome old.files (λ from. ForEachNamed cache handle from (λ state number object. Passes old now (FindsEither state (marked state number object (not t)))))) e stops)
 
-    pub flush-done : (new : Cache) → ForSome old.files (λ from. ForEachNamed cache handle from (λ state number object. ForSome now.files (KeepsState new (marked state number object true)))) → Does (KeepsState cache) (KeepsState new) old now moment (to_flush handle) answer.Done
+    pub flush-done : (new : Cache) → ForSome old.files (λ from. ForEachNamed cache handle from (λ state number object. ForSome now.files (HoldsState new (marked state number object true)))) → Does (HoldsState cache) (HoldsState new) old now moment (to_flush handle) answer.Done
     flush-done new done image here state k = record {
       answered = sym (flush-answer state moment handle (flush-passes state k.kept.entries.valid moment handle (number state image k) (it state image k).object (opened state image k lives)));
-      kept = λ i there. subst (λ (s : State). KeepsState new s i) (sym (flushes-settle state moment handle (number state image k) (it state image k).object k.kept.entries.valid (opened state image k lives)))
+      kept = λ i there. subst (λ (s : State). HoldsState new s i) (sym (flushes-settle state moment handle (number state image k) (it state image k).object k.kept.entries.valid (opened state image k lives)))
           (done image here state (number state image k) (it state image k).object k (names state image k) i there);
     }

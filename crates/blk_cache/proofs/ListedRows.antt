@@ -18,7 +18,7 @@ use Rattle.spec_folder.specs.Layout.{Layout, is_in}
 use Rattle.law_state.specs.CounterLaws.{charged}
 use Rattle.law_state.specs.Keeping.{Keeps}
 use Rattle.blk_cache.specs.declared.cache.Cache.{Cache}
-use Rattle.blk_cache.specs.CacheKeeping.{KeepsState}
+use Rattle.blk_cache.specs.CacheKeeping.{HoldsState}
 use Rattle.blk_print.specs.ItemRows.{HasKeptState}
 use Rattle.blk_cache.proofs.Ends.{kept-open}
 
@@ -48,5 +48,5 @@ unfolding step outcome reply refusals evicted without
 list-answer state moment = refl
 
 -- a state that a cache keeps is there
-abbrev pub has-state : (cache : Cache) (state : State) (image : Image) → KeepsState cache state image → HasKeptState cache.files image
+abbrev pub has-state : (cache : Cache) (state : State) (image : Image) → HoldsState cache state image → HasKeptState cache.files image
 has-state cache state image k = record { state = state; layout = k.layout; kept = k.kept; is_open = kept-open cache state image k }

@@ -7,11 +7,12 @@ use Rattle.spec_image.specs.Bytes.{word_bytes}
 use Rattle.spec_image.specs.Image.{File, Image, Index, Block, External, same_file}
 use Rattle.spec_image.specs.Order.{IsBefore, IsNextFile, file_number, file_rank}
 use Rattle.spec_image.specs.Steps.{TrailStep, Word, SetLength, Delete, after, applied, word_step, word_steps}
-use Rattle.spec_image.specs.Told.{Told, Along, Applies, AppliesPrefix, IsQuiet}
+use Rattle.spec_image.specs.Told.{Told, Along, Applies, AppliesPrefix, HasNoNote}
 use Rattle.spec_image.proofs.Cuts.{after-append}
 use Rattle.spec_image.proofs.Images.{with_file-other}
-use Rattle.spec_image.proofs.Runs.{part_whole, quiet-append, quiet_prefix, some_inj, until-append, until_prefix, until_last, until_weaker2}
-use Rattle.spec_image.proofs.WordSteps.{along_over, along_put, quiet-word_steps}
+use Rattle.spec_image.proofs.Quiet.{noteless-append, noteless-word_steps, noteless_prefix}
+use Rattle.spec_image.proofs.Runs.{part_whole, some_inj, until-append, until_prefix, until_last, until_weaker2}
+use Rattle.spec_image.proofs.WordSteps.{along_over, along_put}
 use Rattle.spec_format.specs.Address.{header_size}
 use Rattle.spec_format.specs.Headers.{IsUnfinished, index_magic}
 use Rattle.spec_format.specs.NewFolder.{new_file_words, new_index_words, words_before_magic}
@@ -61,14 +62,14 @@ files-blank (suc n) image blank =
     let first : Along IsBlankIndex image (files_steps n) = files-blank n image blank in
     until-append IsBlankIndex IsBlankIndex (files_steps n) (first_file_steps n) image first (file-blank n (after (files_steps n) image) (until_last IsBlankIndex IsBlankIndex (files_steps n) image first))
 
-gone-quiet : (files : List File) → IsQuiet (deletions files)
+gone-quiet : (files : List File) → HasNoNote (deletions files)
 gone-quiet [] = tt
 gone-quiet (file ∷ files) = gone-quiet files
 
-files-quiet : (n : ℕ) → IsQuiet (files_steps n)
+files-quiet : (n : ℕ) → HasNoNote (files_steps n)
 unfolding files_steps
 files-quiet zero = tt
-files-quiet (suc n) = quiet-append (files_steps n) (first_file_steps n) (files-quiet n) (quiet-word_steps (Block n) (new_file_words n))
+files-quiet (suc n) = noteless-append (files_steps n) (first_file_steps n) (files-quiet n) (noteless-word_steps (Block n) (new_file_words n))
 
 magicless : (steps : List TrailStep) (image : Image) → Along IsBlankIndex image steps → Along IsMagicless image steps
 magicless steps image all = until_weaker2 IsBlankIndex IsMagicless IsBlankIndex IsMagicless steps image blank_unfinished blank_unfinished all
@@ -85,8 +86,8 @@ module _ (deleted : List File) (moment : ℕ) where
   abbrev magic : TrailStep
   magic = Word Index 0 (word_bytes index_magic)
 
-  all-quiet : (words : List (ℕ × ℕ)) → IsQuiet (folder_steps deleted words)
-  all-quiet words = quiet-append (cleared ++ files_steps 4) (word_steps Index words) (quiet-append cleared (files_steps 4) (gone-quiet deleted) (files-quiet 4)) (quiet-word_steps Index words)
+  all-quiet : (words : List (ℕ × ℕ)) → HasNoNote (folder_steps deleted words)
+  all-quiet words = noteless-append (cleared ++ files_steps 4) (word_steps Index words) (noteless-append cleared (files_steps 4) (gone-quiet deleted) (files-quiet 4)) (noteless-word_steps Index words)
 
   -- the magic word is written last
   magic-last : folder_steps deleted (new_index_words moment) ≡ filled ++ magic ∷ []
@@ -129,7 +130,7 @@ module _ (deleted : List File) (moment : ℕ) where
     clearing-breaks : {a b : Told} → a.files ≡ Some entry → AppliesPrefix a b cleared → RepairBreaksOff a b H
     clearing-breaks {a} {b} there part =
         let W : List TrailStep = word_steps Index (words_before_magic moment) in
-        breaks-part H part (quiet_prefix cleared (files_steps 4) (quiet_prefix (cleared ++ files_steps 4) W (all-quiet (words_before_magic moment)))) (spare-prefix cleared (files_steps 4) (spare-prefix (cleared ++ files_steps 4) W spare-filled))
+        breaks-part H part (noteless_prefix cleared (files_steps 4) (noteless_prefix (cleared ++ files_steps 4) W (all-quiet (words_before_magic moment)))) (spare-prefix cleared (files_steps 4) (spare-prefix (cleared ++ files_steps 4) W spare-filled))
         (told-along a cleared there (until_prefix H H cleared (files_steps 4) entry (λ i h. h) (until_prefix H H (cleared ++ files_steps 4) W entry (λ i h. h) still-along)))
 
     -- some of all the steps were made, or all
@@ -142,7 +143,7 @@ module _ (deleted : List File) (moment : ℕ) where
             let made : Applies a b (filled ++ magic ∷ []) = subst (Applies a b) all part.applies in
             let now : H (after (filled ++ magic ∷ []) entry) = last _ (made.files ∙ ap (option_map (after (filled ++ magic ∷ []))) there) in
             let end : H (applied magic (after filled entry)) = subst H (after-append filled (magic ∷ []) entry) now in
-            breaks-part H (part_whole made) (subst IsQuiet magic-last (all-quiet (new_index_words moment))) (subst SpareIt magic-last (spare-folder deleted moment))
+            breaks-part H (part_whole made) (subst HasNoNote magic-last (all-quiet (new_index_words moment))) (subst SpareIt magic-last (spare-folder deleted moment))
             (told-along a (filled ++ magic ∷ []) there (until-append H H filled (magic ∷ []) entry still-along (until_last H H filled entry still-along, end)))
 
 -- the making of a folder breaks off, or is done

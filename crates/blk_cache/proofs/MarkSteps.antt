@@ -9,7 +9,7 @@ use Rattle.spec_image.proofs.Runs.{passes_none, passes_weaker, some_inj}
 use Rattle.blk_io.specs.declared.fault.Fault.{Fault}
 use Rattle.blk_model.specs.Holding.{rest}
 use Rattle.blk_model.specs.State.{Object, State}
-use Rattle.spec_format.specs.BlockFiles.{IsWellFormed}
+use Rattle.spec_format.specs.BlockFiles.{HasSoundHeaders}
 use Rattle.spec_format.specs.Sealed.{RecordChecks}
 use Rattle.spec_folder.specs.View.{list_of}
 use Rattle.law_folder.specs.CommandLaws.{marked}
@@ -24,11 +24,11 @@ use Rattle.blk_handles.proofs.BindingLemmas.{binding_of-change}
 use Rattle.law_state.specs.Changes.{Finds}
 use Rattle.law_state.specs.OneCallLaws.{Names}
 use Rattle.law_state.specs.RecordLaws.{IsMarked, IsMarking}
-use Rattle.law_state.proofs.Keeping.{kept-found}
+use Rattle.law_state.proofs.Keeping.{kept-held}
 use Rattle.blk_object.proofs.KeptMarks.{being-set, check-as-records, marks-set, nodes-check}
 use Rattle.blk_cache.specs.declared.cache.Cache.{Cache}
 use Rattle.blk_cache.specs.BoundNames.{AreBoundAmong}
-use Rattle.blk_cache.specs.CacheKeeping.{IsBoundTo, KeepsState}
+use Rattle.blk_cache.specs.CacheKeeping.{IsBoundTo, HoldsState}
 use Rattle.blk_cache.specs.CommandClauses.{KeepsAny, OnlyNamesChange}
 use Rattle.blk_cache.specs.Marking.{ForEachNamed, dirty_word}
 use Rattle.blk_cache.proofs.BoundObjects.{number-of}
@@ -82,7 +82,7 @@ word-small cache false few = omega arith
 module _ (cache : Cache) (handle : ℕ) (b : Binding) (bound : binding_of cache.handles handle ≡ Some b) (dirty : Bool) where
   -- one that is so stays as it is
   module _ (same : b.dirty ≡ dirty) (told : Told) where
-    its-mark : (from : Image) (state : State) (number : ℕ) (object : Object) → KeepsState cache state from → Names state handle number object → object.settled ≡ not dirty
+    its-mark : (from : Image) (state : State) (number : ℕ) (object : Object) → HoldsState cache state from → Names state handle number object → object.settled ≡ not dirty
     its-mark from state number object k names =
         let it : IsBoundTo state k.layout number b = bound-to cache state from k handle number object names b bound in
         other-way object.settled dirty (sym same ∙ it.dirty ∙ ap (λ (o : Object). not o.settled) (its-object cache state from k handle number object names b it))
@@ -91,24 +91,24 @@ module _ (cache : Cache) (handle : ℕ) (b : Binding) (bound : binding_of cache.
         other-way true d e = ap not (sym e)
         other-way false d e = ap not (sym e)
 
-    pub same-keeps : ForSome told.files (λ from. ForEachNamed cache handle from (λ state number object. ForSome told.files (KeepsState cache (marked state number object (not dirty)))))
+    pub same-keeps : ForSome told.files (λ from. ForEachNamed cache handle from (λ state number object. ForSome told.files (HoldsState cache (marked state number object (not dirty)))))
     same-keeps from here state number object k names i there =
-        subst (KeepsState cache (marked state number object (not dirty))) (some_inj (sym here ∙ there))
-        (subst (λ (s : State). KeepsState cache s from) (sym (marked-same state number object (not dirty) names.here (its-mark from state number object k names))) k)
+        subst (HoldsState cache (marked state number object (not dirty))) (some_inj (sym here ∙ there))
+        (subst (λ (s : State). HoldsState cache s from) (sym (marked-same state number object (not dirty) names.here (its-mark from state number object k names))) k)
 
     pub same-stops : ForSome told.files (λ from. ForEachNamed cache handle from (λ state number object. Passes told told (Either state number object dirty)))
     same-stops from here state number object k names =
-        passes_none (Either state number object dirty) refl (λ i there. inl (subst (λ (z : Image). Finds (rest state) z) (some_inj (sym here ∙ there)) (k.kept.entries.well_formed, kept-found state k.layout [] from k.kept.entries)))
+        passes_none (Either state number object dirty) refl (λ i there. inl (subst (λ (z : Image). Finds (rest state) z) (some_inj (sym here ∙ there)) (k.kept.entries.sound, kept-held state k.layout [] from k.kept.entries)))
 
   -- its node checks
   module _ (old : Told) (bytes : TellsBytes old) (stands : is_node_among cache.files b.node ≡ true) where
-    node-good : (from : Image) (state : State) (number : ℕ) (object : Object) (k : KeepsState cache state from) → Names state handle number object → (list_of from).checks b.node ≡ true
+    node-good : (from : Image) (state : State) (number : ℕ) (object : Object) (k : HoldsState cache state from) → Names state handle number object → (list_of from).checks b.node ≡ true
     node-good from state number object k names =
         let it : IsBoundTo state k.layout number b = bound-to cache state from k handle number object names b bound in
         nodes-check state k.layout [] from b.node it.loaded k.kept.entries
         (ap k.layout.at (node-is cache state from k handle number object names b bound dirty) ∙ at-node cache state from k handle number object names b bound dirty)
 
-    node-checks : (from : Image) → old.files ≡ Some from → (state : State) (number : ℕ) (object : Object) (k : KeepsState cache state from) → Names state handle number object → RecordChecks b.node from
+    node-checks : (from : Image) → old.files ≡ Some from → (state : State) (number : ℕ) (object : Object) (k : HoldsState cache state from) → Names state handle number object → RecordChecks b.node from
     node-checks from here state number object k names = check-as-records from b.node (bytes from here) (node_kind cache.files b.node stands) (node-good from state number object k names)
 
     pub node-may : ForSome old.files (KeepsAny cache) → ForSome old.files (RecordChecks b.node)
@@ -126,11 +126,11 @@ module _ (cache : Cache) (handle : ℕ) (b : Binding) (bound : binding_of cache.
           passes_weaker run may may
 
       module _ (ok : (P : Type 0) → OnOk result P → P) (still : ForSome now.files (IsOpen cache.files)) (new : Cache) (changes : new.handles ≡ with_change (with_status b.doomed dirty) b.entry cache.handles) (others : OnlyNamesChange cache new) (charged : new.open_bytes ≡ cache.open_bytes) where
-        pub mark-keeps : ForSome old.files (λ from. ForEachNamed cache handle from (λ state number object. ForSome now.files (KeepsState new (marked state number object (not dirty)))))
+        pub mark-keeps : ForSome old.files (λ from. ForEachNamed cache handle from (λ state number object. ForSome now.files (HoldsState new (marked state number object (not dirty)))))
         mark-keeps from here state number object k names i there =
             let few : cache.mark < 2 ^ 32 = subst (λ (n : ℕ). n < 2 ^ 32) (sym k.mark) (word-fits (byte from Index) (bytes from here Index) 20) in
             let small : dirty_word cache dirty < 2 ^ 32 = word-small cache dirty few in
-            let well = λ (z : Image) (at : old.files ≡ Some z). subst IsWellFormed (some_inj (sym here ∙ at)) k.kept.entries.well_formed in
+            let well = λ (z : Image) (at : old.files ≡ Some z). subst HasSoundHeaders (some_inj (sym here ∙ at)) k.kept.entries.sound in
             let good = λ (z : Image) (at : old.files ≡ Some z). subst (λ (y : Image). (list_of y).checks b.node ≡ true) (some_inj (sym here ∙ at)) (node-good from state number object k names) in
             let done : IsMarked from b.node (dirty_word cache dirty) i = marks-set b.node (dirty_word cache dirty) old now bytes well good small (ok (ForSome old.files (λ z. Applies old now (mark_steps z b.node (dirty_word cache dirty)))) sets.steps) from here i there in
             marked-keeps cache state from k handle number object names b bound dirty i done new changes others charged (still i there).agrees

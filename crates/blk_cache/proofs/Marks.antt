@@ -29,7 +29,7 @@ use Rattle.law_state.proofs.DoomedMarks.{doomed-marking-counts, doomed-marking-f
 use Rattle.law_state.proofs.NotAtRest.{within-slots}
 use Rattle.blk_object.specs.Writing.{node_of_object}
 use Rattle.blk_cache.specs.declared.cache.Cache.{Cache}
-use Rattle.blk_cache.specs.CacheKeeping.{IsBoundAs, IsBoundTo, KeepsState}
+use Rattle.blk_cache.specs.CacheKeeping.{IsBoundAs, IsBoundTo, HoldsState}
 use Rattle.blk_cache.specs.CommandClauses.{OnlyNamesChange}
 use Rattle.blk_cache.specs.Marking.{dirty_word}
 use Rattle.blk_cache.proofs.ChangedObjects.{CountsAs, LiesChanged, bound-to, changed-keeps, entries-same, its-named, its-object, names-change}
@@ -83,7 +83,7 @@ turned-twice false = refl
 
 -- ---- the mark
 
-module _ (cache : Cache) (state : State) (from : Image) (k : KeepsState cache state from) (handle number : ℕ) (object : Object) (names : Names state handle number object) (b : Binding) (bound : binding_of cache.handles handle ≡ Some b) (dirty : Bool) where
+module _ (cache : Cache) (state : State) (from : Image) (k : HoldsState cache state from) (handle number : ℕ) (object : Object) (names : Names state handle number object) (b : Binding) (bound : binding_of cache.handles handle ≡ Some b) (dirty : Bool) where
   abbrev kept : KeepsUncounted state k.layout [] from
   kept = k.kept.entries
 
@@ -168,13 +168,13 @@ module _ (cache : Cache) (state : State) (from : Image) (k : KeepsState cache st
       same-open : open_count new.handles ≡ open_count cache.handles
       same-open = ap open_count changes ∙ ap distinct_count (entries-same (with_status b.doomed dirty) (λ d. refl) b.entry cache.handles)
 
-      keeps-by : (there : Layout) (now : Loaded) → LiesChanged k.layout there node it.loaded now → Keeps (marked state number object (not dirty)) there [] image → KeepsState new (marked state number object (not dirty)) image
+      keeps-by : (there : Layout) (now : Loaded) → LiesChanged k.layout there node it.loaded now → Keeps (marked state number object (not dirty)) there [] image → HoldsState new (marked state number object (not dirty)) image
       keeps-by there now lies keeps =
           changed-keeps cache state from k handle number object turned names refl refl state.uses there it.loaded now at-node lies new image keeps refl counts (subst (λ (fs : BlockFiles). Agrees fs image) (sym others.files) files) session same-open
           (λ name. subst (λ (bs : Bindings). IsBoundAs (marked state number object (not dirty)) there (named_by state name) (binding_of bs name)) (sym changes)
           (names-change cache state from k handle number object turned names refl refl state.uses there it.loaded now at-node lies b it (with_status b.doomed dirty) (λ d. refl) (λ d. refl) (λ d. refl) (λ d. turned-twice dirty) name))
 
-      live-keeps : object.live ≡ true → KeepsState new (marked state number object (not dirty)) image
+      live-keeps : object.live ≡ true → HoldsState new (marked state number object (not dirty)) image
       live-keeps e =
           let place = k.layout.place (main object.key) in
           let now : Loaded = record it.loaded { dirty = word } in
@@ -189,7 +189,7 @@ module _ (cache : Cache) (state : State) (from : Image) (k : KeepsState cache st
           })
           (subst (λ (t : Bool). Keeps (marked state number object t) (dirtied k.layout place it.loaded word) [] image) tells keeps)
 
-      dead-keeps : object.live ≡ false → KeepsState new (marked state number object (not dirty)) image
+      dead-keeps : object.live ≡ false → HoldsState new (marked state number object (not dirty)) image
       dead-keeps e =
           let place = k.layout.place_of_doomed number in
           let now : Loaded = record it.loaded { dirty = word } in
@@ -204,8 +204,8 @@ module _ (cache : Cache) (state : State) (from : Image) (k : KeepsState cache st
           })
           (subst (λ (t : Bool). Keeps (marked state number object t) (layout_after k.layout place now) [] image) tells keeps)
 
-      pub marked-keeps : KeepsState new (marked state number object (not dirty)) image
+      pub marked-keeps : HoldsState new (marked state number object (not dirty)) image
       marked-keeps = by object.live refl where
-        by : (t : Bool) → object.live ≡ t → KeepsState new (marked state number object (not dirty)) image
+        by : (t : Bool) → object.live ≡ t → HoldsState new (marked state number object (not dirty)) image
         by true e = live-keeps e
         by false e = dead-keeps e

@@ -16,9 +16,12 @@ use Rattle.blk_disk.specs.Open.{IsOpen}
 use Rattle.blk_disk.specs.Tables.{Agrees}
 use Rattle.blk_handles.specs.Bindings.{Bindings, binding_of, open_count}
 use Rattle.law_state.specs.Commands.{Does, ForKept, IsDone, IsNoted, IsStepped, MayStop, MayStopAtEach}
+use Rattle.spec_format.specs.Session.{KeepsSessionWords}
+use Rattle.spec_format.proofs.Session.{commands-words-kept}
+use Rattle.law_state.specs.KeepingLaws.{HasMagic}
 use Rattle.law_state.proofs.Keeping.{kept-stands}
 use Rattle.blk_cache.specs.declared.cache.Cache.{Cache}
-use Rattle.blk_cache.specs.CacheKeeping.{IsBoundAs, KeepsState}
+use Rattle.blk_cache.specs.CacheKeeping.{IsBoundAs, HoldsState, KeepsState}
 use Rattle.blk_cache.specs.CommandClauses.{FlushesClean, IsRefused, OnlyNotesChange}
 
 -- a note changes no file
@@ -30,7 +33,7 @@ pub same-files : (mid now : Told) (number : ℕ) → Applies mid now (Note numbe
 same-files mid now number note = note.files ∙ note-nothing number mid.files
 
 -- what a cache keeps doesn't depend on its notes
-pub kept-on : (old new : Cache) (state : State) (image : Image) → OnlyNotesChange old new → KeepsState old state image → KeepsState new state image
+pub kept-on : (old new : Cache) (state : State) (image : Image) → OnlyNotesChange old new → HoldsState old state image → HoldsState new state image
 kept-on old new state image same k = record {
   layout = k.layout;
   kept = k.kept;
@@ -45,27 +48,37 @@ kept-on old new state image same k = record {
   mark = same.mark ∙ k.mark;
 }
 
-module _ (old new last : Cache) (told mid now : Told) (moment : ℕ) (request : Request) (number : ℕ) (stops : MayStopAtEach (KeepsState old) told mid moment request) where
+module _ (old new last : Cache) (told mid now : Told) (moment : ℕ) (request : Request) (number : ℕ) (stops : MayStopAtEach (HoldsState old) told mid moment request) where
   -- the note was not made
   pub not-noted : Stays mid now → ForKept (KeepsState old) told (IsStepped told now moment request number)
-  not-noted stays image there state k = inl (subst (λ (t : Told). Passes told t (MayStop state moment request)) (sym stays) (stops image there state k))
+  not-noted stays image there state k = inl (subst (λ (t : Told). Passes told t (MayStop state moment request)) (sym stays) (stops image there state k.holds))
 
-  module _ (answer : Answer) (does : Does (KeepsState old) (KeepsState new) told mid moment request answer) (note : Applies mid now (Note number ∷ [])) (same : OnlyNotesChange new last) where
-    pub noted-does : Does (KeepsState old) (KeepsState last) told now moment request answer
+  module _ (answer : Answer) (does : Does (HoldsState old) (HoldsState new) told mid moment request answer) (note : Applies mid now (Note number ∷ [])) (same : OnlyNotesChange new last) where
+    pub noted-does : Does (HoldsState old) (HoldsState last) told now moment request answer
     noted-does image there state k =
-        let d : IsDone (KeepsState new) mid moment request answer state = does image there state k in
+        let d : IsDone (HoldsState new) mid moment request answer state = does image there state k in
         record { answered = d.answered; kept = λ i here. kept-on new last (step state moment request).state i same (d.kept i (sym (same-files mid now number note) ∙ here)) }
+
+    -- the magic word is as before
+    still-finished : ForKept (KeepsState old) told (λ state. ForSome now.files HasMagic)
+    still-finished image there state k i here =
+        let words : KeepsSessionWords image i = commands-words-kept told mid (MayStop state moment request) (MayStop state moment request) (stops image there state k.holds) image there i (sym (same-files mid now number note) ∙ here) in
+        words.magic ∙ k.finished
+
+    -- so the state after the command is kept
+    pub noted-keeps : ForKept (KeepsState old) told (λ state. ForSome now.files (KeepsState last (step state moment request).state))
+    noted-keeps image there state k i here = record { holds = (noted-does image there state k.holds).kept i here; finished = still-finished image there state k i here }
 
     pub noted-ends : ForKept (KeepsState old) told (IsNoted told now moment request number)
     noted-ends image there state k =
-        let p : Passes told mid (MayStop state moment request) = stops image there state k in
-        let d : IsDone (KeepsState new) mid moment request answer state = does image there state k in
+        let p : Passes told mid (MayStop state moment request) = stops image there state k.holds in
+        let d : IsDone (HoldsState new) mid moment request answer state = does image there state k.holds in
         record {
           steps = p.steps;
           quiet = p.quiet;
           applies = grows_then p.applies note;
           stops = p.along;
-          stands = λ i here. let s : KeepsState new (step state moment request).state i = d.kept i (sym (same-files mid now number note) ∙ here) in kept-stands (step state moment request).state s.layout i s.kept;
+          stands = λ i here. let s : HoldsState new (step state moment request).state i = d.kept i (sym (same-files mid now number note) ∙ here) in kept-stands (step state moment request).state s.layout i s.kept (still-finished image there state k i here);
         }
 
     pub noted-steps : ForKept (KeepsState old) told (IsStepped told now moment request number)
@@ -74,13 +87,13 @@ module _ (old new last : Cache) (told mid now : Told) (moment : ℕ) (request : 
     -- a refusal makes the note alone
     pub refused-notes : (IsRefused answer → Stays told mid) → ForKept (KeepsState old) told (λ state. IsRefused (answer_of (step state moment request).reply) → Applies told now (Note number ∷ []))
     refused-notes quiet image there state k refused =
-        let d : IsDone (KeepsState new) mid moment request answer state = does image there state k in
+        let d : IsDone (HoldsState new) mid moment request answer state = does image there state k.holds in
         subst (λ (t : Told). Applies t now (Note number ∷ [])) (quiet (subst (λ (a : Answer). IsRefused a) (sym d.answered) refused)) note
 
 -- and so does a Flush of a clean object, which stays before it
-pub clean-notes : (cache : Cache) (told mid now : Told) (request : Request) (number : ℕ) → ForKept (KeepsState cache) told (λ state. FlushesClean state request → Stays told mid) → Applies mid now (Note number ∷ [])
+pub clean-notes : (cache : Cache) (told mid now : Told) (request : Request) (number : ℕ) → ForKept (HoldsState cache) told (λ state. FlushesClean state request → Stays told mid) → Applies mid now (Note number ∷ [])
     → ForKept (KeepsState cache) told (λ state. FlushesClean state request → Applies told now (Note number ∷ []))
-clean-notes cache told mid now request number idle note image there state k settled = subst (λ (t : Told). Applies t now (Note number ∷ [])) (idle image there state k settled) note
+clean-notes cache told mid now request number idle note image there state k settled = subst (λ (t : Told). Applies t now (Note number ∷ [])) (idle image there state k.holds settled) note
 
 -- the folder is open still
 pub open-on : (new last : Cache) (mid now : Told) → now.files ≡ mid.files → OnlyNotesChange new last → ForSome mid.files (IsOpen new.files) → ForSome now.files (IsOpen last.files)

@@ -7,8 +7,9 @@ use Rattle.std.proofs.lemmas.List.Elements.{All-nil}
 use Rattle.spec_image.specs.Bytes.{content, word_at, zeros}
 use Rattle.spec_image.specs.Image.{Image, Index, AreBytes, byte, word}
 use Rattle.spec_image.specs.Checks.{Damage}
-use Rattle.spec_image.specs.Told.{Told, Passes, PassesTo}
-use Rattle.spec_image.proofs.Runs.{passes_weaker, some_inj}
+use Rattle.spec_image.specs.Told.{Told, PassesAny, PassesAnyTo}
+use Rattle.spec_image.proofs.Quiet.{any_weaker}
+use Rattle.spec_image.proofs.Runs.{some_inj}
 use Rattle.spec_image.proofs.Words.{word-zeros}
 use Rattle.blk_model.specs.Items.{Row}
 use Rattle.blk_model.specs.Holding.{open_state}
@@ -17,7 +18,7 @@ use Rattle.law_state.specs.Keeping.{KeepsSome}
 use Rattle.spec_format.specs.BlockFiles.{IsDamagedBy, IsWellFormed, first_damage}
 use Rattle.spec_format.specs.Headers.{index_length, IsUnfinished, this_id_of, unfinished}
 use Rattle.spec_format.specs.NewFolder.{IsMade, new_index_words}
-use Rattle.spec_format.proofs.Finished.{finished_whole, well_formed-finished}
+use Rattle.spec_format.proofs.Finished.{finished_whole, magic-of, well_formed-finished}
 use Rattle.spec_format.proofs.HeaderLemmas.{unfinished_agrees}
 use Rattle.spec_folder.specs.Found.{HoldsStill, found}
 use Rattle.spec_folder.specs.StandsFor.{StandsFor}
@@ -90,6 +91,7 @@ opened-as scan entry image opened can r are agrees items_told bytes_told mark = 
   files = agrees;
   mark = mark;
   id_is = r.id_is ∙ sym (finished-id entry can.well_formed);
+  finished = magic-of image r.mended.links.well_formed;
 }
 
 -- ---- a made folder
@@ -105,6 +107,7 @@ made-opened entry made image opened un is left =
       files = left.files;
       mark = left.mark;
       id_is = left.id_is ∙ made-next made is ∙ sym (unfinished-next entry un);
+      finished = left.finished;
     }
 
 -- by the empty scan it may be repaired
@@ -131,9 +134,9 @@ made-still entry made image un is mid = record { usable = λ _. inr mid.well_for
 pub unfinished-still : (entry image : Image) → IsUnfinished entry → IsUnfinished image → HoldsStill entry image
 unfinished-still entry image un now = record { usable = λ _. inl now; formed = λ well. absurd (let whole = finished_whole entry well in whole.finished un); found_same = unfinished-found image now ∙ sym (unfinished-found entry un) }
 
-pub making-still : {a b : Told} (entry : Image) (moment : ℕ) → IsUnfinished entry → PassesTo a b IsUnfinished (λ image. IsUnfinished image ⊎ IsMade moment image) → Passes a b (HoldsStill entry)
+pub making-still : {a b : Told} (entry : Image) (moment : ℕ) → IsUnfinished entry → PassesAnyTo a b IsUnfinished (λ image. IsUnfinished image ⊎ IsMade moment image) → PassesAny a b (HoldsStill entry)
 making-still entry moment un passes =
-    passes_weaker passes (λ image. unfinished-still entry image un) (λ image. ⊎_elim (unfinished-still entry image un) (λ (made : IsMade moment image). record { usable = λ _. inr (made-formed image (moment, made)); formed = λ _. made-formed image (moment, made); found_same = made-found image (moment, made) ∙ sym (unfinished-found entry un) }))
+    any_weaker passes (λ image. unfinished-still entry image un) (λ image. ⊎_elim (unfinished-still entry image un) (λ (made : IsMade moment image). record { usable = λ _. inr (made-formed image (moment, made)); formed = λ _. made-formed image (moment, made); found_same = made-found image (moment, made) ∙ sym (unfinished-found entry un) }))
 
 -- ---- where nothing was written
 
@@ -144,7 +147,7 @@ pub stayed-still : {a b : Told} (from : Image) → a.files ≡ Some from → b �
 stayed-still from there same = breaks-none (HoldsStill from) same (λ i is. subst (HoldsStill from) (some_inj (sym there ∙ is)) (record { usable = λ h. h; formed = λ h. h; found_same = refl }))
 
 -- a call that passes leaves an opaque folder opaque
-pub passes-silent : {a b : Told} {P Q : Image → Type 0} → PassesTo a b P Q → a.files ≡ None → b.files ≡ None
+pub passes-silent : {a b : Told} {P Q : Image → Type 0} → PassesAnyTo a b P Q → a.files ≡ None → b.files ≡ None
 passes-silent passes none = passes.applies.files ∙ ap (option_map (after passes.steps)) none
 
 -- ---- where the session was marked as open

@@ -38,7 +38,7 @@ use Rattle.blk_object.specs.KeptLists.{IsAmidList}
 use Rattle.blk_object.proofs.KeptLists.{listed-amid, touches-done, touches-partly}
 use Rattle.blk_cache.specs.declared.cache.Cache.{Cache}
 use Rattle.blk_evict.specs.declared.looking.Live.{Live}
-use Rattle.blk_cache.specs.CacheKeeping.{KeepsState}
+use Rattle.blk_cache.specs.CacheKeeping.{HoldsState}
 use Rattle.blk_cache.specs.CommandClauses.{KeepsAny, OnlyNamesChange, charged_with, open_refusal}
 use Rattle.blk_evict.specs.Looking.{IsLiveAt}
 use Rattle.blk_cache.proofs.Opens.{opened-keeps, used-node}
@@ -64,7 +64,7 @@ listed-node state layout image k key there =
 
 module _ (cache : Cache) (old mid now : Told) (stays : mid ≡ old) (moment handle : ℕ) (key : List ℕ) (found : Live) (there : IsFoundIn old key found) (passes : open_refusal cache.handles handle key ≡ None)
     (node : ℕ) (same : ForSome (open_with cache.handles found.entry) (λ b. b.node ≡ node)) (other : open_with cache.handles found.entry ≡ None → node ≡ found.node) where
-  module _ (image : Image) (here : old.files ≡ Some image) (state : State) (k : KeepsState cache state image) where
+  module _ (image : Image) (here : old.files ≡ Some image) (state : State) (k : HoldsState cache state image) where
     abbrev at : IsLiveAt state k.layout key found
     at = there image here state k.layout [] k.kept.entries
 
@@ -95,7 +95,7 @@ module _ (cache : Cache) (old mid now : Told) (stays : mid ≡ old) (moment hand
 
   -- at each word
   pub opened-stops : ForSome mid.files (λ from. (prefix suffix : List ℕ) → HasListAtRest (prefix ++ node ∷ suffix) from → Passes mid now (IsMidTouch cache.files node (touch_writes node (list_of from)) (prefix ++ node ∷ suffix) (node ∷ prefix ++ suffix) from))
-      → MayStopAtEach (KeepsState cache) old now moment (to_open handle key)
+      → MayStopAtEach (HoldsState cache) old now moment (to_open handle key)
   opened-stops stops image here state k =
       let run : Passes mid now (IsTouched image node (touch_writes node (list_of image))) = touches-partly cache.files node mid now (amid image here state k) stops image (now-here image here state k) in
       let from-old : Passes old now (IsTouched image node (touch_writes node (list_of image))) = subst (λ (t : Told). Passes t now (IsTouched image node (touch_writes node (list_of image)))) stays run in
@@ -106,7 +106,7 @@ module _ (cache : Cache) (old mid now : Told) (stays : mid ≡ old) (moment hand
   -- in the end
   pub opened-does : (new : Cache) → IsBytes key → handle < 2 ^ 16 → TellsBytes mid → ForSome mid.files (IsOpen cache.files) → ForSome now.files (IsOpen cache.files) → ForSome mid.files (λ from. Applies mid now (steps_of_touch node moment from))
       → new.handles ≡ set cache.handles handle (Some (binding_for cache.handles found.entry node false)) → new.open_bytes ≡ charged_with cache.open_bytes (is_open cache.handles found.entry) found.charge → OnlyNamesChange cache new → AreShared new.handles → new.bytes < 2 ^ 64
-      → Does (KeepsState cache) (KeepsState new) old now moment (to_open handle key) answer.Done
+      → Does (HoldsState cache) (HoldsState new) old now moment (to_open handle key) answer.Done
   opened-does new bytes small are opened still steps binds charges others shared few image here state k = record {
     answered = sym (open-answer moment handle key state (goes-on image here state k));
     kept = λ i is.
@@ -121,7 +121,7 @@ module _ (cache : Cache) (old mid now : Told) (stays : mid ≡ old) (moment hand
         let shared-long : length (set cache.handles handle (Some (binding_for cache.handles found.entry node false))) ≡ 4096 = subst (λ (bs : Bindings). length bs ≡ 4096) binds shared.names in
         let also : length cache.handles ≡ 4096 = sym (length-set cache.handles handle (Some (binding_for cache.handles found.entry node false))) ∙ shared-long in
         let bytes-same = others.bytes in
-        subst (λ (s : State). KeepsState new s i) (sym ends)
+        subst (λ (s : State). HoldsState new s i) (sym ends)
         (opened-keeps cache state image k key found (at image here state k) node same other handle (used (main key) state.uses) (omega (arith, below, long)) (omega (arith, below, also)) (name-free cache handle key passes) new i keeps-next (still i is).agrees
         (leaves state k.layout [] image i (main key) k.kept.entries (listed image here state k) done-at).session.id others (omega (arith, few, bytes-same)) binds charges);
   }

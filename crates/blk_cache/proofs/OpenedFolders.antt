@@ -15,7 +15,7 @@ use Rattle.blk_model.specs.Holding.{open_state}
 use Rattle.blk_model.proofs.Opened.{open_valid}
 use Rattle.spec_format.specs.BlockFiles.{is_among}
 use Rattle.spec_format.proofs.Counts.{its-version}
-use Rattle.spec_format.proofs.Finished.{well_formed-finished}
+use Rattle.spec_format.proofs.Finished.{well_formed-finished, sound-of}
 use Rattle.spec_folder.specs.Audit.{kept_by}
 use Rattle.spec_folder.specs.Found.{charge_of, found, kept, row_of_loaded}
 use Rattle.spec_folder.specs.ListImages.{completed_walk}
@@ -79,7 +79,7 @@ repaired-kept entry image limits r are =
     let has : HasState state (kept_layout image) [] image = mended-state image limits r.mended are in
     let here : KeepsSome state image = (
       kept_layout image,
-      opened-kept image image image state (kept_layout image) [] has.valid has.well_formed has.represents has.allocated has.tidy (outside-refl (one_word Index 20) image) (outside-refl (one_word Index 32) image)
+      opened-kept image image image state (kept_layout image) [] has.valid (sound-of image has.well_formed) has.represents has.allocated has.tidy (outside-refl (one_word Index 20) image) (outside-refl (one_word Index 32) image)
           (in-session entry image limits r (found-holding image are)),
     ) in
     subst (λ (rows : List Row). KeepsSome (open_state rows limits) image) r.found_same here

@@ -20,13 +20,13 @@ use Rattle.law_state.specs.Keeping.{Keeps, KeepsUncounted}
 use Rattle.blk_object.specs.Writing.{node_of_object}
 use Rattle.blk_cache.specs.declared.cache.Cache.{Cache}
 use Rattle.blk_evict.specs.declared.looking.Live.{Live}
-use Rattle.blk_cache.specs.CacheKeeping.{IsBoundAs, IsBoundTo, KeepsState, named_objects}
+use Rattle.blk_cache.specs.CacheKeeping.{IsBoundAs, IsBoundTo, HoldsState, named_objects}
 use Rattle.blk_cache.specs.CommandClauses.{OnlyNamesChange, charged_with}
 use Rattle.blk_evict.specs.Looking.{IsLiveAt}
 use Rattle.blk_cache.proofs.BoundObjects.{bound-more, free-of, number-of, open-is-named, same-bound}
 use Rattle.blk_cache.proofs.NamedObjects.{count-more, named-before, named-new, named-total}
 
-module _ (cache : Cache) (state : State) (from : Image) (k : KeepsState cache state from) (key : List ℕ) (found : Live) (at : IsLiveAt state k.layout key found) where
+module _ (cache : Cache) (state : State) (from : Image) (k : HoldsState cache state from) (key : List ℕ) (found : Live) (at : IsLiveAt state k.layout key found) where
   abbrev kept : KeepsUncounted state k.layout [] from
   kept = k.kept.entries
 
@@ -157,7 +157,7 @@ module _ (cache : Cache) (state : State) (from : Image) (k : KeepsState cache st
             record { objects = omega (arith, count, one, was); bytes = omega (arith, sum, most, all, two, bytes, charge, few) }
 
       pub opened-keeps : (new : Cache) (image : Image) → Keeps next k.layout [] image → Agrees cache.files image → this_id_of (byte image Index) ≡ this_id_of (byte from Index) → OnlyNamesChange cache new → cache.bytes < 2 ^ 64
-          → new.handles ≡ now → new.open_bytes ≡ charged_with cache.open_bytes (is_open cache.handles found.entry) found.charge → KeepsState new next image
+          → new.handles ≡ now → new.open_bytes ≡ charged_with cache.open_bytes (is_open cache.handles found.entry) found.charge → HoldsState new next image
       opened-keeps new image keeps files id others few binds charges =
           let open_ : AreOpen (open_count now) new.open_bytes = are-open new.open_bytes charges few in
           record {

@@ -9,13 +9,13 @@ use Rattle.blk_handles.specs.Bindings.{Binding, binding_of}
 use Rattle.blk_print.specs.PresentPrinting.{HasPresent}
 use Rattle.blk_print.specs.declared.present_printing.PresentRange.{PresentRange}
 use Rattle.blk_cache.specs.declared.cache.Cache.{Cache}
-use Rattle.blk_cache.specs.CacheKeeping.{KeepsState}
+use Rattle.blk_cache.specs.CacheKeeping.{HoldsState}
 use Rattle.blk_cache.specs.ReadPrinting.{NamesPresent}
 use Rattle.blk_cache.specs.SparseAsking.{IsLiveNamed}
 use Rattle.blk_cache.proofs.Sizes.{named-object}
 use Rattle.blk_cache.proofs.SparseAsks.{it, live-named, n, names-it, parents-row}
 
-module _ (cache : Cache) (state : State) (image : Image) (k : KeepsState cache state image) (handle offset number : ℕ) (p : NamesPresent state handle offset number) (b : Binding) (bound : binding_of cache.handles handle ≡ Some b) where
+module _ (cache : Cache) (state : State) (image : Image) (k : HoldsState cache state image) (handle offset number : ℕ) (p : NamesPresent state handle offset number) (b : Binding) (bound : binding_of cache.handles handle ≡ Some b) where
   pub same : (it cache state image k handle offset number b bound).object ≡ p.object
   same = sym (named-object state handle (n cache state image k handle offset number b bound) (it cache state image k handle offset number b bound).object (names-it cache state image k handle offset number b bound)) ∙ named-object state handle p.n p.object p.names
 

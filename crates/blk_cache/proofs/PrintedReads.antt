@@ -18,7 +18,7 @@ use Rattle.blk_cache.specs.declared.asking.NamedStream.{NamedStream}
 use Rattle.blk_cache.specs.declared.cache.Cache.{Cache}
 use Rattle.blk_print.specs.declared.range_printing.StreamRange.{StreamRange}
 use Rattle.blk_cache.specs.Asking.{IsNamedStream}
-use Rattle.blk_cache.specs.CacheKeeping.{IsBoundTo, KeepsState}
+use Rattle.blk_cache.specs.CacheKeeping.{IsBoundTo, HoldsState}
 use Rattle.blk_cache.specs.Reading.{bytes_there}
 use Rattle.blk_print.specs.RangePrinting.{HasBytes}
 use Rattle.blk_cache.proofs.BoundRecords.{bound-checks, bound-stream, bound-streams}
@@ -30,7 +30,7 @@ not-third false true c p q r e = cc
 not-third false false true p q r e = cc
 not-third false false false p q r e = refl
 
-module _ (cache : Cache) (state : State) (image : Image) (k : KeepsState cache state image) (handle number offset count : ℕ) (found : NamedStream) (s : IsNamedStream state k.layout handle number found) (below : number < 3)
+module _ (cache : Cache) (state : State) (image : Image) (k : HoldsState cache state image) (handle number offset count : ℕ) (found : NamedStream) (s : IsNamedStream state k.layout handle number found) (below : number < 3)
     (n : ℕ) (so_many : n ≡ bytes_there found.size offset count) where
   -- as a name that is bound to it
   abbrev pub its-binding : Binding

@@ -18,7 +18,7 @@ use Rattle.law_state.specs.OneCallLaws.{Names}
 use Rattle.blk_cache.specs.declared.asking.NamedStream.{NamedStream}
 use Rattle.blk_cache.specs.declared.cache.Cache.{Cache}
 use Rattle.blk_cache.specs.Asking.{IsNamedStream, stream_refusal}
-use Rattle.blk_cache.specs.CacheKeeping.{IsBoundTo, KeepsState}
+use Rattle.blk_cache.specs.CacheKeeping.{IsBoundTo, HoldsState}
 use Rattle.blk_cache.specs.Reading.{bytes_there}
 use Rattle.blk_print.specs.RangePrinting.{HasBytes}
 use Rattle.blk_cache.specs.ReadPrinting.{can_be_read}
@@ -38,12 +38,12 @@ both true b e f = f
 both false b e f = cc
 
 -- a name that names an object is bound
-pub not-free : (cache : Cache) (state : State) (image : Image) (k : KeepsState cache state image) (handle m : ℕ) (object : Object) → Names state handle m object → binding_of cache.handles handle ≡ None → ⊥
+pub not-free : (cache : Cache) (state : State) (image : Image) (k : HoldsState cache state image) (handle m : ℕ) (object : Object) → Names state handle m object → binding_of cache.handles handle ≡ None → ⊥
 not-free cache state image k handle m object names free = clash (sym (ap is_some free) ∙ busy cache state image k handle ∙ ap is_some names.names) where
   clash : false ≡ true → ⊥
   clash e = cc
 
-module _ (cache : Cache) (state : State) (image : Image) (k : KeepsState cache state image) (handle at offset : ℕ) (b : Binding) (bound : binding_of cache.handles handle ≡ Some b) (passes : stream_refusal state handle at ≡ None) where
+module _ (cache : Cache) (state : State) (image : Image) (k : HoldsState cache state image) (handle at offset : ℕ) (b : Binding) (bound : binding_of cache.handles handle ≡ Some b) (passes : stream_refusal state handle at ≡ None) where
   abbrev it : IsBoundTo state k.layout (number cache state image k handle b bound) b
   it = is cache state image k handle b bound
 

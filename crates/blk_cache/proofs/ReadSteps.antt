@@ -43,7 +43,7 @@ use Rattle.blk_object.proofs.KeptLists.{listed-amid, touches-done, touches-partl
 use Rattle.blk_cache.specs.declared.asking.NamedStream.{NamedStream}
 use Rattle.blk_cache.specs.declared.cache.Cache.{Cache}
 use Rattle.blk_cache.specs.Asking.{IsNamedStream, stream_refusal}
-use Rattle.blk_cache.specs.CacheKeeping.{IsBoundAs, KeepsState, named_objects}
+use Rattle.blk_cache.specs.CacheKeeping.{IsBoundAs, HoldsState, named_objects}
 use Rattle.blk_cache.specs.CommandClauses.{KeepsAny}
 use Rattle.blk_cache.specs.Reading.{UsesItem, bytes_there}
 use Rattle.blk_cache.proofs.NamedObjects.{named-same}
@@ -65,10 +65,10 @@ module _ (state : State) (moment handle stream offset count : ℕ) where
       ap answer.Bytes (ap (λ (n : ℕ). min count (n - offset)) (size ∙ ap (λ (o : Object). length (stream_of o stream)) (sym is)) ∙ ap (min count) (sym (length-drop offset (stream_of (object_of state handle) stream))) ∙ sym (length-take count (drop offset (stream_of (object_of state handle) stream))))
       ∙ sym (ap answer_of (passed state moment (to_read handle stream offset count) goes).1)
 
-pub read-refuses : (cache : Cache) (old now : Told) → now ≡ old → (moment handle stream offset count : ℕ) (why : Refusal) → ForSome old.files (λ image. (state : State) → KeepsState cache state image → stream_refusal state handle stream ≡ Some why)
-    → Does (KeepsState cache) (KeepsState cache) old now moment (to_read handle stream offset count) (answer.Refused why)
+pub read-refuses : (cache : Cache) (old now : Told) → now ≡ old → (moment handle stream offset count : ℕ) (why : Refusal) → ForSome old.files (λ image. (state : State) → HoldsState cache state image → stream_refusal state handle stream ≡ Some why)
+    → Does (HoldsState cache) (HoldsState cache) old now moment (to_read handle stream offset count) (answer.Refused why)
 read-refuses cache old now stays moment handle stream offset count why refuses =
-    refusals-done (KeepsState cache) old now moment (to_read handle stream offset count) why stays (λ image there state k. read-refused state moment handle stream offset count ∙ refuses image there state k)
+    refusals-done (HoldsState cache) old now moment (to_read handle stream offset count) why stays (λ image there state k. read-refused state moment handle stream offset count ∙ refuses image there state k)
 
 -- ---- the state where items are in another order
 
@@ -78,8 +78,8 @@ in-order-as state layout uses (Some number) (Some b) n = record { object = n.obj
 in-order-as state layout uses None (Some b) n = absurd n
 in-order-as state layout uses (Some number) None n = absurd n
 
-pub keeps-in-order : (cache : Cache) (state : State) (from image : Image) (k : KeepsState cache state from) (uses : List Item) → Keeps (in_order uses state) k.layout [] image → Agrees cache.files image → this_id_of (byte image Index) ≡ this_id_of (byte from Index)
-    → KeepsState cache (in_order uses state) image
+pub keeps-in-order : (cache : Cache) (state : State) (from image : Image) (k : HoldsState cache state from) (uses : List Item) → Keeps (in_order uses state) k.layout [] image → Agrees cache.files image → this_id_of (byte image Index) ≡ this_id_of (byte from Index)
+    → HoldsState cache (in_order uses state) image
 keeps-in-order cache state from image k uses keeps files id =
     let same : named_objects (in_order uses state) ≡ named_objects state = named-same state (in_order uses state) (λ n. refl) 0 state.objects in
     record {
@@ -98,8 +98,8 @@ keeps-in-order cache state from image k uses keeps files id =
 
 -- ---- the use
 
-module _ (cache : Cache) (old mid : Told) (stays : mid ≡ old) (moment handle stream offset count : ℕ) (found : NamedStream) (has : ForSome old.files (λ image. (state : State) (k : KeepsState cache state image) → IsNamedStream state k.layout handle stream found)) where
-  module _ (image : Image) (here : old.files ≡ Some image) (state : State) (k : KeepsState cache state image) where
+module _ (cache : Cache) (old mid : Told) (stays : mid ≡ old) (moment handle stream offset count : ℕ) (found : NamedStream) (has : ForSome old.files (λ image. (state : State) (k : HoldsState cache state image) → IsNamedStream state k.layout handle stream found)) where
+  module _ (image : Image) (here : old.files ≡ Some image) (state : State) (k : HoldsState cache state image) where
     abbrev s : IsNamedStream state k.layout handle stream found
     s = has image here state k
 
@@ -146,9 +146,9 @@ module _ (cache : Cache) (old mid : Told) (stays : mid ≡ old) (moment handle s
 
   module _ {A : Type 0} (now : Told) (result : Result A Fault) (uses : UsesItem cache.files mid now found moment result) where
     -- at each word
-    pub read-stops : MayStopAtEach (KeepsState cache) old now moment (to_read handle stream offset count)
+    pub read-stops : MayStopAtEach (HoldsState cache) old now moment (to_read handle stream offset count)
     read-stops = ⊎_elim
-        (λ (dead : found.doomed ≡ true). nothing-stops (KeepsState cache) (says-kept cache) old now moment (to_read handle stream offset count) (uses.stays dead ∙ stays))
+        (λ (dead : found.doomed ≡ true). nothing-stops (HoldsState cache) (says-kept cache) old now moment (to_read handle stream offset count) (uses.stays dead ∙ stays))
         (λ (alive : found.doomed ≡ false). λ image here state k.
         let run : Passes mid now (IsTouched image found.node (touch_writes found.node (list_of image))) = touches-partly cache.files found.node mid now (amid image here state k alive) (uses.stops alive) image (mid-here image here state k) in
         let from-old : Passes old now (IsTouched image found.node (touch_writes found.node (list_of image))) = subst (λ (t : Told). Passes t now (IsTouched image found.node (touch_writes found.node (list_of image)))) stays run in
@@ -160,25 +160,25 @@ module _ (cache : Cache) (old mid : Told) (stays : mid ≡ old) (moment handle s
 
     -- in the end
     module _ (ok : (P : Type 0) → OnOk result P → P) (are : TellsBytes mid) (opened : ForSome mid.files (IsOpen cache.files)) (still : ForSome now.files (IsOpen cache.files)) where
-      touched-end : (alive : found.doomed ≡ false) (image : Image) (here : old.files ≡ Some image) (state : State) (k : KeepsState cache state image) (i : Image) → now.files ≡ Some i → KeepsState cache (step state moment (to_read handle stream offset count)).state i
+      touched-end : (alive : found.doomed ≡ false) (image : Image) (here : old.files ≡ Some image) (state : State) (k : HoldsState cache state image) (i : Image) → now.files ≡ Some i → HoldsState cache (step state moment (to_read handle stream offset count)).state i
       touched-end alive image here state k i there =
           let place : ℕ = k.layout.place (main (s image here state k).object.key) in
           let done : IsTouchDone image found.node i = touches-done cache.files found.node moment mid now are opened (amid image here state k alive) (ok (ForSome mid.files (λ from. Applies mid now (steps_of_touch found.node moment from))) (uses.steps alive)) image (mid-here image here state k) i there in
           let done-at : IsTouchDone image place i = subst (λ (n : ℕ). IsTouchDone image n i) (node-is image here state k alive) done in
           let ends : (step state moment (to_read handle stream offset count)).state ≡ in_order (used_all (uses_of (to_read handle stream offset count) state) state.uses) state = uses-end state moment (to_read handle stream offset count) tt (goes-on image here state k) in
           let keeps : Keeps (step state moment (to_read handle stream offset count)).state k.layout [] i = reads-end-by-touch state k.layout [] image i moment handle stream offset count (s image here state k).number (s image here state k).object k.kept (goes-on image here state k) (s image here state k).names (live image here state k alive) done-at in
-          subst (λ (m : State). KeepsState cache m i) (sym ends)
+          subst (λ (m : State). HoldsState cache m i) (sym ends)
           (keeps-in-order cache state image i k (used_all (uses_of (to_read handle stream offset count) state) state.uses) (subst (λ (m : State). Keeps m k.layout [] i) ends keeps) (still i there).agrees
           (leaves state k.layout [] image i (main (s image here state k).object.key) k.kept.entries (listed image here state k alive) done-at).session.id)
 
-      stayed-end : (dead : found.doomed ≡ true) (image : Image) (here : old.files ≡ Some image) (state : State) (k : KeepsState cache state image) (i : Image) → now.files ≡ Some i → KeepsState cache (step state moment (to_read handle stream offset count)).state i
+      stayed-end : (dead : found.doomed ≡ true) (image : Image) (here : old.files ≡ Some image) (state : State) (k : HoldsState cache state image) (i : Image) → now.files ≡ Some i → HoldsState cache (step state moment (to_read handle stream offset count)).state i
       stayed-end dead image here state k i there =
           let same : image ≡ i = some_inj (sym here ∙ sym (ap (λ (t : Told). t.files) (uses.stays dead ∙ stays)) ∙ there) in
-          subst (λ (m : State). KeepsState cache m i)
+          subst (λ (m : State). HoldsState cache m i)
           (sym (doomed-reads-end state moment handle stream offset count (s image here state k).number (s image here state k).object (goes-on image here state k) (s image here state k).names (not-true image here state k (s image here state k).object.live (sym dead ∙ (s image here state k).doomed))))
-          (subst (KeepsState cache state) same k)
+          (subst (HoldsState cache state) same k)
 
-      pub read-does : Does (KeepsState cache) (KeepsState cache) old now moment (to_read handle stream offset count) (answer.Bytes (bytes_there found.size offset count))
+      pub read-does : Does (HoldsState cache) (HoldsState cache) old now moment (to_read handle stream offset count) (answer.Bytes (bytes_there found.size offset count))
       read-does image here state k = record {
         answered = answered image here state k;
         kept = λ i there. ⊎_elim (λ (dead : found.doomed ≡ true). stayed-end dead image here state k i there) (λ (alive : found.doomed ≡ false). touched-end alive image here state k i there) (cases_Bool found.doomed);

@@ -13,11 +13,11 @@ use Rattle.spec_folder.specs.Layout.{Layout}
 use Rattle.blk_handles.specs.Bindings.{Binding, binding_of}
 use Rattle.law_state.specs.CommandLaws.{SaysKept}
 use Rattle.blk_cache.specs.declared.cache.Cache.{Cache}
-use Rattle.blk_cache.specs.CacheKeeping.{IsBoundAs, KeepsState}
+use Rattle.blk_cache.specs.CacheKeeping.{IsBoundAs, HoldsState}
 use Rattle.blk_cache.specs.CommandClauses.{open_refusal}
 
 -- what a cache keeps, the folder keeps
-pub says-kept : (cache : Cache) → SaysKept (KeepsState cache)
+pub says-kept : (cache : Cache) → SaysKept (HoldsState cache)
 says-kept cache state image k = (k.layout, [], k.kept.entries)
 
 -- a name is bound exactly where the state has it bound
@@ -27,7 +27,7 @@ names-same state layout (Some number) (Some b) n = refl
 names-same state layout None (Some b) n = absurd n
 names-same state layout (Some number) None n = absurd n
 
-pub busy : (cache : Cache) (state : State) (image : Image) → KeepsState cache state image → (handle : ℕ) → is_some (binding_of cache.handles handle) ≡ names_one state handle
+pub busy : (cache : Cache) (state : State) (image : Image) → HoldsState cache state image → (handle : ℕ) → is_some (binding_of cache.handles handle) ≡ names_one state handle
 busy cache state image k handle = sym (names-same state k.layout (named_by state handle) (binding_of cache.handles handle) (k.names handle))
 
 -- the first three of four refusals
@@ -63,7 +63,7 @@ module _ (cache : Cache) (handle : ℕ) (key : List ℕ) (passes : open_refusal 
   name-free = none_of (binding_of cache.handles handle) (third (no_key key) (no_name handle) (is_some (binding_of cache.handles handle)) refusal.BadKey refusal.BadHandle refusal.HandleBusy passes)
 
 -- Open
-module _ (cache : Cache) (state : State) (image : Image) (k : KeepsState cache state image) (moment handle : ℕ) (key : List ℕ) where
+module _ (cache : Cache) (state : State) (image : Image) (k : HoldsState cache state image) (moment handle : ℕ) (key : List ℕ) where
   pub refused-early : (why : Refusal) → open_refusal cache.handles handle key ≡ Some why → refused moment (to_open handle key) state ≡ Some why
   unfolding refusals
   refused-early why e = some-early (no_key key) (no_name handle) (names_one state handle) (is_none (live_with state key)) refusal.BadKey refusal.BadHandle refusal.HandleBusy refusal.Missing why

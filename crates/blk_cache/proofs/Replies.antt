@@ -28,7 +28,7 @@ use Rattle.blk_handles.specs.Bindings.{Bindings, binding_of, open_count}
 use Rattle.law_state.specs.OneCallLaws.{Names}
 use Rattle.blk_cache.specs.declared.cache.Cache.{Cache}
 use Rattle.blk_cache.specs.Asking.{stream_refusal}
-use Rattle.blk_cache.specs.CacheKeeping.{IsBoundAs, KeepsState}
+use Rattle.blk_cache.specs.CacheKeeping.{IsBoundAs, HoldsState}
 use Rattle.blk_cache.specs.Listing.{OnlyRoomChanges}
 use Rattle.blk_cache.specs.Reading.{bytes_there}
 use Rattle.blk_cache.specs.ReadPrinting.{ForRead, KeepsToRead}
@@ -162,7 +162,7 @@ bytes-number bytes offset count = length-take count (drop offset bytes) ∙ ap (
 
 module _ (cache : Cache) (told : Told) (handle stream offset count number : ℕ) where
   -- what is to be read, in a state after a Read
-  pub to-read : (state : State) (image : Image) → KeepsState cache state image → IsStateAfter (to_read handle stream offset count) (answer.Bytes number) state → KeepsToRead cache handle stream offset number image
+  pub to-read : (state : State) (image : Image) → HoldsState cache state image → IsStateAfter (to_read handle stream offset count) (answer.Bytes number) state → KeepsToRead cache handle stream offset number image
   to-read state image k after =
       let there : stream_refusal state handle stream ≡ None = still-there after.moment handle stream offset count after.before number state after.given_is after.state_is in
       let one : NamesOne state handle = names-one state handle stream k.kept.entries.valid there in
@@ -222,7 +222,7 @@ rows-and-end before between failed w0 w1 w2 given state rows_are end_is = printe
 
 -- ---- what a cache keeps doesn't depend on its buffers for names
 
-unfoldable pub kept-still : (old new : Cache) (state : State) (image : Image) → OnlyRoomChanges old new → KeepsState old state image → KeepsState new state image
+unfoldable pub kept-still : (old new : Cache) (state : State) (image : Image) → OnlyRoomChanges old new → HoldsState old state image → HoldsState new state image
 kept-still old new state image same k = record {
   layout = k.layout;
   kept = k.kept;

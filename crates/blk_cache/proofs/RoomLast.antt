@@ -21,7 +21,7 @@ use Rattle.blk_object.specs.ListedParts.{LoadsAt}
 use Rattle.blk_cache.specs.declared.cache.Cache.{Cache}
 use Rattle.blk_evict.specs.declared.list_places.Unpinned.{Unpinned}
 use Rattle.blk_cache.specs.declared.covered.Covered.{Covered}
-use Rattle.blk_cache.specs.CacheKeeping.{KeepsState}
+use Rattle.blk_cache.specs.CacheKeeping.{HoldsState}
 use Rattle.blk_cache.specs.Covering.{LieCovered, covers}
 use Rattle.blk_evict.specs.RoomLaws.{AreAllPinned, IsLastUnpinned}
 use Rattle.blk_evict.specs.ListPlaces.{AreInPrefix, IsLastAt, IsPinnedFrom}
@@ -68,7 +68,7 @@ said-contents : (image : Image) (w : ℕ) (n : NodeFields) → node_fields_at im
 unfolding node_fields_at
 said-contents image w n e stands = ap (λ (f : NodeFields). f.contents) (some_inj (rw stands at e))
 
-module _ (cache : Cache) (state : State) (image : Image) (kept : KeepsState cache state image) where
+module _ (cache : Cache) (state : State) (image : Image) (kept : HoldsState cache state image) where
   contents-at : (node : ℕ) (loaded : Loaded) → kept.layout.at node ≡ Some loaded → (node_at image node).contents ≡ loaded.contents
   unfolding store_of
   contents-at node loaded here =

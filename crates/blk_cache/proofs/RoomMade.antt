@@ -14,7 +14,7 @@ use Rattle.blk_model.specs.State.{Bounds, State}
 use Rattle.blk_model.specs.Sizes.{free_share}
 use Rattle.blk_cache.specs.declared.goal.Goal.TheVariants as goal
 use Rattle.blk_cache.specs.declared.cache.Cache.{Cache}
-use Rattle.blk_cache.specs.CacheKeeping.{KeepsState}
+use Rattle.blk_cache.specs.CacheKeeping.{HoldsState}
 use Rattle.blk_cache.specs.Evicting.{IsEvicting, is_met}
 use Rattle.blk_evict.specs.RoomPrinting.{PrintsUnlessFailed}
 use Rattle.blk_cache.proofs.Evictions.{none-finds}
@@ -55,13 +55,13 @@ full-none state covered bytes more is = go (room state covered bytes more) is wh
 
 -- ---- where nothing is evicted
 
-pub none-kept : (cache : Cache) (state : State) (groups : List Group) (image : Image) → groups ≡ [] → KeepsState cache state image → KeepsState cache (without groups state) image
-none-kept cache state groups image none k = subst (λ (gs : List Group). KeepsState cache (without gs state) image) (sym none) (subst (λ (s : State). KeepsState cache s image) (sym (without-none state)) k)
+pub none-kept : (cache : Cache) (state : State) (groups : List Group) (image : Image) → groups ≡ [] → HoldsState cache state image → HoldsState cache (without groups state) image
+none-kept cache state groups image none k = subst (λ (gs : List Group). HoldsState cache (without gs state) image) (sym none) (subst (λ (s : State). HoldsState cache s image) (sym (without-none state)) k)
 
 pub none-printed-of : (groups : List Group) (failed : Bool) (w : Option (List ℕ)) → groups ≡ [] → PrintsUnlessFailed failed failed w w (evicted_text groups)
 none-printed-of groups failed w none = subst (λ (gs : List Group). PrintsUnlessFailed failed failed w w (evicted_text gs)) (sym none) (none-printed failed w)
 
-pub none-stops : (told : Told) (cache : Cache) (state : State) (groups : List Group) (from : Image) → told.files ≡ Some from → KeepsState cache state from → Passes told told (IsEvicting groups state)
+pub none-stops : (told : Told) (cache : Cache) (state : State) (groups : List Group) (from : Image) → told.files ≡ Some from → HoldsState cache state from → Passes told told (IsEvicting groups state)
 none-stops told cache state groups from there k = passes_none {a = told} {b = told} (IsEvicting groups state) refl
     (λ other is. record {
       first = [];

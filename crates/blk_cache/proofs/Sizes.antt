@@ -18,7 +18,7 @@ use Rattle.law_state.proofs.Stopping.{nothing-done, quiet-keep, refusals-done}
 use Rattle.blk_cache.specs.declared.asking.NamedStream.{NamedStream}
 use Rattle.blk_cache.specs.declared.cache.Cache.{Cache}
 use Rattle.blk_cache.specs.Asking.{IsNamedStream, stream_refusal}
-use Rattle.blk_cache.specs.CacheKeeping.{KeepsState}
+use Rattle.blk_cache.specs.CacheKeeping.{HoldsState}
 
 -- the object that a handle names
 pub named-object : (state : State) (handle number : ℕ) (object : Object) → Names state handle number object → object_of state handle ≡ object
@@ -35,13 +35,13 @@ module _ (state : State) (moment handle stream : ℕ) where
   size-answer number object n goes = ap answer_of (passed state moment (to_size handle stream) goes).1 ∙ ap (λ (o : Object). answer.Size (length (stream_of o stream))) (named-object state handle number object n)
 
 module _ (cache : Cache) (old now : Told) (stays : now ≡ old) (moment handle stream : ℕ) where
-  pub size-refuses : (why : Refusal) → ForSome old.files (λ image. (state : State) → KeepsState cache state image → stream_refusal state handle stream ≡ Some why)
-      → Does (KeepsState cache) (KeepsState cache) old now moment (to_size handle stream) (answer.Refused why)
-  size-refuses why refuses = refusals-done (KeepsState cache) old now moment (to_size handle stream) why stays (λ image there state k. size-refused state moment handle stream ∙ refuses image there state k)
+  pub size-refuses : (why : Refusal) → ForSome old.files (λ image. (state : State) → HoldsState cache state image → stream_refusal state handle stream ≡ Some why)
+      → Does (HoldsState cache) (HoldsState cache) old now moment (to_size handle stream) (answer.Refused why)
+  size-refuses why refuses = refusals-done (HoldsState cache) old now moment (to_size handle stream) why stays (λ image there state k. size-refused state moment handle stream ∙ refuses image there state k)
 
-  pub size-does : (found : NamedStream) → ForSome old.files (λ image. (state : State) (k : KeepsState cache state image) → IsNamedStream state k.layout handle stream found)
-      → Does (KeepsState cache) (KeepsState cache) old now moment (to_size handle stream) (answer.Size found.size)
-  size-does found has = nothing-done (KeepsState cache) old now moment (to_size handle stream) (answer.Size found.size) stays (λ image there state k.
+  pub size-does : (found : NamedStream) → ForSome old.files (λ image. (state : State) (k : HoldsState cache state image) → IsNamedStream state k.layout handle stream found)
+      → Does (HoldsState cache) (HoldsState cache) old now moment (to_size handle stream) (answer.Size found.size)
+  size-does found has = nothing-done (HoldsState cache) old now moment (to_size handle stream) (answer.Size found.size) stays (λ image there state k.
       let s : IsNamedStream state k.layout handle stream found = has image there state k in
       let q = quiet-keep state moment handle stream in
       (q.1.1, ap answer.Size s.size ∙ sym (size-answer state moment handle stream s.number s.object s.names (size-refused state moment handle stream ∙ s.passes))))

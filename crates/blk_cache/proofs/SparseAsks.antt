@@ -26,7 +26,7 @@ use Rattle.blk_sparse.specs.Parents.{LoadsAsParent}
 use Rattle.blk_sparse.specs.declared.children.Parent.{Parent}
 use Rattle.blk_cache.specs.declared.cache.Cache.{Cache}
 use Rattle.blk_cache.specs.declared.sparse_asking.PlainObject.{PlainObject}
-use Rattle.blk_cache.specs.CacheKeeping.{IsBoundTo, KeepsState}
+use Rattle.blk_cache.specs.CacheKeeping.{IsBoundTo, HoldsState}
 use Rattle.blk_cache.specs.SparseAsking.{IsRangeInside, IsLiveNamed, IsParentNamed, IsPlainNamed, early_sparse_refusal, sparse_refusal}
 use Rattle.blk_cache.proofs.Asks.{none-named}
 use Rattle.blk_cache.proofs.BoundRecords.{SaysObject, bound-loads, bound-row, bound-says, no-main, row-shape}
@@ -89,7 +89,7 @@ nothing-early bindings handle offset count P e = subst (λ (o : Option Refusal).
 abbrev refusals : (offset count : ℕ) (free doomed : Bool) → Option Refusal
 refusals offset count free doomed = first_refusal ((free, refusal.BadHandle) ∷ (nat_lt 1048576 count, refusal.TooLarge) ∷ (past_end offset count, refusal.RangeEnd) ∷ (doomed, refusal.Doomed) ∷ [])
 
-module _ (cache : Cache) (state : State) (image : Image) (k : KeepsState cache state image) (handle offset count : ℕ) where
+module _ (cache : Cache) (state : State) (image : Image) (k : HoldsState cache state image) (handle offset count : ℕ) where
   bound-doomed : (b : Binding) → binding_of cache.handles handle ≡ Some b → is_doomed state handle ≡ b.doomed
   bound-doomed b bound =
       let it : IsBoundTo state k.layout (number cache state image k handle b bound) b = is cache state image k handle b bound in
@@ -112,7 +112,7 @@ module _ (cache : Cache) (state : State) (image : Image) (k : KeepsState cache s
   pub early-refused : (why : Refusal) → early_sparse_refusal cache.handles handle offset count ≡ Some why → sparse_refusal state handle offset count ≡ Some why
   early-refused why e = sym early-same ∙ e
 
-module _ (cache : Cache) (state : State) (image : Image) (k : KeepsState cache state image) (handle offset count : ℕ) where
+module _ (cache : Cache) (state : State) (image : Image) (k : HoldsState cache state image) (handle offset count : ℕ) where
   module _ (b : Binding) (bound : binding_of cache.handles handle ≡ Some b) where
     abbrev pub n : ℕ
     n = number cache state image k handle b bound

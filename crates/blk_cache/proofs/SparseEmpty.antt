@@ -38,7 +38,7 @@ use Rattle.blk_object.specs.KeptLists.{IsAmidList}
 use Rattle.blk_object.proofs.KeptLists.{listed-amid, touches-done, touches-partly}
 use Rattle.blk_sparse.specs.declared.storing.Target.{Target}
 use Rattle.blk_cache.specs.declared.cache.Cache.{Cache}
-use Rattle.blk_cache.specs.CacheKeeping.{KeepsState}
+use Rattle.blk_cache.specs.CacheKeeping.{HoldsState}
 use Rattle.blk_cache.specs.CommandClauses.{KeepsAny}
 use Rattle.blk_cache.specs.SparseTargets.{IsTargetNamed, NamesTarget}
 use Rattle.blk_evict.specs.RoomPrinting.{PrintsUnlessFailed}
@@ -126,7 +126,7 @@ module _ (state : State) (moment handle offset : ℕ) (layout : Layout) (found :
 -- ---- the command
 
 module _ (cache : Cache) (old now : Told) (moment handle offset : ℕ) (found : Target) (names : NamesTarget cache old moment handle offset 0 found) where
-  amid : (image : Image) (here : old.files ≡ Some image) (state : State) (k : KeepsState cache state image) → IsAmidList found.parent.node image
+  amid : (image : Image) (here : old.files ≡ Some image) (state : State) (k : HoldsState cache state image) → IsAmidList found.parent.node image
   amid image here state k =
       let t = names image here state k in
       subst (λ (n : ℕ). IsAmidList n image) t.its.node_is (listed-amid state k.layout [] image (main t.its.object.key) k.kept.entries (listed state moment handle offset k.layout found t image k.kept.entries))
@@ -139,7 +139,7 @@ module _ (cache : Cache) (old now : Told) (moment handle offset : ℕ) (found : 
       subst (λ (n : ℕ). IsListed n image) t.its.node_is (listed-node k.0 k.1.layout image k.1.kept.entries t.its.object.key (listed k.0 moment handle offset k.1.layout found t image k.1.kept.entries))
 
   -- at each word
-  pub empty-stops : ForSome old.files (λ from. (prefix suffix : List ℕ) → HasListAtRest (prefix ++ found.parent.node ∷ suffix) from → Passes old now (IsMidTouch cache.files found.parent.node (touch_writes found.parent.node (list_of from)) (prefix ++ found.parent.node ∷ suffix) (found.parent.node ∷ prefix ++ suffix) from)) → MayStopAtEach (KeepsState cache) old now moment (to_sparse_write handle offset [])
+  pub empty-stops : ForSome old.files (λ from. (prefix suffix : List ℕ) → HasListAtRest (prefix ++ found.parent.node ∷ suffix) from → Passes old now (IsMidTouch cache.files found.parent.node (touch_writes found.parent.node (list_of from)) (prefix ++ found.parent.node ∷ suffix) (found.parent.node ∷ prefix ++ suffix) from)) → MayStopAtEach (HoldsState cache) old now moment (to_sparse_write handle offset [])
   empty-stops stops image here state k =
       let run : Passes old now (IsTouched image found.parent.node (touch_writes found.parent.node (list_of image))) = touches-partly cache.files found.parent.node old now (λ i there. subst (IsAmidList found.parent.node) (some_inj (sym here ∙ there)) (amid image here state k)) stops image here in
       let may : (i : Image) → IsTouched image found.parent.node (touch_writes found.parent.node (list_of image)) i → MayStop state moment (to_sparse_write handle offset []) i
@@ -147,7 +147,7 @@ module _ (cache : Cache) (old now : Told) (moment handle offset : ℕ) (found : 
       passes_weaker run may may
 
   -- in the end
-  pub empty-does : TellsBytes old → ForSome old.files (IsOpen cache.files) → ForSome now.files (IsOpen cache.files) → ForSome old.files (λ from. Applies old now (steps_of_touch found.parent.node moment from)) → Does (KeepsState cache) (KeepsState cache) old now moment (to_sparse_write handle offset []) (answer.Wrote 0)
+  pub empty-does : TellsBytes old → ForSome old.files (IsOpen cache.files) → ForSome now.files (IsOpen cache.files) → ForSome old.files (λ from. Applies old now (steps_of_touch found.parent.node moment from)) → Does (HoldsState cache) (HoldsState cache) old now moment (to_sparse_write handle offset []) (answer.Wrote 0)
   empty-does are opened still steps image here state k =
       let t = names image here state k in
       let place : ℕ = k.layout.place (main t.its.object.key) in
@@ -157,7 +157,7 @@ module _ (cache : Cache) (old now : Told) (moment handle offset : ℕ) (found : 
             let done : IsTouchDone image found.parent.node i = touches-done cache.files found.parent.node moment old now are opened (λ j is. subst (IsAmidList found.parent.node) (some_inj (sym here ∙ is)) (amid image here state k)) steps image here i there in
             let done-at : IsTouchDone image place i = subst (λ (n : ℕ). IsTouchDone image n i) (sym t.its.node_is) done in
             let its-listed = listed state moment handle offset k.layout found t image k.kept.entries in
-            subst (λ (m : State). KeepsState cache m i) (sym (empty-ends state moment handle offset k.layout found t))
+            subst (λ (m : State). HoldsState cache m i) (sym (empty-ends state moment handle offset k.layout found t))
             (keeps-in-order cache state image i k (used (main t.its.object.key) state.uses) (touch-counts state k.layout [] image i (main t.its.object.key) k.kept its-listed done-at) (still i there).agrees
             (leaves state k.layout [] image i (main t.its.object.key) k.kept.entries its-listed done-at).session.id);
       }

@@ -31,7 +31,7 @@ use Rattle.law_state.proofs.WordStops.{unsettling-stops}
 use Rattle.blk_sparse.specs.declared.storing.Target.{Target}
 use Rattle.blk_sparse.specs.SparseWrites.{object_written, signature_to, sparse_state}
 use Rattle.blk_cache.specs.declared.cache.Cache.{Cache}
-use Rattle.blk_cache.specs.CacheKeeping.{KeepsState}
+use Rattle.blk_cache.specs.CacheKeeping.{HoldsState}
 use Rattle.blk_cache.specs.CommandClauses.{KeepsAny}
 use Rattle.blk_cache.specs.SparseWriting.{CanStore, IsReadyToStore, IsReadyToStoreSome, IsSignedBy, IsTargetOf, KeepsToStore}
 use Rattle.blk_cache.specs.Marking.{ForEachNamed}
@@ -151,13 +151,13 @@ module _ (cache : Cache) (moment handle offset : ℕ) (bytes : List ℕ) (some :
         = sparse-either-stops state moment handle offset bytes some ready.valid ready.passes ready.number ready.object ready.names ready.live target ready.is ready.signed in
         passes_weaker (unsettling from here (with_room state moment (to_sparse_write handle offset bytes)) ready.number ready.object ready.kept ready.names) may may
 
-    module _ (new : Cache) (unsettled : ForSome old.files (λ from. ForEachNamed cache handle from (λ state number object. ForSome mid.files (KeepsState new (marked state number object false))))) where
+    module _ (new : Cache) (unsettled : ForSome old.files (λ from. ForEachNamed cache handle from (λ state number object. ForSome mid.files (HoldsState new (marked state number object false))))) where
       -- then it can get the bytes
       module _ (from : Image) (here : old.files ≡ Some from) (state : State) (ready : IsReadyToStore cache state moment handle offset bytes target more_bytes more_items from) where
         abbrev then-state : State
         then-state = later state moment handle offset bytes some ready.valid ready.passes ready.number ready.object ready.names ready.live target ready.is ready.signed
 
-        kept-then : (i : Image) → mid.files ≡ Some i → KeepsState new then-state i
+        kept-then : (i : Image) → mid.files ≡ Some i → HoldsState new then-state i
         kept-then i there = unsettled from here (with_room state moment (to_sparse_write handle offset bytes)) ready.number ready.object ready.kept ready.names i there
 
         can-then : CanStore then-state handle offset bytes target more_bytes more_items
@@ -167,7 +167,7 @@ module _ (cache : Cache) (moment handle offset : ℕ) (bytes : List ℕ) (some :
         to-get i there = record { state = then-state; kept = kept-then i there; can = can-then }
 
       module _ (now : Told) where
-        pub sparse-end-stops : ForSome mid.files (λ from. (state : State) → KeepsState new state from → CanStore state handle offset bytes target more_bytes more_items → Passes mid now (Finds (rest state)))
+        pub sparse-end-stops : ForSome mid.files (λ from. (state : State) → HoldsState new state from → CanStore state handle offset bytes target more_bytes more_items → Passes mid now (Finds (rest state)))
             → ForSome old.files (λ from. (state : State) → IsReadyToStore cache state moment handle offset bytes target more_bytes more_items from → Passes old now (MayStop state moment (to_sparse_write handle offset bytes)))
         sparse-end-stops stops from here state ready =
             let first = sparse-unsettle-stops from here state ready in
@@ -176,14 +176,14 @@ module _ (cache : Cache) (moment handle offset : ℕ) (bytes : List ℕ) (some :
             = λ i finds. sparse-either-stops state moment handle offset bytes some ready.valid ready.passes ready.number ready.object ready.names ready.live target ready.is ready.signed i (inr finds) in
             passes_then first (passes_weaker (stops m.0 m.1 (then-state from here state ready) (kept-then from here state ready m.0 m.1) (can-then from here state ready)) may may)
 
-        pub sparse-end-does : (last : Cache) → ForSome mid.files (λ from. (state : State) → KeepsState new state from → (can : CanStore state handle offset bytes target more_bytes more_items) → ForSome now.files (KeepsState last (sparse_state state can.number can.object (signature_to target) offset bytes)))
-            → ForSome old.files (λ from. (state : State) → IsReadyToStore cache state moment handle offset bytes target more_bytes more_items from → IsDone (KeepsState last) now moment (to_sparse_write handle offset bytes) (answer.Wrote (length bytes)) state)
+        pub sparse-end-does : (last : Cache) → ForSome mid.files (λ from. (state : State) → HoldsState new state from → (can : CanStore state handle offset bytes target more_bytes more_items) → ForSome now.files (HoldsState last (sparse_state state can.number can.object (signature_to target) offset bytes)))
+            → ForSome old.files (λ from. (state : State) → IsReadyToStore cache state moment handle offset bytes target more_bytes more_items from → IsDone (HoldsState last) now moment (to_sparse_write handle offset bytes) (answer.Wrote (length bytes)) state)
         unfolding can-then can-store
         sparse-end-does last stored from here state ready =
             let m = there-after old mid (MayStop state moment (to_sparse_write handle offset bytes)) (sparse-unsettle-stops from here state ready) from here in
             record {
               answered = sparse-answer state moment handle offset bytes some ready.valid ready.passes;
-              kept = λ i there. subst (λ (s : State). KeepsState last s i) (sym (sparse-ends state moment handle offset bytes some ready.valid ready.passes ready.number ready.object ready.names ready.live target ready.is ready.signed))
+              kept = λ i there. subst (λ (s : State). HoldsState last s i) (sym (sparse-ends state moment handle offset bytes some ready.valid ready.passes ready.number ready.object ready.names ready.live target ready.is ready.signed))
                   (stored m.0 m.1 (then-state from here state ready) (kept-then from here state ready m.0 m.1) (can-then from here state ready) i there);
             }
 
@@ -195,7 +195,7 @@ sparse-ready-any cache handle offset bytes target more_bytes more_items image on
 
 pub sparse-end-untold : {A : Type 0} (r : Result A Fault) (cache : Cache) (handle offset : ℕ) (bytes : List ℕ) (some : 1 ≤ length bytes) (target : Target) (more_bytes more_items : ℕ) (old mid : Told) (new : Cache)
     → ForSome old.files (λ from. ForEachNamed cache handle from (λ state number object. Passes old mid (λ image. Finds (rest state) image ⊎ Finds (rest (marked state number object false)) image)))
-    → ForSome old.files (λ from. ForEachNamed cache handle from (λ state number object. ForSome mid.files (KeepsState new (marked state number object false))))
+    → ForSome old.files (λ from. ForEachNamed cache handle from (λ state number object. ForSome mid.files (HoldsState new (marked state number object false))))
     → (ForSome mid.files (KeepsToStore new handle offset bytes target more_bytes more_items) → IfDamaged r (λ _. mid.files ≡ None)) → ForSome old.files (IsReadyToStoreSome cache handle offset bytes target more_bytes more_items) → IfDamaged r (λ _. old.files ≡ None)
 sparse-end-untold r cache handle offset bytes some target more_bytes more_items old mid new unsettling unsettled untold any = untold-by r old.files (λ from here.
     let one = any from here in

@@ -24,7 +24,7 @@ use Rattle.blk_cache.specs.declared.sparse_asking.AskedSparse.{AskedSparse}
 use Rattle.blk_cache.specs.declared.sparse_asking.AskedSparse.TheVariants as asked
 use Rattle.blk_cache.specs.declared.sparse_asking.PlainObject.{PlainObject}
 use Rattle.blk_cache.specs.declared.sparse_target.AskedTarget.TheVariants as target
-use Rattle.blk_cache.specs.CacheKeeping.{KeepsState}
+use Rattle.blk_cache.specs.CacheKeeping.{HoldsState}
 use Rattle.blk_cache.specs.Covering.{AreCovered}
 use Rattle.blk_cache.specs.SparseAsking.{FindsInside, IsAmongFiles, IsAskedSparse, IsPlainNamed}
 use Rattle.blk_cache.specs.SparseTargets.{FindsTarget, IsAskedTarget, IsRise, IsTargetNamed, asked_target, plain_target, rise_of}
@@ -104,7 +104,7 @@ module _ (files : BlockFiles) (early : Option Refusal) (moment offset count : �
 
 -- ---- what is measured
 
-module _ (cache : Cache) (state : State) (image : Image) (k : KeepsState cache state image) (moment handle offset count : ℕ) (found : Target) (t : IsTargetNamed state k.layout moment handle offset count found) where
+module _ (cache : Cache) (state : State) (image : Image) (k : HoldsState cache state image) (moment handle offset count : ℕ) (found : Target) (t : IsTargetNamed state k.layout moment handle offset count found) where
   -- as it is asked of a plain object
   pub plain-kept : found.plain ≡ true → IsPlainKept state k.layout [] t.its.number t.its.object found.parent.node found.parent.entry image
   plain-kept e = record { kept = k.kept.entries; here = t.its.names.here; live = t.its.live; is_plain = (t.may.of_plain e).0; node_is = t.its.node_is; was = t.its.was; lies = t.its.lies; record_is = t.its.record_is }
@@ -122,7 +122,7 @@ module _ (cache : Cache) (state : State) (image : Image) (k : KeepsState cache s
       subst (λ (o : Object). IsMeasured k.layout o (signature_to found) offset count measured) same m
 
 -- what is measured is what a SparseWrite adds
-pub measured-rises : (cache : Cache) (state : State) (image : Image) (k : KeepsState cache state image) (moment handle offset : ℕ) (bytes : List ℕ) (found : Target) (t : IsTargetNamed state k.layout moment handle offset (length bytes) found) → 1 ≤ length bytes → length bytes ≤ 1048576
+pub measured-rises : (cache : Cache) (state : State) (image : Image) (k : HoldsState cache state image) (moment handle offset : ℕ) (bytes : List ℕ) (found : Target) (t : IsTargetNamed state k.layout moment handle offset (length bytes) found) → 1 ≤ length bytes → length bytes ≤ 1048576
     → (measured : Measured) → IsMeasured k.layout (with_signature t.its.object (signature_to found)) (signature_to found) offset (length bytes) measured → IsRise state k.layout moment handle offset bytes (rise_of found measured)
 measured-rises cache state image k moment handle offset bytes found t some few measured m = record {
   parts = subst (λ (o : Object). AreCovered state k.layout (map (part o.key) (covered_parts offset (length bytes))) (covered_of measured)) (sym (named-object state handle t.its.number t.its.object t.its.names))
@@ -131,7 +131,7 @@ measured-rises cache state image k moment handle offset bytes found t some few m
 }
 
 -- whatever bytes these are
-pub rises-measured : (cache : Cache) (state : State) (image : Image) (k : KeepsState cache state image) (moment handle offset count : ℕ) (bytes : List ℕ) → length bytes ≡ count → (found : Target) (t : IsTargetNamed state k.layout moment handle offset count found) → 1 ≤ count → count ≤ 1048576
+pub rises-measured : (cache : Cache) (state : State) (image : Image) (k : HoldsState cache state image) (moment handle offset count : ℕ) (bytes : List ℕ) → length bytes ≡ count → (found : Target) (t : IsTargetNamed state k.layout moment handle offset count found) → 1 ≤ count → count ≤ 1048576
     → (measured : Measured) → IsMeasured k.layout (with_signature t.its.object (signature_to found)) (signature_to found) offset count measured → IsRise state k.layout moment handle offset bytes (rise_of found measured)
 rises-measured cache state image k moment handle offset count bytes long found t some few measured m =
     subst (λ (n : ℕ). (t : IsTargetNamed state k.layout moment handle offset n found) → 1 ≤ n → n ≤ 1048576 → IsMeasured k.layout (with_signature t.its.object (signature_to found)) (signature_to found) offset n measured → IsRise state k.layout moment handle offset bytes (rise_of found measured)) long

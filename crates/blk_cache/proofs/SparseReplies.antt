@@ -19,7 +19,7 @@ use Rattle.blk_model.specs.declared.Refusal.TheVariants as refusal
 use Rattle.blk_script.specs.Reply.{reply_text}
 use Rattle.blk_sparse.proofs.PrefixRuns.{bytes-again, bytes-few}
 use Rattle.blk_cache.specs.declared.cache.Cache.{Cache}
-use Rattle.blk_cache.specs.CacheKeeping.{KeepsState}
+use Rattle.blk_cache.specs.CacheKeeping.{HoldsState}
 use Rattle.blk_cache.specs.ReadPrinting.{ForPresent, KeepsPresent, NamesPresent}
 use Rattle.blk_cache.specs.Replying.{ForBytes, IsStateAfter}
 use Rattle.blk_cache.proofs.Replies.{NamesOne, named-one}
@@ -95,7 +95,7 @@ not-false true e = refl
 not-false false e = cc
 
 module _ (cache : Cache) (told : Told) (handle offset count number : ℕ) where
-  module _ (state : State) (image : Image) (k : KeepsState cache state image) (after : IsStateAfter (to_sparse_read handle offset count) (answer.Bytes number) state) where
+  module _ (state : State) (image : Image) (k : HoldsState cache state image) (after : IsStateAfter (to_sparse_read handle offset count) (answer.Bytes number) state) where
     pub free : NoneOfFive (names_none state handle) (nat_lt 1048576 count) (past_end offset count) (is_doomed state handle) (is_plain state handle)
     free = sparse-passes state after.moment handle offset count (passes-again after.moment handle offset count after.before number state after.given_is after.state_is)
 

@@ -34,7 +34,7 @@ use Rattle.blk_sparse.specs.SparseObjects.{missing_parts, with_signature}
 use Rattle.blk_sparse.specs.SparseWrites.{CanBeStored, ForEachToStore, IsKeptWithBytes, MayGetParts, object_written, signature_to, sparse_state}
 use Rattle.blk_sparse.proofs.PartCharges.{more-written}
 use Rattle.blk_cache.specs.declared.cache.Cache.{Cache}
-use Rattle.blk_cache.specs.CacheKeeping.{IsBoundAs, IsBoundTo, KeepsState, named_objects}
+use Rattle.blk_cache.specs.CacheKeeping.{IsBoundAs, IsBoundTo, HoldsState, named_objects}
 use Rattle.blk_cache.specs.Creating.{sum_within}
 use Rattle.blk_cache.specs.SparseWriting.{CanStore, IsTargetOf, KeepsToStore, index_charge, own_target}
 use Rattle.blk_cache.proofs.ChangedObjects.{IsOneChanged, bound-to, its-named, its-object, named-changed, sum-changed}
@@ -68,7 +68,7 @@ pub record CountedParts (old new : Cache) (target : Target) (more_bytes more_ite
 within-all : (a b : ℕ) → a + b < 2 ^ 64 → sum_within a b ≡ a + b
 within-all a b small = omega (arith, small)
 
-module _ (cache : Cache) (state : State) (from : Image) (k : KeepsState cache state from) (handle offset : ℕ) (bytes : List ℕ) (target : Target) (more_bytes more_items : ℕ) (can : CanStore state handle offset bytes target more_bytes more_items) (b : Binding) (bound : binding_of cache.handles handle ≡ Some b) where
+module _ (cache : Cache) (state : State) (from : Image) (k : HoldsState cache state from) (handle offset : ℕ) (bytes : List ℕ) (target : Target) (more_bytes more_items : ℕ) (can : CanStore state handle offset bytes target more_bytes more_items) (b : Binding) (bound : binding_of cache.handles handle ≡ Some b) where
   abbrev number : ℕ
   number = can.number
 
@@ -212,7 +212,7 @@ module _ (cache : Cache) (state : State) (from : Image) (k : KeepsState cache st
       by None (Some d) n = absurd n
       by (Some m) None n = absurd n
 
-    pub stored-keeps : KeepsState new next image
+    pub stored-keeps : HoldsState new next image
     stored-keeps =
         let own_charged = own-more can.object target offset bytes can.is in
         let charged = one.charged in
@@ -245,7 +245,7 @@ module _ (cache : Cache) (state : State) (from : Image) (k : KeepsState cache st
 
 module _ (cache : Cache) (handle offset : ℕ) (bytes : List ℕ) (some : 1 ≤ length bytes) (short : length bytes ≤ 1048576) (target : Target) (more_bytes more_items : ℕ) (b : Binding) (bound : binding_of cache.handles handle ≡ Some b) (its : Target) (is-own : its ≡ own_target b.node b.entry target) (old now : Told) where
   pub store-stops : ForSome old.files (λ from. ForEachToStore its offset bytes more_items more_bytes from (λ state layout number object. Passes old now (Finds (rest state))))
-      → ForSome old.files (λ from. (state : State) → KeepsState cache state from → CanStore state handle offset bytes target more_bytes more_items → Passes old now (Finds (rest state)))
+      → ForSome old.files (λ from. (state : State) → HoldsState cache state from → CanStore state handle offset bytes target more_bytes more_items → Passes old now (Finds (rest state)))
   store-stops stops from here state k can =
       stops from here state k.layout can.number can.object (subst (λ (t : Target). CanBeStored state k.layout can.number can.object t offset bytes more_items more_bytes from) (sym is-own)
       (to-store cache state from k handle offset bytes target more_bytes more_items can b bound some short))
@@ -259,7 +259,7 @@ module _ (cache : Cache) (handle offset : ℕ) (bytes : List ℕ) (some : 1 ≤ 
 
   pub store-keeps : (new : Cache) → CountedParts cache new target more_bytes more_items → ForSome old.files (λ from. ForEachToStore its offset bytes more_items more_bytes from (λ state layout number object. ForSome now.files (IsKeptWithBytes state layout number object its offset bytes from)))
       → ((image : Image) → now.files ≡ Some image → Agrees new.files image)
-      → ForSome old.files (λ from. (state : State) → KeepsState cache state from → (can : CanStore state handle offset bytes target more_bytes more_items) → ForSome now.files (KeepsState new (sparse_state state can.number can.object (signature_to target) offset bytes)))
+      → ForSome old.files (λ from. (state : State) → HoldsState cache state from → (can : CanStore state handle offset bytes target more_bytes more_items) → ForSome now.files (HoldsState new (sparse_state state can.number can.object (signature_to target) offset bytes)))
   store-keeps new counts stored files from here state k can image there =
       stored-keeps cache state from k handle offset bytes target more_bytes more_items can b bound image
       (subst (λ (t : Target). IsKeptWithBytes state k.layout can.number can.object t offset bytes from image) is-own

@@ -31,7 +31,7 @@ use Rattle.blk_cache.specs.declared.cache.Cache.{Cache}
 use Rattle.blk_cache.specs.declared.sparse_asking.PlainObject.{PlainObject}
 use Rattle.blk_cache.specs.declared.sparse_reading.Wanted.{Wanted}
 use Rattle.blk_cache.specs.declared.sparse_reading.Wanted.TheVariants as wanted
-use Rattle.blk_cache.specs.CacheKeeping.{KeepsState}
+use Rattle.blk_cache.specs.CacheKeeping.{HoldsState}
 use Rattle.blk_cache.specs.CommandClauses.{IsRefused}
 use Rattle.blk_cache.specs.Listing.{OnlyRoomChanges}
 use Rattle.blk_cache.specs.SparseAsking.{IsParentNamed, IsPlainNamed, sparse_refusal}
@@ -98,15 +98,15 @@ pub run-told : (w : Wanted) (offset : ℕ) (run : ℕ × ℕ) → IsRefused (tol
 run-told wanted.Bytes offset run r = r
 run-told wanted.Run offset run r = r
 
-pub sparse-refuses : (cache : Cache) (old now : Told) → now ≡ old → (moment handle offset count : ℕ) (w : Wanted) (why : Refusal) → ForSome old.files (λ image. (state : State) → KeepsState cache state image → refused moment (to_use_sparse w handle offset count) state ≡ Some why)
-    → Does (KeepsState cache) (KeepsState cache) old now moment (to_use_sparse w handle offset count) (answer.Refused why)
+pub sparse-refuses : (cache : Cache) (old now : Told) → now ≡ old → (moment handle offset count : ℕ) (w : Wanted) (why : Refusal) → ForSome old.files (λ image. (state : State) → HoldsState cache state image → refused moment (to_use_sparse w handle offset count) state ≡ Some why)
+    → Does (HoldsState cache) (HoldsState cache) old now moment (to_use_sparse w handle offset count) (answer.Refused why)
 sparse-refuses cache old now stays moment handle offset count w why refuses =
-    refusals-done (KeepsState cache) old now moment (to_use_sparse w handle offset count) why stays refuses
+    refusals-done (HoldsState cache) old now moment (to_use_sparse w handle offset count) why stays refuses
 
 -- ---- the use
 
-module _ (cache : Cache) (old mid now : Told) (stays : mid ≡ old) (moment handle offset count : ℕ) (w : Wanted) (parent : Parent) (has : ForSome old.files (λ image. (state : State) (k : KeepsState cache state image) → IsParentNamed state k.layout handle offset count parent)) where
-  module _ (image : Image) (here : old.files ≡ Some image) (state : State) (k : KeepsState cache state image) where
+module _ (cache : Cache) (old mid now : Told) (stays : mid ≡ old) (moment handle offset count : ℕ) (w : Wanted) (parent : Parent) (has : ForSome old.files (λ image. (state : State) (k : HoldsState cache state image) → IsParentNamed state k.layout handle offset count parent)) where
+  module _ (image : Image) (here : old.files ≡ Some image) (state : State) (k : HoldsState cache state image) where
     abbrev s : IsParentNamed state k.layout handle offset count parent
     s = has image here state k
 
@@ -133,14 +133,14 @@ module _ (cache : Cache) (old mid now : Told) (stays : mid ≡ old) (moment hand
         (only-uses-left state moment (to_use_sparse w handle offset count) f.first f.others k.kept.entries.valid (use-only state moment handle offset count w) goes-on (items-are ∙ f.split)) f.finds
 
     -- in the end
-    ends-kept : (new : Cache) → OnlyRoomChanges cache new → (i : Image) → IsOpen cache.files i → KeepsParentUsed state k.layout [] s.its.number s.its.object parent.node parent.entry (cast_unsigned w64 parent.signature) (main s.its.object.key ∷ parts_used s.its.object offset count) image i → KeepsState new (step state moment (to_use_sparse w handle offset count)).state i
+    ends-kept : (new : Cache) → OnlyRoomChanges cache new → (i : Image) → IsOpen cache.files i → KeepsParentUsed state k.layout [] s.its.number s.its.object parent.node parent.entry (cast_unsigned w64 parent.signature) (main s.its.object.key ∷ parts_used s.its.object offset count) image i → HoldsState new (step state moment (to_use_sparse w handle offset count)).state i
     ends-kept new others i opened u =
-        subst (λ (m : State). KeepsState new m i) (sym (uses-end state moment (to_use_sparse w handle offset count) (use-only state moment handle offset count w) goes-on))
-        (subst (λ (items : List Item). KeepsState new (in_order (used_all items state.uses) state) i) (sym items-are)
+        subst (λ (m : State). HoldsState new m i) (sym (uses-end state moment (to_use_sparse w handle offset count) (use-only state moment handle offset count w) goes-on))
+        (subst (λ (items : List Item). HoldsState new (in_order (used_all items state.uses) state) i) (sym items-are)
         (kept-still cache new (in_order (used_all (main s.its.object.key ∷ parts_used s.its.object offset count) state.uses) state) i others
         (keeps-in-order cache state image i k (used_all (main s.its.object.key ∷ parts_used s.its.object offset count) state.uses) (record { entries = u.parent.kept; counters = u.counted k.kept.counters }) opened.agrees u.session.id)))
 
-  pub sparse-stops : ForSome mid.files (λ from. ForEachKeptParent parent.node parent.entry (cast_unsigned w64 parent.signature) from (λ state layout unlinked number object. Passes mid now (FindsUsed state (main object.key ∷ parts_used object offset count)))) → MayStopAtEach (KeepsState cache) old now moment (to_use_sparse w handle offset count)
+  pub sparse-stops : ForSome mid.files (λ from. ForEachKeptParent parent.node parent.entry (cast_unsigned w64 parent.signature) from (λ state layout unlinked number object. Passes mid now (FindsUsed state (main object.key ∷ parts_used object offset count)))) → MayStopAtEach (HoldsState cache) old now moment (to_use_sparse w handle offset count)
   sparse-stops stops image here state k =
       let run : Passes mid now (FindsUsed state (main (s image here state k).its.object.key ∷ parts_used (s image here state k).its.object offset count)) = stops image (mid-here image here state k) state k.layout [] (s image here state k).its.number (s image here state k).its.object (keeps-parent image here state k) in
       passes_weaker (passes_stayed stays run) (may-stop image here state k) (may-stop image here state k)
@@ -148,7 +148,7 @@ module _ (cache : Cache) (old mid now : Told) (stays : mid ≡ old) (moment hand
   pub sparse-does : (new : Cache) → OnlyRoomChanges cache new → ForSome now.files (IsOpen cache.files) → (run : ℕ × ℕ)
       → ForSome mid.files (λ from. ForEachKeptParent parent.node parent.entry (cast_unsigned w64 parent.signature) from (λ state layout unlinked number object. (run.0, run.1) ≡ present_run object offset count))
       → ForSome mid.files (λ from. ForEachKeptParent parent.node parent.entry (cast_unsigned w64 parent.signature) from (λ state layout unlinked number object. ForSome now.files (KeepsParentUsed state layout unlinked number object parent.node parent.entry (cast_unsigned w64 parent.signature) (main object.key ∷ parts_used object offset count) from)))
-      → Does (KeepsState cache) (KeepsState new) old now moment (to_use_sparse w handle offset count) (told_of_run w offset (run.0, run.1))
+      → Does (HoldsState cache) (HoldsState new) old now moment (to_use_sparse w handle offset count) (told_of_run w offset (run.0, run.1))
   sparse-does new others opened run runs used image here state k =
       let p = keeps-parent image here state k in
       record {
@@ -157,7 +157,7 @@ module _ (cache : Cache) (old mid now : Told) (stays : mid ≡ old) (moment hand
         kept = λ i there. ends-kept image here state k new others i (opened i there) (used image (mid-here image here state k) state k.layout [] (s image here state k).its.number (s image here state k).its.object p i there);
       }
 
-  pub sparse-parent : (image : Image) → mid.files ≡ Some image → (state : State) (k : KeepsState cache state image) → (number : ℕ) × ((object : Object) × KeepsParent state k.layout [] number object parent.node parent.entry (cast_unsigned w64 parent.signature) image)
+  pub sparse-parent : (image : Image) → mid.files ≡ Some image → (state : State) (k : HoldsState cache state image) → (number : ℕ) × ((object : Object) × KeepsParent state k.layout [] number object parent.node parent.entry (cast_unsigned w64 parent.signature) image)
   sparse-parent image at state k =
       let here : old.files ≡ Some image = ap (λ (t : Told). t.files) (sym stays) ∙ at in
       ((s image here state k).its.number, ((s image here state k).its.object, keeps-parent image here state k))

@@ -21,7 +21,7 @@ use Rattle.blk_handles.specs.Bindings.{Bindings, binding_of}
 use Rattle.blk_cache.specs.declared.sparse_rise.Rise.{Rise}
 use Rattle.blk_cache.specs.declared.sparse_target.AskedTarget.{AskedTarget}
 use Rattle.blk_cache.specs.declared.sparse_target.AskedTarget.TheVariants as target
-use Rattle.blk_cache.specs.CacheKeeping.{KeepsState}
+use Rattle.blk_cache.specs.CacheKeeping.{HoldsState}
 use Rattle.blk_cache.specs.CommandClauses.{KeepsAny}
 use Rattle.blk_cache.specs.Covering.{AreCovered, KeepsCovered}
 use Rattle.blk_cache.specs.Listing.{OnlyRoomChanges}
@@ -44,23 +44,23 @@ room-then old mid new a b = record { limits = b.limits ∙ a.limits; items = b.i
 
 module _ (old new : Cache) (others : OnlyRoomChanges old new) (told : Told) where
   -- what holds of each state that it keeps held before
-  pub for-kept : (P : State → Type 0) → ForKept (KeepsState new) told P → ForKept (KeepsState old) told P
+  pub for-kept : (P : State → Type 0) → ForKept (HoldsState new) told P → ForKept (HoldsState old) told P
   for-kept P holds image there state k = holds image there state (kept-still old new state image others k)
 
   pub any-kept : ForSome told.files (KeepsAny old) → ForSome told.files (KeepsAny new)
   any-kept any image there = let k = any image there in (k.0, kept-still old new k.0 image others k.1)
 
   -- and it keeps them by the same layouts
-  pub for-layouts : (P : State → Layout → Type 0) → ForSome told.files (λ image. (state : State) (k : KeepsState old state image) → P state k.layout) → ForSome told.files (λ image. (state : State) (k : KeepsState new state image) → P state k.layout)
+  pub for-layouts : (P : State → Layout → Type 0) → ForSome told.files (λ image. (state : State) (k : HoldsState old state image) → P state k.layout) → ForSome told.files (λ image. (state : State) (k : HoldsState new state image) → P state k.layout)
   unfolding kept-still
   for-layouts P holds image there state k = holds image there state (kept-still new old state image (room-back old new others) k)
 
 -- ---- lack of space
 
 module _ (cache : Cache) (told : Told) (moment handle offset : ℕ) (bytes : List ℕ) (found : Target) (rise : Rise) (asks : AsksToStore cache told moment handle offset bytes found rise) (result : Bool)
-    (full : (state : State) (image : Image) (k : KeepsState cache state image) (covers : List Item) → AreCovered state k.layout covers rise.parts → result ≡ is_full (room state covers rise.bytes rise.items)) where
+    (full : (state : State) (image : Image) (k : HoldsState cache state image) (covers : List Item) → AreCovered state k.layout covers rise.parts → result ≡ is_full (room state covers rise.bytes rise.items)) where
   -- it is refused where there is no space
-  pub full-refused : result ≡ true → ForKept (KeepsState cache) told (λ state. refused moment (to_sparse_write handle offset bytes) state ≡ Some refusal.Full)
+  pub full-refused : result ≡ true → ForKept (HoldsState cache) told (λ state. refused moment (to_sparse_write handle offset bytes) state ≡ Some refusal.Full)
   full-refused over image there state k =
       let a : IsToStore state k.layout moment handle offset bytes found rise = asks image there state k in
       refused-full state moment handle offset bytes rise.bytes rise.items a.rises.raised k.layout found a.named (sym (full state image k (covered (to_sparse_write handle offset bytes) state) a.rises.parts) ∙ over)
@@ -74,11 +74,11 @@ module _ (cache : Cache) (told : Told) (moment handle offset : ℕ) (bytes : Lis
 -- ---- once there is space
 
 module _ (cache : Cache) (told : Told) (moment handle offset : ℕ) (bytes : List ℕ) (found : Target) (rise : Rise) (has : HasRoomToStore cache told moment handle offset bytes found rise) where
-  pub goes-on : ForKept (KeepsState cache) told (λ state. refused moment (to_sparse_write handle offset bytes) state ≡ None)
+  pub goes-on : ForKept (HoldsState cache) told (λ state. refused moment (to_sparse_write handle offset bytes) state ≡ None)
   goes-on image there state k = (has image there state k).1
 
   -- what is evicted beside the covered parts is what it evicts
-  pub sparse-groups : (P : State → List Group → Type 0) → ForRoom cache rise.parts told rise.bytes rise.items P → ForKept (KeepsState cache) told (λ state. P state (evicted moment (to_sparse_write handle offset bytes) state))
+  pub sparse-groups : (P : State → List Group → Type 0) → ForRoom cache rise.parts told rise.bytes rise.items P → ForKept (HoldsState cache) told (λ state. P state (evicted moment (to_sparse_write handle offset bytes) state))
   sparse-groups P holds image there state k =
       let h = has image there state k in
       subst (P state) (sym (groups-are state moment handle offset bytes rise.bytes rise.items h.0.rises.raised))
@@ -92,8 +92,8 @@ module _ (cache : Cache) (told : Told) (moment handle offset : ℕ) (bytes : Lis
 
   -- and then it is to be ended
   module _ (mid : Told) (new : Cache) (some : 1 ≤ length bytes) (few : length bytes ≤ 1048576) (light : cache.bytes < 2 ^ 64)
-      (made : ForKept (KeepsState cache) told (λ state. ForSome mid.files (KeepsState new (with_room state moment (to_sparse_write handle offset bytes))))) where
-    pub sparse-ready : (image from : Image) (state : State) → told.files ≡ Some image → mid.files ≡ Some from → KeepsState cache state image → IsReadyToStore new state moment handle offset bytes found rise.bytes rise.items from
+      (made : ForKept (HoldsState cache) told (λ state. ForSome mid.files (HoldsState new (with_room state moment (to_sparse_write handle offset bytes))))) where
+    pub sparse-ready : (image from : Image) (state : State) → told.files ≡ Some image → mid.files ≡ Some from → HoldsState cache state image → IsReadyToStore new state moment handle offset bytes found rise.bytes rise.items from
     sparse-ready image from state there here k =
         let h = has image there state k in
         let valid = k.kept.entries.valid in
@@ -123,11 +123,11 @@ module _ (cache : Cache) (told : Told) (moment handle offset : ℕ) (bytes : Lis
 
 module _ (cache : Cache) (old mid : Told) (stays : mid ≡ old) (moment handle offset : ℕ) (bytes : List ℕ) (given : AskedTarget) where
   -- an object that is found is named
-  pub found-named : ForSome old.files (λ image. (state : State) (k : KeepsState cache state image) → IsAskedTarget state k.layout moment handle offset bytes given) → (found : Target) → given ≡ target.Found found → NamesTarget cache mid moment handle offset (length bytes) found
+  pub found-named : ForSome old.files (λ image. (state : State) (k : HoldsState cache state image) → IsAskedTarget state k.layout moment handle offset bytes given) → (found : Target) → given ≡ target.Found found → NamesTarget cache mid moment handle offset (length bytes) found
   found-named asked found is image there state k = subst (IsAskedTarget state k.layout moment handle offset bytes) is (asked image (ap (λ (t : Told). t.files) (sym stays) ∙ there) state k)
 
   -- and a refusal is the map's
-  pub asked-refused : ForSome old.files (λ image. (state : State) (k : KeepsState cache state image) → IsAskedTarget state k.layout moment handle offset bytes given) → (why : Refusal) → given ≡ target.Refused why → ForKept (KeepsState cache) old (λ state. refused moment (to_sparse_write handle offset bytes) state ≡ Some why)
+  pub asked-refused : ForSome old.files (λ image. (state : State) (k : HoldsState cache state image) → IsAskedTarget state k.layout moment handle offset bytes given) → (why : Refusal) → given ≡ target.Refused why → ForKept (HoldsState cache) old (λ state. refused moment (to_sparse_write handle offset bytes) state ≡ Some why)
   asked-refused asked why is image there state k = subst (IsAskedTarget state k.layout moment handle offset bytes) is (asked image there state k)
 
 module _ (files : BlockFiles) (bindings : Bindings) (handle offset count : ℕ) (given : AskedTarget) (finds : FindsTarget files (early_sparse_refusal bindings handle offset count) offset count given) (found : Target) (is : given ≡ target.Found found) where
@@ -142,7 +142,7 @@ module _ (files : BlockFiles) (bindings : Bindings) (handle offset count : ℕ) 
 
 -- whatever state is kept then, it is asked to store what was measured
 pub asks-then : (old new : Cache) → OnlyRoomChanges old new → (told now : Told) → now ≡ told → (moment handle offset : ℕ) (bytes : List ℕ) (found : Target) (rise : Rise) → NamesTarget old told moment handle offset (length bytes) found
-    → ForSome told.files (λ image. (state : State) (k : KeepsState old state image) (moment handle : ℕ) (bs : List ℕ) → length bs ≡ length bytes → IsTargetNamed state k.layout moment handle offset (length bytes) found → IsRise state k.layout moment handle offset bs rise)
+    → ForSome told.files (λ image. (state : State) (k : HoldsState old state image) (moment handle : ℕ) (bs : List ℕ) → length bs ≡ length bytes → IsTargetNamed state k.layout moment handle offset (length bytes) found → IsRise state k.layout moment handle offset bs rise)
     → AsksToStore new now moment handle offset bytes found rise
 asks-then old new others told now stays moment handle offset bytes found rise names rises =
     subst (λ (t : Told). AsksToStore new t moment handle offset bytes found rise) (sym stays)

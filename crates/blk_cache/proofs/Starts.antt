@@ -14,7 +14,7 @@ use Rattle.blk_handles.specs.Bindings.{Binding, Bindings, all_free, binding_of, 
 use Rattle.blk_cache.specs.declared.cache.Cache.{Cache}
 use Rattle.blk_cache.specs.declared.opening.Opened.{Opened}
 use Rattle.blk_cache.specs.BoundNames.{AreAllFree, AreBoundAmong}
-use Rattle.blk_cache.specs.CacheKeeping.{IsBoundAs, KeepsState, named_objects}
+use Rattle.blk_cache.specs.CacheKeeping.{IsBoundAs, HoldsState, named_objects}
 use Rattle.blk_cache.specs.Opened.{IsOpenedAs}
 use Rattle.blk_cache.proofs.Unnamed.{few-unnamed, none-bound, none-named, none-open, opened-names, opened-unnamed}
 
@@ -37,7 +37,7 @@ unbound state layout None (Some b) is none = cc
 unbound state layout (Some number) b is none = cc
 
 pub started : (cache : Cache) (opened : Opened) (from image : Image) → cache.handles ≡ all_free → cache.items ≡ opened.items → cache.bytes ≡ opened.bytes → cache.open_bytes ≡ 0 → cache.files ≡ opened.files → cache.mark ≡ opened.mark → IsOpenedAs from opened image
-    → KeepsState cache (open_state (found from) (bounds_of cache.limits)) image
+    → HoldsState cache (open_state (found from) (bounds_of cache.limits)) image
 started cache opened from image free i b o f m left =
     let bounds : Bounds = bounds_of cache.limits in
     let state : State = open_state (found from) bounds in

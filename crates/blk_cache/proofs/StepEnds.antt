@@ -19,7 +19,7 @@ use Rattle.blk_cache.specs.declared.fault.StepFault.{StepFault}
 use Rattle.blk_cache.specs.declared.fault.StepFault.TheVariants as step_fault
 use Rattle.blk_cache.specs.CacheKeeping.{KeepsState}
 use Rattle.blk_cache.specs.Listing.{OnlyRoomChanges}
-use Rattle.blk_cache.specs.Stepping.{IfStepDamaged, IfStepDevice, SaysPrefix, of_step_fault}
+use Rattle.blk_cache.specs.Stepping.{IfStepDamaged, IfStepDevice, SaysKeptPrefix, SaysPrefix, of_step_fault}
 use Rattle.blk_cache.proofs.Replies.{kept-still}
 
 -- ---- faults that are handed on
@@ -55,7 +55,9 @@ by-files P (Some image) none some = some image refl
 
 module _ (noted last : Cache) (mid now : Told) (others : OnlyRoomChanges noted last) (stays : now ≡ mid) where
   pub kept-behind : (state : State) → ForSome mid.files (KeepsState noted state) → ForSome now.files (KeepsState last state)
-  kept-behind state kept image here = kept-still noted last state image others (kept image (ap (λ (t : Told). t.files) (sym stays) ∙ here))
+  kept-behind state kept image here =
+      let k : KeepsState noted state image = kept image (ap (λ (t : Told). t.files) (sym stays) ∙ here) in
+      record { holds = kept-still noted last state image others k.holds; finished = k.finished }
 
   pub open-behind : ForSome mid.files (IsOpen noted.files) → ForSome now.files (IsOpen last.files)
   open-behind is_open image here = subst (λ (fs : BlockFiles). IsOpen fs image) (sym others.files) (is_open image (ap (λ (t : Told). t.files) (sym stays) ∙ here))
@@ -64,12 +66,12 @@ module _ (noted last : Cache) (mid now : Told) (others : OnlyRoomChanges noted l
 
 module _ {A : Type 0} (result : Result A StepFault) (cache : Cache) (told now : Told) (moment : ℕ) (request : Request) (number : ℕ) (old new : Option (List ℕ)) where
   abbrev pub Unanswered : Type 0
-  Unanswered = IfStepDevice result (SaysPrefix cache told moment request old new ⊎ ForKept (KeepsState cache) told (IsNoted told now moment request number))
+  Unanswered = IfStepDevice result (SaysKeptPrefix cache told moment request old new ⊎ ForKept (KeepsState cache) told (IsNoted told now moment request number))
 
   -- before the note nothing of the reply is printed
   pub failed-before : SaysPrefix cache told moment request old new → Unanswered
-  failed-before front = any-device result (SaysPrefix cache told moment request old new ⊎ ForKept (KeepsState cache) told (IsNoted told now moment request number)) (inl front)
+  failed-before front = any-device result (SaysKeptPrefix cache told moment request old new ⊎ ForKept (KeepsState cache) told (IsNoted told now moment request number)) (inl (λ image there state k. front image there state k.holds))
 
   -- and after it the command is noted
   pub failed-behind : ForKept (KeepsState cache) told (IsNoted told now moment request number) → Unanswered
-  failed-behind noted = any-device result (SaysPrefix cache told moment request old new ⊎ ForKept (KeepsState cache) told (IsNoted told now moment request number)) (inr noted)
+  failed-behind noted = any-device result (SaysKeptPrefix cache told moment request old new ⊎ ForKept (KeepsState cache) told (IsNoted told now moment request number)) (inr noted)

@@ -15,7 +15,7 @@ use Rattle.blk_model.specs.declared.Refusal.{Refusal}
 use Rattle.law_state.specs.Commands.{Does, ForKept, MayStopAtEach}
 use Rattle.blk_script.specs.Reply.{evicted_text, outcome_text, reply_text}
 use Rattle.blk_cache.specs.declared.cache.Cache.{Cache}
-use Rattle.blk_cache.specs.CacheKeeping.{KeepsState}
+use Rattle.blk_cache.specs.CacheKeeping.{HoldsState, KeepsState}
 use Rattle.blk_cache.specs.CommandClauses.{KeepsAny}
 use Rattle.blk_evict.specs.RoomPrinting.{PrintsUnlessFailed, PrintsInPart}
 use Rattle.blk_cache.specs.Replying.{ForReply, KeepsAfter}
@@ -73,9 +73,9 @@ module _ (cache : Cache) (told : Told) (moment : ℕ) (request : Request) (quiet
 
 -- The whole text.
 
-module _ (old done : Cache) (told mid now : Told) (moment : ℕ) (request : Request) (stops : MayStopAtEach (KeepsState old) told mid moment request) (same : now.files ≡ mid.files) where
+module _ (old done : Cache) (told mid now : Told) (moment : ℕ) (request : Request) (stops : MayStopAtEach (HoldsState old) told mid moment request) (same : now.files ≡ mid.files) where
   -- an observable folder still is
-  still-told : (state : State) (image : Image) → told.files ≡ Some image → KeepsState old state image → (i : Image) × (now.files ≡ Some i)
+  still-told : (state : State) (image : Image) → told.files ≡ Some image → HoldsState old state image → (i : Image) × (now.files ≡ Some i)
   still-told state image there k =
       let p = stops image there state k in
       (after p.steps image, same ∙ p.applies.files ∙ ap (option_map (after p.steps)) there)
@@ -90,9 +90,9 @@ module _ (old done : Cache) (told mid now : Told) (moment : ℕ) (request : Requ
     by None is = is
     by (Some image) is = let one = any image is in absurd (no (sym none ∙ (still-told one.0 image is one.1).1))
 
-  module _ (answer : Answer) (does : Does (KeepsState old) (KeepsState done) told now moment request answer) where
+  module _ (answer : Answer) (does : Does (HoldsState old) (HoldsState done) told now moment request answer) where
     -- what is said of the reply, by the state after the command
-    replied : (P : List ℕ → Type 0) → ForReply done now request answer P → ForKept (KeepsState old) told (λ state. P (reply_text (step state moment request).reply))
+    replied : (P : List ℕ → Type 0) → ForReply done now request answer P → ForKept (HoldsState old) told (λ state. P (reply_text (step state moment request).reply))
     replied P says image there state k =
         let d = does image there state k in
         let here = still-told state image there k in
@@ -108,15 +108,15 @@ module _ (old done : Cache) (told mid now : Told) (moment : ℕ) (request : Requ
     module _ (between failed : Bool) (w0 w1 w2 : Option (List ℕ)) (says : SaysEvicted old told moment request false between w0 w1) where
       pub whole-printed : ForReply done now request answer (PrintsUnlessFailed between failed w1 w2) → failed ≡ false → ForKept (KeepsState old) told (λ state. w2 ≡ option_map (λ (w : List ℕ). w ++ outcome_text (step state moment request)) w0)
       whole-printed prints e image there state k =
-          (printed-on false between failed w0 w1 w2 (evicted_first (step state moment request)) (reply_text (step state moment request).reply) (says image there state k) (replied (PrintsUnlessFailed between failed w1 w2) prints image there state k)).whole e
+          (printed-on false between failed w0 w1 w2 (evicted_first (step state moment request)) (reply_text (step state moment request).reply) (says image there state k.holds) (replied (PrintsUnlessFailed between failed w1 w2) prints image there state k.holds)).whole e
 
       pub prefix-printed : ForReply done now request answer (PrintsInPart between w1 w2) → ForKept (KeepsState old) told (λ state. Appends w0 w2 (outcome_text (step state moment request)))
       prefix-printed part image there state k =
-          (part-on false between w0 w1 w2 (evicted_first (step state moment request)) (reply_text (step state moment request).reply) (says image there state k) (replied (PrintsInPart between w1 w2) part image there state k)).front
+          (part-on false between w0 w1 w2 (evicted_first (step state moment request)) (reply_text (step state moment request).reply) (says image there state k.holds) (replied (PrintsInPart between w1 w2) part image there state k.holds)).front
 
 -- a prefix of what is evicted is one of the whole text
 more-behind : (a b : List ℕ) (old new : Option (List ℕ)) → Appends old new a → Appends old new (a ++ b)
 more-behind a b old new front = record { front = front.front; rest = front.rest ++ b; split = ap (λ (l : List ℕ). l ++ b) front.split ∙ append_assoc front.front front.rest b; written = front.written }
 
 pub prefix-of-whole : (cache : Cache) (told : Told) (moment : ℕ) (request : Request) (old new : Option (List ℕ)) → SaysPrefix cache told moment request old new → ForKept (KeepsState cache) told (λ state. Appends old new (outcome_text (step state moment request)))
-prefix-of-whole cache told moment request old new says image there state k = more-behind (evicted_first (step state moment request)) (reply_text (step state moment request).reply) old new (says image there state k)
+prefix-of-whole cache told moment request old new says image there state k = more-behind (evicted_first (step state moment request)) (reply_text (step state moment request).reply) old new (says image there state k.holds)

@@ -21,7 +21,7 @@ use Rattle.blk_script.specs.Reply.{evicted_text}
 use Rattle.blk_cache.specs.declared.cache.Cache.{Cache}
 use Rattle.blk_cache.specs.declared.goal.Goal.TheVariants as goal
 use Rattle.blk_cache.specs.declared.covered.Covered.{Covered}
-use Rattle.blk_cache.specs.CacheKeeping.{KeepsState}
+use Rattle.blk_cache.specs.CacheKeeping.{HoldsState}
 use Rattle.blk_cache.specs.Covering.{ForCovered, no_parts}
 use Rattle.blk_cache.specs.Evicting.{IsEvicting, count_of_groups, is_met}
 use Rattle.blk_evict.specs.RoomPrinting.{PrintsUnlessFailed}
@@ -50,18 +50,18 @@ module _ (moment bytes : ℕ) where
   trim-answer state = ap answer_of (passed state moment (to_trim bytes) (trim-passes state)).1 ∙ ap (λ (groups : List Group). answer.Trimmed (count_of_groups groups)) (trim-evicts state)
 
   module _ (cache : Cache) (parts : Covered) (is : parts ≡ no_parts) (told now : Told) where
-    pub trim-stops : ForCovered cache parts told (λ state covered. Passes told now (IsEvicting (evicted_until (is_met (goal.Bytes bytes)) state covered) state)) → MayStopAtEach (KeepsState cache) told now moment (to_trim bytes)
+    pub trim-stops : ForCovered cache parts told (λ state covered. Passes told now (IsEvicting (evicted_until (is_met (goal.Bytes bytes)) state covered) state)) → MayStopAtEach (HoldsState cache) told now moment (to_trim bytes)
     trim-stops evicting image there state k =
         let may : (i : Image) → IsEvicting (evicted_until (is_met (goal.Bytes bytes)) state []) state i → MayStop state moment (to_trim bytes) i
         = λ i e. stop-evicted state moment (to_trim bytes) e.first e.others i k.kept.entries.valid (record { passes = trim-passes state; groups = trim-evicts state ∙ e.split }) e.finds in
         passes_weaker (for-none cache parts told (λ s covered. Passes told now (IsEvicting (evicted_until (is_met (goal.Bytes bytes)) s covered) s)) is evicting image there state k) may may
 
     pub trim-does : (new : Cache) (count : ℕ) → ForCovered cache parts told (λ state covered. count ≡ count_of_groups (evicted_until (is_met (goal.Bytes bytes)) state covered))
-        → ForCovered cache parts told (λ state covered. ForSome now.files (KeepsState new (without (evicted_until (is_met (goal.Bytes bytes)) state covered) state)))
-        → Does (KeepsState cache) (KeepsState new) told now moment (to_trim bytes) (answer.Trimmed count)
+        → ForCovered cache parts told (λ state covered. ForSome now.files (HoldsState new (without (evicted_until (is_met (goal.Bytes bytes)) state covered) state)))
+        → Does (HoldsState cache) (HoldsState new) told now moment (to_trim bytes) (answer.Trimmed count)
     trim-does new count counts left image there state k = record {
       answered = ap answer.Trimmed (for-none cache parts told (λ s covered. count ≡ count_of_groups (evicted_until (is_met (goal.Bytes bytes)) s covered)) is counts image there state k) ∙ sym (trim-answer state);
-      kept = λ i here. subst (λ (s : State). KeepsState new s i) (sym (trim-state state)) (for-none cache parts told (λ s covered. ForSome now.files (KeepsState new (without (evicted_until (is_met (goal.Bytes bytes)) s covered) s))) is left image there state k i here);
+      kept = λ i here. subst (λ (s : State). HoldsState new s i) (sym (trim-state state)) (for-none cache parts told (λ s covered. ForSome now.files (HoldsState new (without (evicted_until (is_met (goal.Bytes bytes)) s covered) s))) is left image there state k i here);
     }
 
     module _ (failed_before failed : Bool) (old new : Option (List ℕ)) where

@@ -34,7 +34,7 @@ use Rattle.law_state.proofs.NotAtRest.{doomed-rest}
 use Rattle.law_state.proofs.Orders.{left-stops, room-left}
 use Rattle.law_state.proofs.WordStops.{unsettling-stops}
 use Rattle.blk_cache.specs.declared.cache.Cache.{Cache}
-use Rattle.blk_cache.specs.CacheKeeping.{KeepsState}
+use Rattle.blk_cache.specs.CacheKeeping.{HoldsState}
 use Rattle.blk_cache.specs.CommandClauses.{KeepsAny, OnlyNamesChange}
 use Rattle.blk_cache.specs.Marking.{ForEachNamed}
 use Rattle.blk_cache.specs.Writing.{CanGetBytes, IsReadyToWrite, IsReadyToWriteSome, KeepsToWrite, early_write_refusal}
@@ -146,13 +146,13 @@ module _ (cache : Cache) (moment handle stream offset : ℕ) (cut : Bool) (bytes
         = either-stops state moment handle stream offset cut bytes ready.valid ready.passes ready.number ready.object ready.names in
         passes_weaker (unsettling from here (with_room state moment (to_write handle stream offset cut bytes)) ready.number ready.object ready.kept ready.names) may may
 
-    module _ (new : Cache) (unsettled : ForSome old.files (λ from. ForEachNamed cache handle from (λ state number object. ForSome mid.files (KeepsState new (marked state number object false))))) where
+    module _ (new : Cache) (unsettled : ForSome old.files (λ from. ForEachNamed cache handle from (λ state number object. ForSome mid.files (HoldsState new (marked state number object false))))) where
       -- then it can get the bytes
       module _ (from : Image) (here : old.files ≡ Some from) (state : State) (ready : IsReadyToWrite cache state moment handle stream offset cut bytes size from) where
         abbrev then-state : State
         then-state = later state moment handle stream offset cut bytes ready.valid ready.passes ready.number ready.object ready.names
 
-        kept-then : (i : Image) → mid.files ≡ Some i → KeepsState new then-state i
+        kept-then : (i : Image) → mid.files ≡ Some i → HoldsState new then-state i
         kept-then i there = unsettled from here (with_room state moment (to_write handle stream offset cut bytes)) ready.number ready.object ready.kept ready.names i there
 
         can-then : CanGetBytes then-state handle stream offset cut bytes size
@@ -162,7 +162,7 @@ module _ (cache : Cache) (moment handle stream offset : ℕ) (cut : Bool) (bytes
         to-get i there = record { state = then-state; kept = kept-then i there; can = can-then }
 
       module _ (now : Told) where
-        pub end-stops : ForSome mid.files (λ from. (state : State) → KeepsState new state from → CanGetBytes state handle stream offset cut bytes size → Passes mid now (Finds (rest state)))
+        pub end-stops : ForSome mid.files (λ from. (state : State) → HoldsState new state from → CanGetBytes state handle stream offset cut bytes size → Passes mid now (Finds (rest state)))
             → ForSome old.files (λ from. (state : State) → IsReadyToWrite cache state moment handle stream offset cut bytes size from → Passes old now (MayStop state moment (to_write handle stream offset cut bytes)))
         end-stops stops from here state ready =
             let first = unsettle-stops from here state ready in
@@ -171,13 +171,13 @@ module _ (cache : Cache) (moment handle stream offset : ℕ) (cut : Bool) (bytes
             = λ i finds. either-stops state moment handle stream offset cut bytes ready.valid ready.passes ready.number ready.object ready.names i (inr finds) in
             passes_then first (passes_weaker (stops m.0 m.1 (then-state from here state ready) (kept-then from here state ready m.0 m.1) (can-then from here state ready)) may may)
 
-        pub end-does : (last : Cache) → ForSome mid.files (λ from. (state : State) → KeepsState new state from → CanGetBytes state handle stream offset cut bytes size → ForSome now.files (KeepsState last (written handle stream offset cut bytes state)))
-            → ForSome old.files (λ from. (state : State) → IsReadyToWrite cache state moment handle stream offset cut bytes size from → IsDone (KeepsState last) now moment (to_write handle stream offset cut bytes) (answer.Wrote (length bytes)) state)
+        pub end-does : (last : Cache) → ForSome mid.files (λ from. (state : State) → HoldsState new state from → CanGetBytes state handle stream offset cut bytes size → ForSome now.files (HoldsState last (written handle stream offset cut bytes state)))
+            → ForSome old.files (λ from. (state : State) → IsReadyToWrite cache state moment handle stream offset cut bytes size from → IsDone (HoldsState last) now moment (to_write handle stream offset cut bytes) (answer.Wrote (length bytes)) state)
         end-does last wrote from here state ready =
             let m = there-after old mid (MayStop state moment (to_write handle stream offset cut bytes)) (unsettle-stops from here state ready) from here in
             record {
               answered = write-answer state moment handle stream offset cut bytes ready.valid ready.passes;
-              kept = λ i there. subst (λ (s : State). KeepsState last s i) (sym (write-ends state moment handle stream offset cut bytes ready.valid ready.passes ready.number ready.object ready.names)) (wrote m.0 m.1 (then-state from here state ready) (kept-then from here state ready m.0 m.1) (can-then from here state ready) i there);
+              kept = λ i there. subst (λ (s : State). HoldsState last s i) (sym (write-ends state moment handle stream offset cut bytes ready.valid ready.passes ready.number ready.object ready.names)) (wrote m.0 m.1 (then-state from here state ready) (kept-then from here state ready m.0 m.1) (can-then from here state ready) i there);
             }
 
 -- ---- failed checks
@@ -188,7 +188,7 @@ ready-any cache handle stream offset cut bytes size image one = (with_room one.s
 
 pub end-untold : {A : Type 0} (r : Result A Fault) (cache : Cache) (handle stream offset : ℕ) (cut : Bool) (bytes : List ℕ) (size : ℕ) (old mid : Told) (new : Cache)
     → ForSome old.files (λ from. ForEachNamed cache handle from (λ state number object. Passes old mid (λ image. Finds (rest state) image ⊎ Finds (rest (marked state number object false)) image)))
-    → ForSome old.files (λ from. ForEachNamed cache handle from (λ state number object. ForSome mid.files (KeepsState new (marked state number object false))))
+    → ForSome old.files (λ from. ForEachNamed cache handle from (λ state number object. ForSome mid.files (HoldsState new (marked state number object false))))
     → (ForSome mid.files (KeepsToWrite new handle stream offset cut bytes size) → IfDamaged r (λ _. mid.files ≡ None)) → ForSome old.files (IsReadyToWriteSome cache handle stream offset cut bytes size) → IfDamaged r (λ _. old.files ≡ None)
 end-untold r cache handle stream offset cut bytes size old mid new unsettling unsettled untold any = untold-by r old.files (λ from here.
     let one = any from here in

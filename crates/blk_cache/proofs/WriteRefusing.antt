@@ -12,7 +12,7 @@ use Rattle.blk_cache.specs.declared.asking.Asked.{Asked}
 use Rattle.blk_cache.specs.declared.asking.Asked.TheVariants as asked
 use Rattle.blk_cache.specs.declared.cache.Cache.{Cache}
 use Rattle.blk_cache.specs.Asking.{IsAsked, stream_refusal}
-use Rattle.blk_cache.specs.CacheKeeping.{KeepsState}
+use Rattle.blk_cache.specs.CacheKeeping.{HoldsState}
 use Rattle.blk_cache.specs.Writing.{IsAskedToWrite, early_write_refusal}
 use Rattle.blk_cache.proofs.Asks.{none-named}
 
@@ -42,7 +42,7 @@ only-fifth false false true d e p q r s t early is = cc
 only-fifth false false false true e p q r s t early is = cc
 only-fifth false false false false e p q r s t early is = refl
 
-module _ (cache : Cache) (state : State) (image : Image) (k : KeepsState cache state image) (moment handle stream offset : ℕ) (cut : Bool) (bytes : List ℕ) where
+module _ (cache : Cache) (state : State) (image : Image) (k : HoldsState cache state image) (moment handle stream offset : ℕ) (cut : Bool) (bytes : List ℕ) where
   -- the early ones of the cache are those of the state
   early-same : first_refusal ((names_none state handle, refusal.BadHandle) ∷ (no_stream stream, refusal.BadStream) ∷ (nat_lt (stream_limit state) (offset + length bytes), refusal.TooLarge) ∷ []) ≡ early_write_refusal cache handle stream offset (length bytes)
   early-same = ap₂ (λ (a : Bool) (l : Bounds). first_refusal ((a, refusal.BadHandle) ∷ (no_stream stream, refusal.BadStream) ∷ (nat_lt (longest_stream l.max_bytes) (offset + length bytes), refusal.TooLarge) ∷ [])) (none-named cache state image k handle stream) k.limits

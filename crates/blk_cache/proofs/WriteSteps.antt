@@ -23,7 +23,7 @@ use Rattle.law_state.specs.CommandEnds.{after_write}
 use Rattle.law_state.specs.ObjectLaws.{layout_after}
 use Rattle.blk_object.specs.Writing.{ForEachUnsettled, IsWrittenUncounted, RisesAreCounted, UsesLeaveTheRise, node_of_object, with_written}
 use Rattle.blk_cache.specs.declared.cache.Cache.{Cache}
-use Rattle.blk_cache.specs.CacheKeeping.{IsBoundTo, KeepsState}
+use Rattle.blk_cache.specs.CacheKeeping.{IsBoundTo, HoldsState}
 use Rattle.blk_cache.specs.Creating.{sum_within}
 use Rattle.blk_cache.specs.Writing.{CanGetBytes, CountsRise, ForEachToUse, IsToBeUsed, IsUsedAndCounted, KeepsToWrite}
 use Rattle.blk_cache.proofs.ChangedObjects.{CountsAs, bound-to, its-object}
@@ -37,7 +37,7 @@ module _ (cache : Cache) (handle : ℕ) (b : Binding) (bound : binding_of cache.
   Writable state = CanGetBytes state handle stream offset cut bytes size
 
   -- what is known of the object
-  module _ (from : Image) (state : State) (k : KeepsState cache state from) (can : CanGetBytes state handle stream offset cut bytes size) where
+  module _ (from : Image) (state : State) (k : HoldsState cache state from) (can : CanGetBytes state handle stream offset cut bytes size) where
     abbrev it : IsBoundTo state k.layout can.number b
     it = bound-to cache state from k handle can.number can.object can.names b bound
 
@@ -59,7 +59,7 @@ module _ (cache : Cache) (handle : ℕ) (b : Binding) (bound : binding_of cache.
   -- ---- the write
 
   pub write-stops : ForSome old.files (λ from. ForEachUnsettled b.entry stream offset cut bytes from (λ state layout unlinked number object was. Passes old mid (Finds (rest state))))
-      → ForSome old.files (λ from. (state : State) → KeepsState cache state from → CanGetBytes state handle stream offset cut bytes size → Passes old mid (Finds (rest state)))
+      → ForSome old.files (λ from. (state : State) → HoldsState cache state from → CanGetBytes state handle stream offset cut bytes size → Passes old mid (Finds (rest state)))
   write-stops stops from here state k can =
       stops from here state k.layout [] can.number can.object (it from state k can).loaded (to-write cache state from k handle stream offset cut bytes size can are b bound)
 
@@ -71,7 +71,7 @@ module _ (cache : Cache) (handle : ℕ) (b : Binding) (bound : binding_of cache.
 
   module _ (stops : ForSome old.files (λ from. ForEachUnsettled b.entry stream offset cut bytes from (λ state layout unlinked number object was. Passes old mid (Finds (rest state)))))
       (wrote : ForSome old.files (λ from. ForEachUnsettled b.entry stream offset cut bytes from (λ state layout unlinked number object was. ForSome mid.files (IsWrittenUncounted state layout unlinked number object was stream offset cut bytes from)))) where
-    module _ (from : Image) (here : old.files ≡ Some from) (state : State) (k : KeepsState cache state from) (can : CanGetBytes state handle stream offset cut bytes size) where
+    module _ (from : Image) (here : old.files ≡ Some from) (state : State) (k : HoldsState cache state from) (can : CanGetBytes state handle stream offset cut bytes size) where
       abbrev run : Passes old mid (Finds (rest state))
       run = write-stops stops from here state k can
 
@@ -107,7 +107,7 @@ module _ (cache : Cache) (handle : ℕ) (b : Binding) (bound : binding_of cache.
     -- ---- the use
 
     module _ (now : Told) (stays : b.doomed ≡ true → now ≡ mid) (using : b.doomed ≡ false → ForSome mid.files (λ from. ForEachToUse b.node from (λ state layout its. Passes mid now (Finds (rest state))))) where
-      pub both-stop : ForSome old.files (λ from. (state : State) → KeepsState cache state from → CanGetBytes state handle stream offset cut bytes size → Passes old now (Finds (rest state)))
+      pub both-stop : ForSome old.files (λ from. (state : State) → HoldsState cache state from → CanGetBytes state handle stream offset cut bytes size → Passes old now (Finds (rest state)))
       both-stop from here state k can = passes_then (run from here state k can) (by b.doomed refl) where
         m : (i : Image) × (mid.files ≡ Some i)
         m = middle from here state k can
@@ -124,7 +124,7 @@ module _ (cache : Cache) (handle : ℕ) (b : Binding) (bound : binding_of cache.
           (used : b.doomed ≡ false → ForSome mid.files (λ from. ForEachToUse b.node from (λ state layout its. ForSome now.files (IsUsedAndCounted state layout its less more from))))
           (old-cache new : Cache) (same-bytes : old-cache.bytes ≡ cache.bytes) (same-open : old-cache.open_bytes ≡ cache.open_bytes) (same-items : old-cache.items ≡ cache.items) (same-limits : old-cache.limits ≡ cache.limits) (same-mark : old-cache.mark ≡ cache.mark)
           (same-handles : old-cache.handles ≡ cache.handles) (counts : CountsRise old-cache new less more) (few : old-cache.bytes < 2 ^ 64) (opened : ForSome now.files (IsOpen new.files)) where
-        pub both-keep : ForSome old.files (λ from. (state : State) → KeepsState cache state from → CanGetBytes state handle stream offset cut bytes size → ForSome now.files (KeepsState new (written handle stream offset cut bytes state)))
+        pub both-keep : ForSome old.files (λ from. (state : State) → HoldsState cache state from → CanGetBytes state handle stream offset cut bytes size → ForSome now.files (HoldsState new (written handle stream offset cut bytes state)))
         both-keep from here state k can i there = by b.doomed refl where
           m : (j : Image) × (mid.files ≡ Some j)
           m = middle from here state k can
@@ -133,10 +133,10 @@ module _ (cache : Cache) (handle : ℕ) (b : Binding) (bound : binding_of cache.
           counted = counts-as cache state from k handle stream offset cut bytes size can new less more less-is more-is (subst (λ (n : ℕ). n < 2 ^ 64) same-bytes few)
               (counts.bytes ∙ ap (λ (n : ℕ). sum_within (n - less) more) same-bytes) (counts.open_bytes ∙ ap (λ (n : ℕ). sum_within (n - less) more) same-open) (counts.items ∙ same-items) (counts.limits ∙ same-limits) (counts.mark ∙ same-mark)
 
-          by : (t : Bool) → b.doomed ≡ t → KeepsState new (written handle stream offset cut bytes state) i
+          by : (t : Bool) → b.doomed ≡ t → HoldsState new (written handle stream offset cut bytes state) i
           by true dead =
               let same : m.0 ≡ i = some_inj (sym m.1 ∙ sym (ap (λ (t : Told). t.files) (stays dead)) ∙ there) in
-              subst (λ (z : Image). KeepsState new (written handle stream offset cut bytes state) z) same
+              subst (λ (z : Image). HoldsState new (written handle stream offset cut bytes state) z) same
               (dead-keeps cache state from k handle stream offset cut bytes size can are b bound m.0 (w from here state k can) new counted (counts.handles ∙ same-handles) (dead-if from state k can dead) (subst (λ (z : Image). Agrees new.files z) (sym same) (opened i there).agrees))
           by false loose =
               let alive = live-if from state k can loose in

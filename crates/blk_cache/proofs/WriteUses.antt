@@ -27,7 +27,7 @@ use Rattle.law_state.specs.CommandStates.{IsUnsettled, KeepsOtherKeys, amidst}
 use Rattle.law_state.specs.Keeping.{KeepsUncounted}
 use Rattle.law_state.specs.ListLaws.{IsTouchDone, with_used}
 use Rattle.law_state.proofs.Counts.{touch-count}
-use Rattle.law_state.proofs.Keeping.{kept-found}
+use Rattle.law_state.proofs.Keeping.{kept-held}
 use Rattle.law_state.proofs.NotAtRest.{own-uses, unsettled-rest}
 use Rattle.law_state.proofs.Touched.{touch-keeps}
 use Rattle.law_state.proofs.Touching.{touches-find}
@@ -110,7 +110,7 @@ module _ (files : BlockFiles) (node moment less more : ℕ) (old mid now : Told)
         let k = touched-keeps files node old mid from here state layout number object is moment bytes opened steps m.0 m.1 in
         let may : (i : Image) → KeepsWith [] [] m.0 i → Finds (rest state) i = λ i with_.
         let after : KeepsUncounted (with_used state (main object.key)) layout [] i = with_ (with_used state (main object.key)) layout [] k in
-        subst (λ (rows : List Row). Finds rows i) (rest-used state number object is.kept.valid is.here is.live is.unsettled) (after.well_formed, kept-found (with_used state (main object.key)) layout [] i after) in
+        subst (λ (rows : List Row). Finds rows i) (rest-used state number object is.kept.valid is.here is.live is.unsettled) (after.sound, kept-held (with_used state (main object.key)) layout [] i after) in
         passes_then (used-in-part from here state layout number object is) (passes_weaker (kept m.0 m.1) may may)
 
     pub used-counted : ForSome mid.files (λ from. ForSome now.files (IsRiseCounted less more from)) → ForSome old.files (λ from. ForEachToUse node from (λ state layout its. ForSome now.files (IsUsedAndCounted state layout its less more from)))

@@ -32,7 +32,7 @@ use Rattle.blk_script.specs.Reply.{evicted_text}
 use Rattle.blk_cache.specs.declared.asking.NamedStream.{NamedStream}
 use Rattle.blk_cache.specs.declared.cache.Cache.{Cache}
 use Rattle.blk_cache.specs.Asking.{stream_refusal}
-use Rattle.blk_cache.specs.CacheKeeping.{KeepsState}
+use Rattle.blk_cache.specs.CacheKeeping.{HoldsState}
 use Rattle.blk_cache.specs.CommandClauses.{IsRefused, KeepsAny}
 use Rattle.blk_cache.specs.Evicting.{IsEvicting}
 use Rattle.blk_evict.specs.RoomPrinting.{PrintsUnlessFailed}
@@ -54,7 +54,7 @@ module _ (moment : ℕ) (request : Request) (cache : Cache) (told : Told) (faile
   refused-groups state why is = ap (λ (o : Option Refusal). (outcome moment request state o).groups) is
 
   -- a refusal prints nothing of what is evicted
-  pub refused-says : (why : Refusal) → ForKept (KeepsState cache) told (λ state. refused moment request state ≡ Some why) → SaysEvicted cache told moment request failed_before failed_before old old
+  pub refused-says : (why : Refusal) → ForKept (HoldsState cache) told (λ state. refused moment request state ≡ Some why) → SaysEvicted cache told moment request failed_before failed_before old old
   refused-says why is image there state k = subst (λ (groups : List Group). PrintsUnlessFailed failed_before failed_before old old (evicted_text groups)) (sym (refused-groups state why (is image there state k))) (none-printed failed_before old)
 
   -- nor does what fails before
@@ -88,23 +88,23 @@ module _ (moment : ℕ) (request : Request) (more : ℕ) where
     pub not-refused : is_full (room state [] more 0) ≡ false → refused moment request state ≡ None
     not-refused free = is.unless_full ∙ ap (λ (b : Bool). if b then Some refusal.Full else None) (ap is_full is.room_is ∙ free)
 
-  module _ (cache : Cache) (told : Told) (is : ForKept (KeepsState cache) told (WantsRoom moment request more)) where
+  module _ (cache : Cache) (told : Told) (is : ForKept (HoldsState cache) told (WantsRoom moment request more)) where
     module _ (failed_before failed : Bool) (old new : Option (List ℕ)) where
-      groups-made : (image : Image) → told.files ≡ Some image → (state : State) → KeepsState cache state image → (step state moment request).groups ≡ evicted_for (room state [] more 0)
+      groups-made : (image : Image) → told.files ≡ Some image → (state : State) → HoldsState cache state image → (step state moment request).groups ≡ evicted_for (room state [] more 0)
       groups-made image there state k = by (room state [] more 0) refl where
         by : (r : Room) → room state [] more 0 ≡ r → (step state moment request).groups ≡ evicted_for (room state [] more 0)
         by full e = refused-groups moment request cache told failed_before failed old new state refusal.Full (refused-full state (is image there state k) (ap is_full e)) ∙ sym (ap evicted_for e)
         by (makes groups) e = passed-groups moment request state (not-refused state (is image there state k) (ap is_full e)) ∙ evicted-is state (is image there state k)
 
-      pub made-says : ForKept (KeepsState cache) told (λ state. PrintsUnlessFailed failed_before failed old new (evicted_text (evicted_for (room state [] more 0)))) → SaysEvicted cache told moment request failed_before failed old new
+      pub made-says : ForKept (HoldsState cache) told (λ state. PrintsUnlessFailed failed_before failed old new (evicted_text (evicted_for (room state [] more 0)))) → SaysEvicted cache told moment request failed_before failed old new
       made-says prints image there state k = subst (λ (groups : List Group). PrintsUnlessFailed failed_before failed old new (evicted_text groups)) (sym (groups-made image there state k)) (prints image there state k)
 
-      pub made-front : ForKept (KeepsState cache) told (λ state. Appends old new (evicted_text (evicted_for (room state [] more 0)))) → SaysPrefix cache told moment request old new
+      pub made-front : ForKept (HoldsState cache) told (λ state. Appends old new (evicted_text (evicted_for (room state [] more 0)))) → SaysPrefix cache told moment request old new
       made-front front image there state k = subst (λ (groups : List Group). Appends old new (evicted_text groups)) (sym (groups-made image there state k)) (front image there state k)
 
-    module _ (mid : Told) (evicting : ForKept (KeepsState cache) told (λ state. Passes told mid (IsEvicting (evicted_for (room state [] more 0)) state))) where
+    module _ (mid : Told) (evicting : ForKept (HoldsState cache) told (λ state. Passes told mid (IsEvicting (evicted_for (room state [] more 0)) state))) where
       -- at a word at which space is made it may crash
-      room-stop : (image i : Image) (state : State) → told.files ≡ Some image → KeepsState cache state image → IsEvicting (evicted_for (room state [] more 0)) state i → MayStop state moment request i
+      room-stop : (image i : Image) (state : State) → told.files ≡ Some image → HoldsState cache state image → IsEvicting (evicted_for (room state [] more 0)) state i → MayStop state moment request i
       room-stop image i state there k e = by (is_full (room state [] more 0)) refl where
         by : (over : Bool) → is_full (room state [] more 0) ≡ over → MayStop state moment request i
         by true over =
@@ -112,7 +112,7 @@ module _ (moment : ℕ) (request : Request) (more : ℕ) where
             stop-before state moment request i k.kept.entries.valid (subst (λ (s : State). Finds (rest s) i) (ap (λ (groups : List Group). without groups state) none ∙ without-none state) e.finds)
         by false free = stop-evicted state moment request e.first e.others i k.kept.entries.valid (record { passes = not-refused state (is image there state k) free; groups = evicted-is state (is image there state k) ∙ e.split }) e.finds
 
-      pub room-stops : MayStopAtEach (KeepsState cache) told mid moment request
+      pub room-stops : MayStopAtEach (HoldsState cache) told mid moment request
       room-stops image there state k =
           let may : (i : Image) → IsEvicting (evicted_for (room state [] more 0)) state i → MayStop state moment request i = λ i e. room-stop image i state there k e in
           passes_weaker (evicting image there state k) may may
@@ -127,7 +127,7 @@ third false false true e = cc
 third false false false e = refl
 
 module _ (moment handle stream offset : ℕ) (cut : Bool) (bytes : List ℕ) (cache : Cache) (told : Told) (found : NamedStream) (more : ℕ) (more-is : more ≡ size_after cut found.size offset (length bytes) - found.size)
-    (has : ForSome told.files (λ image. (state : State) (k : KeepsState cache state image) → MayBeWritten state k.layout moment handle stream offset cut bytes found)) where
+    (has : ForSome told.files (λ image. (state : State) (k : HoldsState cache state image) → MayBeWritten state k.layout moment handle stream offset cut bytes found)) where
   abbrev request : Request
   request = to_write handle stream offset cut bytes
 
@@ -136,7 +136,7 @@ module _ (moment handle stream offset : ℕ) (cut : Bool) (bytes : List ℕ) (ca
   evicts state = refl
 
   -- it needs space for what its stream gets longer
-  pub write-wants : ForKept (KeepsState cache) told (WantsRoom moment (to_write handle stream offset cut bytes) more)
+  pub write-wants : ForKept (HoldsState cache) told (WantsRoom moment (to_write handle stream offset cut bytes) more)
   write-wants image there state k =
       let m = has image there state k in
       let long : length (stream_after cut (stream_of m.named.object stream) offset bytes) - length (stream_of m.named.object stream) ≡ more =
@@ -151,10 +151,10 @@ module _ (moment handle stream offset : ℕ) (cut : Bool) (bytes : List ℕ) (ca
       its-apart : stream_refusal state handle stream ≡ None → is_kept_from_streams state handle stream ≡ false
       its-apart passes = third (names_none state handle) (no_stream stream) (is_kept_from_streams state handle stream) passes
 
-  module _ (mid : Told) (evicting : ForKept (KeepsState cache) told (λ state. Passes told mid (IsEvicting (evicted_for (room state [] more 0)) state))) (free : ForKept (KeepsState cache) told (λ state. is_full (room state [] more 0) ≡ false))
-      (new : Cache) (made : ForKept (KeepsState cache) told (λ state. ForSome mid.files (KeepsState new (without (evicted_for (room state [] more 0)) state)))) where
+  module _ (mid : Told) (evicting : ForKept (HoldsState cache) told (λ state. Passes told mid (IsEvicting (evicted_for (room state [] more 0)) state))) (free : ForKept (HoldsState cache) told (λ state. is_full (room state [] more 0) ≡ false))
+      (new : Cache) (made : ForKept (HoldsState cache) told (λ state. ForSome mid.files (HoldsState new (without (evicted_for (room state [] more 0)) state)))) where
     -- then it is to be ended
-    pub ready : (image from : Image) (state : State) → told.files ≡ Some image → mid.files ≡ Some from → KeepsState cache state image → IsReadyToWrite new state moment handle stream offset cut bytes found.size from
+    pub ready : (image from : Image) (state : State) → told.files ≡ Some image → mid.files ≡ Some from → HoldsState cache state image → IsReadyToWrite new state moment handle stream offset cut bytes found.size from
     ready image from state there here k =
         let m = has image there state k in
         let valid = k.kept.entries.valid in
@@ -169,7 +169,7 @@ module _ (moment handle stream offset : ℕ) (cut : Bool) (bytes : List ℕ) (ca
         record {
           valid = valid;
           passes = passes;
-          kept = subst (λ (groups : List Group). KeepsState new (without groups state) from) (sym (evicted-is moment (to_write handle stream offset cut bytes) more state (write-wants image there state k))) (made image there state k from here);
+          kept = subst (λ (groups : List Group). HoldsState new (without groups state) from) (sym (evicted-is moment (to_write handle stream offset cut bytes) more state (write-wants image there state k))) (made image there state k from here);
           number = n.number;
           object = n.object;
           names = names;
@@ -179,17 +179,17 @@ module _ (moment handle stream offset : ℕ) (cut : Bool) (bytes : List ℕ) (ca
     pub ready-for-some : (image : Image) → told.files ≡ Some image → KeepsAny cache image → ForSome mid.files (IsReadyToWriteSome new handle stream offset cut bytes found.size)
     ready-for-some image there some from here = record { state = some.0; moment = moment; ready = ready image from some.0 there here some.1 }
 
-    abbrev first-stops : MayStopAtEach (KeepsState cache) told mid moment (to_write handle stream offset cut bytes)
+    abbrev first-stops : MayStopAtEach (HoldsState cache) told mid moment (to_write handle stream offset cut bytes)
     first-stops = room-stops moment (to_write handle stream offset cut bytes) more cache told write-wants mid evicting
 
     module _ (now : Told) where
-      pub whole-stops : ForSome mid.files (λ from. (state : State) → IsReadyToWrite new state moment handle stream offset cut bytes found.size from → Passes mid now (MayStop state moment (to_write handle stream offset cut bytes))) → MayStopAtEach (KeepsState cache) told now moment (to_write handle stream offset cut bytes)
+      pub whole-stops : ForSome mid.files (λ from. (state : State) → IsReadyToWrite new state moment handle stream offset cut bytes found.size from → Passes mid now (MayStop state moment (to_write handle stream offset cut bytes))) → MayStopAtEach (HoldsState cache) told now moment (to_write handle stream offset cut bytes)
       whole-stops stops image there state k =
           let at = there-after told mid (MayStop state moment (to_write handle stream offset cut bytes)) (first-stops image there state k) image there in
           passes_then (first-stops image there state k) (stops at.0 at.1 state (ready image at.0 state there at.1 k))
 
-      pub whole-does : (last : Cache) (answer : Answer) → ForSome mid.files (λ from. (state : State) → IsReadyToWrite new state moment handle stream offset cut bytes found.size from → IsDone (KeepsState last) now moment (to_write handle stream offset cut bytes) answer state)
-          → Does (KeepsState cache) (KeepsState last) told now moment (to_write handle stream offset cut bytes) answer
+      pub whole-does : (last : Cache) (answer : Answer) → ForSome mid.files (λ from. (state : State) → IsReadyToWrite new state moment handle stream offset cut bytes found.size from → IsDone (HoldsState last) now moment (to_write handle stream offset cut bytes) answer state)
+          → Does (HoldsState cache) (HoldsState last) told now moment (to_write handle stream offset cut bytes) answer
       whole-does last answer does image there state k =
           let at = there-after told mid (MayStop state moment (to_write handle stream offset cut bytes)) (first-stops image there state k) image there in
           does at.0 at.1 state (ready image at.0 state there at.1 k)

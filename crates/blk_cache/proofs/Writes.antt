@@ -27,7 +27,7 @@ use Rattle.law_state.specs.ObjectLaws.{layout_after}
 use Rattle.law_state.proofs.Dirtying.{set-at}
 use Rattle.blk_object.specs.Writing.{IsRisen, IsToBeWritten, IsWrittenUncounted, RisesAreCounted, UsesLeaveTheRise, node_of_object, with_written}
 use Rattle.blk_cache.specs.declared.cache.Cache.{Cache}
-use Rattle.blk_cache.specs.CacheKeeping.{IsBoundAs, IsBoundTo, KeepsState, named_objects}
+use Rattle.blk_cache.specs.CacheKeeping.{IsBoundAs, IsBoundTo, HoldsState, named_objects}
 use Rattle.blk_cache.specs.Creating.{sum_within}
 use Rattle.blk_cache.specs.Writing.{CanGetBytes, IsToBeUsed, IsUsedAndCounted}
 use Rattle.blk_cache.proofs.ChangedObjects.{CountsAs, LiesChanged, bound-to, changed-keeps, its-named, named-changed, names-stay, sum-changed}
@@ -83,7 +83,7 @@ own-charged : (o : Object) → own_charge o ≤ charge o
 unfolding charge
 own-charged o = omega arith
 
-module _ (cache : Cache) (state : State) (from : Image) (k : KeepsState cache state from) (handle stream offset : ℕ) (cut : Bool) (bytes : List ℕ) (size : ℕ) (can : CanGetBytes state handle stream offset cut bytes size) where
+module _ (cache : Cache) (state : State) (from : Image) (k : HoldsState cache state from) (handle stream offset : ℕ) (cut : Bool) (bytes : List ℕ) (size : ℕ) (can : CanGetBytes state handle stream offset cut bytes size) where
   abbrev number : ℕ
   number = can.number
 
@@ -219,7 +219,7 @@ module _ (cache : Cache) (state : State) (from : Image) (k : KeepsState cache st
         }
 
         module _ (new : Cache) (counts : CountsAs cache new object other) (handles : new.handles ≡ cache.handles) where
-          keeps-by : (uses : List Item) (end : Image) → Keeps (amidst state number other uses) there [] end → Agrees new.files end → this_id_of (byte end Index) ≡ this_id_of (byte from Index) → KeepsState new (amidst state number other uses) end
+          keeps-by : (uses : List Item) (end : Image) → Keeps (amidst state number other uses) there [] end → Agrees new.files end → this_id_of (byte end Index) ≡ this_id_of (byte from Index) → HoldsState new (amidst state number other uses) end
           keeps-by uses end keeps files id =
               changed-keeps cache state from k handle number object other can.names refl refl uses there was w.now lies-there lies new end keeps refl counts files id (ap open_count handles)
               (λ name. subst (λ (bs : Bindings). IsBoundAs (amidst state number other uses) there (named_by state name) (binding_of bs name)) (sym handles)
@@ -235,9 +235,9 @@ module _ (cache : Cache) (state : State) (from : Image) (k : KeepsState cache st
               charged : {x y : ℕ} → x + 0 ≡ y + 0 → x ≡ y
               charged e = omega (arith, e)
 
-          pub dead-keeps : object.live ≡ false → Agrees new.files image → KeepsState new (written handle stream offset cut bytes state) image
+          pub dead-keeps : object.live ≡ false → Agrees new.files image → HoldsState new (written handle stream offset cut bytes state) image
           dead-keeps dead files =
-              subst (λ (s : State). KeepsState new s image) (sym (written-dead state handle stream offset cut bytes number object can.names dead))
+              subst (λ (s : State). HoldsState new s image) (sym (written-dead state handle stream offset cut bytes number object can.names dead))
               (keeps-by state.uses image (record { entries = w.kept; counters = dead-counts dead }) files w.session.id)
 
           -- a live one
@@ -267,8 +267,8 @@ module _ (cache : Cache) (state : State) (from : Image) (k : KeepsState cache st
                 let marked-was : was.dirty ≡ this_id_of (byte from Index) = subst (λ (o : Option Loaded). IfSome o (λ l. l.dirty ≡ this_id_of (byte from Index))) at-was (k.kept.entries.session.marked number object can.names.here alive can.unsettled) in
                 sym marked-now ∙ w.after.dirty ∙ marked-was
 
-            pub live-keeps : object.live ≡ true → Agrees new.files end → KeepsState new (written handle stream offset cut bytes state) end
+            pub live-keeps : object.live ≡ true → Agrees new.files end → HoldsState new (written handle stream offset cut bytes state) end
             live-keeps alive files =
                 let keeps = live-counted alive in
-                subst (λ (s : State). KeepsState new s end) (sym (written-live state handle stream offset cut bytes number object can.names alive))
+                subst (λ (s : State). HoldsState new s end) (sym (written-live state handle stream offset cut bytes number object can.names alive))
                 (keeps-by (used (main object.key) state.uses) end keeps files (live-session alive keeps))

@@ -11,6 +11,7 @@ use Rattle.spec_format.specs.Headers.{this_id_of}
 use Rattle.spec_folder.specs.Layout.{Layout}
 use Rattle.spec_folder.specs.Loads.{Loaded}
 use Rattle.law_state.specs.Keeping.{Keeps}
+use Rattle.law_state.specs.KeepingLaws.{HasMagic}
 use Rattle.blk_disk.specs.Tables.{Agrees}
 use Rattle.blk_object.specs.Writing.{node_of_object}
 use Rattle.blk_handles.specs.Bindings.{Binding, binding_of, open_count}
@@ -52,8 +53,8 @@ named_objects state = named_from state 0 state.objects
 
 -- The invariant.
 
--- the invariant of a cache: it keeps the state on the image of its folder, by some layout
-pub record KeepsState (cache : Cache) (state : State) (image : Image) : Type 0 where
+-- the invariant of a cache but for the magic word: it holds the state on the image of its folder, by some layout
+pub record HoldsState (cache : Cache) (state : State) (image : Image) : Type 0 where
   pub layout : Layout
   -- the folder keeps the state by the layout, with no address unlinked
   pub kept : Keeps state layout [] image
@@ -72,3 +73,9 @@ pub record KeepsState (cache : Cache) (state : State) (image : Image) : Type 0 w
   pub files : Agrees cache.files image
   -- the dirty flag that the cache sets is the number of its session
   pub mark : cache.mark ≡ this_id_of (byte image Index)
+
+
+-- the invariant of a cache: it holds the state on the image of its folder, and the index is finished
+pub record KeepsState (cache : Cache) (state : State) (image : Image) : Type 0 where
+  pub holds : HoldsState cache state image
+  pub finished : HasMagic image

@@ -17,7 +17,7 @@ use Rattle.law_state.specs.OneCallLaws.{Names}
 use Rattle.blk_lru.specs.Damages.{IsTouchDamage}
 use Rattle.blk_handles.specs.Bindings.{Bindings, binding_of}
 use Rattle.blk_cache.specs.declared.cache.Cache.{Cache}
-use Rattle.blk_cache.specs.CacheKeeping.{KeepsState}
+use Rattle.blk_cache.specs.CacheKeeping.{HoldsState}
 use Rattle.blk_evict.specs.Looking.{IsLookUpDamage}
 
 -- the answer is a refusal
@@ -27,7 +27,7 @@ IsRefused _ = ⊥
 
 -- the cache keeps some state on the image
 abbrev pub KeepsAny : Cache → Image → Type 0
-KeepsAny cache image = (state : State) × KeepsState cache state image
+KeepsAny cache image = (state : State) × HoldsState cache state image
 
 -- nothing of the cache but its handles and the cost of its open objects has changed
 pub record OnlyNamesChange (old new : Cache) : Type 0 where

@@ -13,7 +13,7 @@ use Rattle.spec_folder.specs.Layout.{Layout, is_listed}
 use Rattle.blk_evict.specs.RoomLaws.{AreOfNamed}
 use Rattle.blk_cache.specs.declared.cache.Cache.{Cache}
 use Rattle.blk_cache.specs.declared.covered.Covered.{Covered}
-use Rattle.blk_cache.specs.CacheKeeping.{KeepsState}
+use Rattle.blk_cache.specs.CacheKeeping.{HoldsState}
 
 -- `node` is the given one, if there is one
 abbrev pub is_node : Option ℕ → ℕ → Bool
@@ -46,12 +46,12 @@ pub record AreCovered (state : State) (layout : Layout) (covered : List Item) (p
 
 -- P holds of each state that the cache keeps, with the items in range that lie at the nodes of `parts`
 abbrev pub ForCovered : Cache → Covered → Told → (State → List Item → Type 0) → Type 0
-ForCovered cache parts told P = ForSome told.files (λ image. (state : State) (kept : KeepsState cache state image) (covered : List Item) → AreCovered state kept.layout covered parts → P state covered)
+ForCovered cache parts told P = ForSome told.files (λ image. (state : State) (kept : HoldsState cache state image) (covered : List Item) → AreCovered state kept.layout covered parts → P state covered)
 
 -- the cache keeps some state, in which some items in range lie at the nodes of `parts`
 pub record KeepsCovered (cache : Cache) (parts : Covered) (image : Image) : Type 0 where
   pub state : State
-  pub kept : KeepsState cache state image
+  pub kept : HoldsState cache state image
   pub covered : List Item
   pub are : AreCovered state kept.layout covered parts
 

@@ -14,7 +14,7 @@ use Rattle.law_state.specs.Commands.{ForKept}
 use Rattle.law_state.specs.CommandStates.{with_room}
 use Rattle.blk_object.specs.Making.{CanHaveNew}
 use Rattle.blk_cache.specs.declared.cache.Cache.{Cache}
-use Rattle.blk_cache.specs.CacheKeeping.{KeepsState}
+use Rattle.blk_cache.specs.CacheKeeping.{HoldsState}
 
 -- Refusals.
 
@@ -25,11 +25,11 @@ create_refusal None no_room = if no_room then Some refusal.Full else None
 
 -- in each state that the cache keeps, the Create is refused only if there is no space
 abbrev pub WantsRoomAlone : Cache → Told → (moment handle : ℕ) → List ℕ → Type 0
-WantsRoomAlone cache told moment handle key = ForKept (KeepsState cache) told (λ state. refused moment (to_create handle key) state ≡ create_refusal None (no_room moment (to_create handle key) state))
+WantsRoomAlone cache told moment handle key = ForKept (HoldsState cache) told (λ state. refused moment (to_create handle key) state ≡ create_refusal None (no_room moment (to_create handle key) state))
 
 -- in no state that the cache keeps is the Create refused
 abbrev pub IsNotRefused : Cache → Told → (moment handle : ℕ) → List ℕ → Type 0
-IsNotRefused cache told moment handle key = ForKept (KeepsState cache) told (λ state. refused moment (to_create handle key) state ≡ None)
+IsNotRefused cache told moment handle key = ForKept (HoldsState cache) told (λ state. refused moment (to_create handle key) state ≡ None)
 
 -- The new object.
 
@@ -41,14 +41,14 @@ pub record HasRoomFor (state : State) (handle : ℕ) (key : List ℕ) : Type 0 w
 -- the cache keeps some state that may have a new object of this key by this handle
 pub record KeepsWithRoom (cache : Cache) (handle : ℕ) (key : List ℕ) (image : Image) : Type 0 where
   pub state : State
-  pub kept : KeepsState cache state image
+  pub kept : HoldsState cache state image
   pub can : CanHaveNew state handle key
 
 -- all evictions of a Create of `state` are done: the Create isn't refused, and the cache keeps the state after the evictions
 pub record IsReadyToCreate (cache : Cache) (state : State) (moment handle : ℕ) (key : List ℕ) (image : Image) : Type 0 where
   pub valid : IsValidState state
   pub passes : refused moment (to_create handle key) state ≡ None
-  pub kept : KeepsState cache (with_room state moment (to_create handle key)) image
+  pub kept : HoldsState cache (with_room state moment (to_create handle key)) image
 
 -- the cache is ready for this Create, of some state at some moment
 pub record IsReadyForSome (cache : Cache) (handle : ℕ) (key : List ℕ) (image : Image) : Type 0 where

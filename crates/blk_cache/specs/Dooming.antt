@@ -14,7 +14,7 @@ use Rattle.blk_sparse.specs.declared.dropping.Gone.{Gone}
 use Rattle.blk_cache.specs.declared.dooming_objects.Target.{Target}
 use Rattle.blk_cache.specs.DoomingObjects.{LiesAsTarget, LiesOpen}
 use Rattle.blk_cache.specs.declared.cache.Cache.{Cache}
-use Rattle.blk_cache.specs.CacheKeeping.{KeepsState}
+use Rattle.blk_cache.specs.CacheKeeping.{HoldsState}
 
 -- Refusals.
 
@@ -26,12 +26,12 @@ doom_refusal bindings handle = first_refusal ((is_none (binding_of bindings hand
 
 -- P holds of each live object with this node and this record that a handle names, in each state that the cache keeps
 abbrev pub ForEachOpen : Cache → (node entry : ℕ) → Image → (State → ℕ → Object → Type 0) → Type 0
-ForEachOpen cache node entry image P = (state : State) (kept : KeepsState cache state image) (number : ℕ) (object : Object) → LiesOpen state kept.layout number object node entry → P state number object
+ForEachOpen cache node entry image P = (state : State) (kept : HoldsState cache state image) (number : ℕ) (object : Object) → LiesOpen state kept.layout number object node entry → P state number object
 
 -- P holds of each object with this key that lies where `target` says, in each state that the cache keeps
 abbrev pub ForEachKept : Cache → List ℕ → Target → Image → (State → ℕ → Object → Type 0) → Type 0
 ForEachKept cache key target image P =
-    (state : State) (kept : KeepsState cache state image) (number : ℕ) (object : Object) → LiesAsTarget (is_named state number) state kept.layout number object target → object.key ≡ key → P state number object
+    (state : State) (kept : HoldsState cache state image) (number : ℕ) (object : Object) → LiesAsTarget (is_named state number) state kept.layout number object target → object.key ≡ key → P state number object
 
 -- Counters.
 

@@ -10,7 +10,7 @@ use Rattle.blk_cache.specs.declared.cache.Cache.{Cache}
 use Rattle.blk_cache.specs.declared.goal.Goal.{Goal}
 use Rattle.blk_cache.specs.declared.goal.Goal.TheVariants.{Bytes, Room}
 use Rattle.blk_evict.specs.declared.list_places.Unpinned.{Unpinned}
-use Rattle.blk_cache.specs.CacheKeeping.{KeepsState}
+use Rattle.blk_cache.specs.CacheKeeping.{HoldsState}
 use Rattle.blk_evict.specs.RoomLaws.{group_for}
 use Rattle.blk_evict.specs.ListPlaces.{MayGoAt}
 
@@ -41,15 +41,15 @@ pub record OnlyItemsChange (old new : Cache) : Type 0 where
 
 -- the cache keeps the state, by some layout in which each item has the node that it has in `layout`
 pub record KeepsInPlaces (cache : Cache) (state : State) (layout : Layout) (image : Image) : Type 0 where
-  pub kept : KeepsState cache state image
+  pub kept : HoldsState cache state image
   pub places : kept.layout.place ≡ layout.place
 
 -- P holds, with layout and eviction unit, wherever the cache keeps a state in which the item that was found may be evicted
 abbrev pub ForEachThatMayGo : Cache → Unpinned → Image → (State → Layout → Group → Type 0) → Type 0
-ForEachThatMayGo cache found image P = (state : State) (kept : KeepsState cache state image) (at : MayGoAt state kept.layout found) → P state kept.layout (group_for at.item at.front)
+ForEachThatMayGo cache found image P = (state : State) (kept : HoldsState cache state image) (at : MayGoAt state kept.layout found) → P state kept.layout (group_for at.item at.front)
 
 -- the cache keeps some state in which the item that was found may be evicted
 pub record KeepsThatMayGo (cache : Cache) (found : Unpinned) (image : Image) : Type 0 where
   pub state : State
-  pub kept : KeepsState cache state image
+  pub kept : HoldsState cache state image
   pub at : MayGoAt state kept.layout found

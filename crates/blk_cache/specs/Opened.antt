@@ -9,6 +9,7 @@ use Rattle.spec_format.specs.Headers.{this_id_of}
 use Rattle.spec_format.specs.NewFolder.{IsMade}
 use Rattle.spec_folder.specs.Found.{found}
 use Rattle.law_state.specs.Keeping.{KeepsSome}
+use Rattle.law_state.specs.KeepingLaws.{HasMagic}
 use Rattle.blk_io.specs.declared.fault.Damage.{Damage}
 use Rattle.blk_index.specs.Start.{IsLookDamage}
 use Rattle.blk_disk.specs.declared.tables.BlockFiles.{BlockFiles}
@@ -32,6 +33,7 @@ pub record IsOpenedAs (entry : Image) (opened : Opened) (image : Image) : Type 0
   pub files : Agrees opened.files image
   pub mark : opened.mark ≡ this_id_of (byte image Index)
   pub id_is : this_id_of (byte image Index) ≡ opened_id entry
+  pub finished : HasMagic image
 
 -- Failed checks.
 

@@ -17,7 +17,7 @@ use Rattle.blk_repair.specs.Counters.{crash_place}
 use Rattle.blk_repair.specs.Repair.{IsRepairable, IsRepaired}
 use Rattle.blk_cache.specs.declared.cache.Cache.{Cache}
 use Rattle.blk_cache.specs.BoundNames.{AreAllFree}
-use Rattle.blk_cache.specs.CacheKeeping.{KeepsState}
+use Rattle.blk_cache.specs.CacheKeeping.{KeepsState, HoldsState}
 
 -- Opening.
 
@@ -42,7 +42,7 @@ RepairedFoldersHaveTheToldTotals = (scan : Scan) (entry image : Image) (limits :
 
 -- where a cache keeps a state on a folder, its table of block files agrees with that, and the index has its length, as writes need
 abbrev pub KeptFoldersAreOpen : Type 0
-KeptFoldersAreOpen = (cache : Cache) (state : State) (image : Image) → KeepsState cache state image → IsOpen cache.files image
+KeptFoldersAreOpen = (cache : Cache) (state : State) (image : Image) → HoldsState cache state image → IsOpen cache.files image
 
 -- where a cache keeps a state and no handle names anything, recovery gives the same whatever the crash word is
 abbrev pub FreeCachesHoldStill : Type 0

@@ -17,20 +17,20 @@ use Rattle.law_state.specs.OneCallLaws.{Names}
 use Rattle.blk_cache.specs.declared.cache.Cache.{Cache}
 use Rattle.blk_cache.specs.declared.read_printing.ReadRange.{ReadRange}
 use Rattle.blk_cache.specs.Asking.{stream_refusal}
-use Rattle.blk_cache.specs.CacheKeeping.{KeepsState}
+use Rattle.blk_cache.specs.CacheKeeping.{HoldsState}
 use Rattle.blk_cache.specs.Reading.{bytes_there}
 
 -- P holds of the printed reply of a Read, for each state that the cache keeps in which the handle names an object with this stream and `number` bytes are there
 -- to be read
 abbrev pub ForRead : Cache → Told → (handle stream offset number : ℕ) → (List ℕ → Type 0) → Type 0
 ForRead cache told handle stream offset number P =
-    ForKept (KeepsState cache) told (λ state. (n count : ℕ) (object : Object) → Names state handle n object → stream_refusal state handle stream ≡ None → number ≡ bytes_there (length (stream_of object stream)) offset count
+    ForKept (HoldsState cache) told (λ state. (n count : ℕ) (object : Object) → Names state handle n object → stream_refusal state handle stream ≡ None → number ≡ bytes_there (length (stream_of object stream)) offset count
     → P (reply_text (gave (bytes_from (stream_of object stream) offset count))))
 
 -- the cache keeps some state in which the handle names an object with this stream and `number` bytes are there to be read
 pub record KeepsToRead (cache : Cache) (handle stream offset number : ℕ) (image : Image) : Type 0 where
   pub state : State
-  pub kept : KeepsState cache state image
+  pub kept : HoldsState cache state image
   pub n : ℕ
   pub count : ℕ
   pub object : Object
@@ -65,10 +65,10 @@ pub record NamesPresent (state : State) (handle offset number : ℕ) : Type 0 wh
 
 -- P holds of the printed reply of a SparseRead, for each state that the cache keeps in which these bytes are all valid
 abbrev pub ForPresent : Cache → Told → (handle offset number : ℕ) → (List ℕ → Type 0) → Type 0
-ForPresent cache told handle offset number P = ForKept (KeepsState cache) told (λ state. (p : NamesPresent state handle offset number) → P (reply_text (gave (sparse_bytes p.object offset number))))
+ForPresent cache told handle offset number P = ForKept (HoldsState cache) told (λ state. (p : NamesPresent state handle offset number) → P (reply_text (gave (sparse_bytes p.object offset number))))
 
 -- the cache keeps some state in which the handle names a live sparse object and these bytes of it are all valid
 pub record KeepsPresent (cache : Cache) (handle offset number : ℕ) (image : Image) : Type 0 where
   pub state : State
-  pub kept : KeepsState cache state image
+  pub kept : HoldsState cache state image
   pub present : NamesPresent state handle offset number

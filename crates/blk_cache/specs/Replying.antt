@@ -16,7 +16,7 @@ use Rattle.blk_model.specs.declared.Answer.TheVariants as answer
 use Rattle.blk_script.specs.Reply.{reply_text, row_line}
 use Rattle.law_state.specs.Commands.{ForKept}
 use Rattle.blk_cache.specs.declared.cache.Cache.{Cache}
-use Rattle.blk_cache.specs.CacheKeeping.{KeepsState}
+use Rattle.blk_cache.specs.CacheKeeping.{HoldsState}
 
 -- the printed line of the bytes that a Read or a SparseRead gives, by the state after it
 abbrev pub bytes_text : Request → State → List ℕ
@@ -43,18 +43,18 @@ pub record IsStateAfter (request : Request) (given : Answer) (state : State) : T
 
 -- P holds of the printed reply, for each state that the cache keeps and that is one after the request with this answer
 abbrev pub ForReply : Cache → Told → Request → Answer → (List ℕ → Type 0) → Type 0
-ForReply cache told request given P = ForKept (KeepsState cache) told (λ state. IsStateAfter request given state → P (text_of_reply request given state))
+ForReply cache told request given P = ForKept (HoldsState cache) told (λ state. IsStateAfter request given state → P (text_of_reply request given state))
 
 -- P holds of the line of bytes that the request reads, for each state that the cache keeps and that is one after it with `number` bytes
 abbrev pub ForBytes : Cache → Told → Request → (number : ℕ) → (List ℕ → Type 0) → Type 0
-ForBytes cache told request number P = ForKept (KeepsState cache) told (λ state. IsStateAfter request (answer.Bytes number) state → P (bytes_text request state))
+ForBytes cache told request number P = ForKept (HoldsState cache) told (λ state. IsStateAfter request (answer.Bytes number) state → P (bytes_text request state))
 
 -- P holds of the printed rows and the line of the answer, for each state that the cache keeps
 abbrev pub ForRows : Cache → Told → Answer → (List ℕ → Type 0) → Type 0
-ForRows cache told given P = ForKept (KeepsState cache) told (λ state. P (rows_text given state))
+ForRows cache told given P = ForKept (HoldsState cache) told (λ state. P (rows_text given state))
 
 -- the cache keeps some state that is one after the request with this answer
 pub record KeepsAfter (cache : Cache) (request : Request) (given : Answer) (image : Image) : Type 0 where
   pub state : State
-  pub kept : KeepsState cache state image
+  pub kept : HoldsState cache state image
   pub after : IsStateAfter request given state

@@ -12,7 +12,7 @@ use Rattle.law_state.specs.Keeping.{Keeps}
 use Rattle.law_state.specs.RemovalLaws.{layout_removed}
 use Rattle.blk_disk.specs.Tables.{Agrees}
 use Rattle.blk_cache.specs.declared.cache.Cache.{Cache}
-use Rattle.blk_cache.specs.CacheKeeping.{KeepsState}
+use Rattle.blk_cache.specs.CacheKeeping.{HoldsState}
 use Rattle.blk_evict.specs.RoomLaws.{MayGo, NamedObjectsStay, group_for, item_charge}
 
 -- the cache counts `item_count` items less, and `charged` bytes less; its handles, its limits and its session's number are unchanged
@@ -34,24 +34,24 @@ pub record IsEvicted (state : State) (group : Group) (layout left : Layout) (old
 
 -- the cache keeps the state on the image, by this layout
 pub record KeepsBy (cache : Cache) (state : State) (layout : Layout) (image : Image) : Type 0 where
-  pub kept : KeepsState cache state image
+  pub kept : HoldsState cache state image
   pub layout_is : kept.layout ≡ layout
 
 -- once the eviction unit of an item that may be evicted is evicted, the cache keeps the state without it, by the layout that is left
 abbrev pub EvictedStatesAreKept : Type 0
 EvictedStatesAreKept =
-    (state : State) (front : List Item) (item : Item) (behind : List Item) (left : Layout) (old new : Cache) (from image : Image) (k : KeepsState old state from)
+    (state : State) (front : List Item) (item : Item) (behind : List Item) (left : Layout) (old new : Cache) (from image : Image) (k : HoldsState old state from)
     → MayGo state front item behind → IsEvicted state (group_for item front) k.layout left old new from image
     → KeepsBy new (without (group_for item front ∷ []) state) left image
 
 -- where a single item is evicted, each object that a handle names has the node that it had
 abbrev pub NamedObjectsLieApart : Type 0
 NamedObjectsLieApart =
-    (cache : Cache) (state : State) (image : Image) (front : List Item) (item : Item) (behind : List Item) (contents : ℕ) (k : KeepsState cache state image) → MayGo state front item behind
+    (cache : Cache) (state : State) (image : Image) (front : List Item) (item : Item) (behind : List Item) (contents : ℕ) (k : HoldsState cache state image) → MayGo state front item behind
     → NamedObjectsStay (without (group_for item front ∷ []) state) k.layout (layout_removed k.layout (k.layout.place item) contents)
 
 -- where an object that no handle names is evicted with its parts, each object that a handle names has the node that it had
 abbrev pub WholeGroupsLieApart : Type 0
 WholeGroupsLieApart =
-    (cache : Cache) (state : State) (image : Image) (front : List Item) (key : List ℕ) (behind : List Item) (chains : ℕ → List ℕ) (k : KeepsState cache state image) → MayGo state front (main key) behind
+    (cache : Cache) (state : State) (image : Image) (front : List Item) (key : List ℕ) (behind : List Item) (chains : ℕ → List ℕ) (k : HoldsState cache state image) → MayGo state front (main key) behind
     → NamedObjectsStay (without (group_for (main key) front ∷ []) state) k.layout (layout_less k.layout (gone_nodes state k.layout (is_of_another key)) chains)

@@ -7,14 +7,14 @@ use Rattle.blk_model.specs.State.{State}
 use Rattle.blk_evict.specs.ListPlaces.{IsPinnedFrom}
 use Rattle.blk_cache.specs.declared.cache.Cache.{Cache}
 use Rattle.blk_cache.specs.declared.covered.Covered.{Covered}
-use Rattle.blk_cache.specs.CacheKeeping.{KeepsState}
+use Rattle.blk_cache.specs.CacheKeeping.{HoldsState}
 use Rattle.blk_cache.specs.Covering.{LieCovered}
 
 -- the cache keeps some state in which all items from the node `behind` on to the end of the LRU list are pinned (none yet where it is None), with the parts in
 -- range pinned too
 pub record KeepsPinnedFrom (cache : Cache) (parts : Covered) (behind : Option ℕ) (image : Image) : Type 0 where
   pub state : State
-  pub kept : KeepsState cache state image
+  pub kept : HoldsState cache state image
   pub covered : List Item
   pub lie : LieCovered state kept.layout covered parts
   pub pinned : IsPinnedFrom state kept.layout covered behind

@@ -9,7 +9,7 @@ use Rattle.blk_model.specs.State.{Bounds, IsValidState, State}
 use Rattle.blk_handles.specs.Bindings.{open_count}
 use Rattle.blk_cache.specs.declared.cache.Cache.{Cache}
 use Rattle.blk_cache.specs.declared.covered.Covered.{Covered}
-use Rattle.blk_cache.specs.CacheKeeping.{KeepsState, named_objects}
+use Rattle.blk_cache.specs.CacheKeeping.{HoldsState, named_objects}
 use Rattle.blk_cache.specs.Covering.{AreCovered, part_count}
 
 -- where no part is in range, the pinned bytes and items are those of the objects that handles name, each as its main item
@@ -27,7 +27,7 @@ is_over limits open_bytes open_objects bytes more = nat_lt limits.max_bytes (ope
 
 -- where a cache keeps a state, its counters and the parts in range tell whether there is space for so many more bytes and items
 abbrev pub RoomIsTold : Type 0
-RoomIsTold = (cache : Cache) (state : State) (image : Image) (covered : List Item) (parts : Covered) (bytes more : ℕ) → (k : KeepsState cache state image) → AreCovered state k.layout covered parts
+RoomIsTold = (cache : Cache) (state : State) (image : Image) (covered : List Item) (parts : Covered) (bytes more : ℕ) → (k : HoldsState cache state image) → AreCovered state k.layout covered parts
     → is_full (room state covered bytes more) ≡ not (bytes == 0 && more == 0) && is_over (bounds_of cache.limits) (cache.open_bytes + parts.bytes) (open_count cache.handles + part_count parts) bytes more
 
 -- where there is space: nothing is evicted if nothing is added or it fits below the limits; else eviction units until what is added fits below the low

@@ -27,7 +27,7 @@ use Rattle.blk_cache.specs.declared.sparse_rise.Rise.{Rise}
 use Rattle.blk_cache.specs.declared.sparse_target.AskedTarget.{AskedTarget}
 use Rattle.blk_cache.specs.declared.sparse_target.AskedTarget.TheVariants as target
 use Rattle.blk_cache.specs.declared.sparse_writing.SparseRequest.{SparseRequest}
-use Rattle.blk_cache.specs.CacheKeeping.{KeepsState}
+use Rattle.blk_cache.specs.CacheKeeping.{HoldsState}
 use Rattle.blk_cache.specs.Covering.{AreCovered}
 use Rattle.blk_cache.specs.SparseAsking.{IsRangeInside, IsLiveNamed, early_sparse_refusal, sparse_refusal}
 use Rattle.blk_cache.specs.SparseWriting.{IsRaisedBy, IsSignedBy, covered_of, index_charge}
@@ -68,7 +68,7 @@ IsAskedTarget state layout moment handle offset bytes (target.Found found) = IsT
 
 -- in each state that the cache keeps, the handle names the object that the target tells
 abbrev pub NamesTarget : Cache → Told → (moment handle offset count : ℕ) → Target → Type 0
-NamesTarget cache told moment handle offset count found = ForSome told.files (λ image. (state : State) (kept : KeepsState cache state image) → IsTargetNamed state kept.layout moment handle offset count found)
+NamesTarget cache told moment handle offset count found = ForSome told.files (λ image. (state : State) (kept : HoldsState cache state image) → IsTargetNamed state kept.layout moment handle offset count found)
 
 -- in each state that the cache keeps, the handle of the request names the object that the target tells
 abbrev pub NamesTargetFor : Cache → Told → SparseRequest → Target → Type 0
@@ -105,11 +105,11 @@ pub record IsToStore (state : State) (layout : Layout) (moment handle offset : �
 
 -- in each state that the cache keeps, the handle names an object that may get the bytes, and `rise` is what they add
 abbrev pub AsksToStore : Cache → Told → (moment handle offset : ℕ) → List ℕ → Target → Rise → Type 0
-AsksToStore cache told moment handle offset bytes found rise = ForSome told.files (λ image. (state : State) (kept : KeepsState cache state image) → IsToStore state kept.layout moment handle offset bytes found rise)
+AsksToStore cache told moment handle offset bytes found rise = ForSome told.files (λ image. (state : State) (kept : HoldsState cache state image) → IsToStore state kept.layout moment handle offset bytes found rise)
 
 -- in each state that the cache keeps, the handle names an object that may get the bytes, `rise` is what they add, and the SparseWrite isn't refused
 abbrev pub HasRoomToStore : Cache → Told → (moment handle offset : ℕ) → List ℕ → Target → Rise → Type 0
-HasRoomToStore cache told moment handle offset bytes found rise = ForSome told.files (λ image. (state : State) (kept : KeepsState cache state image) → IsToStore state kept.layout moment handle offset bytes found rise × (refused moment (to_sparse_write handle offset bytes) state ≡ None))
+HasRoomToStore cache told moment handle offset bytes found rise = ForSome told.files (λ image. (state : State) (kept : HoldsState cache state image) → IsToStore state kept.layout moment handle offset bytes found rise × (refused moment (to_sparse_write handle offset bytes) state ≡ None))
 
 -- in each state that the cache keeps, the handle of the request names an object that may get its bytes, and `rise` is what they add
 abbrev pub AsksToStoreFor : Cache → Told → SparseRequest → Target → Rise → Type 0

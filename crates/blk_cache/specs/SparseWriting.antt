@@ -21,7 +21,7 @@ use Rattle.blk_sparse.specs.SparseWrites.{signature_to, sparse_state}
 use Rattle.blk_cache.specs.declared.cache.Cache.{Cache}
 use Rattle.blk_cache.specs.declared.covered.Covered.{Covered}
 use Rattle.blk_cache.specs.declared.sparse_writing.SparseRequest.{SparseRequest}
-use Rattle.blk_cache.specs.CacheKeeping.{KeepsState}
+use Rattle.blk_cache.specs.CacheKeeping.{HoldsState}
 use Rattle.blk_cache.specs.Covering.{AreCovered}
 use Rattle.blk_cache.specs.Creating.{sum_within}
 
@@ -64,7 +64,7 @@ pub record CanStore (state : State) (handle offset : ℕ) (bytes : List ℕ) (ta
 -- the cache keeps some state whose object may get the bytes
 pub record KeepsToStore (cache : Cache) (handle offset : ℕ) (bytes : List ℕ) (target : Target) (more_bytes more_items : ℕ) (image : Image) : Type 0 where
   pub state : State
-  pub kept : KeepsState cache state image
+  pub kept : HoldsState cache state image
   pub can : CanStore state handle offset bytes target more_bytes more_items
 
 -- the cache keeps some state whose object may get the bytes of the request
@@ -95,7 +95,7 @@ pub record CountsParts (old new : Cache) (target : Target) (more_bytes more_item
 pub record IsReadyToStore (cache : Cache) (state : State) (moment handle offset : ℕ) (bytes : List ℕ) (target : Target) (more_bytes more_items : ℕ) (image : Image) : Type 0 where
   pub valid : IsValidState state
   pub passes : refused moment (to_sparse_write handle offset bytes) state ≡ None
-  pub kept : KeepsState cache (with_room state moment (to_sparse_write handle offset bytes)) image
+  pub kept : HoldsState cache (with_room state moment (to_sparse_write handle offset bytes)) image
   pub number : ℕ
   pub object : Object
   pub names : Names (with_room state moment (to_sparse_write handle offset bytes)) handle number object
@@ -130,7 +130,7 @@ covered_of found = record { first = found.first; second = found.second; bytes = 
 -- where a cache keeps a state, the parts that were measured lie at the measured nodes and pin what was measured
 abbrev pub MeasuredPartsAreCovered : Type 0
 MeasuredPartsAreCovered =
-    (cache : Cache) (state : State) (image : Image) (k : KeepsState cache state image) (handle number : ℕ) (object : Object) (target : Target) (offset count : ℕ) (found : Measured) → Names state handle number object → object.live ≡ true
+    (cache : Cache) (state : State) (image : Image) (k : HoldsState cache state image) (handle number : ℕ) (object : Object) (target : Target) (offset count : ℕ) (found : Measured) → Names state handle number object → object.live ≡ true
     → IsTargetOf object target → 1 ≤ count → count ≤ part_size → IsMeasured k.layout (with_signature object (signature_to target)) (signature_to target) offset count found
     → AreCovered state k.layout (map (part object.key) (covered_parts offset count)) (covered_of found)
 

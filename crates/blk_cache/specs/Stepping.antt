@@ -13,7 +13,7 @@ use Rattle.blk_script.specs.Reply.{evicted_text}
 use Rattle.blk_cache.specs.declared.cache.Cache.{Cache}
 use Rattle.blk_cache.specs.declared.fault.StepFault.{StepFault}
 use Rattle.blk_cache.specs.declared.fault.StepFault.TheVariants as step_fault
-use Rattle.blk_cache.specs.CacheKeeping.{KeepsState}
+use Rattle.blk_cache.specs.CacheKeeping.{HoldsState, KeepsState}
 use Rattle.blk_evict.specs.RoomPrinting.{PrintsUnlessFailed}
 
 -- Printed texts.
@@ -24,11 +24,15 @@ evicted_first outcome = evicted_text outcome.groups
 
 -- the lines of what the command evicts were printed, unless the output failed, for each state that the cache kept before
 abbrev pub SaysEvicted : Cache → Told → (moment : ℕ) → Request → (failed_before failed : Bool) → (old new : Option (List ℕ)) → Type 0
-SaysEvicted cache told moment request failed_before failed old new = ForKept (KeepsState cache) told (λ state. PrintsUnlessFailed failed_before failed old new (evicted_first (step state moment request)))
+SaysEvicted cache told moment request failed_before failed old new = ForKept (HoldsState cache) told (λ state. PrintsUnlessFailed failed_before failed old new (evicted_first (step state moment request)))
 
 -- a prefix of the lines of what the command evicts was printed, for each state that the cache kept before
 abbrev pub SaysPrefix : Cache → Told → (moment : ℕ) → Request → (old new : Option (List ℕ)) → Type 0
-SaysPrefix cache told moment request old new = ForKept (KeepsState cache) told (λ state. Appends old new (evicted_first (step state moment request)))
+SaysPrefix cache told moment request old new = ForKept (HoldsState cache) told (λ state. Appends old new (evicted_first (step state moment request)))
+
+-- so it was for each state that the cache kept before in a finished folder
+abbrev pub SaysKeptPrefix : Cache → Told → (moment : ℕ) → Request → (old new : Option (List ℕ)) → Type 0
+SaysKeptPrefix cache told moment request old new = ForKept (KeepsState cache) told (λ state. Appends old new (evicted_first (step state moment request)))
 
 -- Answers.
 

@@ -26,7 +26,7 @@ use Rattle.blk_cache.specs.declared.asking.NamedStream.{NamedStream}
 use Rattle.blk_cache.specs.declared.cache.Cache.{Cache}
 use Rattle.blk_cache.specs.declared.write.WriteRequest.{WriteRequest}
 use Rattle.blk_cache.specs.Asking.{IsNamedStream}
-use Rattle.blk_cache.specs.CacheKeeping.{KeepsState}
+use Rattle.blk_cache.specs.CacheKeeping.{HoldsState}
 use Rattle.blk_cache.specs.Creating.{sum_within}
 
 -- The request.
@@ -67,7 +67,7 @@ IsNotRefusedEarly early (asked.Stream found) = early ≡ None
 pub record IsReadyToWrite (cache : Cache) (state : State) (moment handle stream offset : ℕ) (cut : Bool) (bytes : List ℕ) (size : ℕ) (image : Image) : Type 0 where
   pub valid : IsValidState state
   pub passes : refused moment (to_write handle stream offset cut bytes) state ≡ None
-  pub kept : KeepsState cache (with_room state moment (to_write handle stream offset cut bytes)) image
+  pub kept : HoldsState cache (with_room state moment (to_write handle stream offset cut bytes)) image
   pub number : ℕ
   pub object : Object
   pub names : Names (with_room state moment (to_write handle stream offset cut bytes)) handle number object
@@ -106,7 +106,7 @@ pub record CanGetBytes (state : State) (handle stream offset : ℕ) (cut : Bool)
 -- the cache keeps some state whose object may get the bytes
 pub record KeepsToWrite (cache : Cache) (handle stream offset : ℕ) (cut : Bool) (bytes : List ℕ) (size : ℕ) (image : Image) : Type 0 where
   pub state : State
-  pub kept : KeepsState cache state image
+  pub kept : HoldsState cache state image
   pub can : CanGetBytes state handle stream offset cut bytes size
 
 -- the handle of this Write names a dirty object whose stream of `size` bytes may get its bytes

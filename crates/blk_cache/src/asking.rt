@@ -7,7 +7,7 @@ ghost use Rattle.blk_model.specs.State.{State};
 ghost use Rattle.blk_object.specs.FailedChecks.{IsFailedCheck};
 ghost use Rattle.blk_cache.specs.Asking.{IsAskDamage, IsAsked, StandsAmong, early_stream_refusal, keeps_stream};
 ghost use Rattle.blk_cache.specs.declared.asking.Asked.TheVariants as asked;
-ghost use Rattle.blk_cache.specs.CacheKeeping.{KeepsState};
+ghost use Rattle.blk_cache.specs.CacheKeeping.{HoldsState};
 ghost use Rattle.blk_cache.specs.CommandClauses.{KeepsAny};
 
 use crate::cache::Cache;
@@ -50,7 +50,7 @@ impl Cache {
         handle: u16,
         stream: u8,
     ) -> Result<Asked, Fault>
-        ensures asked { IfOk result (λ answer. ForSome (F.told folder.old).files (λ image. (state : State) → (k : KeepsState self.now state image) → IsAsked state k.layout handle stream answer)) }
+        ensures asked { IfOk result (λ answer. ForSome (F.told folder.old).files (λ image. (state : State) → (k : HoldsState self.now state image) → IsAsked state k.layout handle stream answer)) }
         ensures early { IfSome (early_stream_refusal self.now.handles handle stream) (λ why. result ≡ Ok (asked.Refused why)) }
         ensures stands { IfOk result (StandsAmong self.now.files stream) }
         ensures reads { ReadsOnly F.told F.faults folder.old folder.new (IfDevice result) }

@@ -19,7 +19,7 @@ ghost use Rattle.law_state.specs.Changes.{Finds};
 ghost use Rattle.law_state.specs.Commands.{Does, IsDone, MayStop, MayStopAtEach};
 ghost use Rattle.blk_object.specs.FailedChecks.{IsFailedCheck};
 ghost use Rattle.blk_object.specs.Making.{CanHaveNew};
-ghost use Rattle.blk_cache.specs.CacheKeeping.{KeepsState};
+ghost use Rattle.blk_cache.specs.CacheKeeping.{HoldsState};
 ghost use Rattle.blk_cache.specs.CommandClauses.{IsRefused, KeepsAny, open_refusal};
 ghost use Rattle.blk_cache.specs.Creating.{CountsOneMore, HasRoomFor, IsNotRefused, IsReadyForSome, IsReadyToCreate, KeepsWithRoom, WantsRoomAlone, create_refusal};
 ghost use Rattle.blk_evict.specs.Looking.{IsLookUpDamage};
@@ -52,8 +52,8 @@ impl Cache {
         moment: u64,
     ) -> Result<Answer, Fault>
         requires is_open { ForSome (F.told folder.old).files (IsOpen self.old.files) }
-        ensures does { IfOk result (λ answer. Does (KeepsState self.old) (KeepsState self.new) (F.told folder.old) (F.told folder.new) moment (to_create handle key.now) answer) }
-        ensures stops { MayStopAtEach (KeepsState self.old) (F.told folder.old) (F.told folder.new) moment (to_create handle key.now) }
+        ensures does { IfOk result (λ answer. Does (HoldsState self.old) (HoldsState self.new) (F.told folder.old) (F.told folder.new) moment (to_create handle key.now) answer) }
+        ensures stops { MayStopAtEach (HoldsState self.old) (F.told folder.old) (F.told folder.new) moment (to_create handle key.now) }
 
         // What it evicts is printed, and on any answer a prefix of that.
         ensures says { OnOk result (SaysEvicted self.old (F.told folder.old) moment (to_create handle key.now) failed.old failed.new (K.written out.old) (K.written out.new)) }
@@ -102,8 +102,8 @@ impl Cache {
         requires is_open { ForSome (F.told folder.old).files (IsOpen self.old.files) }
 
         // The Create is done as in the model, and after each single write the folder is as a crash in it may leave it.
-        ensures does { WantsRoomAlone self.old (F.told folder.old) moment handle key.now → IfOk result (λ answer. Does (KeepsState self.old) (KeepsState self.new) (F.told folder.old) (F.told folder.new) moment (to_create handle key.now) answer) }
-        ensures stops { WantsRoomAlone self.old (F.told folder.old) moment handle key.now → MayStopAtEach (KeepsState self.old) (F.told folder.old) (F.told folder.new) moment (to_create handle key.now) }
+        ensures does { WantsRoomAlone self.old (F.told folder.old) moment handle key.now → IfOk result (λ answer. Does (HoldsState self.old) (HoldsState self.new) (F.told folder.old) (F.told folder.new) moment (to_create handle key.now) answer) }
+        ensures stops { WantsRoomAlone self.old (F.told folder.old) moment handle key.now → MayStopAtEach (HoldsState self.old) (F.told folder.old) (F.told folder.new) moment (to_create handle key.now) }
 
         // What it evicts is printed, and on any answer a prefix of that.
         ensures says { WantsRoomAlone self.old (F.told folder.old) moment handle key.now → OnOk result (SaysEvicted self.old (F.told folder.old) moment (to_create handle key.now) failed.old failed.new (K.written out.old) (K.written out.new)) }
@@ -131,9 +131,9 @@ impl Cache {
     // Whether there is no space for a new object with a key, by what is kept in memory.
     fn has_no_room(&self, key: &[u8]) -> bool
         // Where a Create needs nothing but space it is refused then, and a refusal does and prints nothing.
-        ensures does { result ≡ true → (told : Told) (moment handle : ℕ) → WantsRoomAlone self.now told moment handle key.now → Does (KeepsState self.now) (KeepsState self.now) told told moment (to_create handle key.now) (answer.Refused refusal.Full) }
+        ensures does { result ≡ true → (told : Told) (moment handle : ℕ) → WantsRoomAlone self.now told moment handle key.now → Does (HoldsState self.now) (HoldsState self.now) told told moment (to_create handle key.now) (answer.Refused refusal.Full) }
         ensures says { result ≡ true → (told : Told) (moment handle : ℕ) → WantsRoomAlone self.now told moment handle key.now → (failed : Bool) (written : Option (List ℕ)) → SaysEvicted self.now told moment (to_create handle key.now) failed failed written written }
-        ensures stops { (told : Told) (moment handle : ℕ) → MayStopAtEach (KeepsState self.now) told told moment (to_create handle key.now) }
+        ensures stops { (told : Told) (moment handle : ℕ) → MayStopAtEach (HoldsState self.now) told told moment (to_create handle key.now) }
         ensures front { (told : Told) (moment handle : ℕ) (written : Option (List ℕ)) → SaysPrefix self.now told moment (to_create handle key.now) written written }
 
         // Else it isn't refused.
@@ -159,8 +159,8 @@ impl Cache {
         requires is_open { ForSome (F.told folder.old).files (IsOpen self.old.files) }
 
         // The Create is done as in the model, and after each single write the folder is as a crash in it may leave it.
-        ensures does { IsNotRefused self.old (F.told folder.old) moment handle key.now → IfOk result (λ answer. Does (KeepsState self.old) (KeepsState self.new) (F.told folder.old) (F.told folder.new) moment (to_create handle key.now) answer) }
-        ensures stops { IsNotRefused self.old (F.told folder.old) moment handle key.now → MayStopAtEach (KeepsState self.old) (F.told folder.old) (F.told folder.new) moment (to_create handle key.now) }
+        ensures does { IsNotRefused self.old (F.told folder.old) moment handle key.now → IfOk result (λ answer. Does (HoldsState self.old) (HoldsState self.new) (F.told folder.old) (F.told folder.new) moment (to_create handle key.now) answer) }
+        ensures stops { IsNotRefused self.old (F.told folder.old) moment handle key.now → MayStopAtEach (HoldsState self.old) (F.told folder.old) (F.told folder.new) moment (to_create handle key.now) }
 
         // What it evicts is printed, and on any answer a prefix of that.
         ensures says { IsNotRefused self.old (F.told folder.old) moment handle key.now → OnOk result (SaysEvicted self.old (F.told folder.old) moment (to_create handle key.now) failed.old failed.new (K.written out.old) (K.written out.new)) }
@@ -198,7 +198,7 @@ impl Cache {
         requires is_open { ForSome (F.told folder.old).files (IsOpen self.old.files) }
 
         // The Create is done, whatever state it began with, and after each single write the folder is as a crash in it may leave it.
-        ensures does { IfOk result (λ answer. ForSome (F.told folder.old).files (λ from. (state : State) → IsReadyToCreate self.old state moment handle key.now from → IsDone (KeepsState self.new) (F.told folder.new) moment (to_create handle key.now) answer state)) }
+        ensures does { IfOk result (λ answer. ForSome (F.told folder.old).files (λ from. (state : State) → IsReadyToCreate self.old state moment handle key.now from → IsDone (HoldsState self.new) (F.told folder.new) moment (to_create handle key.now) answer state)) }
         ensures stops { ForSome (F.told folder.old).files (λ from. (state : State) → IsReadyToCreate self.old state moment handle key.now from → Passes (F.told folder.old) (F.told folder.new) (MayStop state moment (to_create handle key.now))) }
 
         ensures done { IfOk result (λ given. given ≡ answer.Done) }
@@ -232,10 +232,10 @@ impl Cache {
         requires is_open { ForSome (F.told folder.old).files (IsOpen self.old.files) }
 
         // In the end each state that was kept, that has space for the object, is kept with it.
-        ensures made { OnOk result (ForSome (F.told folder.old).files (λ from. (state : State) → KeepsState self.old state from → HasRoomFor state handle key.now → ForSome (F.told folder.new).files (KeepsState self.new (created handle key.now state)))) }
+        ensures made { OnOk result (ForSome (F.told folder.old).files (λ from. (state : State) → HoldsState self.old state from → HasRoomFor state handle key.now → ForSome (F.told folder.new).files (HoldsState self.new (created handle key.now state)))) }
 
         // At each word the old durable contents are recovered.
-        ensures stops { ForSome (F.told folder.old).files (λ from. (state : State) → KeepsState self.old state from → CanHaveNew state handle key.now → Passes (F.told folder.old) (F.told folder.new) (Finds (rest state))) }
+        ensures stops { ForSome (F.told folder.old).files (λ from. (state : State) → HoldsState self.old state from → CanHaveNew state handle key.now → Passes (F.told folder.old) (F.told folder.new) (Finds (rest state))) }
 
         ensures notes { self.new.notes ≡ self.old.notes }
         ensures mark { self.new.mark ≡ self.old.mark }
@@ -267,7 +267,7 @@ impl Cache {
         handle: u16,
         key: &[u8],
     ) -> Result<Option<Refusal>, Fault>
-        ensures refused { IfOk result (λ early. ForSome (F.told folder.old).files (λ image. (state : State) (moment : ℕ) → KeepsState self.now state image → refused moment (to_create handle key.now) state ≡ create_refusal early (no_room moment (to_create handle key.now) state))) }
+        ensures refused { IfOk result (λ early. ForSome (F.told folder.old).files (λ image. (state : State) (moment : ℕ) → HoldsState self.now state image → refused moment (to_create handle key.now) state ≡ create_refusal early (no_room moment (to_create handle key.now) state))) }
 
         // A refusal that the handles and the key alone decide is given on every folder; where none is given they decide none.
         ensures refuses { IfSome (open_refusal self.now.handles handle key.now) (λ why. result ≡ Ok (Some why)) }

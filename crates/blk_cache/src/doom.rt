@@ -11,7 +11,7 @@ ghost use Rattle.blk_disk.specs.Tables.{is_node_among, is_record_among};
 ghost use Rattle.law_state.specs.Commands.{Does, MayStopAtEach};
 ghost use Rattle.blk_object.specs.FailedChecks.{IsFailedCheck};
 ghost use Rattle.blk_object.specs.RemovingObjects.{FindsEither};
-ghost use Rattle.blk_cache.specs.CacheKeeping.{KeepsState};
+ghost use Rattle.blk_cache.specs.CacheKeeping.{HoldsState};
 ghost use Rattle.blk_cache.specs.CommandClauses.{IsRefused, KeepsAny};
 ghost use Rattle.blk_cache.specs.Dooming.{CountsDoomed, ForEachOpen, doom_refusal};
 
@@ -31,8 +31,8 @@ impl Cache {
     /// more for each further one. After a fault nothing is promised of the cache but that it can be dropped.
     pub(crate) fn doom<F: Folder>(&mut self, folder: &mut F, handle: u16) -> Result<Answer, Fault>
         requires is_open { ForSome (F.told folder.old).files (IsOpen self.old.files) }
-        ensures does { (moment : ℕ) → IfOk result (λ answer. Does (KeepsState self.old) (KeepsState self.new) (F.told folder.old) (F.told folder.new) moment (to_doom handle) answer) }
-        ensures stops { (moment : ℕ) → MayStopAtEach (KeepsState self.old) (F.told folder.old) (F.told folder.new) moment (to_doom handle) }
+        ensures does { (moment : ℕ) → IfOk result (λ answer. Does (HoldsState self.old) (HoldsState self.new) (F.told folder.old) (F.told folder.new) moment (to_doom handle) answer) }
+        ensures stops { (moment : ℕ) → MayStopAtEach (HoldsState self.old) (F.told folder.old) (F.told folder.new) moment (to_doom handle) }
 
         // A refusal that the handles alone decide is given on every folder, and a refusal does nothing.
         ensures refuses { IfSome (doom_refusal self.old.handles handle) (λ why. result ≡ Ok (answer.Refused why)) }
@@ -65,7 +65,7 @@ impl Cache {
         requires names { IsTrue (is_record_among self.old.files entry) }
         requires node { IsTrue (is_node_among self.old.files node) }
         requires is_open { ForSome (F.told folder.old).files (IsOpen self.old.files) }
-        ensures dooms { OnOk result (ForSome (F.told folder.old).files (λ from. ForEachOpen self.old node entry from (λ state number object. ForSome (F.told folder.new).files (KeepsState self.new (doomed number state (Some object)))))) }
+        ensures dooms { OnOk result (ForSome (F.told folder.old).files (λ from. ForEachOpen self.old node entry from (λ state number object. ForSome (F.told folder.new).files (HoldsState self.new (doomed number state (Some object)))))) }
         ensures stops { ForSome (F.told folder.old).files (λ from. ForEachOpen self.old node entry from (λ state number object. Passes (F.told folder.old) (F.told folder.new) (FindsEither state (doomed number state (Some object))))) }
         ensures is_open { ForSome (F.told folder.new).files (IsOpen self.new.files) }
         ensures notes { self.new.notes ≡ self.old.notes }

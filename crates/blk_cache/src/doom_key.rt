@@ -15,7 +15,7 @@ ghost use Rattle.blk_disk.specs.Tables.{is_node_among, stands_among};
 ghost use Rattle.law_state.specs.Commands.{Does, MayStopAtEach};
 ghost use Rattle.blk_object.specs.FailedChecks.{IsFailedCheck};
 ghost use Rattle.blk_object.specs.RemovingObjects.{FindsEither};
-ghost use Rattle.blk_cache.specs.CacheKeeping.{KeepsState};
+ghost use Rattle.blk_cache.specs.CacheKeeping.{HoldsState};
 ghost use Rattle.blk_cache.specs.CommandClauses.{IsRefused, KeepsAny};
 ghost use Rattle.blk_cache.specs.Dooming.{ForEachKept};
 
@@ -36,8 +36,8 @@ impl Cache {
         key: &[u8],
     ) -> Result<Answer, Fault>
         requires is_open { ForSome (F.told folder.old).files (IsOpen self.old.files) }
-        ensures does { (moment : ℕ) → IfOk result (λ answer. Does (KeepsState self.old) (KeepsState self.new) (F.told folder.old) (F.told folder.new) moment (to_doom_key key.now) answer) }
-        ensures stops { (moment : ℕ) → MayStopAtEach (KeepsState self.old) (F.told folder.old) (F.told folder.new) moment (to_doom_key key.now) }
+        ensures does { (moment : ℕ) → IfOk result (λ answer. Does (HoldsState self.old) (HoldsState self.new) (F.told folder.old) (F.told folder.new) moment (to_doom_key key.now) answer) }
+        ensures stops { (moment : ℕ) → MayStopAtEach (HoldsState self.old) (F.told folder.old) (F.told folder.new) moment (to_doom_key key.now) }
 
         // A key that is none is refused on every folder, and a refusal does nothing.
         ensures refuses { IsTrue (no_key key.now) → result ≡ Ok (answer.Refused refusal.BadKey) }
@@ -80,7 +80,7 @@ impl Cache {
         requires kind_before { IfSome target.now.found.before (λ before. kind_of before ≡ blocks_256) }
         requires stands_before { IfSome target.now.found.before (λ before. IsTrue (stands_among self.old.files before)) }
         requires is_open { ForSome (F.told folder.old).files (IsOpen self.old.files) }
-        ensures dooms { OnOk result (ForSome (F.told folder.old).files (λ from. ForEachKept self.old key.now target.now from (λ state number object. ForSome (F.told folder.new).files (KeepsState self.new (doomed number state (Some object)))))) }
+        ensures dooms { OnOk result (ForSome (F.told folder.old).files (λ from. ForEachKept self.old key.now target.now from (λ state number object. ForSome (F.told folder.new).files (HoldsState self.new (doomed number state (Some object)))))) }
         ensures stops { ForSome (F.told folder.old).files (λ from. ForEachKept self.old key.now target.now from (λ state number object. Passes (F.told folder.old) (F.told folder.new) (FindsEither state (doomed number state (Some object))))) }
         ensures is_open { ForSome (F.told folder.new).files (IsOpen self.new.files) }
         ensures notes { self.new.notes ≡ self.old.notes }

@@ -3,7 +3,7 @@ ghost use Rattle.std.specs.Prelude.{◌≡◌, ◌≤◌, OnErr, OnOk};
 ghost use Rattle.std.specs.Option.{ForSome};
 ghost use Rattle.spec_image.specs.Image.{Image, Index as index};
 ghost use Rattle.spec_image.specs.Steps.{word_step};
-ghost use Rattle.spec_image.specs.Told.{Applies, AppliesPrefix, Passes, Rises};
+ghost use Rattle.spec_image.specs.Told.{Applies, AppliesPrefix, PassesAny, Rises};
 ghost use Rattle.blk_model.specs.Room.{items as items_of, total};
 ghost use Rattle.blk_model.specs.State.{State};
 ghost use Rattle.spec_folder.specs.Found.{HoldsStill};
@@ -40,7 +40,7 @@ impl Cache {
         ensures prefix { AppliesPrefix (F.told f.old) (F.told f.new) (word_step index crash_place 0) }
 
         // Before and after the step the same is found.
-        ensures stops { ForSome (F.told f.old).files (λ from. (state : State) → KeepsState self state from → Passes (F.told f.old) (F.told f.new) (HoldsStill from)) }
+        ensures stops { ForSome (F.told f.old).files (λ from. (state : State) → KeepsState self state from → PassesAny (F.told f.old) (F.told f.new) (HoldsStill from)) }
 
         ensures later { F.faults f.old ≤ F.faults f.new }
         ensures failed { OnErr result (Rises (F.faults f.old) (F.faults f.new)) }

@@ -10,7 +10,7 @@ ghost use Rattle.blk_disk.specs.Open.{IsOpen};
 ghost use Rattle.blk_disk.specs.Tables.{is_node_among, is_record_among};
 ghost use Rattle.blk_object.specs.FailedChecks.{IsFailedCheck};
 ghost use Rattle.blk_object.specs.RemovingObjects.{FindsEither};
-ghost use Rattle.blk_cache.specs.CacheKeeping.{KeepsState};
+ghost use Rattle.blk_cache.specs.CacheKeeping.{HoldsState};
 ghost use Rattle.blk_cache.specs.Covering.{ForCovered, KeepsCovered};
 ghost use Rattle.blk_cache.specs.Evicting.{ForEachThatMayGo, IsEvicting, KeepsInPlaces, KeepsThatMayGo, OnlyItemsChange, count_of_groups, is_met};
 ghost use Rattle.blk_evict.specs.RoomPrinting.{FailsWhereItRose, PrintsUnlessFailed};
@@ -38,7 +38,7 @@ impl Cache {
         requires is_open { ForSome (F.told folder.old).files (IsOpen self.old.files) }
 
         // Each state that was kept is kept without the groups that are evicted, and these are counted and printed.
-        ensures evicted { OnOk result (ForCovered self.old parts.now (F.told folder.old) (λ state covered. ForSome (F.told folder.new).files (KeepsState self.new (without (evicted_until (is_met goal.now) state covered) state)))) }
+        ensures evicted { OnOk result (ForCovered self.old parts.now (F.told folder.old) (λ state covered. ForSome (F.told folder.new).files (HoldsState self.new (without (evicted_until (is_met goal.now) state covered) state)))) }
         ensures counts { IfOk result (λ count. ForCovered self.old parts.now (F.told folder.old) (λ state covered. count ≡ count_of_groups (evicted_until (is_met goal.now) state covered))) }
         ensures prints { OnOk result (ForCovered self.old parts.now (F.told folder.old) (λ state covered. PrintsUnlessFailed failed.old failed.new (K.written out.old) (K.written out.new) (evicted_text (evicted_until (is_met goal.now) state covered)))) }
 
@@ -75,7 +75,7 @@ impl Cache {
         parts: &Covered,
     ) -> Result<(), Fault>
         requires is_open { ForSome (F.told folder.old).files (IsOpen self.old.files) }
-        ensures evicted { OnOk result (ForCovered self.old parts.now (F.told folder.old) (λ state covered. ForSome (F.told folder.new).files (KeepsState self.new (without (evicted_until (is_met goal.now) state covered) state)))) }
+        ensures evicted { OnOk result (ForCovered self.old parts.now (F.told folder.old) (λ state covered. ForSome (F.told folder.new).files (HoldsState self.new (without (evicted_until (is_met goal.now) state covered) state)))) }
         ensures counts { OnOk result (ForCovered self.old parts.now (F.told folder.old) (λ state covered. self.old.items ≡ self.new.items + count_of_groups (evicted_until (is_met goal.now) state covered))) }
         ensures prints { OnOk result (ForCovered self.old parts.now (F.told folder.old) (λ state covered. PrintsUnlessFailed failed.old failed.new (K.written out.old) (K.written out.new) (evicted_text (evicted_until (is_met goal.now) state covered)))) }
         ensures stops { ForCovered self.old parts.now (F.told folder.old) (λ state covered. Passes (F.told folder.old) (F.told folder.new) (IsEvicting (evicted_until (is_met goal.now) state covered) state)) }

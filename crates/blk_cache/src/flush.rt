@@ -8,7 +8,7 @@ ghost use Rattle.blk_model.specs.declared.Answer.TheVariants as answer;
 ghost use Rattle.blk_disk.specs.Open.{IsOpen};
 ghost use Rattle.law_state.specs.Commands.{Does, ForKept, MayStopAtEach};
 ghost use Rattle.blk_object.specs.FailedChecks.{IsFailedCheck};
-ghost use Rattle.blk_cache.specs.CacheKeeping.{KeepsState};
+ghost use Rattle.blk_cache.specs.CacheKeeping.{HoldsState};
 ghost use Rattle.blk_cache.specs.CommandClauses.{FlushesClean, IsRefused, KeepsAny};
 ghost use Rattle.blk_cache.specs.Dooming.{doom_refusal};
 
@@ -25,8 +25,8 @@ impl Cache {
     /// that it can be dropped.
     pub(crate) fn flush<F: Folder>(&mut self, folder: &mut F, handle: u16) -> Result<Answer, Fault>
         requires is_open { ForSome (F.told folder.old).files (IsOpen self.old.files) }
-        ensures does { (moment : ℕ) → IfOk result (λ answer. Does (KeepsState self.old) (KeepsState self.new) (F.told folder.old) (F.told folder.new) moment (to_flush handle) answer) }
-        ensures stops { (moment : ℕ) → MayStopAtEach (KeepsState self.old) (F.told folder.old) (F.told folder.new) moment (to_flush handle) }
+        ensures does { (moment : ℕ) → IfOk result (λ answer. Does (HoldsState self.old) (HoldsState self.new) (F.told folder.old) (F.told folder.new) moment (to_flush handle) answer) }
+        ensures stops { (moment : ℕ) → MayStopAtEach (HoldsState self.old) (F.told folder.old) (F.told folder.new) moment (to_flush handle) }
 
         // A refusal that the handles alone decide is given on every folder, and a refusal does nothing.
         ensures refuses { IfSome (doom_refusal self.old.handles handle) (λ why. result ≡ Ok (answer.Refused why)) }
@@ -34,7 +34,7 @@ impl Cache {
         ensures unchanged { IfOk result (λ answer. IsRefused answer → self.new ≡ self.old) }
 
         // A Flush of a clean object does nothing either.
-        ensures idle { ForKept (KeepsState self.old) (F.told folder.old) (λ state. FlushesClean state (to_flush handle) → Stays (F.told folder.old) (F.told folder.new)) }
+        ensures idle { ForKept (HoldsState self.old) (F.told folder.old) (λ state. FlushesClean state (to_flush handle) → Stays (F.told folder.old) (F.told folder.new)) }
 
         ensures is_open { ForSome (F.told folder.new).files (IsOpen self.new.files) }
         ensures notes { self.new.notes ≡ self.old.notes }

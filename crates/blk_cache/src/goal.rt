@@ -2,7 +2,7 @@
 ghost use Rattle.std.specs.Prelude.{◌≡◌};
 ghost use Rattle.spec_image.specs.Image.{Image};
 ghost use Rattle.blk_model.specs.State.{State};
-ghost use Rattle.blk_cache.specs.CacheKeeping.{KeepsState};
+ghost use Rattle.blk_cache.specs.CacheKeeping.{HoldsState};
 ghost use Rattle.blk_cache.specs.Evicting.{is_met};
 
 use crate::cache::Cache;
@@ -19,7 +19,7 @@ pub(crate) enum Goal {
 impl Cache {
     /// Whether enough is evicted.
     pub(crate) fn is_met(&self, goal: &Goal) -> bool
-        ensures met { (state : State) (image : Image) → KeepsState self.now state image → result ≡ is_met goal.now state }
+        ensures met { (state : State) (image : Image) → HoldsState self.now state image → result ≡ is_met goal.now state }
     {
         match *goal {
             Goal::Room { bytes, items } => self.is_enough(bytes, items),

@@ -11,7 +11,7 @@ ghost use Rattle.blk_model.specs.Request.{to_list};
 ghost use Rattle.blk_script.specs.Reply.{row_line};
 ghost use Rattle.law_state.specs.Commands.{Does, ForKept};
 ghost use Rattle.blk_object.specs.FailedChecks.{IsFailedCheck};
-ghost use Rattle.blk_cache.specs.CacheKeeping.{KeepsState};
+ghost use Rattle.blk_cache.specs.CacheKeeping.{HoldsState};
 ghost use Rattle.blk_cache.specs.CommandClauses.{IsRefused, KeepsAny};
 ghost use Rattle.blk_cache.specs.Listing.{OnlyRoomChanges};
 ghost use Rattle.blk_evict.specs.RoomPrinting.{FailsWhereItRose, PrintsUnlessFailed, PrintsInPart};
@@ -26,7 +26,7 @@ use blk_record::IndexHead;
 impl Cache {
     /// How many items the LRU list has, by one folder call. Nothing is written, and nothing is refused.
     pub(crate) fn list<F: Folder>(&self, folder: &mut F) -> Result<Answer, Fault>
-        ensures does { (moment : ℕ) → IfOk result (λ answer. Does (KeepsState self.now) (KeepsState self.now) (F.told folder.old) (F.told folder.new) moment to_list answer) }
+        ensures does { (moment : ℕ) → IfOk result (λ answer. Does (HoldsState self.now) (HoldsState self.now) (F.told folder.old) (F.told folder.new) moment to_list answer) }
         ensures reads { ReadsOnly F.told F.faults folder.old folder.new (IfDevice result) }
         ensures passes { IfOk result (λ given. IsRefused given → ⊥) }
 
@@ -50,8 +50,8 @@ impl Cache {
         out: &mut K,
         failed: &mut bool,
     ) -> Result<(), Fault>
-        ensures printed { OnOk result (ForKept (KeepsState self.old) (F.told folder.old) (λ state. PrintsUnlessFailed failed.old failed.new (K.written out.old) (K.written out.new) (flat_map row_line (rows state)))) }
-        ensures part { ForKept (KeepsState self.old) (F.told folder.old) (λ state. PrintsInPart failed.old (K.written out.old) (K.written out.new) (flat_map row_line (rows state))) }
+        ensures printed { OnOk result (ForKept (HoldsState self.old) (F.told folder.old) (λ state. PrintsUnlessFailed failed.old failed.new (K.written out.old) (K.written out.new) (flat_map row_line (rows state)))) }
+        ensures part { ForKept (HoldsState self.old) (F.told folder.old) (λ state. PrintsInPart failed.old (K.written out.old) (K.written out.new) (flat_map row_line (rows state))) }
         ensures failed { FailsWhereItRose failed.old failed.new (K.faults out.old) (K.faults out.new) }
         ensures others { OnlyRoomChanges self.old self.new }
         ensures reads { ReadsOnly F.told F.faults folder.old folder.new (IfDevice result) }

@@ -12,7 +12,7 @@ ghost use Rattle.blk_script.specs.Reply.{evicted_text};
 ghost use Rattle.blk_disk.specs.Open.{IsOpen};
 ghost use Rattle.law_state.specs.Commands.{ForKept};
 ghost use Rattle.blk_object.specs.FailedChecks.{IsFailedCheck};
-ghost use Rattle.blk_cache.specs.CacheKeeping.{KeepsState};
+ghost use Rattle.blk_cache.specs.CacheKeeping.{HoldsState};
 ghost use Rattle.blk_cache.specs.CommandClauses.{KeepsAny};
 ghost use Rattle.blk_cache.specs.Covering.{ForCovered, KeepsCovered};
 ghost use Rattle.blk_cache.specs.Evicting.{IsEvicting, OnlyItemsChange};
@@ -49,18 +49,18 @@ impl Cache {
         requires is_open { ForSome (F.told folder.old).files (IsOpen self.old.files) }
 
         // There is no space exactly where the map has none; then nothing is done.
-        ensures full { IfOk result (λ answer. ForKept (KeepsState self.old) (F.told folder.old) (λ state. says_full answer ≡ is_full_room (room state [] bytes items))) }
+        ensures full { IfOk result (λ answer. ForKept (HoldsState self.old) (F.told folder.old) (λ state. says_full answer ≡ is_full_room (room state [] bytes items))) }
         ensures stays { IfOk result (λ answer. says_full answer ≡ true → Stays (F.told folder.old) (F.told folder.new)) }
         ensures unchanged { IfOk result (λ answer. says_full answer ≡ true → self.new ≡ self.old) }
         ensures unprinted { IfOk result (λ answer. says_full answer ≡ true → K.written out.new ≡ K.written out.old) }
 
         // Each state that was kept is kept without what is evicted for it, and that is printed.
-        ensures made { OnOk result (ForKept (KeepsState self.old) (F.told folder.old) (λ state. ForSome (F.told folder.new).files (KeepsState self.new (without (evicted_for (room state [] bytes items)) state)))) }
-        ensures prints { OnOk result (ForKept (KeepsState self.old) (F.told folder.old) (λ state. PrintsUnlessFailed failed.old failed.new (K.written out.old) (K.written out.new) (evicted_text (evicted_for (room state [] bytes items))))) }
+        ensures made { OnOk result (ForKept (HoldsState self.old) (F.told folder.old) (λ state. ForSome (F.told folder.new).files (HoldsState self.new (without (evicted_for (room state [] bytes items)) state)))) }
+        ensures prints { OnOk result (ForKept (HoldsState self.old) (F.told folder.old) (λ state. PrintsUnlessFailed failed.old failed.new (K.written out.old) (K.written out.new) (evicted_text (evicted_for (room state [] bytes items))))) }
 
         // At each word a prefix of what is evicted is out; on any answer a prefix of its text was printed.
-        ensures stops { ForKept (KeepsState self.old) (F.told folder.old) (λ state. Passes (F.told folder.old) (F.told folder.new) (IsEvicting (evicted_for (room state [] bytes items)) state)) }
-        ensures front { ForKept (KeepsState self.old) (F.told folder.old) (λ state. Appends (K.written out.old) (K.written out.new) (evicted_text (evicted_for (room state [] bytes items)))) }
+        ensures stops { ForKept (HoldsState self.old) (F.told folder.old) (λ state. Passes (F.told folder.old) (F.told folder.new) (IsEvicting (evicted_for (room state [] bytes items)) state)) }
+        ensures front { ForKept (HoldsState self.old) (F.told folder.old) (λ state. Appends (K.written out.old) (K.written out.new) (evicted_text (evicted_for (room state [] bytes items)))) }
 
         // Where the sink failed before nothing is printed.
         ensures quiet { failed.old ≡ true → (failed.new ≡ true) × (K.written out.new ≡ K.written out.old) }
@@ -104,7 +104,7 @@ impl Cache {
         ensures unprinted { IfOk result (λ answer. says_full answer ≡ true → K.written out.new ≡ K.written out.old) }
 
         // Each state that was kept is kept without what is evicted for it, and that is printed.
-        ensures made { OnOk result (ForCovered self.old parts.now (F.told folder.old) (λ state covered. ForSome (F.told folder.new).files (KeepsState self.new (without (evicted_for (room state covered bytes items)) state)))) }
+        ensures made { OnOk result (ForCovered self.old parts.now (F.told folder.old) (λ state covered. ForSome (F.told folder.new).files (HoldsState self.new (without (evicted_for (room state covered bytes items)) state)))) }
         ensures prints { OnOk result (ForCovered self.old parts.now (F.told folder.old) (λ state covered. PrintsUnlessFailed failed.old failed.new (K.written out.old) (K.written out.new) (evicted_text (evicted_for (room state covered bytes items))))) }
 
         // At each word a prefix of what is evicted is out; on any answer a prefix of its text was printed.
@@ -151,7 +151,7 @@ impl Cache {
         requires is_open { ForSome (F.told folder.old).files (IsOpen self.old.files) }
 
         // Each state that was kept, and has space, is kept without what is evicted for it, and that is printed.
-        ensures evicted { OnOk result (ForRoom self.old parts.now (F.told folder.old) bytes items (λ state groups. ForSome (F.told folder.new).files (KeepsState self.new (without groups state)))) }
+        ensures evicted { OnOk result (ForRoom self.old parts.now (F.told folder.old) bytes items (λ state groups. ForSome (F.told folder.new).files (HoldsState self.new (without groups state)))) }
         ensures prints { OnOk result (ForRoom self.old parts.now (F.told folder.old) bytes items (λ state groups. PrintsUnlessFailed failed.old failed.new (K.written out.old) (K.written out.new) (evicted_text groups))) }
 
         // At each word a prefix of what is evicted is out; on any answer a prefix of its text was printed.
@@ -181,7 +181,7 @@ impl Cache {
 
     // Whether nothing is evicted for so many more bytes and items: nothing is asked for, or they fit.
     fn wants_none(&self, bytes: u64, items: u64) -> bool
-        ensures none { (state : State) (image : Image) → KeepsState self.now state image → result ≡ ((bytes == 0 && items == 0) || fits state.limits.max_bytes bytes items state) }
+        ensures none { (state : State) (image : Image) → HoldsState self.now state image → result ≡ ((bytes == 0 && items == 0) || fits state.limits.max_bytes bytes items state) }
     {
         if asks_nothing(bytes, items) {
             return true;

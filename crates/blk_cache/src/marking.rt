@@ -8,7 +8,7 @@ ghost use Rattle.blk_disk.specs.Open.{IsOpen};
 ghost use Rattle.blk_handles.specs.Bindings.{binding_of};
 ghost use Rattle.blk_object.specs.FailedChecks.{IsFailedCheck};
 ghost use Rattle.blk_object.specs.RemovingObjects.{FindsEither};
-ghost use Rattle.blk_cache.specs.CacheKeeping.{KeepsState};
+ghost use Rattle.blk_cache.specs.CacheKeeping.{HoldsState};
 ghost use Rattle.blk_cache.specs.CommandClauses.{KeepsAny, OnlyNamesChange};
 ghost use Rattle.blk_cache.specs.Marking.{ForEachNamed, dirty_word};
 
@@ -31,7 +31,7 @@ impl Cache {
         requires is_open { ForSome (F.told folder.old).files (IsOpen self.old.files) }
 
         // In the end each state that was kept is kept with its object dirty, or clean.
-        ensures marked { OnOk result (ForSome (F.told folder.old).files (λ from. ForEachNamed self.old handle from (λ state number object. ForSome (F.told folder.new).files (KeepsState self.new (marked state number object (not dirty)))))) }
+        ensures marked { OnOk result (ForSome (F.told folder.old).files (λ from. ForEachNamed self.old handle from (λ state number object. ForSome (F.told folder.new).files (HoldsState self.new (marked state number object (not dirty)))))) }
 
         // At each word the old durable contents are recovered, or the new ones.
         ensures stops { ForSome (F.told folder.old).files (λ from. ForEachNamed self.old handle from (λ state number object. Passes (F.told folder.old) (F.told folder.new) (FindsEither state (marked state number object (not dirty))))) }

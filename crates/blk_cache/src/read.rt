@@ -12,7 +12,7 @@ ghost use Rattle.blk_lru.specs.Damages.{IsTouchDamage};
 ghost use Rattle.blk_lru.specs.Lists.{IsListed};
 ghost use Rattle.blk_object.specs.FailedChecks.{IsFailedCheck};
 ghost use Rattle.blk_cache.specs.Asking.{early_stream_refusal};
-ghost use Rattle.blk_cache.specs.CacheKeeping.{KeepsState};
+ghost use Rattle.blk_cache.specs.CacheKeeping.{HoldsState};
 ghost use Rattle.blk_cache.specs.CommandClauses.{IsRefused, KeepsAny};
 ghost use Rattle.blk_cache.specs.Reading.{IsCommandReadDamage, UsesItem, bytes_there};
 
@@ -40,8 +40,8 @@ impl Cache {
         moment: u64,
     ) -> Result<Answer, Fault>
         requires is_open { ForSome (F.told folder.old).files (IsOpen self.now.files) }
-        ensures does { IfOk result (λ answer. Does (KeepsState self.now) (KeepsState self.now) (F.told folder.old) (F.told folder.new) moment (to_read handle stream offset count) answer) }
-        ensures stops { MayStopAtEach (KeepsState self.now) (F.told folder.old) (F.told folder.new) moment (to_read handle stream offset count) }
+        ensures does { IfOk result (λ answer. Does (HoldsState self.now) (HoldsState self.now) (F.told folder.old) (F.told folder.new) moment (to_read handle stream offset count) answer) }
+        ensures stops { MayStopAtEach (HoldsState self.now) (F.told folder.old) (F.told folder.new) moment (to_read handle stream offset count) }
 
         // A refusal that the handles and the stream alone decide is given on every folder, and a refusal does nothing.
         ensures refuses { IfSome (early_stream_refusal self.now.handles handle stream) (λ why. result ≡ Ok (answer.Refused why)) }

@@ -7,7 +7,7 @@ ghost use Rattle.blk_model.specs.Room.{fits, low, room};
 ghost use Rattle.blk_model.specs.State.{State};
 ghost use Rattle.blk_model.specs.Bounds.{bounds_of};
 ghost use Rattle.blk_handles.specs.Bindings.{open_count};
-ghost use Rattle.blk_cache.specs.CacheKeeping.{KeepsState};
+ghost use Rattle.blk_cache.specs.CacheKeeping.{HoldsState};
 ghost use Rattle.blk_cache.specs.Covering.{AreCovered, part_count};
 ghost use Rattle.blk_cache.specs.RoomTold.{is_over};
 
@@ -21,7 +21,7 @@ impl Cache {
     /// Whether there is no space for so many more bytes and items: the open objects, the covered parts and what is
     /// added exceed a limit.
     pub(crate) fn is_full(&self, bytes: u64, items: u64, parts: &Covered) -> bool
-        ensures full { (state : State) (image : Image) (kept : KeepsState self.now state image) (covered : List Item) → AreCovered state kept.layout covered parts.now → result ≡ is_full (room state covered bytes items) }
+        ensures full { (state : State) (image : Image) (kept : HoldsState self.now state image) (covered : List Item) → AreCovered state kept.layout covered parts.now → result ≡ is_full (room state covered bytes items) }
     {
         self.asks_too_much(bytes, items, parts)
     }
@@ -41,7 +41,7 @@ impl Cache {
 
     /// Whether so many more bytes and items fit below the limits.
     pub(crate) fn fits(&self, bytes: u64, items: u64) -> bool
-        ensures fits { (state : State) (image : Image) → KeepsState self.now state image → result ≡ fits state.limits.max_bytes bytes items state }
+        ensures fits { (state : State) (image : Image) → HoldsState self.now state image → result ≡ fits state.limits.max_bytes bytes items state }
     {
         let most = self.limits.max_bytes;
         self.fits_below(most, bytes, items)
@@ -49,7 +49,7 @@ impl Cache {
 
     /// Whether enough items are evicted for so many more bytes and items: they fit below the low watermark.
     pub(crate) fn is_enough(&self, bytes: u64, items: u64) -> bool
-        ensures enough { (state : State) (image : Image) → KeepsState self.now state image → result ≡ fits (low state) bytes items state }
+        ensures enough { (state : State) (image : Image) → HoldsState self.now state image → result ≡ fits (low state) bytes items state }
     {
         let most = self.limits.max_bytes;
         self.fits_below(most - most / FREE_SHARE, bytes, items)
@@ -58,7 +58,7 @@ impl Cache {
     // Whether with what is added there are no more bytes than `most`, and no more items than the limit.
     fn fits_below(&self, most: u64, bytes: u64, items: u64) -> bool
         requires small { most < 2 ^ 63 }
-        ensures { (state : State) (image : Image) → KeepsState self.now state image → result ≡ fits most bytes items state }
+        ensures { (state : State) (image : Image) → HoldsState self.now state image → result ≡ fits most bytes items state }
     {
         let most_items = u64::from(self.limits.max_items);
         is_within(self.bytes, bytes, most) && is_within(self.items, items, most_items)

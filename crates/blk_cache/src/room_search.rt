@@ -9,7 +9,7 @@ ghost use Rattle.blk_disk.specs.Tables.{is_node_among, is_record_among};
 ghost use Rattle.blk_handles.specs.Bindings.{is_open};
 ghost use Rattle.blk_object.specs.FailedChecks.{IsFailedCheck};
 ghost use Rattle.blk_object.specs.ListWalks.{WalkEnds};
-ghost use Rattle.blk_cache.specs.CacheKeeping.{KeepsState};
+ghost use Rattle.blk_cache.specs.CacheKeeping.{HoldsState};
 ghost use Rattle.blk_cache.specs.Covering.{LieCovered, covers};
 ghost use Rattle.blk_evict.specs.ListPlaces.{IsLast, IsPinnedFrom};
 ghost use Rattle.blk_cache.specs.RoomSearch.{KeepsPinnedFrom};
@@ -34,7 +34,7 @@ impl Cache {
         parts: &Covered,
     ) -> Result<Option<Unpinned>, Fault>
         requires stands { IfSome behind (λ node. IsTrue (is_node_among self.now.files node)) }
-        ensures last { IfOk result (λ found. ForSome (F.told folder.old).files (λ image. (state : State) (kept : KeepsState self.now state image) (covered : List Item) → LieCovered state kept.layout covered parts.now → IsPinnedFrom state kept.layout covered behind → IsLast state kept.layout covered found)) }
+        ensures last { IfOk result (λ found. ForSome (F.told folder.old).files (λ image. (state : State) (kept : HoldsState self.now state image) (covered : List Item) → LieCovered state kept.layout covered parts.now → IsPinnedFrom state kept.layout covered behind → IsLast state kept.layout covered found)) }
 
         // On every folder none is found only where the list ends.
         ensures ends { IfOk result (λ found. found ≡ None → ForSome (F.told folder.old).files (WalkEnds self.now.files NodeView.PREV behind)) }

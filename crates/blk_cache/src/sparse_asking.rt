@@ -7,7 +7,7 @@ ghost use Rattle.blk_model.specs.State.{State};
 ghost use Rattle.blk_object.specs.FailedChecks.{IsFailedCheck};
 ghost use Rattle.blk_cache.specs.SparseAsking.{FindsInside, IsAmongFiles, IsAskedSparse, early_sparse_refusal};
 ghost use Rattle.blk_cache.specs.declared.sparse_asking.AskedSparse.TheVariants as asked;
-ghost use Rattle.blk_cache.specs.CacheKeeping.{KeepsState};
+ghost use Rattle.blk_cache.specs.CacheKeeping.{HoldsState};
 ghost use Rattle.blk_cache.specs.CommandClauses.{KeepsAny};
 
 use crate::cache::Cache;
@@ -53,7 +53,7 @@ impl Cache {
         offset: u64,
         count: u64,
     ) -> Result<AskedSparse, Fault>
-        ensures asked { IfOk result (λ answer. ForSome (F.told folder.old).files (λ image. (state : State) → (k : KeepsState self.now state image) → IsAskedSparse state k.layout handle offset count answer)) }
+        ensures asked { IfOk result (λ answer. ForSome (F.told folder.old).files (λ image. (state : State) → (k : HoldsState self.now state image) → IsAskedSparse state k.layout handle offset count answer)) }
         ensures early { IfSome (early_sparse_refusal self.now.handles handle offset count) (λ why. result ≡ Ok (asked.Refused why)) }
 
         // On every folder.

@@ -13,7 +13,7 @@ ghost use Rattle.law_state.specs.Changes.{Finds};
 ghost use Rattle.law_state.specs.Commands.{IsDone, MayStop};
 ghost use Rattle.blk_object.specs.FailedChecks.{IsFailedCheck};
 ghost use Rattle.blk_sparse.specs.SparseWrites.{signature_to, sparse_state};
-ghost use Rattle.blk_cache.specs.CacheKeeping.{KeepsState};
+ghost use Rattle.blk_cache.specs.CacheKeeping.{HoldsState};
 ghost use Rattle.blk_cache.specs.SparseWriting.{CanStore, CountsParts, IsReadyToStoreFor, IsReadyToStoreForSome, KeepsToStoreFor, own_target, sparse_write_of};
 
 use crate::cache::Cache;
@@ -45,7 +45,7 @@ impl Cache {
         requires is_open { ForSome (F.told folder.old).files (IsOpen self.old.files) }
 
         // The SparseWrite is done, whatever state it began with, and after each single write the folder is as a crash in it may leave it.
-        ensures does { IfOk result (λ answer. ForSome (F.told folder.old).files (λ from. (state : State) → IsReadyToStoreFor self.old state request.now target.now more_bytes more_items from → IsDone (KeepsState self.new) (F.told folder.new) request.now.moment (sparse_write_of request.now) answer state)) }
+        ensures does { IfOk result (λ answer. ForSome (F.told folder.old).files (λ from. (state : State) → IsReadyToStoreFor self.old state request.now target.now more_bytes more_items from → IsDone (HoldsState self.new) (F.told folder.new) request.now.moment (sparse_write_of request.now) answer state)) }
         ensures stops { ForSome (F.told folder.old).files (λ from. (state : State) → IsReadyToStoreFor self.old state request.now target.now more_bytes more_items from → Passes (F.told folder.old) (F.told folder.new) (MayStop state request.now.moment (sparse_write_of request.now))) }
 
         ensures wrote { IfOk result (λ given. given ≡ answer.Wrote (length request.now.bytes.now)) }
@@ -78,10 +78,10 @@ impl Cache {
         requires is_open { ForSome (F.told folder.old).files (IsOpen self.old.files) }
 
         // In the end each state that was kept, whose object can get them, is kept with them, and with its items in front.
-        ensures stored { OnOk result (ForSome (F.told folder.old).files (λ from. (state : State) → KeepsState self.old state from → (can : CanStore state request.now.handle request.now.offset request.now.bytes.now target.now more_bytes more_items) → ForSome (F.told folder.new).files (KeepsState self.new (sparse_state state can.number can.object (signature_to target.now) request.now.offset request.now.bytes.now)))) }
+        ensures stored { OnOk result (ForSome (F.told folder.old).files (λ from. (state : State) → HoldsState self.old state from → (can : CanStore state request.now.handle request.now.offset request.now.bytes.now target.now more_bytes more_items) → ForSome (F.told folder.new).files (HoldsState self.new (sparse_state state can.number can.object (signature_to target.now) request.now.offset request.now.bytes.now)))) }
 
         // At each word the old durable contents are recovered.
-        ensures stops { ForSome (F.told folder.old).files (λ from. (state : State) → KeepsState self.old state from → CanStore state request.now.handle request.now.offset request.now.bytes.now target.now more_bytes more_items → Passes (F.told folder.old) (F.told folder.new) (Finds (rest state))) }
+        ensures stops { ForSome (F.told folder.old).files (λ from. (state : State) → HoldsState self.old state from → CanStore state request.now.handle request.now.offset request.now.bytes.now target.now more_bytes more_items → Passes (F.told folder.old) (F.told folder.new) (Finds (rest state))) }
 
         ensures notes { self.new.notes ≡ self.old.notes }
         ensures mark { self.new.mark ≡ self.old.mark }

@@ -13,7 +13,7 @@ ghost use Rattle.blk_handles.specs.Bindings.{binding_of};
 ghost use Rattle.law_state.specs.Commands.{Does, MayStopAtEach};
 ghost use Rattle.blk_object.specs.FailedChecks.{IsFailedCheck};
 ghost use Rattle.blk_sparse.specs.SparseWrites.{signature_to};
-ghost use Rattle.blk_cache.specs.CacheKeeping.{KeepsState};
+ghost use Rattle.blk_cache.specs.CacheKeeping.{HoldsState};
 ghost use Rattle.blk_cache.specs.CommandClauses.{IsRefused, KeepsAny};
 ghost use Rattle.blk_cache.specs.Listing.{OnlyRoomChanges};
 ghost use Rattle.blk_cache.specs.SparseTargets.{AsksToStoreFor, HasRoomToStoreFor, NamesTargetFor, NamesTarget, early_store_refusal};
@@ -58,8 +58,8 @@ impl Cache {
         request: &SparseRequest,
     ) -> Result<Answer, Fault>
         requires is_open { ForSome (F.told folder.old).files (IsOpen self.old.files) }
-        ensures does { IfOk result (λ answer. Does (KeepsState self.old) (KeepsState self.new) (F.told folder.old) (F.told folder.new) request.now.moment (sparse_write_of request.now) answer) }
-        ensures stops { MayStopAtEach (KeepsState self.old) (F.told folder.old) (F.told folder.new) request.now.moment (sparse_write_of request.now) }
+        ensures does { IfOk result (λ answer. Does (HoldsState self.old) (HoldsState self.new) (F.told folder.old) (F.told folder.new) request.now.moment (sparse_write_of request.now) answer) }
+        ensures stops { MayStopAtEach (HoldsState self.old) (F.told folder.old) (F.told folder.new) request.now.moment (sparse_write_of request.now) }
 
         // What it evicts is printed, and on any answer a prefix of that.
         ensures says { OnOk result (SaysEvicted self.old (F.told folder.old) request.now.moment (sparse_write_of request.now) failed.old failed.new (K.written out.old) (K.written out.new)) }
@@ -115,8 +115,8 @@ impl Cache {
         requires is_open { ForSome (F.told folder.old).files (IsOpen self.old.files) }
 
         // The SparseWrite is done as in the model, and after each single write the folder is as a crash in it may leave it.
-        ensures does { NamesTargetFor self.old (F.told folder.old) request.now target.now → IfOk result (λ answer. Does (KeepsState self.old) (KeepsState self.new) (F.told folder.old) (F.told folder.new) request.now.moment (sparse_write_of request.now) answer) }
-        ensures stops { NamesTargetFor self.old (F.told folder.old) request.now target.now → MayStopAtEach (KeepsState self.old) (F.told folder.old) (F.told folder.new) request.now.moment (sparse_write_of request.now) }
+        ensures does { NamesTargetFor self.old (F.told folder.old) request.now target.now → IfOk result (λ answer. Does (HoldsState self.old) (HoldsState self.new) (F.told folder.old) (F.told folder.new) request.now.moment (sparse_write_of request.now) answer) }
+        ensures stops { NamesTargetFor self.old (F.told folder.old) request.now target.now → MayStopAtEach (HoldsState self.old) (F.told folder.old) (F.told folder.new) request.now.moment (sparse_write_of request.now) }
 
         // What it evicts is printed, and on any answer a prefix of that.
         ensures says { NamesTargetFor self.old (F.told folder.old) request.now target.now → OnOk result (SaysEvicted self.old (F.told folder.old) request.now.moment (sparse_write_of request.now) failed.old failed.new (K.written out.old) (K.written out.new)) }
@@ -160,8 +160,8 @@ impl Cache {
         requires is_open { ForSome (F.told folder.old).files (IsOpen self.old.files) }
 
         // The SparseWrite is done as in the model, and after each single write the folder is as a crash in it may leave it.
-        ensures does { NamesTargetFor self.old (F.told folder.old) request.now target.now → IfOk result (λ answer. Does (KeepsState self.old) (KeepsState self.new) (F.told folder.old) (F.told folder.new) request.now.moment (sparse_write_of request.now) answer) }
-        ensures stops { NamesTargetFor self.old (F.told folder.old) request.now target.now → MayStopAtEach (KeepsState self.old) (F.told folder.old) (F.told folder.new) request.now.moment (sparse_write_of request.now) }
+        ensures does { NamesTargetFor self.old (F.told folder.old) request.now target.now → IfOk result (λ answer. Does (HoldsState self.old) (HoldsState self.new) (F.told folder.old) (F.told folder.new) request.now.moment (sparse_write_of request.now) answer) }
+        ensures stops { NamesTargetFor self.old (F.told folder.old) request.now target.now → MayStopAtEach (HoldsState self.old) (F.told folder.old) (F.told folder.new) request.now.moment (sparse_write_of request.now) }
 
         // What it evicts is printed, and on any answer a prefix of that.
         ensures says { NamesTargetFor self.old (F.told folder.old) request.now target.now → OnOk result (SaysEvicted self.old (F.told folder.old) request.now.moment (sparse_write_of request.now) failed.old failed.new (K.written out.old) (K.written out.new)) }
@@ -205,8 +205,8 @@ impl Cache {
         requires is_open { ForSome (F.told folder.old).files (IsOpen self.old.files) }
 
         // The SparseWrite is done as in the model, and after each single write the folder is as a crash in it may leave it.
-        ensures does { AsksToStoreFor self.old (F.told folder.old) request.now target.now rise.now → IfOk result (λ answer. Does (KeepsState self.old) (KeepsState self.new) (F.told folder.old) (F.told folder.new) request.now.moment (sparse_write_of request.now) answer) }
-        ensures stops { AsksToStoreFor self.old (F.told folder.old) request.now target.now rise.now → MayStopAtEach (KeepsState self.old) (F.told folder.old) (F.told folder.new) request.now.moment (sparse_write_of request.now) }
+        ensures does { AsksToStoreFor self.old (F.told folder.old) request.now target.now rise.now → IfOk result (λ answer. Does (HoldsState self.old) (HoldsState self.new) (F.told folder.old) (F.told folder.new) request.now.moment (sparse_write_of request.now) answer) }
+        ensures stops { AsksToStoreFor self.old (F.told folder.old) request.now target.now rise.now → MayStopAtEach (HoldsState self.old) (F.told folder.old) (F.told folder.new) request.now.moment (sparse_write_of request.now) }
 
         // What it evicts is printed, and on any answer a prefix of that.
         ensures says { AsksToStoreFor self.old (F.told folder.old) request.now target.now rise.now → OnOk result (SaysEvicted self.old (F.told folder.old) request.now.moment (sparse_write_of request.now) failed.old failed.new (K.written out.old) (K.written out.new)) }
@@ -251,8 +251,8 @@ impl Cache {
         requires is_open { ForSome (F.told folder.old).files (IsOpen self.old.files) }
 
         // The SparseWrite is done as in the model, and after each single write the folder is as a crash in it may leave it.
-        ensures does { HasRoomToStoreFor self.old (F.told folder.old) request.now target.now rise.now → IfOk result (λ answer. Does (KeepsState self.old) (KeepsState self.new) (F.told folder.old) (F.told folder.new) request.now.moment (sparse_write_of request.now) answer) }
-        ensures stops { HasRoomToStoreFor self.old (F.told folder.old) request.now target.now rise.now → MayStopAtEach (KeepsState self.old) (F.told folder.old) (F.told folder.new) request.now.moment (sparse_write_of request.now) }
+        ensures does { HasRoomToStoreFor self.old (F.told folder.old) request.now target.now rise.now → IfOk result (λ answer. Does (HoldsState self.old) (HoldsState self.new) (F.told folder.old) (F.told folder.new) request.now.moment (sparse_write_of request.now) answer) }
+        ensures stops { HasRoomToStoreFor self.old (F.told folder.old) request.now target.now rise.now → MayStopAtEach (HoldsState self.old) (F.told folder.old) (F.told folder.new) request.now.moment (sparse_write_of request.now) }
 
         // What it evicts is printed, and on any answer a prefix of that.
         ensures says { HasRoomToStoreFor self.old (F.told folder.old) request.now target.now rise.now → OnOk result (SaysEvicted self.old (F.told folder.old) request.now.moment (sparse_write_of request.now) failed.old failed.new (K.written out.old) (K.written out.new)) }
@@ -294,8 +294,8 @@ impl Cache {
     ) -> Result<Answer, Fault>
         requires stands { IsTrue (is_node_among self.now.files target.now.parent.node) }
         requires is_open { ForSome (F.told folder.old).files (IsOpen self.now.files) }
-        ensures does { (handle offset : ℕ) → NamesTarget self.now (F.told folder.old) moment handle offset 0 target.now → IfOk result (λ answer. Does (KeepsState self.now) (KeepsState self.now) (F.told folder.old) (F.told folder.new) moment (to_sparse_write handle offset []) answer) }
-        ensures stops { (handle offset : ℕ) → NamesTarget self.now (F.told folder.old) moment handle offset 0 target.now → MayStopAtEach (KeepsState self.now) (F.told folder.old) (F.told folder.new) moment (to_sparse_write handle offset []) }
+        ensures does { (handle offset : ℕ) → NamesTarget self.now (F.told folder.old) moment handle offset 0 target.now → IfOk result (λ answer. Does (HoldsState self.now) (HoldsState self.now) (F.told folder.old) (F.told folder.new) moment (to_sparse_write handle offset []) answer) }
+        ensures stops { (handle offset : ℕ) → NamesTarget self.now (F.told folder.old) moment handle offset 0 target.now → MayStopAtEach (HoldsState self.now) (F.told folder.old) (F.told folder.new) moment (to_sparse_write handle offset []) }
         ensures wrote { IfOk result (λ given. given ≡ answer.Wrote 0) }
         ensures is_open { ForSome (F.told folder.new).files (IsOpen self.now.files) }
         ensures damaged { IfDamaged result (IsFailedCheck self.now.files (F.told folder.new)) }

@@ -12,10 +12,10 @@ ghost use Rattle.blk_disk.specs.Open.{IsOpen};
 ghost use Rattle.law_state.specs.Commands.{Does, ForKept, IsNoted, IsStepped, MayStopAtEach, note_number};
 ghost use Rattle.blk_object.specs.FailedChecks.{IsFailedCheck};
 ghost use Rattle.blk_script.specs.Reply.{outcome_text};
-ghost use Rattle.blk_cache.specs.CacheKeeping.{KeepsState};
+ghost use Rattle.blk_cache.specs.CacheKeeping.{KeepsState, HoldsState};
 ghost use Rattle.blk_cache.specs.CommandClauses.{FlushesClean, IsOnSparse, IsRefused, KeepsAny, OnlyNotesChange};
 ghost use Rattle.blk_evict.specs.RoomPrinting.{FailsWhereItRose};
-ghost use Rattle.blk_cache.specs.Stepping.{IfDone, IfSink, IfStepDamaged, IfStepDevice, SaysEvicted, SaysPrefix};
+ghost use Rattle.blk_cache.specs.Stepping.{IfDone, IfSink, IfStepDamaged, IfStepDevice, SaysEvicted, SaysPrefix, SaysKeptPrefix};
 
 use crate::cache::Cache;
 use crate::fault::StepFault;
@@ -71,7 +71,7 @@ impl Cache {
         // failed in the reply, after the note.
         ensures printed { OnOk result (ForKept (KeepsState self.old) (F.told f.old) (λ state. K.written out.new ≡ option_map (λ w. w ++ outcome_text (step state moment (request_of command.now))) (K.written out.old))) }
         ensures front { ForKept (KeepsState self.old) (F.told f.old) (λ state. Appends (K.written out.old) (K.written out.new) (outcome_text (step state moment (request_of command.now)))) }
-        ensures unanswered { IfStepDevice result (SaysPrefix self.old (F.told f.old) moment (request_of command.now) (K.written out.old) (K.written out.new) ⊎ ForKept (KeepsState self.old) (F.told f.old) (IsNoted (F.told f.old) (F.told f.new) moment (request_of command.now) (note_number (self.old.notes + 1)))) }
+        ensures unanswered { IfStepDevice result (SaysKeptPrefix self.old (F.told f.old) moment (request_of command.now) (K.written out.old) (K.written out.new) ⊎ ForKept (KeepsState self.old) (F.told f.old) (IsNoted (F.told f.old) (F.told f.new) moment (request_of command.now) (note_number (self.old.notes + 1)))) }
 
         ensures is_open { IfDone result (ForSome (F.told f.new).files (IsOpen self.new.files)) }
         ensures damaged { IfStepDamaged result (IsFailedCheck self.new.files (F.told f.new)) }
@@ -148,13 +148,13 @@ impl Cache {
         command: &Command,
     ) -> Result<Answer, Fault>
         requires is_open { ForSome (F.told folder.old).files (IsOpen self.old.files) }
-        ensures does { IfOk result (λ answer. Does (KeepsState self.old) (KeepsState self.new) (F.told folder.old) (F.told folder.new) moment (request_of command.now) answer) }
-        ensures stops { MayStopAtEach (KeepsState self.old) (F.told folder.old) (F.told folder.new) moment (request_of command.now) }
+        ensures does { IfOk result (λ answer. Does (HoldsState self.old) (HoldsState self.new) (F.told folder.old) (F.told folder.new) moment (request_of command.now) answer) }
+        ensures stops { MayStopAtEach (HoldsState self.old) (F.told folder.old) (F.told folder.new) moment (request_of command.now) }
         ensures says { OnOk result (SaysEvicted self.old (F.told folder.old) moment (request_of command.now) failed.old failed.new (K.written out.old) (K.written out.new)) }
         ensures front { SaysPrefix self.old (F.told folder.old) moment (request_of command.now) (K.written out.old) (K.written out.new) }
         ensures failed { FailsWhereItRose failed.old failed.new (K.faults out.old) (K.faults out.new) }
         ensures quiet { IfOk result (λ answer. IsRefused answer → Stays (F.told folder.old) (F.told folder.new)) }
-        ensures idle { ForKept (KeepsState self.old) (F.told folder.old) (λ state. FlushesClean state (request_of command.now) → Stays (F.told folder.old) (F.told folder.new)) }
+        ensures idle { ForKept (HoldsState self.old) (F.told folder.old) (λ state. FlushesClean state (request_of command.now) → Stays (F.told folder.old) (F.told folder.new)) }
         ensures notes { self.new.notes ≡ self.old.notes }
         ensures mark { self.new.mark ≡ self.old.mark }
         ensures is_open { OnOk result (ForSome (F.told folder.new).files (IsOpen self.new.files)) }

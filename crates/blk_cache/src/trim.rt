@@ -8,7 +8,7 @@ ghost use Rattle.blk_model.specs.Request.{to_trim};
 ghost use Rattle.blk_disk.specs.Open.{IsOpen};
 ghost use Rattle.law_state.specs.Commands.{Does, MayStopAtEach};
 ghost use Rattle.blk_object.specs.FailedChecks.{IsFailedCheck};
-ghost use Rattle.blk_cache.specs.CacheKeeping.{KeepsState};
+ghost use Rattle.blk_cache.specs.CacheKeeping.{HoldsState};
 ghost use Rattle.blk_cache.specs.CommandClauses.{IsRefused, KeepsAny};
 ghost use Rattle.blk_evict.specs.RoomPrinting.{FailsWhereItRose};
 ghost use Rattle.blk_cache.specs.Stepping.{SaysEvicted, SaysPrefix};
@@ -32,8 +32,8 @@ impl Cache {
         bytes: u64,
     ) -> Result<Answer, Fault>
         requires is_open { ForSome (F.told folder.old).files (IsOpen self.old.files) }
-        ensures does { (moment : ℕ) → IfOk result (λ answer. Does (KeepsState self.old) (KeepsState self.new) (F.told folder.old) (F.told folder.new) moment (to_trim bytes) answer) }
-        ensures stops { (moment : ℕ) → MayStopAtEach (KeepsState self.old) (F.told folder.old) (F.told folder.new) moment (to_trim bytes) }
+        ensures does { (moment : ℕ) → IfOk result (λ answer. Does (HoldsState self.old) (HoldsState self.new) (F.told folder.old) (F.told folder.new) moment (to_trim bytes) answer) }
+        ensures stops { (moment : ℕ) → MayStopAtEach (HoldsState self.old) (F.told folder.old) (F.told folder.new) moment (to_trim bytes) }
 
         // What it evicts is printed, and on any answer a prefix of that.
         ensures says { (moment : ℕ) → OnOk result (SaysEvicted self.old (F.told folder.old) moment (to_trim bytes) failed.old failed.new (K.written out.old) (K.written out.new)) }

@@ -17,7 +17,7 @@ ghost use Rattle.law_state.specs.Changes.{Finds};
 ghost use Rattle.law_state.specs.Commands.{Does, IsDone, MayStop, MayStopAtEach};
 ghost use Rattle.blk_object.specs.FailedChecks.{IsFailedCheck};
 ghost use Rattle.blk_cache.specs.declared.asking.Asked.TheVariants as asked;
-ghost use Rattle.blk_cache.specs.CacheKeeping.{KeepsState};
+ghost use Rattle.blk_cache.specs.CacheKeeping.{HoldsState};
 ghost use Rattle.blk_cache.specs.CommandClauses.{IsRefused, KeepsAny};
 ghost use Rattle.blk_evict.specs.RoomPrinting.{FailsWhereItRose};
 ghost use Rattle.blk_cache.specs.Stepping.{SaysEvicted, SaysPrefix};
@@ -66,8 +66,8 @@ impl Cache {
         request: &WriteRequest,
     ) -> Result<Answer, Fault>
         requires is_open { ForSome (F.told folder.old).files (IsOpen self.old.files) }
-        ensures does { IfOk result (λ answer. Does (KeepsState self.old) (KeepsState self.new) (F.told folder.old) (F.told folder.new) request.now.moment (write_of request.now) answer) }
-        ensures stops { MayStopAtEach (KeepsState self.old) (F.told folder.old) (F.told folder.new) request.now.moment (write_of request.now) }
+        ensures does { IfOk result (λ answer. Does (HoldsState self.old) (HoldsState self.new) (F.told folder.old) (F.told folder.new) request.now.moment (write_of request.now) answer) }
+        ensures stops { MayStopAtEach (HoldsState self.old) (F.told folder.old) (F.told folder.new) request.now.moment (write_of request.now) }
 
         // What it evicts is printed, and on any answer a prefix of that.
         ensures says { OnOk result (SaysEvicted self.old (F.told folder.old) request.now.moment (write_of request.now) failed.old failed.new (K.written out.old) (K.written out.new)) }
@@ -119,7 +119,7 @@ impl Cache {
         requires is_open { ForSome (F.told folder.old).files (IsOpen self.old.files) }
 
         // The Write is done, whatever state it began with, and after each single write the folder is as a crash in it may leave it.
-        ensures does { IfOk result (λ answer. ForSome (F.told folder.old).files (λ from. (state : State) → IsReadyToWriteFor self.old state request.now size from → IsDone (KeepsState self.new) (F.told folder.new) request.now.moment (write_of request.now) answer state)) }
+        ensures does { IfOk result (λ answer. ForSome (F.told folder.old).files (λ from. (state : State) → IsReadyToWriteFor self.old state request.now size from → IsDone (HoldsState self.new) (F.told folder.new) request.now.moment (write_of request.now) answer state)) }
         ensures stops { ForSome (F.told folder.old).files (λ from. (state : State) → IsReadyToWriteFor self.old state request.now size from → Passes (F.told folder.old) (F.told folder.new) (MayStop state request.now.moment (write_of request.now))) }
 
         ensures wrote { IfOk result (λ given. given ≡ answer.Wrote (length request.now.bytes.now)) }
@@ -147,10 +147,10 @@ impl Cache {
         requires is_open { ForSome (F.told folder.old).files (IsOpen self.old.files) }
 
         // In the end each state that was kept, whose object can get them, is kept with them, and with the item in front.
-        ensures written { OnOk result (ForSome (F.told folder.old).files (λ from. (state : State) → KeepsState self.old state from → CanGetFor state request.now size → ForSome (F.told folder.new).files (KeepsState self.new (state_written request.now state)))) }
+        ensures written { OnOk result (ForSome (F.told folder.old).files (λ from. (state : State) → HoldsState self.old state from → CanGetFor state request.now size → ForSome (F.told folder.new).files (HoldsState self.new (state_written request.now state)))) }
 
         // At each word the old durable contents are recovered.
-        ensures stops { ForSome (F.told folder.old).files (λ from. (state : State) → KeepsState self.old state from → CanGetFor state request.now size → Passes (F.told folder.old) (F.told folder.new) (Finds (rest state))) }
+        ensures stops { ForSome (F.told folder.old).files (λ from. (state : State) → HoldsState self.old state from → CanGetFor state request.now size → Passes (F.told folder.old) (F.told folder.new) (Finds (rest state))) }
 
         ensures notes { self.new.notes ≡ self.old.notes }
         ensures mark { self.new.mark ≡ self.old.mark }
@@ -194,7 +194,7 @@ impl Cache {
         offset: u64,
         bytes: &[u8],
     ) -> Result<Asked, Fault>
-        ensures asked { IfOk result (λ answer. ForSome (F.told folder.old).files (λ image. (state : State) (moment : ℕ) (cut : Bool) → (k : KeepsState self.now state image) → IsAskedToWrite state k.layout moment handle stream offset cut bytes.now answer)) }
+        ensures asked { IfOk result (λ answer. ForSome (F.told folder.old).files (λ image. (state : State) (moment : ℕ) (cut : Bool) → (k : HoldsState self.now state image) → IsAskedToWrite state k.layout moment handle stream offset cut bytes.now answer)) }
 
         // A refusal that the handles, the limits, the stream and the length alone decide is given on every folder; where a stream is found they decide none.
         ensures refuses { IfSome (early_write_refusal self.now handle stream offset (length bytes.now)) (λ why. result ≡ Ok (asked.Refused why)) }

@@ -12,6 +12,8 @@ use Rattle.spec_image.proofs.WordSteps.{quiet-word_step}
 use Rattle.spec_format.specs.Address.{file_selector, place}
 use Rattle.spec_format.specs.Records.{entry_in}
 use Rattle.spec_format.specs.Headers.{place_of_bucket}
+use Rattle.spec_format.proofs.Finished.{headers-kept}
+use Rattle.spec_format.proofs.Buckets.{bucket-quiet}
 use Rattle.spec_folder.specs.ListView.{put}
 use Rattle.spec_folder.specs.View.{StoreView, RecordFields, store_of}
 use Rattle.spec_folder.specs.Chains.{chain, IsChain, bucket_at}
@@ -44,7 +46,7 @@ named-table store table name is_child w = (
 -- nothing has changed
 pub unchanged : (from : Image) (entry : ℕ) (before : Option ℕ) → IsStillLinked from entry before from
 unchanged from entry before = record {
-  keeps = record { list = refl; records = λ w. refl; names = λ w name is_child apart. (λ named. named, λ named. named); well_formed = λ h. h; outside = outside-refl (unlink_range from entry before) from };
+  keeps = record { list = refl; records = λ w. refl; names = λ w name is_child apart. (λ named. named, λ named. named); headers = headers-kept from; outside = outside-refl (unlink_range from entry before) from };
   chains = λ bucket. refl;
 }
 
@@ -64,7 +66,7 @@ module _ (from : Image) (entry : ℕ) (can : CanBeUnlinked entry None from) wher
       let b : ℕ = bucket_at from entry in
       let w = buckets-written from image b (next_record from entry) is in
       record {
-        keeps = record { list = w.0; records = λ u. ap (λ (s : StoreView). s.entry u) w.1; names = λ u name is_child apart. subst (λ (s : StoreView). HasKey (store_of from) name is_child u ↔ HasKey s name is_child u) (sym w.1) (named-table (store_of from) (put (store_of from).table b (next_record from entry)) name is_child u); well_formed = buckets-unchecked from image b is.outside; outside = is.outside };
+        keeps = record { list = w.0; records = λ u. ap (λ (s : StoreView). s.entry u) w.1; names = λ u name is_child apart. subst (λ (s : StoreView). HasKey (store_of from) name is_child u ↔ HasKey s name is_child u) (sym w.1) (named-table (store_of from) (put (store_of from).table b (next_record from entry)) name is_child u); headers = buckets-unchecked from image b is.outside; outside = is.outside };
         chain_now = λ prefix suffix stands. subst (λ (s : StoreView). IsChain s b suffix) (sym w.1) (chain-behind suffix stands.1);
         others = λ other e. ap (λ (s : StoreView). chain s other) w.1 ∙ others-stay (store_of from) b other (next_record from entry) e;
         links = w.1;
@@ -102,7 +104,7 @@ module _ (files : BlockFiles) (a b : Told) (entry hash next : ℕ) (tells : Tell
       record {
         part = mine;
         commits = λ from there can.
-            commits_prefix 1 a b from (IsStillLinked from entry None) (IsUnlinked from entry None) (unlink_steps from entry None) there (quiet-word_step Index (place_of_front from entry) (next_record from entry))
+            commits_prefix 1 a b from (IsStillLinked from entry None) (IsUnlinked from entry None) (unlink_steps from entry None) there (quiet-word_step Index (place_of_front from entry) (next_record from entry) (bucket-quiet (bucket_at from entry) (next_record from entry)))
             (commits_word (IsStillLinked from entry None) (IsUnlinked from entry None) Index (place_of_front from entry) (next_record from entry) from (unchanged from entry None) (after-first from there can)) (mine from there);
         agrees = index_agrees files a b (place_of_bucket (hash % 65536)) next here agrees;
       }

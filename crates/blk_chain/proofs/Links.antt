@@ -25,6 +25,7 @@ use Rattle.law_folder.proofs.updates.IndexWords.{buckets-written, buckets-unchec
 use Rattle.blk_disk.specs.declared.tables.BlockFiles.{BlockFiles}
 use Rattle.blk_disk.specs.Tables.{Agrees}
 use Rattle.spec_format.proofs.SpareHeaders.{SparesHeaders}
+use Rattle.spec_format.proofs.Buckets.{bucket-quiet}
 use Rattle.blk_disk.proofs.Agreeing.{agrees_still}
 use Rattle.blk_chain.specs.Linking.{chained_with, place_of_front, CanBeLinked, link_front_steps, IsLinkedInFront}
 use Rattle.spec_image.proofs.Commits.{commits_none, commits_prefix, commits_word}
@@ -74,7 +75,7 @@ module _ (from : Image) (entry : ℕ) (can : CanBeLinked entry from) where
         store = w.1;
         chain_now = subst (λ (s : StoreView). IsChain s b (entry ∷ chained_with from entry)) (sym w.1) (linked-front (store_of from) b entry (chained_with from entry) can.whole in_bucket can.next apart);
         others = λ other e. ap (λ (s : StoreView). chain s other) w.1 ∙ others-stay (store_of from) b other entry e;
-        well_formed = buckets-unchecked from image b is.outside;
+        headers = buckets-unchecked from image b is.outside;
         outside = is.outside;
       }
 
@@ -111,7 +112,7 @@ module _ (a b : Told) (entry n : ℕ) (read : ForSome a.files (λ from. n ≡ bu
     pub link_turns : AppliesPrefix a b (word_step Index (place_of_bucket n) entry) → ForSome a.files (λ from. CanBeLinked entry from → Commits 1 a b (λ image. image ≡ from) (IsLinkedInFront from entry))
     link_turns part from there can =
         let P : Image → Type 0 = (λ image. image ≡ from) in
-        commits_prefix 1 a b from P (IsLinkedInFront from entry) (link_front_steps from entry) there (quiet-word_step Index (place_of_front from entry) entry)
+        commits_prefix 1 a b from P (IsLinkedInFront from entry) (link_front_steps from entry) there (quiet-word_step Index (place_of_front from entry) entry (bucket-quiet (bucket_at from entry) entry))
         (commits_word P (IsLinkedInFront from entry) Index (place_of_front from entry) entry from refl (after_link from there can)) (link_part part from there)
 
     pub link_done : Applies a b (word_step Index (place_of_bucket n) entry) → ForSome a.files (λ from. CanBeLinked entry from → ForSome b.files (IsLinkedInFront from entry))

@@ -98,7 +98,7 @@ module _ (from : Image) (bytes : AreBytes from) (entry before : ℕ) (can : CanB
       list = only.rest.list;
       records = records;
       names = names;
-      well_formed = (record-changes from image before standing (inr (shown-kind from before shown-before.fields shown-before.here)) outside).well_formed;
+      headers = (record-changes from image before standing (inr (shown-kind from before shown-before.fields shown-before.here)) outside).headers;
       outside = outside;
     }
 

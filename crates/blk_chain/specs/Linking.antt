@@ -5,7 +5,7 @@ use Rattle.spec_image.specs.Image.{Image, Index}
 use Rattle.spec_image.specs.Steps.{TrailStep, word_step}
 use Rattle.spec_image.specs.Footprint.{SameOutside, one_word}
 use Rattle.spec_format.specs.Headers.{place_of_bucket}
-use Rattle.spec_format.specs.BlockFiles.{is_among, IsWellFormed}
+use Rattle.spec_format.specs.BlockFiles.{is_among, KeepsHeaders}
 use Rattle.spec_format.specs.Records.{child}
 use Rattle.spec_folder.specs.ListView.{put}
 use Rattle.spec_folder.specs.View.{RecordFields, list_of, store_of}
@@ -42,5 +42,5 @@ pub record IsLinkedInFront (from : Image) (entry : ℕ) (image : Image) : Type 0
   pub store : store_of image ≡ record (store_of from) { table = put (store_of from).table (bucket_at from entry) entry }
   pub chain_now : IsChain (store_of image) (bucket_at from entry) (entry ∷ chained_with from entry)
   pub others : (other : ℕ) → (bucket_at from entry == other) ≡ false → chain (store_of image) other ≡ chain (store_of from) other
-  pub well_formed : IsWellFormed from → IsWellFormed image
+  pub headers : KeepsHeaders from image
   pub outside : SameOutside (one_word Index (place_of_front from entry)) from image

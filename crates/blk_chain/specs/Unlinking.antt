@@ -8,7 +8,7 @@ use Rattle.spec_image.specs.Footprint.{Footprint, SameOutside, one_word}
 use Rattle.spec_image.specs.Told.{Told}
 use Rattle.spec_format.specs.Address.{file_selector, first_block, place}
 use Rattle.spec_format.specs.Claims.{Claim, BlockOf, claims_of, has_claim}
-use Rattle.spec_format.specs.BlockFiles.{IsWellFormed}
+use Rattle.spec_format.specs.BlockFiles.{KeepsHeaders}
 use Rattle.blk_io.specs.declared.folder.FileId.TheVariants as names
 use Rattle.blk_io.specs.declared.fault.Damage.{Damage}
 use Rattle.blk_io.specs.Faults.{IsShort}
@@ -80,7 +80,7 @@ pub record KeepsRecords (from : Image) (before : Option ℕ) (footprint : Footpr
   pub list : list_of image ≡ list_of from
   pub records : (w : ℕ) → (store_of image).entry w ≡ (store_of from).entry w
   pub names : NamesStay from before image
-  pub well_formed : IsWellFormed from → IsWellFormed image
+  pub headers : KeepsHeaders from image
   pub outside : SameOutside footprint from image
 
 -- no chain has changed yet, and nothing outside the range of the unlinking has

@@ -133,4 +133,4 @@ pub making_outside : (kind n : ℕ) (image : Image) → Along (SameOutside (whol
 making_outside kind n image = outside_steps (whole (Block n)) (file_steps kind n) image image (make_within kind n) (outside-refl (whole (Block n)) image)
 
 pub making_quiet : (kind n : ℕ) → IsQuiet (file_steps kind n)
-making_quiet kind n = quiet-word_steps (Block n) (header_words kind n)
+making_quiet kind n = quiet-word_steps (Block n) (header_words kind n) tt

@@ -17,8 +17,8 @@ use Rattle.spec_image.proofs.Images.{word-after_same, word-after_other, length-a
 use Rattle.spec_image.proofs.Runs.{until-append, until_last, until_weaker2, quiet-append, grows_then, part_then, passes_part, passes_step, some_inj, told_whole}
 use Rattle.spec_image.proofs.WordSteps.{quiet-word_steps}
 use Rattle.spec_image.proofs.Words.{same-word_at}
-use Rattle.spec_format.specs.Headers.{head_checks, list_checks}
-use Rattle.spec_format.specs.BlockFiles.{is_among, linked, kind_among, files_along, next_file_in, max_entries_in, is_block_count, block_checks, first_block_damage, IsWellFormed}
+use Rattle.spec_format.specs.Headers.{list_checks, magic_of, field_checks}
+use Rattle.spec_format.specs.BlockFiles.{is_among, linked, kind_among, files_along, next_file_in, max_entries_in, is_block_count, block_checks, first_block_damage, HasSoundHeaders, KeepsHeaders}
 use Rattle.blk_disk.specs.declared.tables.BlockFiles.{BlockFiles}
 use Rattle.blk_disk.specs.Tables.{Agrees, Enlarges, all_files, blocks_of, files_of, length_in}
 use Rattle.spec_format.specs.Growth.{HaveGrown, StaysWhole, StaysWholeOutside}
@@ -26,12 +26,14 @@ use Rattle.blk_disk.specs.Growth.{grown, grown_length, growth_of, grow_steps, le
 use Rattle.spec_format.proofs.SpareHeaders.{blocks_same, sizes_spare, other_file}
 use Rattle.spec_format.proofs.Keeping.{KeepsHead, none_parts, none_both, undamaged_still}
 
--- a folder is still well formed where its index is as it was and no check of a block file fails
-pub well_formed_still : (a b : Image) → ((i : ℕ) → byte b Index i ≡ byte a Index i) → length_of b Index ≡ length_of a Index → (first_block_damage a ≡ None → first_block_damage b ≡ None) → IsWellFormed a → IsWellFormed b
-well_formed_still a b bytes size blocks formed =
-    let parts = none_parts (head_checks (byte a Index) (length_of a Index) ++ list_checks (byte a Index)) (block_checks a) formed in
-    none_both (head_checks (byte b Index) (length_of b Index) ++ list_checks (byte b Index)) (block_checks b)
-    ((λ j. first_of (head_checks (λ i. bytes i j) (size j) ++ list_checks (λ i. bytes i j))) ∙ parts.0) (blocks parts.1)
+-- the headers are kept where the index is as it was and no check of a block file fails
+pub kept_headers : (a b : Image) → ((i : ℕ) → byte b Index i ≡ byte a Index i) → length_of b Index ≡ length_of a Index → (first_block_damage a ≡ None → first_block_damage b ≡ None) → KeepsHeaders a b
+kept_headers a b bytes size blocks = record { sound = sound; magic = λ j. magic_of (λ i. bytes i j) } where
+  sound : HasSoundHeaders a → HasSoundHeaders b
+  sound was =
+      let parts = none_parts (field_checks (byte a Index) (length_of a Index) ++ list_checks (byte a Index)) (block_checks a) was in
+      none_both (field_checks (byte b Index) (length_of b Index) ++ list_checks (byte b Index)) (block_checks b)
+      ((λ j. first_of (field_checks (λ i. bytes i j) (size j) ++ list_checks (λ i. bytes i j))) ∙ parts.0) (blocks parts.1)
 
 -- an image while file n grows
 pub record IsGrowing (n : ℕ) (from image : Image) : Type 0 where
@@ -87,8 +89,8 @@ module _ (n : ℕ) (from image : Image) (growing : IsGrowing n from image) where
   pub grows_undamaged : first_block_damage from ≡ None → first_block_damage image ≡ None
   grows_undamaged none = undamaged_still from image grows_next keeps_heads none
 
-  pub grows_formed : IsWellFormed from → IsWellFormed image
-  grows_formed formed = let same = growing.outside in well_formed_still from image (λ i. same.bytes Index i refl) (same.lengths Index refl) grows_undamaged formed
+  pub grows_headers : KeepsHeaders from image
+  grows_headers = let same = growing.outside in kept_headers from image (λ i. same.bytes Index i refl) (same.lengths Index refl) grows_undamaged
 
 -- no byte of a block is touched
 blocks_spared : (n m i : ℕ) → 8192 ≤ i → (growth_of n).bytes (Block m) i ≡ false
@@ -120,7 +122,7 @@ module _ (n : ℕ) (from image : Image) (growing : IsGrowing n from image) where
   }
 
 pub grows_whole : (n : ℕ) (from image : Image) → IsGrowing n from image → StaysWhole from image
-grows_whole n from image growing = record { grown = grows_grown n from image growing; formed = grows_formed n from image growing }
+grows_whole n from image growing = record { grown = grows_grown n from image growing; headers = grows_headers n from image growing }
 
 -- the number of blocks after a growth is one that a file may have
 pub count_grown : (b : ℕ) → b < 64896 → is_block_count b ≡ true → is_block_count (grown b) ≡ true
@@ -257,7 +259,7 @@ module _ (files : BlockFiles) (image : Image) (n : ℕ) (agrees : Agrees files i
     grow_ends = after-append (lengthen_steps files n size) (word_steps (Block n) ((36, counter) ∷ (20, grown old_blocks) ∷ [])) image
 
     pub grow_quiet : IsQuiet all_steps
-    grow_quiet = quiet-append (lengthen_steps files n size) (word_steps (Block n) ((36, counter) ∷ (20, grown old_blocks) ∷ [])) (by_test (nat_lt (length_in files n) size)) (quiet-word_steps (Block n) ((36, counter) ∷ (20, grown old_blocks) ∷ []))
+    grow_quiet = quiet-append (lengthen_steps files n size) (word_steps (Block n) ((36, counter) ∷ (20, grown old_blocks) ∷ [])) (by_test (nat_lt (length_in files n) size)) (quiet-word_steps (Block n) ((36, counter) ∷ (20, grown old_blocks) ∷ []) tt)
       where
         by_test : (t : Bool) → IsQuiet (if t then SetLength (Block n) size ∷ [] else [])
         by_test true = tt

@@ -18,7 +18,7 @@ use Rattle.spec_image.proofs.Runs.{passes_part, quiet-append, some_inj, told_who
 use Rattle.spec_image.proofs.Splices.{content-spliced_inside}
 use Rattle.spec_image.proofs.Words.{same-word_at}
 use Rattle.spec_format.specs.Address.{is_block_kind}
-use Rattle.spec_format.specs.BlockFiles.{next_file_in, max_entries_in, files_along, linked, linked_as, linked_up_to, is_among, is_block_count, checks_along, checks_of_kind, first_block_damage, kind_among, IsWellFormed}
+use Rattle.spec_format.specs.BlockFiles.{next_file_in, max_entries_in, files_along, linked, linked_as, linked_up_to, is_among, is_block_count, checks_along, checks_of_kind, first_block_damage, kind_among, KeepsHeaders}
 use Rattle.blk_addr.specs.declared.kinds.Kind.{Kind}
 use Rattle.blk_addr.specs.declared.kinds.Kind.TheVariants.{External, Rankings, B256, B1K, B4K}
 use Rattle.blk_addr.specs.Kind.{kind_number}
@@ -31,7 +31,7 @@ use Rattle.spec_format.proofs.SpareHeaders.{other_file}
 use Rattle.blk_disk.proofs.Among.{all_files_among}
 use Rattle.spec_format.proofs.Among.{is_among-append, is_among_more}
 use Rattle.blk_disk.proofs.Chains.{block_kind, fails, linked_once, met_in, or_cases, kind_none}
-use Rattle.blk_disk.proofs.Enlarging.{well_formed_still}
+use Rattle.blk_disk.proofs.Enlarging.{kept_headers}
 use Rattle.spec_format.proofs.Keeping.{KeepsHead, all_kinds, along_kept, links_kept}
 use Rattle.blk_disk.proofs.Linking.{checks_added, ends, links_added, some_along}
 
@@ -228,8 +228,8 @@ module _ (files : BlockFiles) (image : Image) (p : ℕ) (small : p < 4) (agrees 
         grown_others b (λ i. same.bytes Index i refl) (λ m. same_file_outside (whole (Block n)) image b (external_file m) same (λ i. refl) refl) (λ j m below differs. ap (λ (l : List ℕ). is_among l m) (chain_same b making_heads j below (making_nexts j below))) making_blocks_same
         (λ m differs. same.lengths (Block m) (other_file n m differs)) (λ m differs i past. making_bytes m differs i)
 
-    pub making_formed : IsWellFormed image → IsWellFormed b
-    making_formed formed = well_formed_still image b (λ i. same.bytes Index i refl) (same.lengths Index refl) (λ none. making_undamaged) formed
+    pub making_headers : KeepsHeaders image b
+    making_headers = kept_headers image b (λ i. same.bytes Index i refl) (same.lengths Index refl) (λ none. making_undamaged)
 
   abbrev made : Image
   made = after (file_steps (suc p) n) image
@@ -391,8 +391,8 @@ module _ (files : BlockFiles) (image : Image) (p : ℕ) (small : p < 4) (agrees 
   pub done_grown : HaveGrown image done
   done_grown = grown_others done (λ i. done_outside.bytes Index i refl) (λ m. same_file_outside (addition_of files (suc p)) image done (external_file m) done_outside (λ i. refl) refl) (λ j m below differs. among_kind j m below differs) done_blocks done_length (λ m differs i past. done_bytes m differs i (inr past))
 
-  pub done_formed : IsWellFormed image → IsWellFormed done
-  done_formed formed = let same = done_outside in well_formed_still image done (λ i. same.bytes Index i refl) (same.lengths Index refl) (λ none. done_undamaged) formed
+  pub done_headers : KeepsHeaders image done
+  done_headers = let same = done_outside in kept_headers image done (λ i. same.bytes Index i refl) (same.lengths Index refl) (λ none. done_undamaged)
 
   -- what is kept once the new file is loaded
   module _ (new : BlockFiles) (joins : Joins files new (suc p) n 0 8192) where
@@ -441,14 +441,14 @@ module _ (files : BlockFiles) (image : Image) (p : ℕ) (small : p < 4) (agrees 
 pub record IsAdding (files : BlockFiles) (kind : ℕ) (from image : Image) : Type 0 where
   pub outside : SameOutside (addition_of files kind) from image
   pub grown : HaveGrown from image
-  pub formed : IsWellFormed from → IsWellFormed image
+  pub headers : KeepsHeaders from image
 
 module _ (files : BlockFiles) (image : Image) (p : ℕ) (small : p < 4) (agrees : Agrees files image) (room : length (files_of files (suc p)) < 60) (least : IsLeastFileNumber files (free_number files)) where
   making_adds : (b : Image) → SameOutside (whole (Block (free_number files))) image b → IsAdding files (suc p) image b
   making_adds b same = record {
     outside = outside_wider (whole (Block (free_number files))) (addition_of files (suc p)) image b (within_left (whole (Block (free_number files))) (range (Block (last_file files (suc p))) 10 2)) same;
     grown = making_grown files image p small agrees room least b same;
-    formed = making_formed files image p small agrees room least b same;
+    headers = making_headers files image p small agrees room least b same;
   }
 
   along_kind : Along (IsAdding files (suc p) image) image (add_steps files (suc p))
@@ -456,7 +456,7 @@ module _ (files : BlockFiles) (image : Image) (p : ℕ) (small : p < 4) (agrees 
       until-append (IsAdding files (suc p) image) (IsAdding files (suc p) image) (file_steps (suc p) (free_number files)) (link_steps (last_file files (suc p)) (free_number files)) image
       (until_weaker2 (SameOutside (whole (Block (free_number files))) image) (IsAdding files (suc p) image) (SameOutside (whole (Block (free_number files))) image) (IsAdding files (suc p) image) (file_steps (suc p) (free_number files)) image making_adds making_adds (making_outside (suc p) (free_number files) image)) (
         making_adds (after (file_steps (suc p) (free_number files)) image) (made_same files image p small agrees room least),
-        record { outside = done_outside files image p small agrees room least; grown = done_grown files image p small agrees room least; formed = done_formed files image p small agrees room least },
+        record { outside = done_outside files image p small agrees room least; grown = done_grown files image p small agrees room least; headers = done_headers files image p small agrees room least },
       )
 
 pub least_is : (files : BlockFiles) (n : ℕ) → n ≡ free_number files → IsLeastFileNumber files n → IsLeastFileNumber files (free_number files)
@@ -495,7 +495,7 @@ module _ (files : BlockFiles) (k : Kind) (block_kind : kind_number k ≢ 0) (a :
       (until_weaker2 (IsAdding files kind from) P (IsAdding files kind from) P (add_steps files kind) from holds holds (add_along from (agrees from there))))
 
   pub add_stops : {d : Told} → AppliesPrefix a d (add_steps files kind) → ForSome a.files (λ from. Passes a d (StaysWholeOutside (addition_of files kind) from))
-  add_stops part from there = passing (StaysWholeOutside (addition_of files kind) from) from (λ image adding. record { outside = adding.outside; stays = record { grown = adding.grown; formed = adding.formed } }) there part
+  add_stops part from there = passing (StaysWholeOutside (addition_of files kind) from) from (λ image adding. record { outside = adding.outside; stays = record { grown = adding.grown; headers = adding.headers } }) there part
 
   pub add_agrees : {d : Told} (new : BlockFiles) → Applies a d (add_steps files kind) → Joins files new kind (free_number files) 0 8192 → ForSome d.files (Agrees new)
   add_agrees new grows joins =

@@ -32,7 +32,7 @@ steps_by w bytes = by_test (is_sealed (seal_place w) bytes)
 
 missing_quiet : (w : ℕ) (missing : Option ℕ) → IsQuiet (missing_steps w missing)
 missing_quiet w None = tt
-missing_quiet w (Some seal) = quiet-word_step (Block (file_selector w)) (place w + seal_place w) seal
+missing_quiet w (Some seal) = quiet-word_step (Block (file_selector w)) (place w + seal_place w) seal refl
 
 -- the seal lies in the record
 missing_outside : (w : ℕ) (missing : Option ℕ) (from : Image) → Along (SameOutside (record_range w) from) from (missing_steps w missing)

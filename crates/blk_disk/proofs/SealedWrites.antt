@@ -78,7 +78,7 @@ module _ (files : BlockFiles) (w : ℕ) (changes : List (ℕ × ℕ)) (stands : 
 
   quiet : (seal : ℕ) → IsQuiet (update_steps w changes seal)
   unfolding update_steps
-  quiet seal = quiet-word_steps (Block (file_selector w)) (placed (place w) (update_words (seal_place w) changes seal))
+  quiet seal = quiet-word_steps (Block (file_selector w)) (placed (place w) (update_words (seal_place w) changes seal)) tt
 
   module _ (a b : Told) (seal : ℕ) (agrees : ForSome a.files (Agrees files)) where
     -- the moments from an image whose new seal this is

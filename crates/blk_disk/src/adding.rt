@@ -39,8 +39,8 @@ impl BlockFiles {
         ensures same { OnErr result (self.new ≡ self.old) }
         ensures agrees { OnOk result (ForSome (F.told f.new).files (Agrees self.new)) }
 
-        // At each word nothing else has changed, the files have grown at most, and a
-        // well-formed folder is still well formed.
+        // At each word nothing else has changed, the files have grown at most, and the
+        // headers are kept.
         ensures stops { ForSome (F.told f.old).files (λ from. Passes (F.told f.old) (F.told f.new) (StaysWholeOutside (addition_of self.old (kind_number kind)) from)) }
 
         ensures later { F.faults f.old ≤ F.faults f.new }

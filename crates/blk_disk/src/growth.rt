@@ -26,8 +26,8 @@ impl BlockFiles {
         ensures same { OnErr result (self.new ≡ self.old) }
         ensures agrees { ForSome (F.told f.new).files (Agrees self.new) }
 
-        // At each word nothing but the length has changed, the files have grown at most, and a
-        // well-formed folder is still well formed.
+        // At each word nothing but the length has changed, the files have grown at most, and the
+        // headers are kept.
         ensures stops { ForSome (F.told f.old).files (λ from. Passes (F.told f.old) (F.told f.new) (StaysWholeOutside (size_of (block file)) from)) }
 
         ensures later { F.faults f.old ≤ F.faults f.new }

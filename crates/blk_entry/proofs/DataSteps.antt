@@ -1,5 +1,5 @@
 -- The steps that write data, whether it lies in blocks or in an external file.
-use Rattle.std.proofs.Common.{◌≡◌, ◌≢◌, ℕ, ◌+◌, List, length, false, ap, arith, refl}
+use Rattle.std.proofs.Common.{◌≡◌, ◌≢◌, ℕ, ◌+◌, List, length, true, false, if◌then◌else◌, ap, arith, refl}
 use Rattle.std.specs.Prelude.{◌==◌}
 use Rattle.std.proofs.lemmas.Bool.Decides.{nat_tests}
 use Rattle.std.specs.Option.{ForSome}
@@ -8,6 +8,7 @@ use Rattle.spec_image.specs.Footprint.{SameOutside, range}
 use Rattle.spec_image.specs.Steps.{after, words}
 use Rattle.spec_image.specs.Told.{Told, Applies, AppliesPrefix}
 use Rattle.spec_image.proofs.Footprints.{words_inside}
+use Rattle.spec_image.proofs.WordSteps.{IsBesideIndex}
 use Rattle.spec_image.proofs.Runs.{told_part, told_whole, until_last, until_weaker2}
 use Rattle.spec_format.specs.Address.{kind_of, external, external_number, file_selector, place}
 use Rattle.blk_disk.specs.declared.tables.BlockFiles.{BlockFiles}
@@ -16,6 +17,11 @@ use Rattle.spec_format.proofs.SpareHeaders.{SparesHeaders}
 use Rattle.blk_disk.proofs.Agreeing.{agrees_still}
 use Rattle.blk_entry.specs.Keys.{data_file, data_start, IsInFile}
 use Rattle.blk_entry.specs.Steps.{data_steps}
+
+-- data lies beside the index
+pub data-beside : (w : ℕ) → IsBesideIndex (data_file w)
+unfolding data_file
+data-beside w = elim (kind_of w == external) as (λ t. IsBesideIndex (if t then External (external_number w) else Block (file_selector w))) [ true ↦ tt | false ↦ tt ]
 
 pub steps_of_blocks : (w at : ℕ) (bytes : List ℕ) → kind_of w ≢ external → data_steps w at bytes ≡ words (Block (file_selector w)) (place w + at) bytes
 unfolding data_steps data_file data_start

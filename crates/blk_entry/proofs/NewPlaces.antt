@@ -14,13 +14,13 @@ use Rattle.spec_image.proofs.WordSteps.{quiet-words}
 use Rattle.spec_format.specs.Address.{kind_of, block_count, external, external_number, file_selector, place, byte_size, blocks_256}
 use Rattle.spec_format.specs.Storage.{entry_blocks}
 use Rattle.spec_image.proofs.Splices.{length-zeros}
-use Rattle.spec_format.specs.BlockFiles.{IsWellFormed}
+use Rattle.spec_format.specs.BlockFiles.{KeepsHeaders}
 use Rattle.blk_disk.specs.declared.tables.BlockFiles.{BlockFiles}
 use Rattle.blk_disk.specs.Tables.{Agrees, stands_among}
 use Rattle.spec_format.specs.Sealed.{record_range, record_size}
 use Rattle.spec_format.proofs.SpareHeaders.{SparesHeaders, heads_still, next_same, past_header}
 use Rattle.blk_disk.proofs.Agreeing.{agrees_still}
-use Rattle.blk_disk.proofs.Enlarging.{well_formed_still}
+use Rattle.blk_disk.proofs.Enlarging.{kept_headers}
 use Rattle.spec_format.specs.Headers.{HasWholeIndex}
 use Rattle.blk_io.proofs.Carried.{silent_part, told_at_end}
 use Rattle.blk_entry.specs.Writing.{WritesEntryInProgress}
@@ -33,6 +33,7 @@ use Rattle.blk_entry.specs.Writing.{FitsKey, HoldsLongKey, IsLongPlace, address_
 use Rattle.blk_entry.proofs.KeyPlaces.{storage_room, short_room}
 use Rattle.blk_entry.proofs.NewSteps.{node_length, record_length}
 use Rattle.blk_entry.proofs.Windows.{entry_room_least, not_external}
+use Rattle.blk_entry.proofs.DataSteps.{data-beside}
 
 -- where data lies
 pub file_of_blocks : (w : ℕ) → kind_of w ≢ external → data_file w ≡ Block (file_selector w)
@@ -167,10 +168,10 @@ module _ (files : BlockFiles) (new : NewEntry) (key : List ℕ) (moment : ℕ) (
       let one : List TrailStep = words (data_file w) (data_start w + before_key new.long_key) key in
       let two : List TrailStep = words (data_file w) (data_start w + (before_key new.long_key + length key)) (0 ∷ []) in
       quiet-append (one ++ two) (record_steps new key moment ++ node_steps new moment)
-      (quiet-append one two (quiet-words (data_file w) (data_start w + before_key new.long_key) key) (quiet-words (data_file w) (data_start w + (before_key new.long_key + length key)) (0 ∷ [])))
+      (quiet-append one two (quiet-words (data_file w) (data_start w + before_key new.long_key) key (data-beside w)) (quiet-words (data_file w) (data_start w + (before_key new.long_key + length key)) (0 ∷ []) (data-beside w)))
       (quiet-append (record_steps new key moment) (node_steps new moment)
-      (quiet-words (Block (file_selector new.entry)) (place new.entry) (entry_bytes (new_record new key moment) ++ empty_key_place new.long_key))
-      (quiet-words (Block (file_selector new.node)) (place new.node) (node_bytes (new_node new moment))))
+      (quiet-words (Block (file_selector new.entry)) (place new.entry) (entry_bytes (new_record new key moment) ++ empty_key_place new.long_key) tt)
+      (quiet-words (Block (file_selector new.node)) (place new.node) (node_bytes (new_node new moment)) tt))
 
   along : (from : Image) → Along (SameOutside (places_of new (length key)) from) from (entry_steps new key moment)
   along from = outside_steps (places_of new (length key)) (entry_steps new key moment) from from steps_within (outside-refl (places_of new (length key)) from)
@@ -231,10 +232,10 @@ module _ (files : BlockFiles) (new : NewEntry) (key : List ℕ) (moment : ℕ) (
     pub agrees_kept : Agrees files from → Agrees files image
     agrees_kept agrees = agrees_still (places_of new (length key)) from image spared same files (λ n. no_sizes (Block n)) agrees
 
-    pub formed_kept : IsWellFormed from → IsWellFormed image
-    formed_kept formed =
-        well_formed_still from image (λ i. same.bytes Index i (no_index i)) (same.lengths Index (no_sizes Index))
-        (undamaged_still from image (next_same (places_of new (length key)) from image spared same) (heads_still (places_of new (length key)) from image spared same (λ m. let e = same.lengths (Block m) (no_sizes (Block m)) in omega (arith, e)))) formed
+    pub headers_kept : KeepsHeaders from image
+    headers_kept =
+        kept_headers from image (λ i. same.bytes Index i (no_index i)) (same.lengths Index (no_sizes Index))
+        (undamaged_still from image (next_same (places_of new (length key)) from image spared same) (heads_still (places_of new (length key)) from image spared same (λ m. let e = same.lengths (Block m) (no_sizes (Block m)) in omega (arith, e))))
 
   -- whatever was done of the steps
   module _ (a b : Told) (part : AppliesPrefix a b (entry_steps new key moment)) where
@@ -250,7 +251,7 @@ module _ (files : BlockFiles) (new : NewEntry) (key : List ℕ) (moment : ℕ) (
     at_each from there =
         let moment : (image : Image) → SameOutside (places_of new (length key)) from image → WritesEntryInProgress new (length key) from image = (λ image same. record {
           outside = same;
-          well_formed = formed_kept from image same;
+          headers = headers_kept from image same;
           complete = λ whole. same.lengths Index (no_sizes Index) ∙ whole;
         }) in
         passes_weaker (stops from there) moment moment

@@ -5,11 +5,11 @@ use Rattle.spec_image.specs.Image.{Block, External, Image, length_of}
 use Rattle.spec_image.specs.Steps.{TrailStep, words}
 use Rattle.spec_image.specs.Footprint.{Footprint, SameOutside, either, nothing, range}
 use Rattle.spec_format.specs.Address.{is_address, kind_of, block_count, first_block, external, rankings, blocks_256, external_number, file_selector, place, byte_size}
-use Rattle.spec_format.specs.BlockFiles.{IsWellFormed}
 use Rattle.spec_format.specs.Headers.{HasWholeIndex}
 use Rattle.spec_format.specs.Hash.{hash as hash_of}
 use Rattle.spec_format.specs.Records.{Entry, Node, entry_body, entry_size, sealed_entry, node_body, sealed_node, entry_normal, plain, child}
 use Rattle.spec_format.specs.Storage.{entry_blocks, key_place_bytes}
+use Rattle.spec_format.specs.BlockFiles.{KeepsHeaders}
 use Rattle.spec_folder.specs.View.{entry_at, node_at, fields_of, list_of, store_of}
 use Rattle.spec_folder.specs.Entries.{IsPlain, stored_streams}
 use Rattle.spec_folder.specs.Loads.{Loaded}
@@ -144,11 +144,11 @@ node_steps new moment = words (Block (file_selector new.node)) (place new.node) 
 unfoldable pub entry_steps : NewEntry → List ℕ → ℕ → List TrailStep
 entry_steps new key moment = key_steps new key ++ (record_steps new key moment ++ node_steps new moment)
 
--- invariant of writing an entry: no byte outside its record, node and long key has changed; so a well-formed folder is well formed, and the index has its
+-- invariant of writing an entry: no byte outside its record, node and long key has changed; so the headers are kept, and the index has its
 -- length where it had
 pub record WritesEntryInProgress (new : NewEntry) (key_len : ℕ) (from image : Image) : Type 0 where
   pub outside : SameOutside (places_of new key_len) from image
-  pub well_formed : IsWellFormed from → IsWellFormed image
+  pub headers : KeepsHeaders from image
   pub complete : HasWholeIndex from → HasWholeIndex image
 
 -- What is there afterwards.

@@ -74,7 +74,7 @@ pub fn write_entry<F: Folder>(
     ensures steps { OnOk result (Applies (F.told f.old) (F.told f.new) (entry_steps new.now key.now moment)) }
     ensures prefix { AppliesPrefix (F.told f.old) (F.told f.new) (entry_steps new.now key.now moment) }
 
-    // At each word no byte outside the three places has changed, and so a well formed folder is still well formed.
+    // At each word no byte outside the three places has changed, and so the headers are kept.
     ensures stops { ForSome (F.told f.old).files (λ from. Passes (F.told f.old) (F.told f.new) (WritesEntryInProgress new.now (length key.now) from)) }
 
     // The fields are words, and the places addresses, whatever the answer.

@@ -13,6 +13,7 @@ use Rattle.spec_format.specs.BlockFiles.{linked_as}
 use Rattle.spec_format.specs.Claims.{BlockOf, Claim, ExternalOf, claims_of_all, has_claim, same_claim}
 use Rattle.spec_format.specs.Headers.{entry_size_of}
 use Rattle.spec_format.specs.Maps.{is_block_marked, is_block_marked_at}
+use Rattle.spec_format.proofs.Finished.{formed-kept, sound-of}
 use Rattle.spec_folder.specs.Found.{kept}
 use Rattle.spec_folder.specs.Loads.{claims_of_loaded}
 use Rattle.spec_folder.specs.Sound.{words_of}
@@ -67,9 +68,9 @@ module _ (claims : Claims) (image : Image) (n place : ℕ) (new : List ℕ) (men
 
   keeps_at : (now : Image) → SameOutside erased image now → KeepsMendedLinks image now
   keeps_at now same =
-      let sized = λ (kind : ℕ) (linked : linked_as image n ≡ Some kind). size_of_kind image kind n mended.well_formed linked in
+      let sized = λ (kind : ℕ) (linked : linked_as image n ≡ Some kind). size_of_kind image kind n (sound-of image mended.well_formed) linked in
       let change = only n (entry_size_of (byte image (Block n))) (freed image n place new) image now same sized in
-      links-outside (of_blocks n (freed image n place new)) image now mended (change.well_formed mended.well_formed) (agreeing-views (of_blocks n (freed image n place new)) image now change.agree) unkept
+      links-outside (of_blocks n (freed image n place new)) image now mended (formed-kept image now change.well_formed mended.well_formed) (agreeing-views (of_blocks n (freed image n place new)) image now change.agree) unkept
 
 pub remade_maps : RemadeMapsMayErase
 remade_maps claims image n place new mended of writes =
@@ -95,7 +96,7 @@ module _ (image : Image) (n : ℕ) (mended : HasMendedLinks image) (none : has_c
   keeps_file : (now : Image) → Moment image (External n) now → KeepsMendedLinks image now
   keeps_file now moment =
       let change = external-writes image now n moment.0 moment.1 in
-      links-outside its image now mended (change.well_formed mended.well_formed) (agreeing-views its image now change.agree) unkept_file
+      links-outside its image now mended (formed-kept image now change.well_formed mended.well_formed) (agreeing-views its image now change.agree) unkept_file
 
 pub unkept_files : UnkeptFilesMayErase
 unkept_files image n mended none =

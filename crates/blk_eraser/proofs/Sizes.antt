@@ -1,12 +1,12 @@
--- The blocks of a linked file of a folder that is well formed have the bytes of its kind.
+-- The blocks of a linked file of a folder with sound headers have the bytes of its kind.
 use Rattle.std.proofs.Common.{◌≡◌, ℕ, zero, suc, List, [], ◌∷◌, ◌++◌, Bool, true, false, if◌then◌else◌, Option, None, Some, refl, subst, ⊎_elim}
 use Rattle.std.specs.Prelude.{◌==◌}
 use Rattle.std.proofs.lemmas.Bool.{eqb-true, or_cases}
 use Rattle.spec_image.specs.Checks.{first_of}
 use Rattle.spec_image.specs.Image.{Block, Image, Index, byte, length_of}
 use Rattle.spec_format.specs.Address.{block_size}
-use Rattle.spec_format.specs.BlockFiles.{block_checks, checks_along, checks_of_kind, file_checks, files_along, first_block_damage, is_among, kind_among, linked, linked_as, linked_up_to, next_file_in, IsWellFormed}
-use Rattle.spec_format.specs.Headers.{entry_size_of, head_checks, list_checks}
+use Rattle.spec_format.specs.BlockFiles.{block_checks, checks_along, checks_of_kind, file_checks, files_along, first_block_damage, is_among, kind_among, linked, linked_as, linked_up_to, next_file_in, HasSoundHeaders}
+use Rattle.spec_format.specs.Headers.{entry_size_of, field_checks, list_checks}
 use Rattle.spec_format.proofs.Keeping.{checks_hold, each_kind, none_parts}
 
 HasSize : Image → ℕ → ℕ → Type 0
@@ -61,9 +61,9 @@ linked_sized image kind m undamaged is = go (is_among (linked image 1) m) (is_am
     go false false false true ea eb ec ed e = subst (λ (k : ℕ). HasSize image k m) (some 4 kind e) (along_sized image 4 59 3 (linked_up_to image 3) m ed (each_kind image undamaged).3)
     go false false false false ea eb ec ed e = absurd (let z : ◌≡◌ {A = Option ℕ} None (Some kind) = e in cc)
 
-pub size_of_kind : (image : Image) (kind m : ℕ) → IsWellFormed image → linked_as image m ≡ Some kind → entry_size_of (byte image (Block m)) ≡ block_size kind
-unfolding head_checks list_checks HasSize
+pub size_of_kind : (image : Image) (kind m : ℕ) → HasSoundHeaders image → linked_as image m ≡ Some kind → entry_size_of (byte image (Block m)) ≡ block_size kind
+unfolding field_checks list_checks HasSize
 size_of_kind image kind m well linked =
-    let p = none_parts (head_checks (byte image Index) (length_of image Index)) (list_checks (byte image Index) ++ block_checks image) well in
+    let p = none_parts (field_checks (byte image Index) (length_of image Index)) (list_checks (byte image Index) ++ block_checks image) well in
     let q = none_parts (list_checks (byte image Index)) (block_checks image) p.1 in
     linked_sized image kind m q.1 linked

@@ -14,11 +14,11 @@ use Rattle.spec_image.proofs.Images.{same_file-true}
 use Rattle.spec_image.proofs.Runs.{until_weaker2}
 use Rattle.blk_model.specs.State.{State}
 use Rattle.spec_format.specs.Address.{block_place, block_size}
-use Rattle.spec_format.specs.BlockFiles.{linked_as, IsWellFormed}
+use Rattle.spec_format.specs.BlockFiles.{linked_as, HasSoundHeaders, KeepsHeaders}
 use Rattle.spec_format.specs.Claims.{BlockOf, Claim, ExternalOf, claims_of, claims_of_all, has_claim}
 use Rattle.spec_format.specs.Growth.{StaysWhole}
-use Rattle.spec_format.specs.Headers.{entry_size_of, head_checks, is_extent_place, list_checks}
-use Rattle.spec_format.proofs.Finished.{well_formed-finished}
+use Rattle.spec_format.specs.Headers.{entry_size_of, is_extent_place, list_checks, magic_of, field_checks}
+use Rattle.spec_format.proofs.Finished.{formed-kept, sound-of}
 use Rattle.spec_format.proofs.SpareHeaders.{SparesHeaders}
 use Rattle.spec_folder.specs.Footprint.{Covers, IsFree}
 use Rattle.spec_folder.specs.Layout.{Layout, Represents}
@@ -29,8 +29,8 @@ use Rattle.law_folder.proofs.claims.ClaimLists.{claim-append}
 use Rattle.law_folder.proofs.claims.Covers.{block-of}
 use Rattle.law_folder.proofs.claims.Files.{growth-keeps}
 use Rattle.law_folder.proofs.claims.Outside.{represents-outside}
-use Rattle.law_folder.proofs.states.Standing.{found-at_rest}
-use Rattle.law_folder.proofs.updates.WellFormed.{well_formed_still}
+use Rattle.law_folder.proofs.states.Standing.{held-at_rest}
+use Rattle.law_folder.proofs.updates.WellFormed.{headers_still}
 use Rattle.law_state.specs.Changes.{AreOfWords, ChangesOnly, SameCounters, StillFinds}
 use Rattle.law_state.specs.Keeping.{KeepsUncounted}
 use Rattle.law_state.proofs.Counts.{count-outside}
@@ -108,10 +108,10 @@ module _ (n size : ℕ) (which : ℕ → Bool) where
     at_length : {a b : Option (List ℕ)} → a ≡ b → length_of (λ file. a) Index ≡ length_of (λ file. b) Index
     at_length e = ap (λ (o : Option (List ℕ)). length_of (λ file. o) Index) e
 
-    formed : IsWellFormed from → IsWellFormed image
-    formed =
-        well_formed_still blocks from image spares (λ m. refl) same
-        (λ k. first_of (head_checks (at_bytes index k) (at_length index k))) (λ k. first_of (list_checks (at_bytes index k)))
+    kept-headers : KeepsHeaders from image
+    kept-headers =
+        headers_still blocks from image spares (λ m. refl) same
+        (λ k. magic_of (at_bytes index k)) (λ k. first_of (field_checks (at_bytes index k) (at_length index k))) (λ k. first_of (list_checks (at_bytes index k)))
 
     at_word : (p : ℕ) → word image Index p ≡ word from Index p
     at_word p = same_word_outside blocks from image Index p same (λ k low high. refl)
@@ -125,7 +125,7 @@ module _ (n size : ℕ) (which : ℕ → Bool) where
         files = λ file. same.files file refl;
       };
       session = record { crash = at_word 32; id = at_word 20 };
-      well_formed = formed;
+      well_formed = kept-headers;
     }
 
 -- The zeros over blocks.
@@ -172,13 +172,19 @@ module _ (image : Image) (n place : ℕ) (new : List ℕ) where
       (λ (e : of_blocks n freed (BlockOf m b) ≡ false). e)
       (cases_Bool (of_blocks n freed (BlockOf m b)))
 
+  keeps_view : (state : State) (layout : Layout) → EachFreed (λ b. layout.owner (BlockOf n b) ≡ None) image n place new → HasSoundHeaders image → Represents (view_of image) state layout
+      → (now : Image) → SameOutside F image now → KeepsHeaders image now × Represents (view_of now) state layout
+  keeps_view state layout each sound represents now same =
+      let sized = λ (kind : ℕ) (linked : linked_as image n ≡ Some kind). size_of_kind image kind n sound linked in
+      let change = only n size freed image now same sized in
+      let views = agreeing-views (of_blocks n freed) image now change.agree in
+      (change.well_formed, represents-outside (of_blocks n freed) (view_of image) (view_of now) state layout views (nobodys layout each) represents)
+
   shows_at : (state : State) (layout : Layout) → EachFreed (λ b. layout.owner (BlockOf n b) ≡ None) image n place new → ShowsWhole state layout image
       → (now : Image) → SameOutside F image now → ShowsWhole state layout now
   shows_at state layout each shows now same =
-      let sized = λ (kind : ℕ) (linked : linked_as image n ≡ Some kind). size_of_kind image kind n shows.0 linked in
-      let change = only n size freed image now same sized in
-      let views = agreeing-views (of_blocks n freed) image now change.agree in
-      (change.well_formed shows.0, represents-outside (of_blocks n freed) (view_of image) (view_of now) state layout views (nobodys layout each) shows.1)
+      let both = keeps_view state layout each (sound-of image shows.0) shows.1 now same in
+      (formed-kept image now both.0 shows.0, both.1)
 
 pub blocks_nobodys : UnownedBlocksMayBeErased
 blocks_nobodys state layout image n place new shows each =
@@ -202,7 +208,7 @@ module _ (unlinked : List ℕ) (from image : Image) (n place : ℕ) (new : List 
   keeps_at : (now : Image) → SameOutside erased from now → KeepsTheSame unlinked from now
   keeps_at now same = (
     λ state layout more k.
-        let well : IsWellFormed image = stays.formed k.well_formed in
+        let well : HasSoundHeaders image = stays.headers.sound k.sound in
         let sized = λ (kind : ℕ) (linked : linked_as from n ≡ Some kind). size_of_kind image kind n well (stays.grown.linked n kind linked) in
         let change = only n (entry_size_of (byte image (Block n))) (freed image n place new) from now same sized in
         unlinked-change (of_blocks n (freed image n place new)) unlinked from now of_words change state layout more k,
@@ -222,8 +228,9 @@ module _ (unlinked : List ℕ) (from image : Image) (n place : ℕ) (new : List 
   finds_at now same state layout more k =
       let grown : Represents (view_of image) state layout =
       growth-keeps from image state layout (map layout.place_of_doomed k.numbers) stays.grown k.represents k.owners.exact in
-      let shown = shows_at image n place new state layout (unowned state layout more k) (stays.formed k.well_formed, grown) now same in
-      (shown.0, found-at_rest now state layout shown.1 k.valid (well_formed-finished now shown.0))
+      let sound : HasSoundHeaders image = stays.headers.sound k.sound in
+      let both = keeps_view image n place new state layout (unowned state layout more k) sound grown now same in
+      (both.0.sound sound, held-at_rest now state layout both.1 k.valid)
 
 pub blocks_unlinked : UnlinkedBlocksMayBeErased
 blocks_unlinked unlinked from image n place new stays of =

@@ -82,8 +82,8 @@ UnlinkedBlocksMayBeErased = (unlinked : List ℕ) (from image : Image) (n place 
     → FreesUnlinked unlinked image n place new
     → Along (KeepsTheSame unlinked from) from (zeros_before_write image (Block n) place new)
 
--- while zeros are written over blocks of unlinked addresses in a call that has already written (but a well-formed folder is well formed), recovery gives the
--- durable contents of the states that were kept when the call began
+-- while zeros are written over blocks of unlinked addresses in a call that has already written (but the headers are kept), the durable
+-- contents of the states that were kept when the call began are held
 abbrev pub ErasingFindsTheSame : Type 0
 ErasingFindsTheSame = (unlinked : List ℕ) (from image : Image) (n place : ℕ) (new : List ℕ) → StaysWhole from image
     → FreesUnlinked unlinked image n place new

@@ -43,7 +43,7 @@ use Rattle.law_state.specs.Changes.{SameSession}
 use Rattle.law_state.specs.Keeping.{Keeps, KeepsUncounted}
 use Rattle.law_state.specs.CommandEnds.{without_part}
 use Rattle.law_state.specs.RemovalLaws.{IsWithout, layout_removed}
-use Rattle.law_state.proofs.Keeping.{kept-found}
+use Rattle.law_state.proofs.Keeping.{kept-held}
 use Rattle.law_state.proofs.GroupsGone.{whole-groups-go}
 use Rattle.law_state.proofs.PlainRemovals.{part-gone-without}
 use Rattle.blk_object.specs.FindingOut.{IsFoundListed, is_child_item}
@@ -345,7 +345,7 @@ module _ (state : State) (layout : Layout) (unlinked : List ℕ) (image : Image)
 
 pub stayed-stops : (told now : Told) (state after : State) (layout : Layout) (from : Image) → told.files ≡ Some from → now ≡ told → Keeps state layout [] from → Passes told now (FindsEither state after)
 stayed-stops told now state after layout from there same k =
-    passes_none {a = told} {b = now} (FindsEither state after) same (λ image is. subst (FindsEither state after) (some_inj (sym there ∙ is)) (inl (k.entries.well_formed, kept-found state layout [] from k.entries)))
+    passes_none {a = told} {b = now} (FindsEither state after) same (λ image is. subst (FindsEither state after) (some_inj (sym there ∙ is)) (inl (k.entries.sound, kept-held state layout [] from k.entries)))
 
 -- a fact that holds on any answer
 pub on-ok-any : {T E P : Type 0} (r : Result T E) → P → OnOk r P

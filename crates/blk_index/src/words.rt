@@ -5,7 +5,7 @@ ghost use Rattle.spec_image.specs.Bytes.{long_at};
 ghost use Rattle.spec_image.specs.Footprint.{SameOutside, one_word};
 ghost use Rattle.spec_image.specs.Image.{HasRange, byte, word, Index as index};
 ghost use Rattle.spec_image.specs.Steps.{word_step};
-ghost use Rattle.spec_image.specs.Told.{Applies, AppliesPrefix, Passes, Rises, ReadsOnly};
+ghost use Rattle.spec_image.specs.Told.{Applies, AppliesPrefix, Passes, PassesAny, Rises, ReadsOnly};
 ghost use Rattle.spec_format.specs.Headers.{HasWholeIndex, bucket_of, place_of_bucket, header_length, table_length};
 ghost use Rattle.blk_io.specs.Faults.{IfDamaged, IfDevice, IsShort};
 ghost use Rattle.blk_index.specs.Table.{AreBuckets, buckets_of_piece};
@@ -124,7 +124,7 @@ pub fn set_word<F: Folder>(f: &mut F, at: u64, value: u32) -> Result<(), Failed>
     ensures prefix { AppliesPrefix (F.told f.old) (F.told f.new) (word_step index at value) }
 
     // Nothing but this word has changed before and after the step.
-    ensures outside { ForSome (F.told f.old).files (λ from. Passes (F.told f.old) (F.told f.new) (SameOutside (one_word index at) from)) }
+    ensures outside { ForSome (F.told f.old).files (λ from. PassesAny (F.told f.old) (F.told f.new) (SameOutside (one_word index at) from)) }
     ensures complete { ForSome (F.told f.new).files HasWholeIndex }
 
     ensures later { F.faults f.old ≤ F.faults f.new }

@@ -11,6 +11,7 @@ use Rattle.spec_format.specs.Address.{blocks_256, file_selector, kind_of, place,
 use Rattle.spec_format.specs.BlockFiles.{is_among, stands_in}
 use Rattle.spec_format.specs.Sealed.{RecordChecks, record_range, record_size, size_by_kind}
 use Rattle.spec_format.specs.Records.{entry_size}
+use Rattle.spec_format.proofs.Finished.{headers-kept}
 use Rattle.spec_folder.specs.Chains.{IsChain, Linked, bucket_at, bucket_of_hash, chain, file_and_block, is_of_bucket}
 use Rattle.spec_folder.specs.Footprint.{OnlyLinksChange}
 use Rattle.spec_folder.specs.Layout.{Layout}
@@ -134,7 +135,7 @@ record-leaves from image w fields here outside =
 
 leaves-by : (from image : Image) (w : ℕ) (before : Option ℕ) → IsInBucket from (bucket_at from w) (in_front before w) → IsUnlinked from w before image → LeavesFiles from image
 unfolding in_front
-leaves-by from image w None i u = table-files from image (bucket_at from w) u.keeps.outside u.keeps.well_formed
+leaves-by from image w None i u = table-files from image (bucket_at from w) u.keeps.outside u.keeps.headers
 leaves-by from image w (Some v) i u = record-leaves from image v i.fields i.here u.keeps.outside
 
 before-checks : (words : List ℕ) (w : ℕ) (before : Option ℕ) (prefix suffix : List ℕ) (image : Image) → StandsBehind words w before prefix suffix → ((v : ℕ) → is_among words v ≡ true → RecordChecks v image) → BeforeChecks before image
@@ -190,7 +191,7 @@ module _ (layout : Layout) (chains : ℕ → List ℕ) (between : Image) (whole 
     only = record { beside = record { node_fields = λ u. refl; key_place = λ u c a b d e. refl; stored = λ s u c. refl }; entry = λ u. refl };
     list = refl;
     whole = whole;
-    well_formed = λ well. well;
+    headers = headers-kept between;
   }
 
   -- or the record before is being changed
@@ -203,7 +204,7 @@ module _ (layout : Layout) (chains : ℕ → List ℕ) (between : Image) (whole 
     only = only;
     list = s.keeps.list;
     whole = still-whole image s.chains;
-    well_formed = s.keeps.well_formed;
+    headers = s.keeps.headers;
   }
 
   lacks : (other : ℕ) → other < 65536 → (b == other) ≡ false → is_among (chains other) w ≡ false
@@ -239,7 +240,7 @@ module _ (layout : Layout) (chains : ℕ → List ℕ) (between : Image) (whole 
       only = only-links between image w before first-in u;
       list = u.keeps.list;
       whole = whole-now;
-      well_formed = u.keeps.well_formed;
+      headers = u.keeps.headers;
     }
 
     -- and the files are left

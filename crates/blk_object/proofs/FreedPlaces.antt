@@ -137,7 +137,7 @@ one-may place w from is a = subst (λ (p : Option ℕ). AreFreeable (words_at (p
 next-finds : (left : List ℕ) (from image : Image) → IsNextGoing left from image → StillFinds left from image
 next-finds [] from image is = subst (λ (i : Image). StillFinds [] from i) (sym is) (then-found [] [] from from (λ state layout unlinked k. k))
 next-finds (w ∷ left) from image (inl is) = subst (λ (i : Image). StillFinds (w ∷ left) from i) (sym is) (then-found (w ∷ left) (w ∷ left) from from (λ state layout unlinked k. k))
-next-finds (w ∷ left) from image (inr (inl stays)) = growth-finds (w ∷ left) from image stays.grown stays.formed
+next-finds (w ∷ left) from image (inr (inl stays)) = growth-finds (w ∷ left) from image stays.grown stays.headers
 next-finds (w ∷ left) from image (inr (inr file)) = λ state layout unlinked k. deleting-finds from image w file.0 file.1 state layout (left ++ unlinked) k
 
 pub going-finds : GoingWordsFindTheSame
@@ -149,7 +149,7 @@ module _ (state : State) (layout : Layout) (number : ℕ) (object : Object) (kee
   next-finds-doomed : (left : List ℕ) (from image : Image) → KeepsPartlyOut state layout keep chains (left ++ unlinked) from → IsNextGoing left from image → Finds (rest (doomed number state (Some object))) image
   next-finds-doomed [] from image k is = subst (Finds (rest (doomed number state (Some object)))) (sym is) (partly-out-finds state layout number object keep chains unlinked from there leaves k)
   next-finds-doomed (w ∷ left) from image k (inl is) = subst (Finds (rest (doomed number state (Some object)))) (sym is) (partly-out-finds state layout number object keep chains (w ∷ left ++ unlinked) from there leaves k)
-  next-finds-doomed (w ∷ left) from image k (inr (inl stays)) = freeing-finds state layout number object keep chains (w ∷ left ++ unlinked) from image there leaves k stays.grown stays.formed
+  next-finds-doomed (w ∷ left) from image k (inr (inl stays)) = freeing-finds state layout number object keep chains (w ∷ left ++ unlinked) from image there leaves k stays.grown stays.headers
   next-finds-doomed (w ∷ left) from image k (inr (inr file)) = deleting-doomed state layout number object keep chains w (left ++ unlinked) from image there leaves k file.0 file.1
 
 pub going-finds-doomed : GoingWordsFindDoomed

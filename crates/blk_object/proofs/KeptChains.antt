@@ -16,6 +16,7 @@ use Rattle.spec_format.specs.Address.{blocks_256, file_selector, kind_of, place,
 use Rattle.spec_format.specs.BlockFiles.{is_among, stands_in}
 use Rattle.spec_format.specs.Sealed.{RecordChecks, record_range, record_size, size_by_kind}
 use Rattle.spec_format.specs.Records.{entry_size}
+use Rattle.spec_format.proofs.Finished.{headers-kept}
 use Rattle.spec_folder.specs.Chains.{IsChain, Linked, bucket_at, bucket_of_hash, chain, file_and_block, is_of_bucket}
 use Rattle.spec_folder.specs.Footprint.{OnlyLinksChange}
 use Rattle.spec_folder.specs.Layout.{Layout}
@@ -198,7 +199,7 @@ records-out state layout unlinked from between image node was before prefix suff
   only = only-links between image was.contents before known u;
   list = u.keeps.list;
   whole = whole-now state layout unlinked from between image node was before prefix suffix k done stands u;
-  well_formed = u.keeps.well_formed;
+  headers = u.keeps.headers;
 } where
   known : (v : ℕ) → before ≡ Some v → IsInBucket between (bucket_at between was.contents) v
   known v is = subst (λ (o : Option ℕ). IsInBucket between (bucket_at between was.contents) (in_front o was.contents)) is (first-in state layout unlinked from between node was before prefix suffix k done stands)
@@ -213,7 +214,7 @@ record-leaves from image w fields here outside =
 
 leaves-by : (from image : Image) (w : ℕ) (before : Option ℕ) → IsInBucket from (bucket_at from w) (in_front before w) → IsUnlinked from w before image → LeavesFiles from image
 unfolding in_front
-leaves-by from image w None i u = table-files from image (bucket_at from w) u.keeps.outside u.keeps.well_formed
+leaves-by from image w None i u = table-files from image (bucket_at from w) u.keeps.outside u.keeps.headers
 leaves-by from image w (Some v) i u = record-leaves from image v i.fields i.here u.keeps.outside
 
 pub records-leave : UnlinkedRecordsLeaveFiles
@@ -285,7 +286,7 @@ module _ (state : State) (layout : Layout) (unlinked : List ℕ) (from between :
     only = record { beside = record { node_fields = λ u. refl; key_place = λ u c a b d e. refl; stored = λ s u c. refl }; entry = λ u. refl };
     list = refl;
     whole = chains-are state layout unlinked from between node was before prefix suffix k done stands;
-    well_formed = λ well. well;
+    headers = headers-kept between;
   }
 
   -- or the record before is being changed
@@ -298,7 +299,7 @@ module _ (state : State) (layout : Layout) (unlinked : List ℕ) (from between :
     only = only;
     list = s.keeps.list;
     whole = λ other small. chain-back (store_of image) other (layout.chains other) (s.chains other ∙ chain-is (store_of between) other (layout.chains other) (no-record between) (chains-are state layout unlinked from between node was before prefix suffix k done stands other small));
-    well_formed = s.keeps.well_formed;
+    headers = s.keeps.headers;
   }
 
 pub links-change : UnlinkingsChangeLinks

@@ -70,7 +70,7 @@ change-own files new key from image fits words agrees m =
       agree = covered-agrees (places_of new (length key)) from image (has_claim (all_claims (loaded_new new key))) m.outside (new-places-covered files new key from fits words agrees);
       headers = record { headers = λ n i small. m.outside.bytes (Block n) i (spares.headers n i small); lengths = λ n. m.outside.lengths (Block n) (spares.sizes (Block n)); files = λ file. m.outside.files file (spares.sizes file) };
       session = record { crash = index-word 32; id = index-word 20 };
-      well_formed = m.well_formed;
+      well_formed = m.headers;
     }
 
 pub writing-keeps : WritingEntriesKeepsStates

@@ -21,7 +21,7 @@ use Rattle.blk_object.specs.KeptBlocks.{FreesRemove, FreesStayWhole, WholeFolder
 pub whole-finds : WholeFoldersFindTheSame
 whole-finds words old new passes from there = passes_weaker (passes from there) finds finds where
   finds : (image : Image) → StaysWhole from image → StillFinds words from image
-  finds image whole = growth-finds words from image whole.grown whole.formed
+  finds image whole = growth-finds words from image whole.grown whole.headers
 
 -- ---- free
 

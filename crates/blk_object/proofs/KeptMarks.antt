@@ -6,7 +6,7 @@ use Rattle.spec_image.proofs.Commits.{commits_passes}
 use Rattle.spec_image.proofs.Runs.{passes_weaker}
 use Rattle.spec_format.specs.Headers.{header_length}
 use Rattle.spec_format.specs.Records.{Node, node_checks}
-use Rattle.spec_format.proofs.Finished.{whole_index}
+use Rattle.spec_format.proofs.Finished.{sound-whole}
 use Rattle.spec_folder.specs.ListImages.{IsWritable}
 use Rattle.spec_folder.specs.Layout.{rule_of}
 use Rattle.spec_folder.specs.View.{checks_at, list_of, store_of}
@@ -44,14 +44,14 @@ being-set node mark old new checks passes from there = passes_weaker (passes fro
 
 pub marks-set : MarksAreSet
 marks-set node mark old new bytes well good small steps from there image is =
-    let long : length_of from Index ≡ 262512 = whole_index from (well from there) in
+    let long : length_of from Index ≡ 262512 = sound-whole from (well from there) in
     let ready : IsWritable from = record { bytes = bytes from there; has_header = subst (λ (n : ℕ). header_length ≤ n) (sym long) (lit≤ tt) } in
     subst (IsMarked from node mark) (told-after old new (mark_steps from node mark) from image (steps from there) there is) (marks-done from node mark ready (good from there) small)
 
 -- ---- links
 
 pub in-front : LinksAreInFront
-in-front entry from image l = record { list = l.list; store = l.store; well_formed = l.well_formed; outside = l.outside }
+in-front entry from image l = record { list = l.list; store = l.store; headers = l.headers; outside = l.outside }
 
 pub come-in-front : LinksComeInFront
 come-in-front entry old new commits from there = commits_passes 1 old new (λ i. i ≡ from) (IsLinkedInFront from entry) (λ i. (i ≡ from) ⊎ HasRecordInFront from entry i) (λ i e. inl e) (λ i l. inr (in-front entry from i l)) (commits from there)

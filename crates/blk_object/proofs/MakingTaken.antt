@@ -11,12 +11,12 @@ use Rattle.spec_image.specs.Told.{Applies, Passes, PassesTo, Told}
 use Rattle.spec_image.proofs.Runs.{passes_end, passes_none, passes_then, passes_weaker, some_inj}
 use Rattle.spec_image.proofs.Splices.{length-resized}
 use Rattle.spec_format.specs.Address.{external, external_number, file_selector, is_address, is_block_kind, kind_of}
-use Rattle.spec_format.specs.BlockFiles.{IsWellFormed}
+use Rattle.spec_format.specs.BlockFiles.{HasSoundHeaders}
 use Rattle.spec_format.specs.Claims.{Claim, ExternalOf, claims_of, claims_of_all, has_claim, same_claim}
 use Rattle.spec_format.specs.Growth.{StaysWhole}
 use Rattle.spec_format.specs.Headers.{HasWholeIndex, crash_of, this_id_of}
 use Rattle.spec_format.specs.Storage.{kind_for}
-use Rattle.spec_format.proofs.Finished.{whole_index}
+use Rattle.spec_format.proofs.Finished.{sound-whole}
 use Rattle.blk_io.proofs.Carried.{untold_where}
 use Rattle.blk_disk.specs.declared.tables.BlockFiles.{BlockFiles}
 use Rattle.blk_disk.specs.Open.{IsOpen}
@@ -112,7 +112,7 @@ module _ (a b : Told) (files : BlockFiles) (kind count : ℕ) (block : is_block_
 
   pub allocating-finds : ForSome a.files (λ from. LeavesRoom 1 from → Passes a b (StillFinds [] from))
   allocating-finds from there room =
-      let finds : (image : Image) → StaysWhole from image → StillFinds [] from image = λ image whole. growth-finds [] from image whole.grown whole.formed in
+      let finds : (image : Image) → StaysWhole from image → StillFinds [] from image = λ image whole. growth-finds [] from image whole.grown whole.headers in
       passes_weaker (stays 0 from there room) finds finds
 
   pub allocated-taken : (new : BlockFiles) (w : ℕ) → kind_of w ≡ kind → is_address w ≡ true → ForSome b.files (Agrees new) → stands_among new w ≡ true → HasItsBlocks new (file_selector w) → KeepsLinks files new (file_selector w)
@@ -120,7 +120,7 @@ module _ (a b : Told) (files : BlockFiles) (kind count : ℕ) (block : is_block_
       → ForSome a.files (λ from. LeavesRoom 1 from → ForSome b.files (Takes (w ∷ []) from))
   allocated-taken new w of_kind address agrees stands long links allocates within from there room image now =
       let counted = counted-with-room 0 files kind from room (agreed from there) block in
-      let adds : AddsAllocation from w image = allocations-add files new kind w from image room.kept.well_formed
+      let adds : AddsAllocation from w image = allocations-add files new kind w from image room.kept.sound
       (record { block_kind = block; of_kind = of_kind; address = address; agreed = agreed from there; agrees = agrees image now; stands = stands; long = long; links = links; allocates = allocates from there counted image now; within = within from there counted image now; stays = passes_end (stays 0 from there room) image now }) in
       record {
         kept = allocated-unlinked w from image adds;
@@ -133,7 +133,7 @@ module _ (a b : Told) (files : BlockFiles) (kind count : ℕ) (block : is_block_
   allocating-whole silent room mid now =
       let from = told-before a.files b.files mid silent now in
       let r = room from.0 from.1 in
-      whole_index mid ((passes_end (stays 0 from.0 from.1 r) mid now).formed r.kept.well_formed)
+      sound-whole mid ((passes_end (stays 0 from.0 from.1 r) mid now).headers.sound r.kept.sound)
 
   pub allocating-tells : ForSome a.files (LeavesRoom 1) → b.files ≡ None → a.files ≡ None
   allocating-tells room = none-before a b (λ from there. told-mid a b from there (stays 0 from there (room from there)))
@@ -159,7 +159,7 @@ module _ (a b : Told) where
   module _ (w : ℕ) (kind : kind_of w ≡ external) (address : is_address w ≡ true) (first : ForSome a.files (λ image. IsFirstFree image (last_number image) (external_number w))) (made : ForSome b.files (λ image. Creates image (external_number w)))
       (steps : Applies a b (making (external_number w))) where
     added : (from mid : Image) → a.files ≡ Some from → b.files ≡ Some mid → LeavesRoom 1 from → AddsExternal from w mid
-    added from mid there now room = creations-add w a b address kind (λ image is. subst IsWellFormed (some_inj (sym there ∙ is)) room.kept.well_formed) first made steps from there mid now
+    added from mid there now room = creations-add w a b address kind (λ image is. subst HasSoundHeaders (some_inj (sym there ∙ is)) room.kept.sound) first made steps from there mid now
 
     module _ (c : Told) (sizing : ForSome b.files (λ mid. Passes b c (ChangesExternal (whole (named_file w)) (external_number w) mid))) where
       pub sizing-finds : ForSome a.files (λ from. HasFreeNumber from → Passes a b (CreatesInProgress from)) → ForSome a.files (λ from. LeavesRoom 1 from → Passes a c (StillFinds [] from))

@@ -189,7 +189,7 @@ module _ (state : State) (layout : Layout) (keep : Item → Bool) (chains : ℕ 
   -- so the durable contents with its object doomed are recovered
   pub out-finds : (number : ℕ) (object : Object) → object_at state number ≡ Some object → LeavesOtherKeys object.key less → Finds (rest (doomed number state (Some object))) image
   out-finds number object at others = out-doomed state (record layout { chains = chains_but chains was.contents }) number object less image k.valid at (record {
-    well_formed = unlinking.well_formed (unlisted.partly.well_formed k.well_formed);
+    sound = unlinking.headers.sound (unlisted.partly.headers.sound k.sound);
     except = is_among more;
     holds = holds-now;
     out = others.out;
@@ -217,7 +217,7 @@ module _ (state : State) (layout : Layout) (keep : Item → Bool) (chains : ℕ 
     -- files
     pub leaves : LeavesFiles from image
     leaves = leaves-then from between image (leaves-files (touch_range writes node) from between (touch_spares writes node) (touch_sizes writes node) outside
-        (record { crash = counter-same writes node from between outside 32 (omega arith); id = counter-same writes node from between outside 20 (omega arith) }) unlisted.partly.well_formed) leaves_files
+        (record { crash = counter-same writes node from between outside 32 (omega arith); id = counter-same writes node from between outside 20 (omega arith) }) unlisted.partly.headers) leaves_files
 
     same-words : IsPermutation (words_in_use unlinked (loaded_at layout (left_nodes state layout keep k.numbers))) (words_in_use (words_of was ++ unlinked) (loaded_at layout (left_nodes state layout less k.numbers)))
     same-words =
@@ -268,7 +268,7 @@ module _ (state : State) (layout : Layout) (keep : Item → Bool) (chains : ℕ 
     pub one-more-out : KeepsPartlyOut state layout less (chains_but chains was.contents) (words_of was ++ unlinked) image
     one-more-out = record {
       valid = k.valid;
-      well_formed = leaves.well_formed k.well_formed;
+      sound = leaves.well_formed.sound k.sound;
       lies = k.lies;
       list = new-rest;
       holds = holds-now;
@@ -283,7 +283,7 @@ module _ (state : State) (layout : Layout) (keep : Item → Bool) (chains : ℕ 
           (cases_Bool (is_among gone n));
       numbers = k.numbers;
       owners = k.owners;
-      files = files-alike image _ _ same-words (files-same from image leaves.headers _ k.well_formed k.files);
+      files = files-alike image _ _ same-words (files-same from image leaves.headers _ k.sound k.files);
       stand = stand-same from image leaves.headers (words_of was ++ unlinked) stood;
       free = free;
       single = single;

@@ -64,7 +64,7 @@ removal-leaves from between node done =
     let writes : List ListWrite = writes_of remove node (list_of from) in
     let outside : SameOutside (touch_range writes node) from between = outside_wider (touched_by_writes writes) (touch_range writes node) from between (within_left (touched_by_writes writes) (record_range node)) done.partly.outside in
     leaves-files (touch_range writes node) from between (touch_spares writes node) (touch_sizes writes node) outside
-    (record { crash = counter-same writes node from between outside 32 (omega arith); id = counter-same writes node from between outside 20 (omega arith) }) done.partly.well_formed
+    (record { crash = counter-same writes node from between outside 32 (omega arith); id = counter-same writes node from between outside 20 (omega arith) }) done.partly.headers
 
 -- and the counters
 removal-counters : (from between : Image) (node : ℕ) → IsRemovalDone from node between → SameCounters from between

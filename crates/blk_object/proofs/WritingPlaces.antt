@@ -6,7 +6,7 @@ use Rattle.std.proofs.lemmas.Bool.Decides.{nat_tests}
 use Rattle.spec_image.specs.Footprint.{Footprint, SameOutside, range, whole}
 use Rattle.spec_image.specs.Image.{Block, External, Image, Index, byte, has_file}
 use Rattle.spec_format.specs.Address.{byte_size, external, external_number, file_selector, is_block_kind, kind_of, place}
-use Rattle.spec_format.specs.BlockFiles.{IsWellFormed, stands_in, stands_in_blocks}
+use Rattle.spec_format.specs.BlockFiles.{HasSoundHeaders, stands_in, stands_in_blocks}
 use Rattle.spec_format.specs.Claims.{Claim, ExternalOf, claims_of, claims_of_all, has_claim, same_claim}
 use Rattle.spec_format.specs.Headers.{crash_of, this_id_of}
 use Rattle.spec_format.specs.Standing.{stands}
@@ -47,10 +47,10 @@ index-session from image same = record { crash = ap crash_of all; id = ap this_i
 -- ---- a place is taken
 
 taking-finds : (from image : Image) → TakesInProgress from image → StillFinds [] from image
-taking-finds from image (inl whole) = growth-finds [] from image whole.grown whole.formed
+taking-finds from image (inl whole) = growth-finds [] from image whole.grown whole.headers
 taking-finds from image (inr c) = making-finds from image c.number (record { small = let n = c.first.number in omega (arith, n.1); absent = c.first.free; same = c.same })
 
-module _ (files kept : BlockFiles) (w : ℕ) (from taken : Image) (well : IsWellFormed from) (agreed : Agrees files from) where
+module _ (files kept : BlockFiles) (w : ℕ) (from taken : Image) (well : HasSoundHeaders from) (agreed : Agrees files from) where
   blocks-added : TakesBlocks files kept w from taken → AddsAllocation from w taken
   blocks-added t = allocations-add files kept (kind_of w) w from taken well (record { block_kind = t.block_kind; of_kind = refl; address = t.address; agreed = agreed; agrees = t.agrees; stands = t.stands; long = t.long; links = t.links; allocates = t.allocates; within = t.within; stays = t.stays })
 
@@ -136,7 +136,7 @@ module _ (files kept : BlockFiles) (w : ℕ) (from taken : Image) where
         let some : (w == 0) ≡ false = some-address w t.address in
         unlinked-change _ (w ∷ []) taken image (its-own w some t.external_kind) (external-writes taken image (external_number w) (file-same t) (there t.external_kind ∙ sym (ap is_some t.made.file)))
 
-    filled-stored : (kind_of w ≡ external → has_file image (External (external_number w)) ≡ true) → IsWellFormed from → Agrees files from → TakesPlace files kept w from taken → KeepsStored from image
+    filled-stored : (kind_of w ≡ external → has_file image (External (external_number w)) ≡ true) → HasSoundHeaders from → Agrees files from → TakesPlace files kept w from taken → KeepsStored from image
     filled-stored there well agreed takes state layout unlinked k size v bytes among is = by takes refl where
       kept_so : KeepsUncounted state layout (w ∷ unlinked) taken
       kept_so = taken-unlinked files kept w from taken well agreed takes state layout unlinked k
@@ -156,7 +156,7 @@ filling-finds files kept from image agreed (inl takes) = taking-finds from image
 filling-finds files kept from image agreed (inr fills) = λ state layout unlinked k.
     let f = fills.1 in
     let w : ℕ = fills.0 in
-    filling-word files kept w from f.taken image f.same f.takes state layout unlinked (taken-unlinked files kept w from f.taken k.well_formed agreed f.takes state layout unlinked k)
+    filling-word files kept w from f.taken image f.same f.takes state layout unlinked (taken-unlinked files kept w from f.taken k.sound agreed f.takes state layout unlinked k)
 
 nothing-taken-here : (from : Image) → Takes [] from from
 nothing-taken-here from = record { kept = λ state layout unlinked k. k; session = record { crash = refl; id = refl }; counters = refl; stored = λ state layout unlinked k size w bytes among there. there }

@@ -8,7 +8,7 @@ use Rattle.spec_image.proofs.Runs.{passes_none, passes_weaker, some_inj}
 use Rattle.blk_model.specs.Holding.{rest}
 use Rattle.blk_model.specs.State.{Object, State}
 use Rattle.spec_format.specs.Headers.{HasWholeIndex}
-use Rattle.spec_format.proofs.Finished.{whole_index}
+use Rattle.spec_format.proofs.Finished.{sound-whole}
 use Rattle.spec_folder.specs.Layout.{Layout}
 use Rattle.spec_folder.specs.Loads.{Loaded}
 use Rattle.law_folder.proofs.claims.ByteChanges.{stands-address}
@@ -107,7 +107,7 @@ module _ (a b : Told) (files kept : BlockFiles) (entry i offset : ℕ) (cut : Bo
   index-untold {A} r stops written untold from there state layout unlinked number object was t =
       let mid = told-mid a b from there (stops from there state layout unlinked number object was t) in
       if_damaged_weaker r (λ _. b.files ≡ None) (λ _. a.files ≡ None) (λ damage none. absurd (some-none (sym mid.1 ∙ none)))
-      (untold (λ image now. whole_index image (written from there state layout unlinked number object was t image now).kept.well_formed))
+      (untold (λ image now. sound-whole image (written from there state layout unlinked number object was t image now).kept.sound))
     where
       some-none : {x : Image} → ◌≡◌ {A = Option Image} (Some x) None → ⊥
       some-none e = cc
@@ -186,7 +186,7 @@ module _ (a b : Told) (files kept : BlockFiles) (entry i offset : ℕ) (cut : Bo
   part-index-untold {A} r stops written untold from there state layout unlinked number object n value was role t =
       let mid = told-mid a b from there (stops from there state layout unlinked number object n value was role t) in
       if_damaged_weaker r (λ _. b.files ≡ None) (λ _. a.files ≡ None) (λ damage none. absurd (some-none (sym mid.1 ∙ none)))
-      (untold (λ image now. whole_index image (written from there state layout unlinked number object n value was role t image now).kept.well_formed))
+      (untold (λ image now. sound-whole image (written from there state layout unlinked number object n value was role t image now).kept.sound))
     where
       some-none : {x : Image} → ◌≡◌ {A = Option Image} (Some x) None → ⊥
       some-none e = cc

@@ -9,14 +9,14 @@ use Rattle.spec_image.proofs.Footprints.{range_within, same_file_outside, same_w
 use Rattle.spec_format.specs.Address.{blocks_256, byte_size, external, external_number, file_selector, header_size, kind_of, place}
 use Rattle.spec_format.specs.BlockFiles.{stands_in}
 use Rattle.spec_format.specs.Claims.{Claim, ExternalOf, claims_of, has_claim, same_claim}
-use Rattle.spec_format.specs.Headers.{head_checks, list_checks}
+use Rattle.spec_format.specs.Headers.{list_checks, magic_of, field_checks}
 use Rattle.spec_format.specs.Sealed.{record_size, size_by_kind}
 use Rattle.spec_folder.specs.Footprint.{Covers}
 use Rattle.law_folder.proofs.claims.ByteChanges.{covered-agrees, stands-if_clear}
 use Rattle.law_folder.proofs.claims.ClaimLists.{claim-append}
 use Rattle.law_folder.proofs.claims.Covers.{blocks-covered, covers-either, covers-less, covers-more, externals-covered}
 use Rattle.law_folder.proofs.claims.Inside.{record-inside}
-use Rattle.law_folder.proofs.updates.WellFormed.{well_formed_still}
+use Rattle.law_folder.proofs.updates.WellFormed.{headers_still}
 use Rattle.law_state.specs.Changes.{ChangesOnly, SameCounters}
 use Rattle.blk_stream.specs.Changing.{stream_words}
 use Rattle.blk_stream.specs.Inside.{data_of}
@@ -138,5 +138,5 @@ module _ (from : Image) (entry i w : ℕ) (kind : kind_of entry ≡ blocks_256) 
         files = files;
       };
       session = record { crash = index-word 32; id = index-word 20 };
-      well_formed = well_formed_still print from image (record { bytes = λ n k low. of-data.headers n k low }) of-data.sizes same (λ k. first_of (head_checks (at_bytes index-same k) (at_length index-same k))) (λ k. first_of (list_checks (at_bytes index-same k)));
+      well_formed = headers_still print from image (record { bytes = λ n k low. of-data.headers n k low }) of-data.sizes same (λ k. magic_of (at_bytes index-same k)) (λ k. first_of (field_checks (at_bytes index-same k) (at_length index-same k))) (λ k. first_of (list_checks (at_bytes index-same k)));
     }

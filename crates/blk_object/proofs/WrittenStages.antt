@@ -42,7 +42,7 @@ use Rattle.law_state.specs.Changes.{Finds, SameCounters, SameSession}
 use Rattle.law_state.specs.Keeping.{KeepsUncounted}
 use Rattle.law_state.specs.ObjectLaws.{layout_after}
 use Rattle.law_state.proofs.AtNodes.{record-own}
-use Rattle.law_state.proofs.Keeping.{kept-found}
+use Rattle.law_state.proofs.Keeping.{kept-held}
 use Rattle.blk_object.specs.Freeing.{AreGoing, Removes}
 use Rattle.blk_object.specs.Making.{Takes, long_word}
 use Rattle.blk_object.proofs.FreedPlaces.{all-counted, all-gone, going-finds}
@@ -211,7 +211,7 @@ module _ (state after : State) (layout : Layout) (node : ℕ) (was : Loaded) (i 
   -- where a new place is filled, its word is unlinked
   module _ (place : Option ℕ) (filled : Image) (fills : IsFilled files kept place from filled) where
     taken : Takes (long_word place) from filled × SameCounters from filled
-    taken = filled-unlinked files kept place from filled k.well_formed agrees fills
+    taken = filled-unlinked files kept place from filled k.sound agrees fills
 
     kept-filled : KeepsUncounted state layout (long_word place ++ unlinked) filled
     kept-filled = taken.0.kept state layout unlinked k
@@ -240,7 +240,7 @@ module _ (state after : State) (layout : Layout) (node : ℕ) (was : Loaded) (i 
 
       -- the durable contents are the same in the state that is kept then
       same-rest : rest after ≡ rest state
-      same-rest = sym (kept-found after (layout_after layout node named-now) (nonzero (old ∷ []) ++ unlinked) named named-is.kept) ∙ named-finds.1
+      same-rest = sym (kept-held after (layout_after layout node named-now) (nonzero (old ∷ []) ++ unlinked) named named-is.kept) ∙ named-finds.1
 
       -- while the old place is freed
       freeing-finds : (image : Image) → old ≢ 0 → FreesPlaceInProgress old named image → Finds (rest state) image
@@ -275,7 +275,7 @@ module _ (state after : State) (layout : Layout) (node : ℕ) (was : Loaded) (i 
       }
       freed-written image (inr freed) =
           let kept_so : KeepsUncounted after (layout_after layout node named-now) ((old ∷ []) ++ unlinked) named = subst (λ (ws : List ℕ). KeepsUncounted after (layout_after layout node named-now) (ws ++ unlinked) named) (nonzero-some old freed.0) named-is.kept in
-          let removes : Removes (old ∷ []) named image = (image, (freed-removes old named image named-is.kept.well_formed (old-stands freed.0) freed.1, refl)) in
+          let removes : Removes (old ∷ []) named image = (image, (freed-removes old named image named-is.kept.sound (old-stands freed.0) freed.1, refl)) in
           record {
             is = record { others = named-is.others; kept = all-gone (old ∷ []) named image removes after (layout_after layout node named-now) unlinked kept_so };
             counters = then-counters from named image named-counters (all-counted (old ∷ []) named image removes);

@@ -4,7 +4,7 @@ use Rattle.std.specs.Option.{ForSome}
 use Rattle.spec_image.specs.Image.{Image}
 use Rattle.spec_image.specs.Told.{Passes, PassesTo, Told}
 use Rattle.spec_format.specs.Address.{file_selector, is_address, is_block_kind, kind_of}
-use Rattle.spec_format.specs.BlockFiles.{IsWellFormed}
+use Rattle.spec_format.specs.BlockFiles.{HasSoundHeaders}
 use Rattle.spec_format.specs.Growth.{StaysWhole}
 use Rattle.blk_disk.specs.declared.tables.BlockFiles.{BlockFiles}
 use Rattle.blk_disk.specs.Tables.{Agrees, stands_among}
@@ -63,4 +63,4 @@ pub record IsAllocation (old new : BlockFiles) (kind w : ℕ) (from image : Imag
 
 -- once address w is allocated in a well-formed folder, it is one more allocation of its file, and the other files stay
 abbrev pub AllocationsAdd : Type 0
-AllocationsAdd = (old new : BlockFiles) (kind w : ℕ) (from image : Image) → IsWellFormed from → IsAllocation old new kind w from image → AddsAllocation from w image
+AllocationsAdd = (old new : BlockFiles) (kind w : ℕ) (from image : Image) → HasSoundHeaders from → IsAllocation old new kind w from image → AddsAllocation from w image

@@ -7,7 +7,7 @@ use Rattle.spec_image.specs.Told.{Applies, Passes, Told}
 use Rattle.blk_model.specs.Room.{items}
 use Rattle.blk_model.specs.State.{State}
 use Rattle.spec_format.specs.Address.{external, external_number, is_address, kind_of}
-use Rattle.spec_format.specs.BlockFiles.{IsWellFormed, stands_in}
+use Rattle.spec_format.specs.BlockFiles.{HasSoundHeaders, stands_in}
 use Rattle.spec_folder.specs.Layout.{Layout}
 use Rattle.blk_external.specs.Changes.{ChangesExternal}
 use Rattle.blk_external.specs.Making.{Creates, CreatesInProgress, last_number, making}
@@ -29,7 +29,7 @@ CreationsFindTheSame = (old new : Told) → ForSome old.files HasFreeNumber → 
 -- once the creation is done, the external file of address w is there, without bytes and unlinked
 abbrev pub CreationsAdd : Type 0
 CreationsAdd =
-    (w : ℕ) (old new : Told) → is_address w ≡ true → kind_of w ≡ external → ForSome old.files IsWellFormed → ForSome old.files (λ image. IsFirstFree image (last_number image) (external_number w))
+    (w : ℕ) (old new : Told) → is_address w ≡ true → kind_of w ≡ external → ForSome old.files HasSoundHeaders → ForSome old.files (λ image. IsFirstFree image (last_number image) (external_number w))
     → ForSome new.files (λ image. Creates image (external_number w)) → Applies old new (making (external_number w)) → ForSome old.files (λ from. ForSome new.files (AddsExternal from w))
 
 -- Deletion.
@@ -43,6 +43,6 @@ DeletionsFindTheSame =
 -- once the external file of address w is deleted, it is removed from a folder that was well formed
 abbrev pub DeletionsRemove : Type 0
 DeletionsRemove =
-    (w : ℕ) (old new : Told) → kind_of w ≡ external → ForSome old.files IsWellFormed → ForSome old.files (λ from. stands_in from w ≡ true)
+    (w : ℕ) (old new : Told) → kind_of w ≡ external → ForSome old.files HasSoundHeaders → ForSome old.files (λ from. stands_in from w ≡ true)
     → ForSome old.files (λ from. Passes old new (ChangesExternal (whole (named_file w)) (external_number w) from)) → ForSome new.files (λ image. image (named_file w) ≡ None)
     → ForSome old.files (λ from. ForSome new.files (RemovesExternal from w))

@@ -5,7 +5,7 @@ use Rattle.spec_image.specs.Image.{AreBytes, Image}
 use Rattle.spec_image.specs.Told.{Applies, Commits, Passes, TellsBytes, Told}
 use Rattle.blk_model.specs.State.{State}
 use Rattle.spec_format.specs.Address.{kind_of, rankings}
-use Rattle.spec_format.specs.BlockFiles.{IsWellFormed}
+use Rattle.spec_format.specs.BlockFiles.{HasSoundHeaders}
 use Rattle.spec_format.specs.Sealed.{RecordChecks}
 use Rattle.spec_folder.specs.Layout.{Layout}
 use Rattle.spec_folder.specs.Loads.{Loaded}
@@ -35,7 +35,7 @@ MarksAreBeingSet =
 -- a dirty flag is set after all its steps
 abbrev pub MarksAreSet : Type 0
 MarksAreSet =
-    (node mark : ℕ) (old new : Told) → TellsBytes old → ForSome old.files IsWellFormed → ForSome old.files (λ from. (list_of from).checks node ≡ true) → mark < 2 ^ 32
+    (node mark : ℕ) (old new : Told) → TellsBytes old → ForSome old.files HasSoundHeaders → ForSome old.files (λ from. (list_of from).checks node ≡ true) → mark < 2 ^ 32
     → ForSome old.files (λ from. Applies old new (mark_steps from node mark)) → ForSome old.files (λ from. ForSome new.files (IsMarked from node mark))
 
 -- Chains.

@@ -1,7 +1,7 @@
 -- The places of a stream that is written: a new one is allocated and filled, and an old one is freed.
 use Rattle.std.specs.Prelude.{◌≡◌, ℕ, [], Option, true}
 use Rattle.spec_image.specs.Image.{Image}
-use Rattle.spec_format.specs.BlockFiles.{IsWellFormed, stands_in}
+use Rattle.spec_format.specs.BlockFiles.{HasSoundHeaders, stands_in}
 use Rattle.blk_disk.specs.declared.tables.BlockFiles.{BlockFiles}
 use Rattle.blk_disk.specs.Tables.{Agrees}
 use Rattle.blk_stream.specs.Stages.{FillsByStage, FreesPlace, IsFilled}
@@ -15,8 +15,8 @@ FillingFindsTheSame = (files kept : BlockFiles) (from image : Image) → Agrees 
 
 -- once a place is filled, its address is unlinked in each state that was kept, and the counters of the index are unchanged
 abbrev pub FilledPlacesAreUnlinked : Type 0
-FilledPlacesAreUnlinked = (files kept : BlockFiles) (place : Option ℕ) (from image : Image) → IsWellFormed from → Agrees files from → IsFilled files kept place from image → Takes (long_word place) from image × SameCounters from image
+FilledPlacesAreUnlinked = (files kept : BlockFiles) (place : Option ℕ) (from image : Image) → HasSoundHeaders from → Agrees files from → IsFilled files kept place from image → Takes (long_word place) from image × SameCounters from image
 
 -- an old address that is freed is removed: its blocks are no allocation any more, or its file is gone
 abbrev pub FreedPlacesAreRemoved : Type 0
-FreedPlacesAreRemoved = (w : ℕ) (from image : Image) → IsWellFormed from → stands_in from w ≡ true → FreesPlace w from image → RemovesPlace w from image
+FreedPlacesAreRemoved = (w : ℕ) (from image : Image) → HasSoundHeaders from → stands_in from w ≡ true → FreesPlace w from image → RemovesPlace w from image

@@ -3,7 +3,7 @@ ghost use Rattle.std.specs.Prelude.{◌≡◌, ◌==◌, ◌∷◌, [], All, Non
 ghost use Rattle.std.specs.Option.{ForSome};
 ghost use Rattle.spec_image.specs.Told.{Passes, MayWrite};
 ghost use Rattle.spec_format.specs.Address.{external, kind_of};
-ghost use Rattle.spec_format.specs.BlockFiles.{stands_in, IsWellFormed};
+ghost use Rattle.spec_format.specs.BlockFiles.{stands_in, HasSoundHeaders};
 ghost use Rattle.blk_io.specs.Faults.{IfDamaged, IfDevice};
 ghost use Rattle.blk_disk.specs.Open.{IsOpen};
 ghost use Rattle.blk_stream.specs.Freeing.{MayBeFreed};
@@ -74,7 +74,7 @@ fn free_if_any<F: Folder>(
 fn free_place<F: Folder>(folder: &mut F, files: &BlockFiles, place: Addr) -> Result<(), Fault>
     requires stands { IsPlaceAmong files.now (Some place) }
     requires is_open { ForSome (F.told folder.old).files (IsOpen files.now) }
-    ensures freed { OnOk result (ForSome (F.told folder.old).files (λ from. IsWellFormed from → stands_in from place ≡ true → ForSome (F.told folder.new).files (RemovesPlace place from))) }
+    ensures freed { OnOk result (ForSome (F.told folder.old).files (λ from. HasSoundHeaders from → stands_in from place ≡ true → ForSome (F.told folder.new).files (RemovesPlace place from))) }
     ensures stops { ForSome (F.told folder.old).files (λ from. Passes (F.told folder.old) (F.told folder.new) (IsPlaceGoing place from)) }
     ensures is_open { ForSome (F.told folder.new).files (IsOpen files.now) }
     ensures damaged { IfDamaged result (IsFailedCheck files.now (F.told folder.new)) }
@@ -100,7 +100,7 @@ pub(crate) fn is_external(place: Addr) -> bool
 fn delete_file<F: Folder>(folder: &mut F, files: &BlockFiles, place: Addr) -> Result<(), Failed>
     requires kind { kind_of place ≡ external }
     requires is_open { ForSome (F.told folder.old).files (IsOpen files.now) }
-    ensures freed { OnOk result (ForSome (F.told folder.old).files (λ from. IsWellFormed from → stands_in from place ≡ true → ForSome (F.told folder.new).files (RemovesPlace place from))) }
+    ensures freed { OnOk result (ForSome (F.told folder.old).files (λ from. HasSoundHeaders from → stands_in from place ≡ true → ForSome (F.told folder.new).files (RemovesPlace place from))) }
     ensures stops { ForSome (F.told folder.old).files (λ from. Passes (F.told folder.old) (F.told folder.new) (IsPlaceGoing place from)) }
     ensures is_open { ForSome (F.told folder.new).files (IsOpen files.now) }
     ensures writes { MayWrite F.told F.faults folder.old folder.new (OnErr result) }

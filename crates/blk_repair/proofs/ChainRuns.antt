@@ -11,6 +11,7 @@ use Rattle.spec_image.proofs.WordSteps.{quiet-word_step}
 use Rattle.spec_format.specs.Headers.{place_of_bucket}
 use Rattle.spec_format.specs.Records.{entry_next_place}
 use Rattle.spec_format.specs.Sealed.{RecordChecks, sealed_steps}
+use Rattle.spec_format.proofs.Buckets.{bucket-quiet}
 use Rattle.spec_folder.specs.Chains.{chain}
 use Rattle.spec_folder.specs.Found.{kept}
 use Rattle.spec_folder.specs.ListView.{first_or}
@@ -53,7 +54,7 @@ quiet-links (w ∷ words) image =
 pub quiet-chain : (bucket : ℕ) (words : List ℕ) (image : Image) → IsQuiet (chain_steps bucket words image)
 quiet-chain bucket words image =
     let first : List TrailStep = bucket_steps bucket (first_or 0 words) image in
-    quiet-append first (next_words_steps words (after first image)) (quiet-choice ((store_of image).table bucket == first_or 0 words) (word_step Index (place_of_bucket bucket) (first_or 0 words)) (quiet-word_step Index (place_of_bucket bucket) (first_or 0 words)))
+    quiet-append first (next_words_steps words (after first image)) (quiet-choice ((store_of image).table bucket == first_or 0 words) (word_step Index (place_of_bucket bucket) (first_or 0 words)) (quiet-word_step Index (place_of_bucket bucket) (first_or 0 words) (bucket-quiet bucket (first_or 0 words))))
     (quiet-links words (after first image))
 
 -- the next chain is repaired, and the same is held at each word

@@ -8,14 +8,14 @@ use Rattle.std.proofs.lemmas.List.Elements.{All-cons, All-head, All-nil, All-tai
 use Rattle.spec_image.specs.Bytes.{content, range_at, word_at, word_bytes}
 use Rattle.spec_image.specs.Image.{Image, Index, byte, length_of, word}
 use Rattle.spec_image.specs.Steps.{TrailStep, Word, after, applied, word_step}
-use Rattle.spec_image.specs.Told.{Told, Along, Applies, AppliesPrefix, IsQuiet, Passes}
+use Rattle.spec_image.specs.Told.{Told, Along, Applies, AppliesPrefix, HasNoNote, PassesAny}
 use Rattle.spec_image.specs.Footprint.{SameOutside, one_word}
 use Rattle.spec_image.proofs.Cuts.{after-append}
 use Rattle.spec_image.proofs.Footprints.{outside_write}
 use Rattle.spec_image.proofs.Images.{length-after_write, word-after_other, word-after_same}
 use Rattle.spec_image.proofs.Words.{content-range, same-word_at}
-use Rattle.spec_image.proofs.Runs.{passes_part, quiet-append, some_inj, told_whole, until-append, until_last, until_weaker2}
-use Rattle.spec_image.proofs.WordSteps.{quiet-word_step}
+use Rattle.spec_image.proofs.Quiet.{any_part, noteless-append, noteless-word_step}
+use Rattle.spec_image.proofs.Runs.{some_inj, told_whole, until-append, until_last, until_weaker2}
 use Rattle.spec_format.specs.BlockFiles.{is_among}
 use Rattle.spec_format.specs.Headers.{HasWholeIndex, counting, header_length, index_version, version_place}
 use Rattle.spec_format.proofs.Counts.{count-is}
@@ -62,15 +62,15 @@ choice-along : (P : Image → Type 0) (image : Image) (b : Bool) (steps : List T
 choice-along P image true steps is all = is
 choice-along P image false steps is all = all
 
-choice-quiet : (b : Bool) (at x : ℕ) → IsQuiet (if b then [] else word_step Index at x)
+choice-quiet : (b : Bool) (at x : ℕ) → HasNoNote (if b then [] else word_step Index at x)
 choice-quiet true at x = tt
-choice-quiet false at x = quiet-word_step Index at x
+choice-quiet false at x = noteless-word_step Index at x
 
-pub words-quiet : (words : List (ℕ × ℕ)) (image : Image) → IsQuiet (index_words_steps words image)
+pub words-quiet : (words : List (ℕ × ℕ)) (image : Image) → HasNoNote (index_words_steps words image)
 words-quiet [] image = tt
 words-quiet (w ∷ words) image =
     let first : List TrailStep = index_word_steps w.0 w.1 image in
-    quiet-append first (index_words_steps words (after first image)) (choice-quiet (word image Index w.0 == w.1) w.0 w.1) (words-quiet words (after first image))
+    noteless-append first (index_words_steps words (after first image)) (choice-quiet (word image Index w.0 == w.1) w.0 w.1) (words-quiet words (after first image))
 
 -- ---- the length
 
@@ -377,13 +377,13 @@ index-leads items bytes id image = refl
 pub crash-leads : Leads (λ _. word_step Index crash_place 1) (λ _. word_step Index crash_place 1) (λ _. [])
 crash-leads image = sym (append-nil (word_step Index crash_place 1))
 
-pub index-quiet : (items bytes id : ℕ) (image : Image) → IsQuiet (index_steps items bytes id image)
-index-quiet items bytes id image = quiet-append (index_words_steps (counted_words items bytes id) image) (word_step Index crash_place 1) (words-quiet (counted_words items bytes id) image) (quiet-word_step Index crash_place 1)
+pub index-quiet : (items bytes id : ℕ) (image : Image) → HasNoNote (index_steps items bytes id image)
+index-quiet items bytes id image = noteless-append (index_words_steps (counted_words items bytes id) image) (word_step Index crash_place 1) (words-quiet (counted_words items bytes id) image) (noteless-word_step Index crash_place 1)
 
 -- what a prefix of the steps passes, and where all of them lead
-pub index-passes : (a b : Told) (items bytes id : ℕ) → items < 2 ^ 32 → bytes < 2 ^ 64 → id < 2 ^ 32 → ForSome a.files (λ image. AppliesPrefix a b (index_steps items bytes id image)) → ForSome a.files (λ image. (entry : Image) → HasMendedLinksOf entry image → Passes a b (HasMendedLinksOf entry))
+pub index-passes : (a b : Told) (items bytes id : ℕ) → items < 2 ^ 32 → bytes < 2 ^ 64 → id < 2 ^ 32 → ForSome a.files (λ image. AppliesPrefix a b (index_steps items bytes id image)) → ForSome a.files (λ image. (entry : Image) → HasMendedLinksOf entry image → PassesAny a b (HasMendedLinksOf entry))
 index-passes a b items bytes id i_fits b_fits d part image there entry holds =
-    passes_part (HasMendedLinksOf entry) (HasMendedLinksOf entry) (part image there) (index-quiet items bytes id image) (λ i h. h)
+    any_part (HasMendedLinksOf entry) (HasMendedLinksOf entry) (part image there) (index-quiet items bytes id image) (λ i h. h)
     (λ i is_there. subst (λ (x : Image). Along (HasMendedLinksOf entry) x (index_steps items bytes id image)) (some_inj (sym there ∙ is_there)) (index-along items bytes id i_fits b_fits d entry image holds))
 
 pub index-done : (a b : Told) (items bytes id : ℕ) → items < 2 ^ 32 → bytes < 2 ^ 64 → id < 2 ^ 32 → ForSome a.files HasWholeIndex → ForSome a.files (λ image. Applies a b (index_steps items bytes id image)) → ForSome a.files (λ image. (entry : Image) → IsNextCounted entry items bytes image → ForSome b.files (IsIndexMended entry image))

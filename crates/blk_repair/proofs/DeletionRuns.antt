@@ -20,7 +20,8 @@ use Rattle.spec_image.proofs.ByteSteps.{are_bytes-step}
 use Rattle.spec_image.proofs.Footprints.{outside_step}
 use Rattle.spec_image.proofs.Images.{with_file-other}
 use Rattle.spec_image.proofs.Orders.{before_trans}
-use Rattle.spec_image.proofs.Runs.{grows_none, grows_then, passes_end, some_inj, told_whole}
+use Rattle.spec_image.proofs.Quiet.{any_end}
+use Rattle.spec_image.proofs.Runs.{grows_none, grows_then, some_inj, told_whole}
 use Rattle.spec_format.specs.Address.{external, external_number, external_word, file_selector, is_address, is_block_kind, kind_of, names_blocks, names_external}
 use Rattle.spec_format.specs.BlockFiles.{files_along, is_among, kind_among, linked, linked_as, max_entries_in, next_file_in, stands_in, stands_in_blocks}
 use Rattle.spec_format.specs.Claims.{Claim, BlockOf, ExternalOf, claims_of, claims_of_all, has_claim}
@@ -395,8 +396,8 @@ module _ (files : BlockFiles) (last n : ℕ) (a b c : Told) (has : HasDeletedBlo
   next-passes : (from : Image) → a.files ≡ Some from → (entry : Image) → HasMendedLinksOf entry from → RepairBreaksOff a c (Holds entry from)
   next-passes from there entry holds =
       let first = has.passed from there entry holds in
-      breaks-then first (breaks-one (is_unlinked files) (Block n) (Holds entry from) (passes_end first.passes)
-      (λ goes image here. block-goes image n (unlinked-free files image n (has.is_open image here) (not-true_is goes)) entry from (passes_end first.passes image here)) applies) where
+      breaks-then first (breaks-one (is_unlinked files) (Block n) (Holds entry from) (any_end first.passes)
+      (λ goes image here. block-goes image n (unlinked-free files image n (has.is_open image here) (not-true_is goes)) entry from (any_end first.passes image here)) applies) where
         not-true_is : not (is_among (all_files files) n) ≡ true → is_among (all_files files) n ≡ false
         not-true_is e = false_from_ne_true (is_among (all_files files) n) (λ t. clash (sym e ∙ not_from_true (is_among (all_files files) n) t))
 
@@ -587,8 +588,8 @@ module _ (claims : Claims) (last : File) (number : ℕ) (a b c : Told) (has : Ha
   next-kept : (from : Image) → a.files ≡ Some from → (entry : Image) → IsNextRebuilt entry claims from → RepairBreaksOff a c (Holds entry from)
   next-kept from there entry rebuilt =
       let first = has.passed from there entry rebuilt in
-      breaks-then first (breaks-one (is_unclaimed claims) (External number) (Holds entry from) (passes_end first.passes)
-      (λ goes image here. let now = passes_end first.passes image here in external-goes image number (sym (number-is entry image claims rebuilt.claimed now.holds.keeps.kept_same number) ∙ not-true_is goes) entry from now) applies) where
+      breaks-then first (breaks-one (is_unclaimed claims) (External number) (Holds entry from) (any_end first.passes)
+      (λ goes image here. let now = any_end first.passes image here in external-goes image number (sym (number-is entry image claims rebuilt.claimed now.holds.keeps.kept_same number) ∙ not-true_is goes) entry from now) applies) where
         not-true_is : not (is_number_claimed claims number) ≡ true → is_number_claimed claims number ≡ false
         not-true_is e = false_from_ne_true (is_number_claimed claims number) (λ t. clash (sym e ∙ not_from_true (is_number_claimed claims number) t))
 
@@ -619,7 +620,7 @@ module _ (claims : Claims) (last : File) (a b : Told) (has : HasDeletedExternals
 
   pub externals-only : ForSome a.files (λ from. (entry : Image) → IsNextRebuilt entry claims from → ForSome b.files (λ image. OnlyClaimed image (claims_of_loaded (kept image))))
   externals-only from there entry next image here number small =
-      let now = passes_end (has.passed from there entry next).passes image here in
+      let now = any_end (has.passed from there entry next).passes image here in
       let same = number-is entry image claims next.claimed now.holds.keeps.kept_same number in
       both_ways (has_file image (External number)) (has_claim (claims_of_loaded (kept image)) (ExternalOf number)) (λ is. sym same ∙ all-claimed image here number is) (λ is. (kept-named image number is).there)
 

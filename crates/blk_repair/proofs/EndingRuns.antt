@@ -4,7 +4,8 @@ use Rattle.std.specs.Option.{ForSome}
 use Rattle.spec_image.specs.Image.{Image}
 use Rattle.spec_image.specs.Steps.{TrailStep, after}
 use Rattle.spec_image.specs.Told.{Told, Along, Applies, AppliesPrefix, MakesPartOf}
-use Rattle.spec_image.proofs.Runs.{passes_end, some_inj, told_whole, until_weaker2}
+use Rattle.spec_image.proofs.Quiet.{no-note, any_end}
+use Rattle.spec_image.proofs.Runs.{some_inj, told_whole, until_weaker2}
 use Rattle.spec_format.specs.Headers.{HasWholeIndex}
 use Rattle.blk_addr.specs.declared.claim_set.Claims.{Claims}
 use Rattle.blk_disk.specs.declared.tables.BlockFiles.{BlockFiles}
@@ -48,12 +49,12 @@ joined-ends R from there first is second = let now = still-told from there first
 
 pub list-breaks : (a b : Told) (nodes others : List ℕ) (from : Image) → a.files ≡ Some from → IsListScanned nodes others from → MakesPartOf a b (mending_steps nodes others) → RepairBreaksOff a b (HoldsTheSame from)
 list-breaks a b nodes others from there scanned part =
-    breaks-part (HoldsTheSame from) (part.made from there) (quiet-mending nodes others from) (subst SpareIt (steps-are from nodes others scanned) (spare-list from))
+    breaks-part (HoldsTheSame from) (part.made from there) (no-note (mending_steps nodes others from) (quiet-mending nodes others from)) (subst SpareIt (steps-are from nodes others scanned) (spare-list from))
     (λ i here. subst (λ (x : Image). Along (HoldsTheSame from) x (mending_steps nodes others from)) (some_inj (sym there ∙ here)) (repaired from nodes others scanned).0)
 
 pub chains-break : (a b : Told) (records ends : List ℕ) (whole : List Bool) → ForSome a.files (λ from. AreChainsScanned records ends whole from → AppliesPrefix a b (chain_repair_steps from)) → ForSome a.files (λ from. AreChainsScanned records ends whole from → RepairBreaksOff a b (HoldsTheSame from))
 chains-break a b records ends whole part from there scanned =
-    breaks-part (HoldsTheSame from) (part from there scanned) (quiet-repair from) (spare-table from)
+    breaks-part (HoldsTheSame from) (part from there scanned) (no-note (chain_repair_steps from) (quiet-repair from)) (spare-table from)
     (λ i here. subst (λ (x : Image). Along (HoldsTheSame from) x (chain_repair_steps from)) (some_inj (sym there ∙ here)) (chains-repaired from scanned.well_formed scanned.writable scanned.keeps_all).0)
 
 -- the list, and then the chains
@@ -61,7 +62,7 @@ pub links-break : (scan : Scan) (a b c : Told) (from : Image) → a.files ≡ So
     → ForSome b.files (λ mid. AreBucketsScanned scan.chains mid → RepairBreaksOff b c (HoldsTheSame mid)) → RepairBreaksOff a c (IsMidRepair from)
 links-break scan a b c from there is first mended chained =
     let now = still-told from there first.passes in
-    let holds : HoldsTheSame from now.0 = passes_end first.passes now.0 now.1 in
+    let holds : HoldsTheSame from now.0 = any_end first.passes now.0 now.1 in
     let on : (i : Image) → HoldsTheSame now.0 i → IsMidRepair from i = (λ i h. holds-mid from i (holds-trans from now.0 i holds h)) in
     breaks-then (breaks-weaker first (holds-mid from)) (breaks-weaker (chained now.0 now.1 (chains-next scan a b from there is first.passes mended now.0 now.1)) on)
 
@@ -76,7 +77,7 @@ rebuilds-break a b files claims entry from there next made =
       passes = record {
         steps = made.steps;
         applies = made.applies;
-        quiet = made.are.quiet;
+        unnoted = no-note made.steps made.are.quiet;
         along = λ i here. subst (λ (x : Image). Along M x made.steps) (some_inj (sym there ∙ here)) (until_weaker2 R M R M made.steps from on on made.are.along);
       };
       unmarked = spare-all claims (all_files files) from next.holds.writable.has_header made.steps from made.are.along made.are.needed;
@@ -87,7 +88,7 @@ pub deletions-break : (claims : Claims) (a b c : Told) (entry from : Image) → 
     → ForSome b.files (λ mid. (entry : Image) → IsNextRebuilt entry claims mid → RepairBreaksOff b c (IsMidDeletion entry mid)) → RepairBreaksOff a c (IsMidRepair entry)
 deletions-break claims a b c entry from there next first second =
     let now = still-told from there first.passes in
-    let rest : IsNextRebuilt entry claims now.0 = claims-next entry from now.0 claims next (passes_end first.passes now.0 now.1) in
+    let rest : IsNextRebuilt entry claims now.0 = claims-next entry from now.0 claims next (any_end first.passes now.0 now.1) in
     breaks-then (breaks-weaker first (deletion-mid entry from)) (breaks-weaker (second now.0 now.1 entry rest) (deletion-mid entry now.0))
 
 -- the block files are repaired, and then the others go
@@ -101,7 +102,7 @@ store-breaks claims a b c entry from there next first mended second =
 
 pub seals-break : (a b : Told) (words : List ℕ) (entry from : Image) → a.files ≡ Some from → IsNextSealed entry words from → ForSome a.files (λ image. AppliesPrefix a b (seals_steps words image)) → RepairBreaksOff a b (HasMendedLinksOf entry)
 seals-break a b words entry from there next part =
-    breaks-part (HasMendedLinksOf entry) (part from there) (seals-quiet words from) (spare-seals words from)
+    breaks-part (HasMendedLinksOf entry) (part from there) (no-note (seals_steps words from) (seals-quiet words from)) (spare-seals words from)
     (λ i here. subst (λ (x : Image). Along (HasMendedLinksOf entry) x (seals_steps words from)) (some_inj (sym there ∙ here)) (all-sealed entry from words next.holds next.are_kept).0)
 
 -- the words of the index
@@ -122,7 +123,7 @@ module _ (b c : Told) (items bytes id : ℕ) (small_items : items < 2 ^ 32) (sma
   pub index-ends : Applies b c (index_steps items bytes id mid) → EndsWithCrashWord b c (HasMendedLinksOf entry) AreRight
   index-ends made = record {
     before = counters;
-    quiet = words-quiet (counted_words items bytes id) mid;
+    unnoted = words-quiet (counted_words items bytes id) mid;
     first = spare-counters;
     applies = made;
     along = held;
@@ -144,7 +145,7 @@ below n x e = omega (arith, e)
 module _ (scan : Scan) (words : List ℕ) (w : words ≡ scan.bare.items) (a b c : Told) (entry from : Image) (there : a.files ≡ Some from) (next : IsNextFinished scan entry from) (first : RepairBreaksOff a b (HasMendedLinksOf entry)) (items bytes id : ℕ)
     (items-are : items ≡ length scan.kept.items % 2 ^ 32) (bytes-are : bytes ≡ scan.bytes) (small_bytes : bytes < 2 ^ 64) (small_id : id < 2 ^ 32) (whole : ForSome b.files HasWholeIndex) (sealed : ForSome b.files (AreSealedNow entry from words)) where
   next-counted : ForSome b.files (IsNextCounted entry items bytes)
-  next-counted mid here = counted-told scan entry mid items bytes items-are bytes-are next.links.scanned (passes_end first.passes mid here)
+  next-counted mid here = counted-told scan entry mid items bytes items-are bytes-are next.links.scanned (any_end first.passes mid here)
 
   all-done : (mid last : Image) → b.files ≡ Some mid → IsIndexMended entry mid last × HasIndexWords items bytes id last → IsRepairedFor id entry last
   all-done mid last here right = repaired-for scan entry from mid last words items bytes id w next (sealed mid here) right.0 right.1

@@ -5,8 +5,9 @@ use Rattle.std.proofs.lemmas.List.Elements.{All-cons, All-head, All-nil, All-tai
 use Rattle.spec_image.specs.Bytes.{word_bytes}
 use Rattle.spec_image.specs.Image.{Image, Index}
 use Rattle.spec_image.specs.Steps.{TrailStep, Word, after, applied, word_step}
-use Rattle.spec_image.specs.Told.{Told, Along, Applies, AppliesPrefix, IsQuiet, Passes}
-use Rattle.spec_image.proofs.Runs.{grows_none, grows_then, quiet-append, quiet_prefix, until-append, until_prefix, until_weaker2}
+use Rattle.spec_image.specs.Told.{Told, Along, Applies, AppliesPrefix, HasNoNote, PassesAny}
+use Rattle.spec_image.proofs.Quiet.{noteless-append, noteless_prefix}
+use Rattle.spec_image.proofs.Runs.{grows_none, grows_then, until-append, until_prefix, until_weaker2}
 use Rattle.spec_image.proofs.WordSteps.{quiet-word_step}
 use Rattle.blk_repair.specs.Counters.{crash_place}
 use Rattle.blk_repair.specs.Endings.{RepairBreaksOff, EndsOrBreaksOff, EndsWithCrashWord}
@@ -57,27 +58,27 @@ spare-or-ended s made left spare e =
 
 -- none was made
 pub breaks-none : {a b : Told} (P : Image → Type 0) → b ≡ a → ForSome a.files P → RepairBreaksOff a b P
-breaks-none P same holds = record { passes = record { steps = []; applies = grows_none same; quiet = tt; along = holds }; unmarked = All-nil IsOther }
+breaks-none P same holds = record { passes = record { steps = []; applies = grows_none same; unnoted = tt; along = holds }; unmarked = All-nil IsOther }
 
 -- a part of some steps was, which spares it
-pub breaks-prefix : {a b : Told} {s : List TrailStep} (P : Image → Type 0) (part : AppliesPrefix a b s) → IsQuiet s → SpareIt part.made → ForSome a.files (λ image. Along P image s) → RepairBreaksOff a b P
+pub breaks-prefix : {a b : Told} {s : List TrailStep} (P : Image → Type 0) (part : AppliesPrefix a b s) → HasNoNote s → SpareIt part.made → ForSome a.files (λ image. Along P image s) → RepairBreaksOff a b P
 breaks-prefix {a} {b} {s} P part quiet spare along = record {
   passes = record {
     steps = part.made;
     applies = part.applies;
-    quiet = quiet_prefix part.made part.left (subst IsQuiet part.split quiet);
+    unnoted = noteless_prefix part.made part.left (subst HasNoNote part.split quiet);
     along = λ image there. until_prefix P P part.made part.left image (λ i h. h) (subst (Along P image) part.split (along image there));
   };
   unmarked = spare;
 }
 
 -- so does each part of steps that do
-pub breaks-part : {a b : Told} {s : List TrailStep} (P : Image → Type 0) → AppliesPrefix a b s → IsQuiet s → SpareIt s → ForSome a.files (λ image. Along P image s) → RepairBreaksOff a b P
+pub breaks-part : {a b : Told} {s : List TrailStep} (P : Image → Type 0) → AppliesPrefix a b s → HasNoNote s → SpareIt s → ForSome a.files (λ image. Along P image s) → RepairBreaksOff a b P
 breaks-part {a} {b} {s} P part quiet spare along = breaks-prefix P part quiet (spare-prefix part.made part.left (subst SpareIt part.split spare)) along
 
 -- one was, which spares it
-pub breaks-step : {a b : Told} {x : TrailStep} (P : Image → Type 0) → IsOther x → Applies a b (x ∷ []) → IsQuiet (x ∷ []) → ForSome a.files (λ image. P image × P (applied x image)) → RepairBreaksOff a b P
-breaks-step {a} {b} {x} P other made quiet both = record { passes = record { steps = x ∷ []; applies = made; quiet = quiet; along = both }; unmarked = All-cons IsOther x [] other (All-nil IsOther) }
+pub breaks-step : {a b : Told} {x : TrailStep} (P : Image → Type 0) → IsOther x → Applies a b (x ∷ []) → HasNoNote (x ∷ []) → ForSome a.files (λ image. P image × P (applied x image)) → RepairBreaksOff a b P
+breaks-step {a} {b} {x} P other made quiet both = record { passes = record { steps = x ∷ []; applies = made; unnoted = quiet; along = both }; unmarked = All-cons IsOther x [] other (All-nil IsOther) }
 
 -- some were, and then others
 pub breaks-then : {a b c : Told} {P : Image → Type 0} → RepairBreaksOff a b P → RepairBreaksOff b c P → RepairBreaksOff a c P
@@ -88,7 +89,7 @@ breaks-then {a} {b} {c} {P} first second =
       passes = record {
         steps = s ++ t;
         applies = grows_then first.passes.applies second.passes.applies;
-        quiet = quiet-append s t first.passes.quiet second.passes.quiet;
+        unnoted = noteless-append s t first.passes.unnoted second.passes.unnoted;
         along = λ image there. until-append P P s t image (first.passes.along image there) (second.passes.along (after s image) (first.passes.applies.files ∙ ap (option_map (after s)) there));
       };
       unmarked = spare-append s t first.unmarked second.unmarked;
@@ -100,7 +101,7 @@ breaks-weaker {a} {b} {P} {R} broken weaker = record {
   passes = record {
     steps = broken.passes.steps;
     applies = broken.passes.applies;
-    quiet = broken.passes.quiet;
+    unnoted = broken.passes.unnoted;
     along = λ image there. until_weaker2 P R P R broken.passes.steps image weaker weaker (broken.passes.along image there);
   };
   unmarked = broken.unmarked;
@@ -109,11 +110,11 @@ breaks-weaker {a} {b} {P} {R} broken weaker = record {
 -- ---- steps that end with it
 
 -- what is passed
-pub ends-pass : {a b : Told} {P Q : Image → Type 0} → EndsWithCrashWord a b P Q → Passes a b P
+pub ends-pass : {a b : Told} {P Q : Image → Type 0} → EndsWithCrashWord a b P Q → PassesAny a b P
 ends-pass ends = record {
   steps = ends.before ++ word_step Index crash_place 1;
   applies = ends.applies;
-  quiet = quiet-append ends.before (word_step Index crash_place 1) ends.quiet (quiet-word_step Index crash_place 1);
+  unnoted = noteless-append ends.before (word_step Index crash_place 1) ends.unnoted (noteless-word_step Index crash_place 1);
   along = ends.along;
 }
 
@@ -121,7 +122,7 @@ ends-pass ends = record {
 pub ends-weaker : {a b : Told} {P Q R S : Image → Type 0} → EndsWithCrashWord a b P Q → ((image : Image) → P image → R image) → ((image : Image) → Q image → S image) → EndsWithCrashWord a b R S
 ends-weaker {a} {b} {P} {Q} {R} {S} ends weaker last = record {
   before = ends.before;
-  quiet = ends.quiet;
+  unnoted = ends.unnoted;
   first = ends.first;
   applies = ends.applies;
   along = λ image there. until_weaker2 P R P R (ends.before ++ word_step Index crash_place 1) image weaker weaker (ends.along image there);
@@ -135,7 +136,7 @@ ends-then {a} {b} {c} {P} {Q} first ends =
     let joined : steps ++ (ends.before ++ word_step Index crash_place 1) ≡ (steps ++ ends.before) ++ word_step Index crash_place 1 = sym (append_assoc steps ends.before (word_step Index crash_place 1)) in
     record {
       before = steps ++ ends.before;
-      quiet = quiet-append steps ends.before first.passes.quiet ends.quiet;
+      unnoted = noteless-append steps ends.before first.passes.unnoted ends.unnoted;
       first = spare-append steps ends.before first.unmarked ends.first;
       applies = subst (Applies a c) joined (grows_then first.passes.applies ends.applies);
       along = λ image there. subst (Along P image) joined (until-append P P steps (ends.before ++ word_step Index crash_place 1) image (first.passes.along image there)
@@ -168,6 +169,6 @@ either-weaker (inl broken) weaker last = inl (breaks-weaker broken weaker)
 either-weaker (inr ends) weaker last = inr (ends-weaker ends weaker last)
 
 -- what is passed
-pub either-pass : {a b : Told} {P Q : Image → Type 0} → EndsOrBreaksOff a b P Q → Passes a b P
+pub either-pass : {a b : Told} {P Q : Image → Type 0} → EndsOrBreaksOff a b P Q → PassesAny a b P
 either-pass (inl broken) = broken.passes
 either-pass (inr ends) = ends-pass ends

@@ -7,8 +7,8 @@ use Rattle.std.proofs.lemmas.List.{length-map}
 use Rattle.std.proofs.lemmas.List.Elements.{All-weaker}
 use Rattle.spec_image.specs.Image.{File, Image, AreBytes}
 use Rattle.spec_image.specs.Steps.{TrailStep, after}
-use Rattle.spec_image.specs.Told.{Told, Applies, Passes}
-use Rattle.spec_image.proofs.Runs.{passes_end}
+use Rattle.spec_image.specs.Told.{Told, Applies, PassesAny}
+use Rattle.spec_image.proofs.Quiet.{any_end}
 use Rattle.blk_model.specs.Holding.{open_state}
 use Rattle.blk_model.specs.Items.{Row}
 use Rattle.spec_format.specs.Headers.{HasWholeIndex}
@@ -62,7 +62,7 @@ use Rattle.blk_repair.proofs.SealRuns.{MayBeSealed, one-may}
 -- ---- two parts
 
 -- the files that a call leaves are told where they were
-pub still-told : {a b : Told} {P : Image → Type 0} (from : Image) → a.files ≡ Some from → Passes a b P → (now : Image) × (b.files ≡ Some now)
+pub still-told : {a b : Told} {P : Image → Type 0} (from : Image) → a.files ≡ Some from → PassesAny a b P → (now : Image) × (b.files ≡ Some now)
 still-told {a} {b} from there passes = (after passes.steps from, passes.applies.files ∙ ap (option_map (after passes.steps)) there)
 
 -- so they aren't only where they weren't
@@ -77,7 +77,7 @@ none-before a b told none = by_files a.files refl
     by_files (Some from) there = let now = told from there in absurd (no_some now.0 (sym none ∙ now.1))
 
 -- what is passed by a call, and what another leaves on what it left
-pub led : {a b : Told} (c : Told) {P : Image → Type 0} (R S : Image → Type 0) (from : Image) → a.files ≡ Some from → Passes a b P → ForSome b.files R → ForSome b.files (λ mid. R mid → ForSome c.files S) → ForSome c.files S
+pub led : {a b : Told} (c : Told) {P : Image → Type 0} (R S : Image → Type 0) (from : Image) → a.files ≡ Some from → PassesAny a b P → ForSome b.files R → ForSome b.files (λ mid. R mid → ForSome c.files S) → ForSome c.files S
 led {a} {b} c {P} R S from there first is second =
     let now = still-told from there first in
     second now.0 now.1 (is now.0 now.1)
@@ -155,17 +155,17 @@ pub list-scanned : (scan : Scan) (nodes others : List ℕ) (from : Image) → no
 list-scanned scan nodes others from n o writable is = record { well_formed = is.well_formed; writable = writable; walked = n ∙ is.scanned.walked; kept_nodes = o ∙ is.scanned.kept_nodes }
 
 -- the list was repaired, and the chains are next
-module _ (scan : Scan) (a b : Told) (from : Image) (there : a.files ≡ Some from) (is : IsRepairable scan from) (passes : Passes a b (HoldsTheSame from)) where
+module _ (scan : Scan) (a b : Told) (from : Image) (there : a.files ≡ Some from) (is : IsRepairable scan from) (passes : PassesAny a b (HoldsTheSame from)) where
   module _ (mended : ForSome b.files (IsListMended from)) where
     pub chains-next : ForSome b.files (AreBucketsScanned scan.chains)
-    chains-next mid here = buckets-scanned from mid (passes_end passes mid here) (mended mid here) scan.chains is.scanned.chains
+    chains-next mid here = buckets-scanned from mid (any_end passes mid here) (mended mid here) scan.chains is.scanned.chains
 
-    module _ (c : Told) (chained : ForSome b.files (λ mid. AreBucketsScanned scan.chains mid → Passes b c (HoldsTheSame mid))) where
+    module _ (c : Told) (chained : ForSome b.files (λ mid. AreBucketsScanned scan.chains mid → PassesAny b c (HoldsTheSame mid))) where
       pub links-done : ForSome b.files (λ mid. AreBucketsScanned scan.chains mid → ForSome c.files (AreChainsMended mid)) → ForSome c.files (AreLinksMended scan from)
       links-done done last here =
           let now = still-told from there passes in
           let next = chains-next now.0 now.1 in
-          links-mended scan from now.0 last is (passes_end passes now.0 now.1) (mended now.0 now.1) (passes_end (chained now.0 now.1 next) last here) (done now.0 now.1 next last here)
+          links-mended scan from now.0 last is (any_end passes now.0 now.1) (mended now.0 now.1) (any_end (chained now.0 now.1 next) last here) (done now.0 now.1 next last here)
 
 -- ---- the files
 
@@ -190,19 +190,19 @@ others-deleted entry from mid last claims next first linked second claimed = rec
   others = λ words others. left-sealed entry mid last words first.holds second.seals (left-sealed entry from mid words next.holds first.seals others);
 }
 
-module _ (claims : Claims) (a b c : Told) (entry from : Image) (there : a.files ≡ Some from) (next : IsNextRebuilt entry claims from) (first : Passes a b (IsMidDeletion entry from)) where
+module _ (claims : Claims) (a b c : Told) (entry from : Image) (there : a.files ≡ Some from) (next : IsNextRebuilt entry claims from) (first : PassesAny a b (IsMidDeletion entry from)) where
   claims-now : ForSome b.files (IsNextRebuilt entry claims)
-  claims-now mid here = claims-next entry from mid claims next (passes_end first mid here)
+  claims-now mid here = claims-next entry from mid claims next (any_end first mid here)
 
-  module _ (second : ForSome b.files (λ mid. (entry : Image) → IsNextRebuilt entry claims mid → Passes b c (IsMidDeletion entry mid))) where
+  module _ (second : ForSome b.files (λ mid. (entry : Image) → IsNextRebuilt entry claims mid → PassesAny b c (IsMidDeletion entry mid))) where
     pub deletions-done : ForSome b.files OnlyLinked → ForSome b.files (λ mid. (entry : Image) → IsNextRebuilt entry claims mid → ForSome c.files (λ image. OnlyClaimed image (claims_of_loaded (kept image)))) → ForSome c.files (AreOthersDeleted entry from)
     deletions-done linked claimed last here =
         let now = still-told from there first in
         let held : IsNextRebuilt entry claims now.0 = claims-now now.0 now.1 in
-        others-deleted entry from now.0 last claims next (passes_end first now.0 now.1) (linked now.0 now.1) (passes_end (second now.0 now.1 entry held) last here) (claimed now.0 now.1 entry held last here)
+        others-deleted entry from now.0 last claims next (any_end first now.0 now.1) (linked now.0 now.1) (any_end (second now.0 now.1 entry held) last here) (claimed now.0 now.1 entry held last here)
 
 -- the block files are repaired, and then the others deleted
-module _ (claims : Claims) (a b c : Told) (entry from : Image) (there : a.files ≡ Some from) (next : IsNextRebuilt entry claims from) (first : Passes a b (KeepsMendedLinks entry)) (mended : ForSome b.files (AreFilesMended entry from)) where
+module _ (claims : Claims) (a b c : Told) (entry from : Image) (there : a.files ≡ Some from) (next : IsNextRebuilt entry claims from) (first : PassesAny a b (KeepsMendedLinks entry)) (mended : ForSome b.files (AreFilesMended entry from)) where
   rebuilt-now : ForSome b.files (IsNextRebuilt entry claims)
   rebuilt-now mid here = record { holds = (mended mid here).holds; claimed = next.claimed }
 
@@ -280,12 +280,12 @@ module _ (scan : Scan) (words : List ℕ) (w : words ≡ scan.bare.items) where
   pub seals-next : (entry from : Image) → IsNextFinished scan entry from → IsNextSealed entry words from
   seals-next entry from next = record { holds = next.links.holds; are_kept = subst (All (IsOfKept entry)) (sym w) next.links.scanned.bare.are_kept }
 
-  module _ (a b : Told) (entry from : Image) (there : a.files ≡ Some from) (next : IsNextFinished scan entry from) (first : Passes a b (HasMendedLinksOf entry)) where
+  module _ (a b : Told) (entry from : Image) (there : a.files ≡ Some from) (next : IsNextFinished scan entry from) (first : PassesAny a b (HasMendedLinksOf entry)) where
     pub rest-done : (c : Told) (items bytes id : ℕ) → items ≡ length scan.kept.items % 2 ^ 32 → bytes ≡ scan.bytes → ForSome b.files (AreSealedNow entry from words)
         → ForSome b.files (λ mid. (entry : Image) → IsNextCounted entry items bytes mid → ForSome c.files (IsIndexMended entry mid)) → ForSome c.files (HasIndexWords items bytes id) → ForSome c.files (IsRepairedFor id entry)
     rest-done c items bytes id i bs sealed index has last here =
         let now = still-told from there first in
-        let counted : IsNextCounted entry items bytes now.0 = counted-told scan entry now.0 items bytes i bs next.links.scanned (passes_end first now.0 now.1) in
+        let counted : IsNextCounted entry items bytes now.0 = counted-told scan entry now.0 items bytes i bs next.links.scanned (any_end first now.0 now.1) in
         repaired-for scan entry from now.0 last words items bytes id w next (sealed now.0 now.1) (index now.0 now.1 entry counted last here) (has last here)
 
 -- ---- what is after the links

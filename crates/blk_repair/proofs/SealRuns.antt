@@ -91,7 +91,7 @@ seals-open files (w ∷ words) image is =
 -- no step is a note
 choice-quiet : (b : Bool) (n at x : ℕ) → IsQuiet (if b then [] else word_step (Block n) at x)
 choice-quiet true n at x = tt
-choice-quiet false n at x = quiet-word_step (Block n) at x
+choice-quiet false n at x = quiet-word_step (Block n) at x refl
 
 seal-quiet : (image : Image) (w : ℕ) → IsQuiet (seal_steps image w)
 unfolding seal_steps

@@ -3,19 +3,19 @@ use Rattle.std.specs.Prelude.{◌≡◌, ◌⊎◌, List, ◌++◌, All, false}
 use Rattle.std.specs.Option.{ForSome}
 use Rattle.spec_image.specs.Image.{Image, Index}
 use Rattle.spec_image.specs.Steps.{TrailStep, word_step}
-use Rattle.spec_image.specs.Told.{Told, Along, Applies, IsQuiet, Passes}
+use Rattle.spec_image.specs.Told.{Told, Along, Applies, HasNoNote, PassesAny}
 use Rattle.blk_repair.specs.Counters.{crash_place, writes_crash_word}
 
 -- the steps broke off: none of them is a note or writes inside the crash word, and P holds before each of them and after the last
 pub record RepairBreaksOff (old new : Told) (P : Image → Type 0) : Type 0 where
-  pub passes : Passes old new P
+  pub passes : PassesAny old new P
   pub unmarked : All (λ step. writes_crash_word step ≡ false) passes.steps
 
 -- the last step set the crash word to 1, and no step before it is a note or writes inside that word; P holds before each step and after the last, and there Q
 -- holds too
 pub record EndsWithCrashWord (old new : Told) (P Q : Image → Type 0) : Type 0 where
   pub before : List TrailStep
-  pub quiet : IsQuiet before
+  pub unnoted : HasNoNote before
   pub first : All (λ step. writes_crash_word step ≡ false) before
   pub applies : Applies old new (before ++ word_step Index crash_place 1)
   pub along : ForSome old.files (λ image. Along P image (before ++ word_step Index crash_place 1))

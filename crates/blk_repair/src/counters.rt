@@ -3,7 +3,7 @@ ghost use Rattle.std.specs.Prelude.{◌≡◌, ◌+◌, ◌%◌, ◌^◌, ◌<�
 ghost use Rattle.std.specs.Option.{ForSome};
 ghost use Rattle.spec_image.specs.Bytes.{content, range_at, word_at};
 ghost use Rattle.spec_image.specs.Image.{Image, byte, Index as index};
-ghost use Rattle.spec_image.specs.Told.{Applies, AppliesPrefix, MakesPartOf, Passes, Rises};
+ghost use Rattle.spec_image.specs.Told.{Applies, AppliesPrefix, MakesPartOf, PassesAny, Rises};
 ghost use Rattle.spec_format.specs.Headers.{HasWholeIndex, header_length};
 ghost use Rattle.spec_format.specs.Sealed.{AreDifferent};
 ghost use Rattle.blk_io.specs.Faults.{IfDamaged, IfDevice};
@@ -35,7 +35,7 @@ pub fn mend_index<F: Folder>(
     // Where the links are repaired they stay so at each word, with the same kept and found; in the end the counters count what is kept, and what was repaired
     // of the files and of the seals is so still.
     ensures mended { OnOk result (ForSome (F.told folder.old).files (λ from. (entry : Image) → IsNextCounted entry items bytes from → ForSome (F.told folder.new).files (IsIndexMended entry from))) }
-    ensures stops { ForSome (F.told folder.old).files (λ from. (entry : Image) → HasMendedLinksOf entry from → Passes (F.told folder.old) (F.told folder.new) (HasMendedLinksOf entry)) }
+    ensures stops { ForSome (F.told folder.old).files (λ from. (entry : Image) → HasMendedLinksOf entry from → PassesAny (F.told folder.old) (F.told folder.new) (HasMendedLinksOf entry)) }
 
     ensures complete { ForSome (F.told folder.new).files HasWholeIndex }
 

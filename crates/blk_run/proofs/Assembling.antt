@@ -5,8 +5,8 @@ use Rattle.std.proofs.lemmas.List.{append-nil, length-append, take-append-le}
 use Rattle.spec_image.specs.Image.{Image}
 use Rattle.spec_image.specs.Notes.{notes_in}
 use Rattle.spec_image.specs.Steps.{after}
-use Rattle.spec_image.specs.Told.{Told, Passes}
-use Rattle.spec_image.proofs.Runs.{passes_end}
+use Rattle.spec_image.specs.Told.{Told, PassesAny}
+use Rattle.spec_image.proofs.Quiet.{any_end, any_weaker}
 use Rattle.blk_model.specs.Holding.{open_state, rest}
 use Rattle.blk_model.specs.State.{Bounds, State}
 use Rattle.spec_format.specs.BlockFiles.{IsUsable}
@@ -41,11 +41,11 @@ use Rattle.blk_run.specs.Session.{EndsAs, FixedRuns, IsEnded, IsUnopened, Outsid
 
 module _ (far : SoFar) (keeps : State → Image → Type 0) (stands_for : (state : State) (image : Image) → keeps state image → StandsFor image state)
     (notes left : ℕ) (told new : Told) (clock_old clock_new : Option Readings) (closes : ClosesAll (Ok tt) far keeps notes left told clock_old clock_new)
-    (passes : ForSome told.files (λ image. (state : State) → keeps state image → Passes told new (HoldsStill image))) where
+    (passes : ForSome told.files (λ image. (state : State) → keeps state image → PassesAny told new (HoldsStill image))) where
   abbrev stands : StandsAt (with_more far closes.commands) keeps notes left told
   stands = closes.closes.stands
 
-  held : Passes told new (HoldsStill stands.image)
+  held : PassesAny told new (HoldsStill stands.image)
   held = passes stands.image stands.here (state_now (with_more far closes.commands)) stands.kept
 
   some_same : {x y : Image} → Some x ≡ Some y → x ≡ y
@@ -54,7 +54,7 @@ module _ (far : SoFar) (keeps : State → Image → Type 0) (stands_for : (state
   whole : IsWholeRun far.from far.opened (far.done ++ closes.commands) far.start new
   whole =
       ended far.from far.opened (far.done ++ closes.commands) far.start told new stands.began stands.progress
-      (λ image here. subst (λ (i : Image). Passes told new (HoldsStill i)) (some_same (sym stands.here ∙ here)) held)
+      (λ image here. subst (λ (i : Image). PassesAny told new (HoldsStill i)) (some_same (sym stands.here ∙ here)) held)
 
   -- the folder was closed
   pub ends_closed : ForSome told.files (λ image. (state : State) → keeps state image → ForSome new.files EndsSession) → EndsRun (Ok tt) far new clock_old clock_new
@@ -63,7 +63,7 @@ module _ (far : SoFar) (keeps : State → Image → Type 0) (stands_for : (state
     are = closes.are;
     closes = record {
       whole = whole;
-      holds = λ image is. (passes_end held image is).found_same ∙ stood-found stands.image (state_now (with_more far closes.commands)) (stands_for (state_now (with_more far closes.commands)) stands.image stands.kept);
+      holds = λ image is. (any_end held image is).found_same ∙ stood-found stands.image (state_now (with_more far closes.commands)) (stands_for (state_now (with_more far closes.commands)) stands.image stands.kept);
       ends = ends stands.image stands.here (state_now (with_more far closes.commands)) stands.kept;
       read = closes.closes.read;
     };

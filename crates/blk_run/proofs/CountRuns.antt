@@ -4,7 +4,7 @@ use Rattle.std.specs.Prelude.{is_some, position, slice_index_or}
 use Rattle.std.specs.Option.{option_map, ForSome}
 use Rattle.std.proofs.lemmas.List.Quantifiers.{position-Some}
 use Rattle.spec_image.specs.Image.{Image}
-use Rattle.spec_image.specs.Told.{Passes, Told}
+use Rattle.spec_image.specs.Told.{PassesAny, Told}
 use Rattle.blk_io.specs.Streams.{Appends, Readings, later_of}
 use Rattle.blk_model.specs.Holding.{open_state}
 use Rattle.blk_model.specs.Sizes.{handle_names}
@@ -46,8 +46,8 @@ free_none {Y} slots free = by_place (position is_some slots) refl
 pub free_closes : (cache : Cache) (far : SoFar) (left : ℕ) (told : Told) (clock : Option Readings) → AreAllFree cache.handles → StandsAt far (KeepsState cache) cache.notes (left + 2 * handle_names) told
     → ClosesAll (Ok tt) far (KeepsState cache) cache.notes left told clock clock
 free_closes cache far left told clock free at =
-    all_closed cache.handles (KeepsState cache) (λ state image k. k.kept.entries.valid) (λ state image k. names_bound cache state image k) far cache.notes left told clock clock (free_none cache.handles free)
-    (none_so_far far (KeepsState cache) cache.notes left told clock (λ state image k. k.kept.entries.valid) at)
+    all_closed cache.handles (KeepsState cache) (λ state image k. k.holds.kept.entries.valid) (λ state image k. names_bound cache state image k) far cache.notes left told clock clock (free_none cache.handles free)
+    (none_so_far far (KeepsState cache) cache.notes left told clock (λ state image k. k.holds.kept.entries.valid) at)
 
 -- where only the sink failed the folder is closed
 only_closes : (r : Result (Unit {0}) StepFault) → IsOnlySink r → closes_script r ≡ true
@@ -69,7 +69,7 @@ module _ (cache : Cache) (free : AreAllFree cache.handles) (from : Image) (limit
     (told final : Told) (w_old w_new : Option (List ℕ)) (sink : Type 0) (r : Result (Unit {0}) StepFault)
     (printed : OnOk r (w_new ≡ option_map (λ (w : List ℕ). w ++ totals_line cache.items cache.bytes) w_old)) (front : Appends w_old w_new (totals_line cache.items cache.bytes)) (only : IsOnlySink r)
     (at : StandsAt (record { start = start; from = from; opened = open_state (found from) limits; done = [] }) (KeepsState cache) cache.notes (2 * handle_names) told)
-    (passes : ForSome told.files (λ image. (state : State) → KeepsState cache state image → Passes told final (HoldsStill image))) where
+    (passes : ForSome told.files (λ image. (state : State) → KeepsState cache state image → PassesAny told final (HoldsStill image))) where
   abbrev far : SoFar
   far = record { start = start; from = from; opened = open_state (found from) limits; done = [] }
 

@@ -6,10 +6,11 @@ use Rattle.spec_image.specs.Bytes.{word_bytes}
 use Rattle.spec_image.specs.Checks as checks
 use Rattle.spec_image.specs.Image.{Image, Index, byte, word}
 use Rattle.spec_image.specs.Steps.{after, word_step}
-use Rattle.spec_image.specs.Told.{Told, Applies, Passes, PassesTo}
+use Rattle.spec_image.specs.Told.{Told, Applies, PassesAny, PassesAnyTo}
 use Rattle.spec_image.proofs.Images.{word-after_other}
-use Rattle.spec_image.proofs.Runs.{passes_end, passes_then, passes_weaker, some_inj, told_whole}
+use Rattle.spec_image.proofs.Runs.{some_inj, told_whole}
 use Rattle.spec_format.specs.BlockFiles.{IsDamagedBy}
+use Rattle.spec_image.proofs.Quiet.{any_end, any_then, any_weaker}
 use Rattle.spec_format.specs.Headers.{this_id_of}
 use Rattle.spec_folder.specs.Found.{HoldsStill}
 use Rattle.blk_io.specs.Streams.{Appends}
@@ -49,7 +50,7 @@ told_totals s limits (Some from) old new printed = record {
 }
 
 -- the files that are told are told still
-pub told_still : {a b : Told} {P Q : Image → Type 0} (from : Image) → PassesTo a b P Q → a.files ≡ Some from → (image : Image) × (b.files ≡ Some image)
+pub told_still : {a b : Told} {P Q : Image → Type 0} (from : Image) → PassesAnyTo a b P Q → a.files ≡ Some from → (image : Image) × (b.files ≡ Some image)
 told_still {a} {b} {P} {Q} from passes there = (after passes.steps from, passes.applies.files ∙ ap (option_map (after passes.steps)) there)
 
 still_then : (a b c : Image) → HoldsStill a b → HoldsStill b c → HoldsStill a c
@@ -67,25 +68,25 @@ opened_open limits start middle cache silent keeps = by_files start.files silent
     by_files (Some from) silent keeps image there = kept-open cache (opened_on limits from) image (keeps from refl image there)
 
 -- What an opening and then an end of it leave.
-module _ (limits : Bounds) (start middle : Told) (cache : Cache) (from : Image) (there : start.files ≡ Some from) (opened : Passes start middle (HoldsStill from))
+module _ (limits : Bounds) (start middle : Told) (cache : Cache) (from : Image) (there : start.files ≡ Some from) (opened : PassesAny start middle (HoldsStill from))
     (keeps : ForSome start.files (λ from. ForSome middle.files (KeepsState cache (opened_on limits from)))) where
   mid : (image : Image) × (middle.files ≡ Some image)
   mid = told_still from opened there
 
   pub counted : AreTotalsOf cache.items cache.bytes limits from
-  counted = let k = keeps from there mid.0 mid.1 in record { items_are = k.items_are; bytes_are = k.bytes_are }
+  counted = let kept = keeps from there mid.0 mid.1 in let k = kept.holds in record { items_are = k.items_are; bytes_are = k.bytes_are }
 
-  module _ (final : Told) (ended : ForSome middle.files (λ image. (state : State) → KeepsState cache state image → Passes middle final (HoldsStill image))) where
-    pub passed : Passes start final (HoldsStill from)
+  module _ (final : Told) (ended : ForSome middle.files (λ image. (state : State) → KeepsState cache state image → PassesAny middle final (HoldsStill image))) where
+    pub passed : PassesAny start final (HoldsStill from)
     passed =
-        let before : HoldsStill from mid.0 = passes_end opened mid.0 mid.1 in
+        let before : HoldsStill from mid.0 = any_end opened mid.0 mid.1 in
         let more = λ (image : Image) (still : HoldsStill mid.0 image). still_then from mid.0 image before still in
-        passes_then opened (passes_weaker (ended mid.0 mid.1 (opened_on limits from) (keeps from there mid.0 mid.1)) more more)
+        any_then opened (any_weaker (ended mid.0 mid.1 (opened_on limits from) (keeps from there mid.0 mid.1)) more more)
 
     pub left_same : ForSome start.files (λ from. ForSome middle.files (λ image. this_id_of (byte image Index) ≡ opened_id from)) → ForSome middle.files (λ image. (state : State) → KeepsState cache state image → ForSome final.files EndsSession)
         → ForSome middle.files (λ image. ForSome final.files (λ last. this_id_of (byte last Index) ≡ this_id_of (byte image Index))) → ForSome final.files (EndsSame from)
     left_same numbered sound same image here = record {
-      found_same = (passes_end passed image here).found_same;
+      found_same = (any_end passed image here).found_same;
       ends = sound mid.0 mid.1 (opened_on limits from) (keeps from there mid.0 mid.1) image here;
       session = same mid.0 mid.1 image here ∙ numbered from there mid.0 mid.1;
     }

@@ -85,9 +85,9 @@ module _ (far : SoFar) (cache next : Cache) (notes notes_next left : ℕ) (told 
   pub counted_is : (answer : Answer) → answer ≡ answer_of made.reply → (counts_old counts_new : Counts) → (AreLong (with_answer answer (evicted_by request answer cache.items next.items) counts_old) → counts_new ≡ with_answer answer (evicted_by request answer cache.items next.items) counts_old)
       → (commands : ℕ) → commands < 2 ^ 36 → AreWithin commands counts_old → (counts_new ≡ with_outcome made counts_old) × AreWithin (commands + 1) counts_new
   counted_is answer is counts_old counts_new exact commands few within =
-      let told = told_by (state_now far) moment request at.kept.kept.entries.valid asked in
-      let before : cache.items ≡ items (state_now far) = at.kept.items_are in
-      let later : next.items ≡ items made.state = stands.kept.items_are ∙ ap items (state_after-one far.opened far.done (record { moment = moment; request = request })) in
+      let told = told_by (state_now far) moment request at.kept.holds.kept.entries.valid asked in
+      let before : cache.items ≡ items (state_now far) = at.kept.holds.items_are in
+      let later : next.items ≡ items made.state = stands.kept.holds.items_are ∙ ap items (state_after-one far.opened far.done (record { moment = moment; request = request })) in
       let evicted : evicted_by request answer cache.items next.items ≡ evicted_items made =
       ap (λ (a : Answer). evicted_by request a cache.items next.items) is ∙ ap (λ (n : ℕ). evicted_by request (answer_of made.reply) n next.items) before ∙ ap (evicted_by request (answer_of made.reply) (items (state_now far))) later ∙ sym told.0 in
       let same : with_answer answer (evicted_by request answer cache.items next.items) counts_old ≡ with_outcome made counts_old =

@@ -57,7 +57,7 @@ pub opened_by_start : (from : Image) (limits : Bounds) (old new : Told) → old.
 unfolding word_step
 opened_by_start from limits old new there opens = record {
   before = opens.before;
-  quiet = opens.quiet;
+  unnoted = opens.unnoted;
   unmarked = unmarked opens.before opens.first;
   applies = opens.applies;
   along = opens.along from there;
@@ -68,7 +68,7 @@ opened_by_start from limits old new there opens = record {
 pub failed_by_start : (from : Image) (limits : Bounds) (old new : Told) → old.files ≡ Some from → opening.OpensOrBreaksOff from old new → FailsToOpen from (open_state (found from) limits) old new
 failed_by_start from limits old new there (inl broken) = inl (record {
   steps = broken.passes.steps;
-  quiet = broken.passes.quiet;
+  unnoted = broken.passes.unnoted;
   unmarked = unmarked broken.passes.steps broken.unmarked;
   applies = broken.passes.applies;
   along = broken.passes.along from there;
@@ -79,7 +79,7 @@ failed_by_start from limits old new there (inr opens) = inr (opened_by_start fro
 
 -- what keeps a state stands for it
 pub cache_stands : (cache : Cache) (state : State) (image : Image) → KeepsState cache state image → StandsFor image state
-cache_stands cache state image kept = kept-stands state kept.layout image kept.kept
+cache_stands cache state image kept = kept-stands state kept.holds.layout image kept.holds.kept kept.finished
 
 -- The names.
 
@@ -91,14 +91,14 @@ bound_same state layout (Some number) None bound = absurd bound
 
 -- the same names are bound
 pub names_bound : (cache : Cache) (state : State) (image : Image) → KeepsState cache state image → (other : ℕ) → is_some (slice_index_or cache.handles other None) ≡ is_some (named_by state other)
-names_bound cache state image kept other = bound_same state kept.layout (named_by state other) (binding_of cache.handles other) (kept.names other)
+names_bound cache state image kept other = bound_same state kept.holds.layout (named_by state other) (binding_of cache.handles other) (kept.holds.names other)
 
 -- the cache's least name is the state's
 pub least_name : (cache : Cache) (state : State) (image : Image) (name : ℕ) → KeepsState cache state image → position is_some cache.handles ≡ Some name → IsLeastBound state name
 least_name cache state image name kept at =
-    least_of_slots cache.handles state name (λ other. bound_same state kept.layout (named_by state other) (binding_of cache.handles other) (kept.names other)) at
+    least_of_slots cache.handles state name (λ other. bound_same state kept.holds.layout (named_by state other) (binding_of cache.handles other) (kept.holds.names other)) at
 
 -- and where it has none the state has none
 pub no_name : (cache : Cache) (state : State) (image : Image) → KeepsState cache state image → position is_some cache.handles ≡ None → bound_names state ≡ []
 no_name cache state image kept none =
-    none_closed state (none_of_slots cache.handles state (λ other. bound_same state kept.layout (named_by state other) (binding_of cache.handles other) (kept.names other)) none)
+    none_closed state (none_of_slots cache.handles state (λ other. bound_same state kept.holds.layout (named_by state other) (binding_of cache.handles other) (kept.holds.names other)) none)

@@ -57,4 +57,4 @@ text_part result text shown far keeps notes left told w_old w_new clock refused 
 -- the totals of a cache are those of the state that it keeps
 pub totals_are : (cache : Cache) (far : SoFar) (notes left : ℕ) (now : Told) → StandsAt far (KeepsState cache) notes left now → totals_text (state_now far) ≡ totals_line cache.items cache.bytes
 totals_are cache far notes left now at =
-    ap (λ (n : ℕ). totals_line n (total (state_now far))) (sym at.kept.items_are) ∙ ap (λ (n : ℕ). totals_line cache.items n) (sym at.kept.bytes_are)
+    ap (λ (n : ℕ). totals_line n (total (state_now far))) (sym at.kept.holds.items_are) ∙ ap (λ (n : ℕ). totals_line cache.items n) (sym at.kept.holds.bytes_are)

@@ -4,8 +4,8 @@ use Rattle.blk_run.specs.Telling.{ReadsAs}
 use Rattle.std.proofs.Common.{◌≡◌, ℕ, List, [], Option, Some, option_map, inl, inr, refl, sym, ◌∙◌, ap, subst, arith}
 use Rattle.spec_image.specs.Image.{Image}
 use Rattle.spec_image.specs.Told.{Told}
-use Rattle.spec_image.proofs.Runs.{passes_none}
 use Rattle.spec_folder.specs.Found.{HoldsStill}
+use Rattle.spec_image.proofs.Quiet.{any_none}
 use Rattle.blk_io.specs.Streams.{later_of}
 use Rattle.blk_model.specs.State.{Bounds}
 use Rattle.blk_run.specs.declared.ending.Status.TheVariants as status
@@ -78,7 +78,7 @@ counts_nothing limits before now old new nothing read = record {
   damage = λ e. absurd (no_damage e);
   ended = λ well. no_end well;
   made = λ well. no_end well;
-  stops = λ start there. passes_none (HoldsStill start) nothing.unwritten (λ image is. still start image (inj start image (sym there ∙ is)));
+  stops = λ start there. any_none (HoldsStill start) nothing.unwritten (λ image is. still start image (inj start image (sym there ∙ is)));
   unwritten = λ e. absurd (no_damage e);
   silent = λ none. ap (λ (t : Told). t.files) nothing.unwritten ∙ none;
   clock = read;

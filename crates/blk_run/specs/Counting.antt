@@ -1,7 +1,7 @@
 -- The contract of the subcommand `count`.
 use Rattle.std.specs.Prelude.{◌≡◌, ◌≢◌, ◌⊎◌, ℕ, None}
 use Rattle.std.specs.Option.{ForSome, option_map}
-use Rattle.spec_image.specs.Told.{Passes, Stays}
+use Rattle.spec_image.specs.Told.{PassesAny, Stays}
 use Rattle.blk_model.specs.State.{Bounds}
 use Rattle.spec_format.specs.Headers.{IsUnfinished}
 use Rattle.spec_folder.specs.Found.{HoldsStill}
@@ -28,7 +28,7 @@ pub record Counts (result : Status) (limits : Bounds) (before now : ℕ) (old ne
   -- an uninitialized folder is made at the next reading of the clock, and keeps that moment
   pub made : IsDoneOrSink result → ForSome old.folder.files (λ start. IsUnfinished start → ForSome new.folder.files (IsMadeAtNext old.clock))
   -- after each single write recovery gives the same, and the folder is usable where it was
-  pub stops : ForSome old.folder.files (λ start. Passes old.folder new.folder (HoldsStill start))
+  pub stops : ForSome old.folder.files (λ start. PassesAny old.folder new.folder (HoldsStill start))
   -- nothing is written where a check of an observable folder failed
   pub unwritten : result ≡ status.Damaged → ForSome old.folder.files (λ _. Stays old.folder new.folder)
   pub silent : old.folder.files ≡ None → new.folder.files ≡ None

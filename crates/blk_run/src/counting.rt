@@ -3,7 +3,7 @@ ghost use Rattle.std.specs.Prelude.{◌≡◌, ◌≢◌, ◌⊎◌, ◌≤◌, 
 ghost use Rattle.std.specs.Option.{ForSome, option_map};
 ghost use Rattle.spec_image.specs.Image.{Image, Index as index, byte};
 ghost use Rattle.spec_image.specs.Checks.{Damage as check_damage};
-ghost use Rattle.spec_image.specs.Told.{Passes, Rises, Stays, Told};
+ghost use Rattle.spec_image.specs.Told.{Rises, Stays, Told, PassesAny};
 ghost use Rattle.spec_format.specs.BlockFiles.{IsDamagedBy, IsUsable};
 ghost use Rattle.spec_format.specs.Headers.{IsUnfinished, create_time_of, this_id_of};
 ghost use Rattle.blk_io.specs.Streams.{Appends, GoesOn, Readings, later_of};
@@ -73,7 +73,7 @@ pub(crate) fn run_count<F: Folder, K: Sink, C: Clock>(
     ensures made { (result ≡ Status.Ok) ⊎ (result ≡ Status.Sink) → ForSome (F.told folder.old).files (λ start. IsUnfinished start → ForSome (F.told folder.new).files (IsMadeAtNext (C.readings clock.old))) }
 
     // At each word the same is found, and the folder is uninitialized or well formed where it was.
-    ensures stops { ForSome (F.told folder.old).files (λ start. Passes (F.told folder.old) (F.told folder.new) (HoldsStill start)) }
+    ensures stops { ForSome (F.told folder.old).files (λ start. PassesAny (F.told folder.old) (F.told folder.new) (HoldsStill start)) }
 
     // No step is made where an observable folder is corrupt.
     ensures unwritten { result ≡ Status.Damaged → ForSome (F.told folder.old).files (λ _. Stays (F.told folder.old) (F.told folder.new)) }
@@ -106,7 +106,7 @@ fn count<F: Folder, K: Sink>(cache: Cache, folder: &mut F, out: &mut K) -> Statu
     ensures ended { (result ≡ Status.Ok) ⊎ (result ≡ Status.Sink) → ForSome (F.told folder.old).files (λ from. (state : State) → KeepsState cache state from → ForSome (F.told folder.new).files EndsSession) }
     ensures session { (result ≡ Status.Ok) ⊎ (result ≡ Status.Sink) → ForSome (F.told folder.old).files (λ from. ForSome (F.told folder.new).files (λ image. this_id_of (byte image index) ≡ this_id_of (byte from index))) }
     ensures made { (result ≡ Status.Ok) ⊎ (result ≡ Status.Sink) → ForSome (F.told folder.old).files (λ from. ForSome (F.told folder.new).files (WasMadeAt (create_time_of (byte from index)))) }
-    ensures stops { ForSome (F.told folder.old).files (λ from. (state : State) → KeepsState cache state from → Passes (F.told folder.old) (F.told folder.new) (HoldsStill from)) }
+    ensures stops { ForSome (F.told folder.old).files (λ from. (state : State) → KeepsState cache state from → PassesAny (F.told folder.old) (F.told folder.new) (HoldsStill from)) }
     ensures silent { (F.told folder.old).files ≡ None → (F.told folder.new).files ≡ None }
     ensures later { F.faults folder.old ≤ F.faults folder.new }
     ensures sink_later { GoesOn K.is K.faults out.old out.new }

@@ -6,7 +6,7 @@ use Rattle.spec_image.specs.Checks.{Damage}
 use Rattle.spec_image.specs.Image.{Image, Index, byte, length_of}
 use Rattle.spec_image.proofs.FirstChecks.{all_none, append_none, append_some, passed}
 use Rattle.spec_format.specs.BlockFiles.{IsDamagedBy, block_checks, first_block_damage, first_damage, IsWellFormed}
-use Rattle.spec_format.specs.Headers.{HasWholeIndex, first_index_damage, head_checks, list_checks}
+use Rattle.spec_format.specs.Headers.{HasWholeIndex, first_index_damage, head_checks, list_checks, field_checks}
 use Rattle.spec_image.specs.Told.{Told}
 use Rattle.blk_io.specs.declared.fault.Damage.{Damage as Met}
 use Rattle.blk_io.specs.declared.fault.Fault.{Fault}
@@ -40,7 +40,7 @@ blocks-formed image well = sym (first-behind image (index-formed image well)) �
 
 -- an index of which no check fails has its length
 pub length-checked : (image : Image) → first_index_damage image ≡ None → HasWholeIndex image
-unfolding head_checks
+unfolding field_checks head_checks
 length-checked image none =
     let f = byte image Index in
     let size = length_of image Index in

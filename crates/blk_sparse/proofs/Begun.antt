@@ -26,7 +26,7 @@ use Rattle.law_state.specs.Keeping.{KeepsUncounted}
 use Rattle.law_state.specs.ObjectLaws.{layout_after}
 use Rattle.law_state.specs.PartStates.{with_object}
 use Rattle.law_state.proofs.Dirtying.{set-at, set-else}
-use Rattle.law_state.proofs.Keeping.{kept-found}
+use Rattle.law_state.proofs.Keeping.{kept-held}
 use Rattle.blk_object.specs.Writing.{ForEachUnsettled, IsToBeWritten, IsWrittenUncounted, node_of_object, with_written}
 use Rattle.blk_object.proofs.GoingNext.{then-counters}
 use Rattle.blk_object.proofs.MakingTaken.{session-then}
@@ -219,7 +219,7 @@ module _ (state : State) (layout : Layout) (unlinked : List ℕ) (number : ℕ) 
 
         -- the durable contents are the same
         rest-mid : Finds (rest state) mid → rest state-mid ≡ rest state
-        rest-mid found = sym (kept-found state-mid layout-mid unlinked mid w.kept) ∙ found.1
+        rest-mid found = sym (kept-held state-mid layout-mid unlinked mid w.kept) ∙ found.1
 
         -- the other objects lie where they lay
         abbrev end : Layout

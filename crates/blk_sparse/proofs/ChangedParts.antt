@@ -37,7 +37,7 @@ use Rattle.law_state.specs.Keeping.{KeepsUncounted}
 use Rattle.law_state.specs.ObjectLaws.{layout_after}
 use Rattle.law_state.specs.PartStates.{with_object, with_value}
 use Rattle.law_state.proofs.Dirtying.{set-at, set-else}
-use Rattle.law_state.proofs.Keeping.{kept-found}
+use Rattle.law_state.proofs.Keeping.{kept-held}
 use Rattle.blk_object.specs.Writing.{IsPartToBeWritten, IsPartWrittenUncounted, ForEachPartUnsettled}
 use Rattle.blk_object.proofs.GoingNext.{then-counters}
 use Rattle.blk_object.proofs.MakingTaken.{session-then}
@@ -334,7 +334,7 @@ module _ (state : State) (layout : Layout) (unlinked : List ℕ) (number : ℕ) 
     }
 
     pub rest-mid : Finds (rest state) mid → rest state-mid ≡ rest state
-    rest-mid found = sym (kept-found state-mid layout-mid unlinked mid w.kept) ∙ found.1
+    rest-mid found = sym (kept-held state-mid layout-mid unlinked mid w.kept) ∙ found.1
 
     -- ---- both
 

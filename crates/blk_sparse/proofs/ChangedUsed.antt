@@ -20,7 +20,7 @@ use Rattle.blk_stream.proofs.Joined.{IsTold, told_then}
 use Rattle.law_state.specs.Changes.{Finds}
 use Rattle.law_state.specs.ListLaws.{with_used}
 use Rattle.law_state.specs.PartStates.{with_object}
-use Rattle.law_state.proofs.Keeping.{kept-found}
+use Rattle.law_state.proofs.Keeping.{kept-held}
 use Rattle.blk_object.specs.Owning.{LoadsWith}
 use Rattle.blk_object.proofs.GoingNext.{then-counters}
 use Rattle.blk_object.proofs.MakingTaken.{session-then}
@@ -39,7 +39,7 @@ use Rattle.std.specs.Int.{cast_unsigned, w64}
 
 -- nothing is written yet
 pub nothing-found : (state : State) (layout : Layout) (unlinked : List ℕ) (number : ℕ) (object : Object) (node entry signature : ℕ) (from : Image) → CanGetParts [] state layout unlinked number object node entry signature from → Finds (rest state) from
-nothing-found state layout unlinked number object node entry signature from g = (g.parent.kept.well_formed, kept-found state layout unlinked from g.parent.kept)
+nothing-found state layout unlinked number object node entry signature from g = (g.parent.kept.sound, kept-held state layout unlinked from g.parent.kept)
 
 module _ (of_part place : ℕ) (piece bytes : List ℕ) (state : State) (layout : Layout) (unlinked : List ℕ) (number : ℕ) (object : Object) (node entry signature n : ℕ) (from : Image) (g : CanGetParts [] state layout unlinked number object node entry signature from) (at : HasPartAt layout object n of_part) where
   its : IsPartAt state layout object.key at.was

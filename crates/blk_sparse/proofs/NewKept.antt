@@ -225,7 +225,7 @@ module _ (state : State) (objects : List (Option Object)) (layout : Layout) (unl
 
     making : IsMakingPart state layout key l (with_new_part layout key n seen l).chains image
     making = record {
-      well_formed = change.well_formed g.making.well_formed;
+      sound = change.well_formed.sound g.making.sound;
       list = list-there;
       others = parts.parents-data-may-change (view_of from) state objects layout key n was seen l t.written (store_of mid) (store_of image) chains g.making.others (has_claim (claims_of (slice_index was.others 3))) views.store views.table of-parent;
     }

@@ -226,7 +226,7 @@ module _ (state : State) (objects : List (Option Object)) (layout : Layout) (unl
 
     between-leaves : LeavesFiles from between
     between-leaves = leaves-files (touch_range writes l.node) from between (touch_spares writes l.node) (touch_sizes writes l.node) outside
-        (record { crash = counter-same writes l.node from between outside 32 (omega arith); id = counter-same writes l.node from between outside 20 (omega arith) }) done.partly.well_formed
+        (record { crash = counter-same writes l.node from between outside 32 (omega arith); id = counter-same writes l.node from between outside 20 (omega arith) }) done.partly.headers
 
     between-counters : SameCounters from between
     between-counters = touch-count writes l.node from between outside
@@ -262,7 +262,7 @@ module _ (state : State) (objects : List (Option Object)) (layout : Layout) (unl
 
       making : IsMakingPart state layout key l chains image
       making = record {
-        well_formed = front.well_formed (done.partly.well_formed t.kept.well_formed);
+        sound = front.headers.sound (done.partly.headers.sound t.kept.sound);
         list = record { whole = subst (λ (ls : ListView). IsList ls (l.node ∷ order state layout)) (sym front.list) at-rest.whole; idle = ap (λ (ls : ListView). ls.transaction) front.list ∙ at-rest.idle };
         others = under;
       }
@@ -282,7 +282,7 @@ module _ (state : State) (objects : List (Option Object)) (layout : Layout) (unl
       part-listed = record {
         making = making;
         parent = parent;
-        leaves = leaves-then from between image between-leaves (table-leaves (bucket_at between l.contents) between image front.outside front.well_formed);
+        leaves = leaves-then from between image between-leaves (table-leaves (bucket_at between l.contents) between image front.outside front.headers);
         counters = counters-then from between image between-counters table-counters;
         part_sealed = table-seals (bucket_at between l.contents) between image l front.outside between-sealed;
         sealed = λ node other here. table-seals (bucket_at between l.contents) between image other front.outside (sealed-still from between writes l.node outside can-make.nodes t.written.good state layout t.kept.represents done.sealed node other here (t.kept.sealed node other here));

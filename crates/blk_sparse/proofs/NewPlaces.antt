@@ -12,7 +12,7 @@ use Rattle.spec_format.specs.BlockFiles.{is_among}
 use Rattle.spec_format.specs.Headers.{HasWholeIndex}
 use Rattle.spec_format.specs.Storage.{kind_for}
 use Rattle.spec_format.proofs.Among.{is_among-append}
-use Rattle.spec_format.proofs.Finished.{whole_index}
+use Rattle.spec_format.proofs.Finished.{sound-whole}
 use Rattle.blk_disk.specs.declared.tables.BlockFiles.{BlockFiles}
 use Rattle.blk_disk.specs.Open.{IsOpen}
 use Rattle.blk_stream.specs.Placing.{CanBePlaced}
@@ -75,13 +75,13 @@ module _ (a b : Told) (files kept : BlockFiles) (size : ℕ) (some : 0 < size) (
 
     module _ (w : ℕ) (staged : ForSome a.files (λ from. CanBePlaced files size from → ForSome b.files (IsFilled files kept (Some w) from))) where
       pub stored-taken : ForSome a.files (λ from. LeavesRoom 1 from → ForSome b.files (Takes (w ∷ []) from))
-      stored-taken from there room image now = (filled-unlinked files kept (Some w) from image room.kept.well_formed (is_open from there).agrees (staged from there (can-place from there room) image now)).0
+      stored-taken from there room image now = (filled-unlinked files kept (Some w) from image room.kept.sound (is_open from there).agrees (staged from there (can-place from there room) image now)).0
 
       pub stored-whole : (a.files ≡ None → b.files ≡ None) → ForSome a.files (LeavesRoom 1) → ForSome b.files HasWholeIndex
       stored-whole silent room image now =
           let from = told-before a.files b.files image silent now in
           let r = room from.0 from.1 in
-          whole_index image ((stored-taken from.0 from.1 r image now).kept r.state r.layout r.unlinked r.kept).well_formed
+          sound-whole image ((stored-taken from.0 from.1 r image now).kept r.state r.layout r.unlinked r.kept).sound
 
 -- ---- one after another
 

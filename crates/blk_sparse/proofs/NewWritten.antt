@@ -37,7 +37,7 @@ use Rattle.law_state.specs.Changes.{AreOfWords, ChangesOnly, StillFinds}
 use Rattle.law_state.specs.Keeping.{KeepsUncounted}
 use Rattle.law_state.proofs.AtNodes.{updates-change, updates-leave}
 use Rattle.law_state.proofs.Free.{unlinked-change}
-use Rattle.law_state.proofs.Keeping.{kept-found}
+use Rattle.law_state.proofs.Keeping.{kept-held}
 use Rattle.blk_object.proofs.KeptNewEntries.{new-node_sealed}
 use Rattle.blk_object.specs.Making.{long_word, words_of_places}
 use Rattle.blk_object.proofs.MakingStored.{changed-stored, counters-then, of-all}
@@ -144,7 +144,7 @@ module _ (files : BlockFiles) (places : PartPlaces) (name : List ℕ) (moment : 
 
   -- while the record changes the old durable contents are recovered
   pub naming-finds : (image : Image) → SameOutside (record_range places.places.entry) mid image → StillFinds (words_of_part places) from image
-  naming-finds image outside state layout unlinked k = let now = kept-end state layout unlinked k image outside in (now.well_formed, kept-found state layout (words_of_part places ++ unlinked) image now)
+  naming-finds image outside state layout unlinked k = let now = kept-end state layout unlinked k image outside in (now.sound, kept-held state layout (words_of_part places ++ unlinked) image now)
 
 -- and before
 pub child-finds : (places : PartPlaces) (from image : Image) → StillFinds (words_of_places places.places) from image → StillFinds (words_of_part places) from image

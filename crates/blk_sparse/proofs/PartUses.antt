@@ -38,7 +38,7 @@ use Rattle.blk_object.specs.KeptLists.{IsAmidList}
 use Rattle.law_state.proofs.Counts.{touch-count}
 use Rattle.blk_object.proofs.KeptLists.{listed-amid, touches-done, touches-partly}
 use Rattle.blk_sparse.specs.Parts.{FindsBeforeOrAfter, IsListedAt, IsUsed}
-use Rattle.law_state.proofs.Keeping.{kept-found}
+use Rattle.law_state.proofs.Keeping.{kept-held}
 
 module _ (state : State) (layout : Layout) (unlinked : List ℕ) (item : Item) (entry : ℕ) (from : Image) (l : IsListedAt state layout unlinked item entry from) where
   abbrev node : ℕ
@@ -117,7 +117,7 @@ module _ (files : BlockFiles) (old mid now : Told) (entry node moment : ℕ) (st
 
 -- before anything is written
 pub now-finds : (state : State) (layout : Layout) (unlinked : List ℕ) (item : Item) (entry : ℕ) (from : Image) → IsListedAt state layout unlinked item entry from → FindsBeforeOrAfter state item from
-now-finds state layout unlinked item entry from l = inl (l.kept.well_formed, kept-found state layout unlinked from l.kept)
+now-finds state layout unlinked item entry from l = inl (l.kept.sound, kept-held state layout unlinked from l.kept)
 
 -- the address of blocks of nodes that are there is that of a node
 pub node-among : (files : BlockFiles) (w : ℕ) → is_address w ≡ true → kind_of w ≡ rankings → stands_among files w ≡ true → is_node_among files w ≡ true

@@ -27,7 +27,7 @@ use Rattle.law_state.specs.Keeping.{CountsItems, Keeps, KeepsUncounted}
 use Rattle.law_state.specs.ListLaws.{with_used}
 use Rattle.law_state.specs.PartStates.{with_object}
 use Rattle.law_state.proofs.Dirtying.{set-else}
-use Rattle.law_state.proofs.Keeping.{kept-found}
+use Rattle.law_state.proofs.Keeping.{kept-held}
 use Rattle.blk_object.specs.Counters.{AreMoreItems}
 use Rattle.blk_object.specs.Writing.{IsRisen}
 use Rattle.blk_object.proofs.CounterWords.{more-counted}
@@ -53,7 +53,7 @@ module _ (ns : List ℕ) (target : Target) (state : State) (layout : Layout) (un
   target-listed = record { kept = t.kept; listed = main-listed state t.kept.valid number object true t.here t.live; was = t.was; lies = t.lies; record_is = t.record_is }
 
   pub target-finds : Finds (rest state) from
-  target-finds = (t.kept.well_formed, kept-found state layout unlinked from t.kept)
+  target-finds = (t.kept.sound, kept-held state layout unlinked from t.kept)
 
   abbrev used_state : State
   used_state = with_used state (main object.key)
@@ -162,7 +162,7 @@ module _ (state : State) (layout : Layout) (unlinked : List ℕ) (number : ℕ) 
   counted-kept = kept state k.now unlinked k.parent.kept
 
   pub count-finds : Finds (rest state) image
-  count-finds = (counted-kept.well_formed, kept-found state k.now unlinked image counted-kept)
+  count-finds = (counted-kept.sound, kept-held state k.now unlinked image counted-kept)
 
   pub then-counted : (counted : State) (laid : Layout) (entries charge : ℕ) → CountsAfter counted laid state entries charge from → AreItemsCounted entries charge mid image → IsCountedThen state layout unlinked number object node entry signature from image
   then-counted counted laid entries charge c more =
@@ -303,7 +303,7 @@ module _ (offset : ℕ) (bytes : List ℕ) (a m b : Told) (from : Image) (there 
 
   -- the old durable contents are so still
   same-rest : rest (with_bytes_written state number object offset bytes) ≡ rest state
-  same-rest = sym (kept-found (with_bytes_written state number object offset bytes) w.now unlinked told.image w.parent.kept) ∙ told.holds.1
+  same-rest = sym (kept-held (with_bytes_written state number object offset bytes) w.now unlinked told.image w.parent.kept) ∙ told.holds.1
 
   pub count-passes : ForSome m.files (λ i. Passes m b (KeepsWith [] [] i)) → Passes a b (Finds (rest state))
   count-passes kept =

@@ -17,7 +17,7 @@ use Rattle.blk_stream.proofs.Joined.{IsTold, told_then}
 use Rattle.law_state.specs.Changes.{Finds}
 use Rattle.law_state.specs.CommandStates.{in_order}
 use Rattle.law_state.specs.Keeping.{CountsItems}
-use Rattle.law_state.proofs.Keeping.{kept-found}
+use Rattle.law_state.proofs.Keeping.{kept-held}
 use Rattle.blk_object.proofs.GoingNext.{then-counters}
 use Rattle.blk_object.proofs.MakingTaken.{session-then}
 use Rattle.blk_object.proofs.WrittenParts.{part-listed}
@@ -116,7 +116,7 @@ module _ (state : State) (layout : Layout) (unlinked : List ℕ) (number : ℕ) 
   none-used = record { parent = p; counted = λ c. c; counters = refl; session = record { crash = refl; id = refl } }
 
   pub now-found : (items : List Item) → FindsUsed state items from
-  now-found items = record { first = []; others = items; split = refl; finds = (p.kept.well_formed, kept-found state layout unlinked from p.kept) }
+  now-found items = record { first = []; others = items; split = refl; finds = (p.kept.sound, kept-held state layout unlinked from p.kept) }
 
   -- a part of it is listed at its record
   pub its-part : (n of_part : ℕ) → HasPartAt layout object n of_part → IsListedAt state layout unlinked (part object.key n) of_part from

@@ -26,7 +26,7 @@ use Rattle.law_state.specs.CommandStates.{amidst}
 use Rattle.law_state.specs.Keeping.{KeepsUncounted}
 use Rattle.law_state.specs.PartStates.{with_value}
 use Rattle.law_state.proofs.Dirtying.{set-else}
-use Rattle.law_state.proofs.Keeping.{kept-found}
+use Rattle.law_state.proofs.Keeping.{kept-held}
 use Rattle.blk_object.proofs.MakingStored.{counters-then}
 use Rattle.blk_object.proofs.MakingTaken.{session-then}
 use Rattle.blk_sparse.specs.SparseObjects.{CanGetParts, KeepsParent, KeepsParentThen, OthersLieAsBefore, missing_parts, parts_of, value_or_empty, with_bytes, with_bytes_written, with_piece, with_piece_written}
@@ -155,7 +155,7 @@ none-written state layout unlinked number object node entry signature from offse
 
 module _ (state : State) (layout : Layout) (unlinked : List ℕ) (number : ℕ) (object : Object) (node entry signature : ℕ) (from : Image) (offset : ℕ) (bytes : List ℕ) (can : CanGetParts (covered_parts offset (length bytes)) state layout unlinked number object node entry signature from) where
   pub covered-finds : Finds (rest state) from
-  covered-finds = (can.parent.kept.well_formed, kept-found state layout unlinked from can.parent.kept)
+  covered-finds = (can.parent.kept.sound, kept-held state layout unlinked from can.parent.kept)
 
 module _ (state : State) (layout : Layout) (unlinked : List ℕ) (number : ℕ) (object : Object) (node entry signature : ℕ) (from : Image) (offset : ℕ) (bytes : List ℕ) (can : CanGetParts (covered_parts offset (length bytes)) state layout unlinked number object node entry signature from) (n place : ℕ) (at : offset ≡ n * 1048576 + place) where
   module _ (covers : covered_parts offset (length bytes) ≡ n ∷ []) (room : place + length bytes ≤ 1048576) where

@@ -21,6 +21,7 @@ use Rattle.blk_disk.proofs.Ranges.{stands_range}
 use Rattle.blk_entry.specs.Keys.{data_at, data_file, data_start, IsInFile, IsInside}
 use Rattle.blk_entry.specs.Steps.{data_steps}
 use Rattle.blk_entry.proofs.NewImages.{same_kind}
+use Rattle.blk_entry.proofs.DataSteps.{data-beside}
 use Rattle.blk_stream.specs.declared.places.Stored.{Stored}
 use Rattle.blk_stream.specs.Copying.{AreOldBytes, IsCopied, IsCutOld, IsCutPrefix, ShareNoData, data_byte, old_spans, span_of}
 use Rattle.blk_stream.proofs.PlacesFreed.{blocky_of}
@@ -124,7 +125,7 @@ module _ (files : BlockFiles) (one other start end : ℕ) (one_inside : IsInside
 
     quiet_piece : (bytes : List ℕ) → IsQuiet (data_steps other at bytes)
     unfolding data_steps
-    quiet_piece bytes = quiet-words (data_file other) (data_start other + at) bytes
+    quiet_piece bytes = quiet-words (data_file other) (data_start other + at) bytes (data-beside other)
 
     pub piece_passes : (b : Told) → ForSome m.files (λ mid. AppliesPrefix m b (data_steps other at (data_at mid one at n))) → ForSome a.files (λ from. Passes a b (P from))
     piece_passes b part from e =

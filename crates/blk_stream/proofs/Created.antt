@@ -13,8 +13,9 @@ use Rattle.spec_image.proofs.Images.{with_file-same}
 use Rattle.spec_image.proofs.Runs.{passes_part, some_inj, told_whole}
 use Rattle.spec_image.proofs.Splices.{resized-zero}
 use Rattle.spec_format.specs.Address.{external, external_number, kind_of}
-use Rattle.spec_format.specs.BlockFiles.{IsWellFormed}
+use Rattle.spec_format.specs.BlockFiles.{KeepsHeaders}
 use Rattle.spec_format.specs.Storage.{kind_for}
+use Rattle.spec_format.proofs.Finished.{headers-kept, headers-next}
 use Rattle.blk_disk.specs.declared.tables.BlockFiles.{BlockFiles}
 use Rattle.blk_disk.specs.Tables.{Agrees}
 use Rattle.blk_disk.proofs.Agreeing.{agrees_still}
@@ -24,7 +25,7 @@ use Rattle.blk_external.proofs.Changes.{other_number}
 use Rattle.law_folder.proofs.updates.IndexWords.{others-unchecked}
 use Rattle.blk_stream.specs.Placing.{CanBePlaced, IsNewPlace, LosesNothing, MakesPlace, PlacesInProgress, NewFile, placing_of}
 use Rattle.blk_stream.specs.Freeing.{is_block_of}
-use Rattle.blk_stream.proofs.PlacesLeft.{formed_behind}
+use Rattle.blk_stream.proofs.PlacesLeft.{headers_behind}
 use Rattle.blk_stream.proofs.Gained.{gained_external}
 use Rattle.blk_stream.proofs.KeptFiles.{SparesBlockFiles, blocks_kept, external_spares, headers_spared}
 
@@ -69,34 +70,34 @@ module _ (files : BlockFiles) (kind : ℕ) (from : Image) (is : kind ≡ externa
   pub done_outside : SameOutside F from done
   done_outside = outside-trans F from bare done bare_outside (outside_wider (one_word Index 16) F bare done (within_right (whole (External number)) (one_word Index 16)) word_same)
 
-  bare_formed : IsWellFormed from → IsWellFormed bare
-  bare_formed = formed_behind (whole (External number)) from bare (headers_spared (whole (External number)) (external_spares number)) (λ k. refl) refl (λ n. refl) bare_same
+  bare_headers : KeepsHeaders from bare
+  bare_headers = headers_behind (whole (External number)) from bare (headers_spared (whole (External number)) (external_spares number)) (λ k. refl) refl (λ n. refl) bare_same
 
-  done_formed : IsWellFormed from → IsWellFormed done
-  done_formed formed = others-unchecked bare done 16 refl refl word_same (bare_formed formed)
+  done_headers : KeepsHeaders from done
+  done_headers = headers-next from bare done bare_headers (others-unchecked bare done 16 refl refl word_same)
 
-  making_loses_nothing : (image : Image) → SameOutside F from image → (IsWellFormed from → IsWellFormed image) → LosesNothing from image
-  making_loses_nothing image same formed = record {
+  making_loses_nothing : (image : Image) → SameOutside F from image → KeepsHeaders from image → LosesNothing from image
+  making_loses_nothing image same headers = record {
     blocks = blocks_kept F from image (making_spares number) same;
     externals = λ m there.
         let apart = other_number number m (λ e. clash (sym there ∙ ap (λ (k : ℕ). has_file from (External k)) e ∙ first.free)) in
         same_file_outside F from image (External m) same (λ i. ap (λ (t : Bool). t || false) apart) (ap (λ (t : Bool). t || false) apart);
-    formed = formed;
+    headers = headers;
   }
     where
       clash : true ≡ false → ⊥
       clash h = cc
 
-  makes_file : (image : Image) → SameOutside F from image → (IsWellFormed from → IsWellFormed image) → MakesPlace files kind (NewFile number) from image
+  makes_file : (image : Image) → SameOutside F from image → KeepsHeaders from image → MakesPlace files kind (NewFile number) from image
   unfolding placing_of
-  makes_file image same formed = record { right = (is, first); same = same; keeps = making_loses_nothing image same formed; grown = λ other. absurd (other is) }
+  makes_file image same headers = record { right = (is, first); same = same; keeps = making_loses_nothing image same headers; grown = λ other. absurd (other is) }
 
   pub after_making : (Q : Image → Type 0) → Q done → Q (after (making number) from)
   unfolding word_step
   after_making Q q = q
 
   pub done_makes : MakesPlace files kind (NewFile number) from done
-  done_makes = makes_file done done_outside done_formed
+  done_makes = makes_file done done_outside done_headers
 
 module _ (files : BlockFiles) (size : ℕ) (from : Image) (is : kind_for size ≡ external) (number : ℕ) (first : IsFirstFree from (last_number from) number) where
   moment : (image : Image) → MakesPlace files (kind_for size) (NewFile number) from image → SameOutside (whole (External number)) from image ⊎ (image (External number) ≡ Some []) → PlacesInProgress files size from image
@@ -108,9 +109,9 @@ module _ (files : BlockFiles) (size : ℕ) (from : Image) (is : kind_for size �
   pub making_moments : Until (PlacesInProgress files size from) (PlacesInProgress files size from) from (making number)
   unfolding word_step
   making_moments = (
-    moment from (makes_file files (kind_for size) from is number first from (outside-refl (touched_by_making number) from) (λ formed. formed)) (inl (outside-refl (whole (External number)) from)),
+    moment from (makes_file files (kind_for size) from is number first from (outside-refl (touched_by_making number) from) (headers-kept from)) (inl (outside-refl (whole (External number)) from)),
     (
-      moment (bare files (kind_for size) from is number first) (makes_file files (kind_for size) from is number first (bare files (kind_for size) from is number first) (bare_outside files (kind_for size) from is number first) (bare_formed files (kind_for size) from is number first)) (inl (bare_same files (kind_for size) from is number first)),
+      moment (bare files (kind_for size) from is number first) (makes_file files (kind_for size) from is number first (bare files (kind_for size) from is number first) (bare_outside files (kind_for size) from is number first) (bare_headers files (kind_for size) from is number first)) (inl (bare_same files (kind_for size) from is number first)),
       moment (done files (kind_for size) from is number first) (done_makes files (kind_for size) from is number first) (inr (done_file files (kind_for size) from is number first)),
     ),
   )

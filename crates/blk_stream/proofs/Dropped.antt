@@ -16,6 +16,7 @@ use Rattle.spec_format.specs.Maps.{AreAllocations, is_block_marked}
 use Rattle.spec_format.specs.Sealed.{RecordChecks, record_at}
 use Rattle.spec_format.proofs.LinkedHeads.{count_whole}
 use Rattle.spec_format.proofs.SpareHeaders.{past_header}
+use Rattle.spec_format.proofs.Finished.{headers-kept, headers-next}
 use Rattle.spec_folder.specs.Entries.{stream}
 use Rattle.blk_disk.specs.declared.tables.BlockFiles.{BlockFiles}
 use Rattle.blk_disk.specs.Tables.{Agrees}
@@ -107,7 +108,7 @@ module _ (entry : ℕ) (from : Image) where
   none_yet good = record {
     same = outside-refl nothing from;
     checks = good;
-    formed = λ formed. formed;
+    headers = headers-kept from;
     none = λ i less. absurd (omega (arith, less));
     later = λ i more low. record { size = refl; word = refl };
     marks = λ n b small. refl;
@@ -134,7 +135,7 @@ module _ (entry : ℕ) (from : Image) where
     next_dropped image drops = record {
       same = both_same entry from k mid image was.same same_here;
       checks = drops.checks;
-      formed = λ formed. drops.formed (was.formed formed);
+      headers = headers-next from mid image was.headers drops.headers;
       none = none_now;
       later = λ i more low. let kept = stream_kept entry k _ mid image small drops.same i low (omega (arith, more)) in let before = was.later i (omega (arith, more)) low in record { size = kept.size ∙ before.size; word = kept.word ∙ before.word };
       marks = λ n b low. drops.marks n b low ∙ ap (λ (w : ℕ). if is_block_of w n b then false else is_block_marked mid n b) word_here ∙ ap (λ (t : Bool). if is_block_of (address_word from entry k) n b then false else t) (was.marks n b low)
@@ -188,7 +189,7 @@ module _ (entry : ℕ) (from : Image) where
     next_in_progress image drops = record {
       same = outside_wider (dropping_of (suc k) entry from) (dropping_of 3 entry from) from image (within_up (suc k) 3 (omega (arith, small))) same_now;
       checks = drops.checks;
-      formed = λ formed. drops.formed (was.formed formed);
+      headers = headers-next from mid image was.headers drops.headers;
       order = order_now;
     }
       where
@@ -217,7 +218,7 @@ module _ (entry : ℕ) (from : Image) where
             (cases_lt i k)
 
   pub not_begun : RecordChecks entry from → DropsInProgress entry from from
-  not_begun good = record { same = outside-refl (dropping_of 3 entry from) from; checks = good; formed = λ formed. formed; order = λ i low. inl (outside-refl (either (dropping_of i entry from) (stream_words entry i)) from) }
+  not_begun good = record { same = outside-refl (dropping_of 3 entry from) from; checks = good; headers = headers-kept from; order = λ i low. inl (outside-refl (either (dropping_of i entry from) (stream_words entry i)) from) }
 
 -- What a stream needs that is dropped after others.
 

@@ -10,6 +10,7 @@ use Rattle.spec_format.specs.Address.{kind_of, external, external_number, file_s
 use Rattle.spec_format.specs.Claims.{is_in_file}
 use Rattle.spec_format.specs.Maps.{AreAllocations, is_block_marked}
 use Rattle.spec_format.specs.Sealed.{RecordChecks}
+use Rattle.spec_format.proofs.Finished.{headers-kept}
 use Rattle.blk_alloc.specs.Changes.{map_of}
 use Rattle.blk_stream.specs.Streams.{address_word, size_word}
 use Rattle.blk_stream.specs.Changing.{stream_words}
@@ -56,7 +57,7 @@ module _ (entry i : ℕ) (from : Image) where
   none_dropped good size none = record {
     same = outside-refl E from;
     checks = good;
-    formed = λ formed. formed;
+    headers = headers-kept from;
     none = record { size_is = size; word_is = none };
     marks = λ n b small. sym (ap (λ (t : Bool). if t then false else is_block_marked from n b) (ap (λ (w : ℕ). is_block_of w n b) none ∙ no_block n b));
     allocations = λ n words are among. subst (AreAllocations from n) (sym (ap (λ (w : ℕ). left_by w n words) none ∙ none_left n words)) are;
@@ -67,14 +68,14 @@ module _ (entry i : ℕ) (from : Image) where
   }
 
   pub stays_dropping : RecordChecks entry from → DropsStreamInProgress entry i from from
-  stays_dropping good = record { same = outside-refl E from; checks = good; formed = λ formed. formed; order = inl (outside-refl (stream_words entry i) from) }
+  stays_dropping good = record { same = outside-refl E from; checks = good; headers = headers-kept from; order = inl (outside-refl (stream_words entry i) from) }
 
   module _ (old : ℕ) (is : old ≡ W) (some : W ≢ 0) (image : Image) where
     leaves : freeing_of old ≡ leaving_of W
     leaves = ap freeing_of is ∙ sym (leaving_some W some)
 
     pub changing_drops : LeavesPlaceInProgress entry i old 0 0 from image → DropsStreamInProgress entry i from image
-    changing_drops h = record { same = subst (λ (F : Footprint). SameOutside (either (stream_words entry i) F) from image) leaves h.same; checks = h.checks; formed = h.formed; order = h.order }
+    changing_drops h = record { same = subst (λ (F : Footprint). SameOutside (either (stream_words entry i) F) from image) leaves h.same; checks = h.checks; headers = h.headers; order = h.order }
 
     pub changed_drops : LeavesPlace entry i old 0 0 from image → DropsStream entry i from image
     changed_drops h =
@@ -82,7 +83,7 @@ module _ (entry i : ℕ) (from : Image) where
         record {
           same = subst (λ (F : Footprint). SameOutside (either (stream_words entry i) F) from image) leaves h.same;
           checks = h.checks;
-          formed = h.formed;
+          headers = h.headers;
           none = h.named;
           marks = here.marks;
           allocations = here.allocations;

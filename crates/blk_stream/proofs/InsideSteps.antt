@@ -30,7 +30,7 @@ use Rattle.blk_entry.specs.Steps.{data_steps}
 use Rattle.blk_entry.specs.Writing.{ShareNoBlock}
 use Rattle.blk_entry.proofs.NewImages.{same_kind}
 use Rattle.blk_entry.proofs.Windows.{entry_room, entry_room_least}
-use Rattle.blk_entry.proofs.DataSteps.{steps_of_blocks, steps_of_external}
+use Rattle.blk_entry.proofs.DataSteps.{data-beside, steps_of_blocks, steps_of_external}
 use Rattle.blk_stream.specs.Streams.{size_place}
 use Rattle.blk_stream.specs.Changing.{record_word}
 use Rattle.blk_stream.specs.Inside.{WritesInProgress, data_of, gap_steps, here_steps, inside_steps, length_steps, room_steps, size_steps, size_words}
@@ -299,7 +299,7 @@ module _ (files : BlockFiles) (entry i w old size offset : ℕ) (bytes : List �
       subst (λ (l : List ℕ). Along P from (inside_steps l entry i w old size offset bytes)) (sym read)
       (until-append P P here (size_steps (record_at from entry) entry i old size) from here_moments size_moments)
 
--- none of the steps is a note
+-- each step is one that a command may make
 pub quiet_room : (w old size offset : ℕ) → IsQuiet (room_steps w old size offset)
 unfolding room_steps data_steps
 quiet_room w old size offset = by_tests (kind_of w == external) (size == old)
@@ -307,19 +307,19 @@ quiet_room w old size offset = by_tests (kind_of w == external) (size == old)
     by_tests : (t s : Bool) → IsQuiet (if t then (if s then [] else SetLength (External (external_number w)) size ∷ []) else words (data_file w) (data_start w + old) (zeros (offset - old)))
     by_tests true true = tt
     by_tests true false = tt
-    by_tests false s = quiet-words (data_file w) (data_start w + old) (zeros (offset - old))
+    by_tests false s = quiet-words (data_file w) (data_start w + old) (zeros (offset - old)) (data-beside w)
 
 pub quiet_data : (w at : ℕ) (bytes : List ℕ) → IsQuiet (data_steps w at bytes)
 unfolding data_steps
-quiet_data w at bytes = quiet-words (data_file w) (data_start w + at) bytes
+quiet_data w at bytes = quiet-words (data_file w) (data_start w + at) bytes (data-beside w)
 
 pub quiet_here : (w old size offset : ℕ) (bytes : List ℕ) → IsQuiet (here_steps w old size offset bytes)
 unfolding data_steps
-quiet_here w old size offset bytes = quiet-append (room_steps w old size offset) (data_steps w offset bytes) (quiet_room w old size offset) (quiet-words (data_file w) (data_start w + offset) bytes)
+quiet_here w old size offset bytes = quiet-append (room_steps w old size offset) (data_steps w offset bytes) (quiet_room w old size offset) (quiet-words (data_file w) (data_start w + offset) bytes (data-beside w))
 
 quiet_over : (record_bytes : List ℕ) (entry : ℕ) (changes : List (ℕ × ℕ)) → IsQuiet (steps_over record_bytes entry changes)
 unfolding update_steps
-quiet_over record_bytes entry changes = quiet-word_steps (Block (file_selector entry)) (placed (place entry) (update_words (seal_place entry) changes (seal_of (seal_place entry) (with_words changes record_bytes))))
+quiet_over record_bytes entry changes = quiet-word_steps (Block (file_selector entry)) (placed (place entry) (update_words (seal_place entry) changes (seal_of (seal_place entry) (with_words changes record_bytes)))) tt
 
 quiet_size : (record_bytes : List ℕ) (entry i old size : ℕ) → IsQuiet (size_steps record_bytes entry i old size)
 unfolding size_steps

@@ -11,6 +11,7 @@ use Rattle.spec_format.specs.Address.{block_count, external, external_number, fi
 use Rattle.spec_format.specs.Growth.{StaysWhole}
 use Rattle.spec_format.specs.Storage.{kind_for}
 use Rattle.spec_format.proofs.Growths.{grown_not}
+use Rattle.spec_format.proofs.Finished.{headers-kept}
 use Rattle.blk_disk.specs.declared.tables.BlockFiles.{BlockFiles}
 use Rattle.blk_disk.specs.Tables.{Agrees, stands_among}
 use Rattle.blk_external.specs.Making.{Creates, last_number, making, touched_by_making}
@@ -30,7 +31,7 @@ use Rattle.blk_stream.proofs.StreamMoved.{long_there}
 
 -- where nothing has changed, the folder stays whole
 pub still_whole : (from : Image) → StaysWhole from from
-still_whole from = record { grown = grown_not from; formed = λ formed. formed }
+still_whole from = record { grown = grown_not from; headers = headers-kept from }
 
 -- at each word of a free it does
 pub frees_whole : (w : ℕ) (from image : Image) → FreesOrStops w from image → StaysWhole from image

@@ -68,7 +68,7 @@ start_below start blocks there = omega (arith, there)
 -- At each word.
 
 pub whole_loses_nothing : (from image : Image) → StaysWhole from image → LosesNothing from image
-whole_loses_nothing from image stays = record { blocks = grown_blocks from image stays.grown; externals = λ number there. stays.grown.externals number; formed = stays.formed }
+whole_loses_nothing from image stays = record { blocks = grown_blocks from image stays.grown; externals = λ number there. stays.grown.externals number; headers = stays.headers }
 
 -- a site of blocks of a kind, and an address there
 pub record BlockSite (files : BlockFiles) (kind : ℕ) (w : ℕ) (from image : Image) : Type 0 where

@@ -16,6 +16,7 @@ use Rattle.spec_format.specs.BlockFiles.{is_among}
 use Rattle.spec_format.specs.Claims.{is_in_file}
 use Rattle.spec_format.specs.Maps.{is_block_marked}
 use Rattle.spec_format.proofs.LinkedHeads.{count_whole}
+use Rattle.spec_format.proofs.Finished.{headers-kept}
 use Rattle.blk_disk.specs.declared.tables.BlockFiles.{BlockFiles}
 use Rattle.blk_disk.specs.Tables.{Agrees, all_files}
 use Rattle.blk_disk.proofs.Ranges.{stands_agree}
@@ -63,7 +64,7 @@ not_placed files from agrees = record {
     keeps = record {
       blocks = record { stand = λ w stands. stands; bytes = λ w i stands low high. refl };
       externals = λ number there. refl;
-      formed = λ formed. formed;
+      headers = headers-kept from;
     };
     grown = λ blocky. absurd (blocky refl);
   };

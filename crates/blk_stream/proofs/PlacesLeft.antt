@@ -11,22 +11,23 @@ use Rattle.spec_image.specs.Told.{Told, Passes}
 use Rattle.spec_image.proofs.Footprints.{outside-trans, outside_wider, same_word_outside, within_left, within_right}
 use Rattle.spec_image.proofs.Words.{same-range}
 use Rattle.spec_format.specs.Address.{kind_of, external, external_number, file_selector, place, blocks_256}
-use Rattle.spec_format.specs.BlockFiles.{IsWellFormed, max_entries_in}
+use Rattle.spec_format.specs.BlockFiles.{max_entries_in, KeepsHeaders}
 use Rattle.spec_format.specs.Sealed.{RecordChecks, record_at, record_size}
 use Rattle.spec_format.proofs.Keeping.{undamaged_still}
 use Rattle.spec_format.proofs.SealedFields.{record_word as word_of_record}
 use Rattle.spec_format.proofs.SealedRecords.{entry_bytes}
 use Rattle.spec_format.proofs.SpareHeaders.{SparesHeaders, blocks_same, heads_still, next_same, past_header}
+use Rattle.spec_format.proofs.Finished.{headers-next}
 use Rattle.blk_io.specs.declared.fault.Damage.{Damage}
 use Rattle.blk_io.specs.declared.fault.Fault.{Fault}
 use Rattle.blk_io.specs.declared.fault.Fault.TheVariants.{Device, Damaged}
 use Rattle.blk_io.specs.Faults.{IfDamaged}
 use Rattle.blk_disk.specs.declared.tables.BlockFiles.{BlockFiles}
 use Rattle.blk_disk.specs.Tables.{Agrees, stands_among}
-use Rattle.blk_disk.proofs.Enlarging.{well_formed_still}
+use Rattle.blk_disk.proofs.Enlarging.{kept_headers}
 use Rattle.blk_alloc.specs.Changes.{map_of}
 use Rattle.blk_alloc.proofs.Spared.{allocations_kept, empty_kept, freed_still, marks_kept}
-use Rattle.blk_alloc.proofs.Sparing.{blocks_spared, formed_spared, map_spares}
+use Rattle.blk_alloc.proofs.Sparing.{blocks_spared, headers_stay, map_spares}
 use Rattle.blk_stream.specs.Streams.{address_place, address_word, size_place, size_word}
 use Rattle.blk_stream.specs.Changing.{HasWords, NamesInProgress, stream_words}
 use Rattle.blk_stream.specs.Freeing.{IsPlaceFreed, MayBeFreed, freeing_of, is_block_of, leaving_of}
@@ -88,24 +89,24 @@ module _ (w : ℕ) (mid image : Image) (same : SameOutside (freeing_of w) mid im
       blocks_spared (map_of (file_selector w)) mid image (map_spares (file_selector w)) maps (λ m. let e = maps.lengths (Block m) refl in omega (arith, e)) n)
       (cases_Bool (kind_of w == external))
 
--- a well-formed folder stays so
+-- the headers are kept
 
-pub formed_behind : (F : Footprint) (from image : Image) → SparesHeaders F → ((i : ℕ) → F.bytes Index i ≡ false) → F.sizes Index ≡ false → ((n : ℕ) → F.sizes (Block n) ≡ false) → SameOutside F from image → IsWellFormed from → IsWellFormed image
-formed_behind F from image spares index size sizes same formed =
-    well_formed_still from image (λ i. same.bytes Index i (index i)) (same.lengths Index size)
-    (undamaged_still from image (next_same F from image spares same) (heads_still F from image spares same (λ m. let e = same.lengths (Block m) (sizes m) in omega (arith, e)))) formed
+pub headers_behind : (F : Footprint) (from image : Image) → SparesHeaders F → ((i : ℕ) → F.bytes Index i ≡ false) → F.sizes Index ≡ false → ((n : ℕ) → F.sizes (Block n) ≡ false) → SameOutside F from image → KeepsHeaders from image
+headers_behind F from image spares index size sizes same =
+    kept_headers from image (λ i. same.bytes Index i (index i)) (same.lengths Index size)
+    (undamaged_still from image (next_same F from image spares same) (heads_still F from image spares same (λ m. let e = same.lengths (Block m) (sizes m) in omega (arith, e))))
 
-pub formed_named : (entry i : ℕ) (from mid : Image) → SameOutside (stream_words entry i) from mid → IsWellFormed from → IsWellFormed mid
-formed_named entry i from mid same formed = formed_behind (stream_words entry i) from mid (record { bytes = (words_spare entry i).headers }) (λ k. refl) refl (λ n. refl) same formed
+pub headers_named : (entry i : ℕ) (from mid : Image) → SameOutside (stream_words entry i) from mid → KeepsHeaders from mid
+headers_named entry i from mid same = headers_behind (stream_words entry i) from mid (record { bytes = (words_spare entry i).headers }) (λ k. refl) refl (λ n. refl) same
 
-pub formed_freed : (w : ℕ) (mid image : Image) → SameOutside (freeing_of w) mid image → IsWellFormed mid → IsWellFormed image
-formed_freed w mid image same formed =
+pub headers_freed : (w : ℕ) (mid image : Image) → SameOutside (freeing_of w) mid image → KeepsHeaders mid image
+headers_freed w mid image same =
     ⊎_elim
     (λ (t : (kind_of w == external) ≡ true).
-    formed_behind (whole (External (external_number w))) mid image (record { bytes = λ m i small. refl }) (λ k. refl) refl (λ n. refl) (subst (λ (F : Footprint). SameOutside F mid image) (freeing_external w (eqb-true (kind_of w) external t)) same) formed)
+    headers_behind (whole (External (external_number w))) mid image (record { bytes = λ m i small. refl }) (λ k. refl) refl (λ n. refl) (subst (λ (F : Footprint). SameOutside F mid image) (freeing_external w (eqb-true (kind_of w) external t)) same))
     (λ (t : (kind_of w == external) ≡ false).
     let maps : SameOutside (map_of (file_selector w)) mid image = subst (λ (F : Footprint). SameOutside F mid image) (freeing_blocks w (blocky_of w t)) same in
-    formed_spared (map_of (file_selector w)) mid image (map_spares (file_selector w)) maps (λ m. let e = maps.lengths (Block m) refl in omega (arith, e)) formed)
+    headers_stay (map_of (file_selector w)) mid image (map_spares (file_selector w)) maps (λ m. let e = maps.lengths (Block m) refl in omega (arith, e)))
     (cases_Bool (kind_of w == external))
 
 -- Another place for a stream.
@@ -115,7 +116,7 @@ module _ (entry i old size word : ℕ) (from : Image) where
   E = either (stream_words entry i) (freeing_of old)
 
   pub naming_changes : (image : Image) → NamesInProgress entry i from image → LeavesPlaceInProgress entry i old size word from image
-  naming_changes image named = record { same = outside_wider (stream_words entry i) E from image (within_left (stream_words entry i) (freeing_of old)) named.same; checks = named.checks; formed = formed_named entry i from image named.same; order = inl named.same }
+  naming_changes image named = record { same = outside_wider (stream_words entry i) E from image (within_left (stream_words entry i) (freeing_of old)) named.same; checks = named.checks; headers = headers_named entry i from image named.same; order = inl named.same }
 
   module _ (mid : Image) (small : i < 3) (named : NamesInProgress entry i from mid) (words : HasWords entry i size word mid) where
     both : (image : Image) → SameOutside (freeing_of old) mid image → SameOutside E from image
@@ -128,7 +129,7 @@ module _ (entry i old size word : ℕ) (from : Image) where
     still_checks image freed = let e = record_freed old mid image freed entry in rw e named.checks
 
     pub freeing_changes : (image : Image) → SameOutside (freeing_of old) mid image → LeavesPlaceInProgress entry i old size word from image
-    freeing_changes image freed = record { same = both image freed; checks = still_checks image freed; formed = λ formed. formed_freed old mid image freed (formed_named entry i from mid named.same formed); order = inr (still_words image freed) }
+    freeing_changes image freed = record { same = both image freed; checks = still_checks image freed; headers = headers-next from mid image (headers_named entry i from mid named.same) (headers_freed old mid image freed); order = inr (still_words image freed) }
 
     pub freed_changes : (image : Image) → IsPlaceFreed old mid image → LeavesPlace entry i old size word from image
     freed_changes image freed =
@@ -138,7 +139,7 @@ module _ (entry i old size word : ℕ) (from : Image) where
         record {
           same = both image freed.same;
           checks = still_checks image freed.same;
-          formed = λ formed. formed_freed old mid image freed.same (formed_named entry i from mid named.same formed);
+          headers = headers-next from mid image (headers_named entry i from mid named.same) (headers_freed old mid image freed.same);
           named = still_words image freed.same;
           marks = λ n b low. freed.marks n b low ∙ ap (λ (t : Bool). if is_block_of old n b then false else t) (marks_kept F from mid spares named.same n b low);
           allocations = λ n list are among. freed.allocations n list (allocations_kept F from mid spares named.same n list are) among;

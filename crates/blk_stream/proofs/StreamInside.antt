@@ -14,7 +14,7 @@ use Rattle.spec_image.specs.Footprint.{Footprint, SameOutside, IsWithin, either,
 use Rattle.spec_image.proofs.Footprints.{outside-refl, outside_wider, same_word_outside, within_both, within_left, within_right}
 use Rattle.spec_image.proofs.Words.{same-range}
 use Rattle.spec_format.specs.Address.{block_count, blocks_256, byte_size, external, external_number, file_selector, kind_of, place}
-use Rattle.spec_format.specs.BlockFiles.{IsWellFormed, is_among}
+use Rattle.spec_format.specs.BlockFiles.{is_among, KeepsHeaders}
 use Rattle.spec_format.specs.Claims.{is_in_file}
 use Rattle.spec_format.specs.Maps.{AreAllocations, is_block_marked}
 use Rattle.spec_format.specs.Storage.{blocks_for, kind_for}
@@ -47,13 +47,14 @@ use Rattle.blk_alloc.proofs.Changing.{within-trans}
 use Rattle.blk_stream.proofs.Naming.{apart_place, words_off_other, words_spare}
 use Rattle.blk_stream.proofs.OwnedKept.{inside_owned}
 use Rattle.blk_stream.proofs.PlacesFreed.{blocky_of, in_file_blocks, in_file_external}
-use Rattle.blk_stream.proofs.PlacesLeft.{formed_behind, read_size, read_word}
+use Rattle.blk_stream.proofs.PlacesLeft.{headers_behind, read_size, read_word}
 use Rattle.blk_stream.proofs.Placements.{no_range, none_in, place_some}
 use Rattle.blk_stream.proofs.PlacesMoved.{block_parts}
 use Rattle.blk_stream.proofs.Drops.{no_block}
 use Rattle.blk_stream.proofs.InsideData.{moved_data}
 use Rattle.blk_stream.specs.Owned.{KeepsOwned}
 use Rattle.spec_format.specs.Sealed.{RecordChecks, record_at}
+use Rattle.spec_format.proofs.Finished.{headers-kept}
 use Rattle.std.specs.Option.{option_and_then}
 use Rattle.spec_folder.specs.View.{RecordFields, address_of, data_size_of, entry_at, fields_at, fields_of, stands_as, store_of, stored_at}
 use Rattle.blk_stream.proofs.StreamMoved.{stream_bytes_are}
@@ -68,16 +69,16 @@ size_within entry i =
 size_spares : (entry i : ℕ) → SparesHeadersAndSizes (size_words entry i)
 size_spares entry i = record { headers = λ n k low. off_within (size_words entry i) (stream_words entry i) (Block n) k (size_within entry i) ((words_spare entry i).headers n k low); sizes = λ file. refl }
 
--- a well-formed folder stays one
-formed_inside : (entry i w : ℕ) (from image : Image) → SameOutside (either (data_of w) (size_words entry i)) from image → IsWellFormed from → IsWellFormed image
-formed_inside entry i w from image same formed = ⊎_elim
+-- the headers are kept
+headers_inside : (entry i w : ℕ) (from image : Image) → SameOutside (either (data_of w) (size_words entry i)) from image → KeepsHeaders from image
+headers_inside entry i w from image same = ⊎_elim
     (λ (t : (kind_of w == external) ≡ true).
-    formed_behind (either (whole (External (external_number w))) (size_words entry i)) from image (record { bytes = λ m k low. (size_spares entry i).headers m k low }) (λ k. refl) refl (λ n. refl)
-    (subst (λ (F : Footprint). SameOutside (either F (size_words entry i)) from image) (data_external w (eqb-true (kind_of w) external t)) same) formed)
+    headers_behind (either (whole (External (external_number w))) (size_words entry i)) from image (record { bytes = λ m k low. (size_spares entry i).headers m k low }) (λ k. refl) refl (λ n. refl)
+    (subst (λ (F : Footprint). SameOutside (either F (size_words entry i)) from image) (data_external w (eqb-true (kind_of w) external t)) same))
     (λ (t : (kind_of w == external) ≡ false).
-    formed_behind (either (range (Block (file_selector w)) (place w) (byte_size w)) (size_words entry i)) from image
+    headers_behind (either (range (Block (file_selector w)) (place w) (byte_size w)) (size_words entry i)) from image
     (record { bytes = λ m k low. let a = apart_place (Block (file_selector w)) (Block m) (place w) (byte_size w) k (inl (let p = past_header w in omega (arith, p, low))) in let b = (size_spares entry i).headers m k low in rw (a, b) refl }) (λ k. refl) refl (λ n. refl)
-    (subst (λ (F : Footprint). SameOutside (either F (size_words entry i)) from image) (data_blocks w (blocky_of w t)) same) formed)
+    (subst (λ (F : Footprint). SameOutside (either F (size_words entry i)) from image) (data_blocks w (blocky_of w t)) same))
     (cases_Bool (kind_of w == external))
 
 both_keep : (from mid image : Image) → KeepsMaps from mid → KeepsMaps mid image → KeepsMaps from image
@@ -134,7 +135,7 @@ module _ (files : BlockFiles) (entry i size w : ℕ) (kind : kind_of entry ≡ b
     right = tt;
     same = subst (λ (v : ℕ). SameOutside (writing_of files entry i v w size Nowhere) from image) (sym is_word) (same_here image h.same);
     checks = h.checks;
-    formed = formed_inside entry i w from image h.same;
+    headers = headers_inside entry i w from image h.same;
     filled = λ differs. absurd (differs is_word);
     order = λ differs. absurd (differs is_word);
   }
@@ -258,7 +259,7 @@ module _ (files : BlockFiles) (entry i size w : ℕ) (kind : kind_of entry ≡ b
             (subst (λ (v : ℕ). SameOutside (writing_of files entry i w v (size_word image entry i) Nowhere) from image) (sym addr)
             (subst (λ (n : ℕ). SameOutside (writing_of files entry i w w n Nowhere) from image) (sym sized) (same_here image h.same)));
         checks = h.checks;
-        formed = formed_inside entry i w from image h.same;
+        headers = headers_inside entry i w from image h.same;
         size = sized ∙ is ∙ ap (λ (n : ℕ). size_after cut n offset (length bytes)) (sym was);
         written = stream_bytes_are image entry i w size addr sized ∙ done.written cut is ∙ ap (λ (l : List ℕ). stream_after cut l offset bytes) (sym (stream_bytes_are from entry i w old is_word was));
         place = subst (λ (n : ℕ). may_keep files n (address_word image entry i) ≡ true) (sym sized) (subst (λ (v : ℕ). may_keep files size v ≡ true) (sym addr) fits);
@@ -303,7 +304,7 @@ module _ (files : BlockFiles) (entry i size offset : ℕ) (cut : Bool) (bytes : 
     right = tt;
     same = outside-refl (writing_of files entry i (address_word from entry i) 0 size Nowhere) from;
     checks = checks;
-    formed = λ formed. formed;
+    headers = headers-kept from;
     filled = λ differs. absurd (differs no_word);
     order = λ differs. absurd (differs no_word);
   }
@@ -314,7 +315,7 @@ module _ (files : BlockFiles) (entry i size offset : ℕ) (cut : Bool) (bytes : 
     right = tt;
     same = outside-refl (writing_of files entry i (address_word from entry i) (address_word from entry i) (size_word from entry i) Nowhere) from;
     checks = checks;
-    formed = λ formed. formed;
+    headers = headers-kept from;
     size = none ∙ sym is_none ∙ is ∙ ap (λ (n : ℕ). size_after cut n offset (length bytes)) (sym none);
     written = stream_bytes_are from entry i 0 0 no_word none
         ∙ subst (λ (n : ℕ). data_at from 0 0 n ≡ stream_after cut (data_at from 0 0 0) offset bytes) is_none
@@ -448,7 +449,7 @@ begun_writes files entry i size offset cut bytes from checks = record {
   right = tt;
   same = outside-refl (writing_of files entry i (address_word from entry i) (address_word from entry i) size Nowhere) from;
   checks = checks;
-  formed = λ formed. formed;
+  headers = headers-kept from;
   filled = λ differs. absurd (differs refl);
   order = λ differs. absurd (differs refl);
 }

@@ -6,9 +6,10 @@ use Rattle.spec_image.specs.Image.{Image}
 use Rattle.spec_image.specs.Footprint.{Footprint, SameOutside, either}
 use Rattle.spec_image.proofs.Footprints.{outside_wider, within_left}
 use Rattle.spec_format.specs.Address.{blocks_256, external, kind_of}
-use Rattle.spec_format.specs.BlockFiles.{IsWellFormed}
+use Rattle.spec_format.specs.BlockFiles.{KeepsHeaders}
 use Rattle.spec_format.specs.Sealed.{RecordChecks}
 use Rattle.spec_format.specs.Storage.{kind_for}
+use Rattle.spec_format.proofs.Finished.{headers-next}
 use Rattle.blk_disk.specs.declared.tables.BlockFiles.{BlockFiles}
 use Rattle.blk_disk.specs.Tables.{Agrees, stands_among}
 use Rattle.blk_entry.specs.Keys.{data_at, data_file, data_start}
@@ -24,10 +25,10 @@ use Rattle.blk_stream.specs.Written.{HoldsStream, MovesPlace, StreamIsWritten, w
 use Rattle.blk_stream.proofs.KeptMaps.{gains_still, place_keeps_maps}
 use Rattle.blk_stream.proofs.OtherStreams.{left_length}
 use Rattle.blk_stream.proofs.PlacesFreed.{leaving_some}
-use Rattle.blk_stream.proofs.PlacesLeft.{formed_named}
+use Rattle.blk_stream.proofs.PlacesLeft.{headers_named}
 use Rattle.blk_stream.proofs.PlacesMoved.{left_moved, named_moved, naming_keeps_maps}
 use Rattle.blk_stream.proofs.StreamPlaces.{bytes_at}
-use Rattle.blk_stream.proofs.WriteStages.{filled_formed, freed_off, left_same, left_written, named_same, named_written, site_fits}
+use Rattle.blk_stream.proofs.WriteStages.{filled_headers, freed_off, left_same, left_written, named_same, named_written, site_fits}
 
 module _ (files kept : BlockFiles) (entry i size offset : ℕ) (cut : Bool) (bytes : List ℕ) (from : Image) (kind : kind_of entry ≡ blocks_256) (stands : stands_among files entry ≡ true) (agrees : Agrees files from) (checks : RecordChecks entry from)
     (w : ℕ) (made : Image) (kinds : w ≢ 0 → kind_of w ≡ kind_for size) (placed : IsNewPlace files w from made)
@@ -38,9 +39,9 @@ module _ (files kept : BlockFiles) (entry i size offset : ℕ) (cut : Bool) (byt
   old = address_word from entry i
 
   -- what is left of it, by the words of the record
-  written_by : SameOutside (writing_of files entry i old w size placed.site) from image → RecordChecks entry image → (IsWellFormed from → IsWellFormed image) → data_at image w 0 size ≡ stream_after cut (stream_bytes from entry i) offset bytes → HasPlaceLength w size image → MovesPlace files old w from image
+  written_by : SameOutside (writing_of files entry i old w size placed.site) from image → RecordChecks entry image → KeepsHeaders from image → data_at image w 0 size ≡ stream_after cut (stream_bytes from entry i) offset bytes → HasPlaceLength w size image → MovesPlace files old w from image
       → StreamIsWritten files kept entry i offset cut bytes from image
-  written_by outside good formed data_is length_is moved =
+  written_by outside good headers data_is length_is moved =
       let s = sym words.size_is in
       let v = sym words.word_is in
       record {
@@ -48,7 +49,7 @@ module _ (files kept : BlockFiles) (entry i size offset : ℕ) (cut : Bool) (byt
         right = subst (λ (n : ℕ). IsSite files (kind_for n) from placed.site) s (site_fits files size w from made kinds placed).0;
         same = subst (λ (n : ℕ). SameOutside (writing_of files entry i old (address_word image entry i) n placed.site) from image) s (subst (λ (a : ℕ). SameOutside (writing_of files entry i old a size placed.site) from image) v outside);
         checks = good;
-        formed = formed;
+        headers = headers;
         size = words.size_is ∙ size_is;
         written = bytes_at image entry i size w s v ∙ data_is;
         place = subst (λ (n : ℕ). may_keep kept n (address_word image entry i) ≡ true) s (subst (λ (a : ℕ). may_keep kept size a ≡ true) v stored);
@@ -70,7 +71,7 @@ module _ (files kept : BlockFiles) (entry i size offset : ℕ) (cut : Bool) (byt
       written_by
       (left_same files entry i size offset cut bytes from kind stands agrees checks w made kinds placed filled same written words_off differs some gone image leaves.same)
       leaves.checks
-      (λ formed. leaves.formed (filled_formed files entry i size offset cut bytes from kind stands agrees checks w made kinds placed filled same formed))
+      (headers-next from filled image (filled_headers files entry i size offset cut bytes from kind stands agrees checks w made kinds placed filled same) leaves.headers)
       (left_written files entry i size offset cut bytes from kind stands agrees checks w made kinds placed filled same written words_off differs some gone image leaves.same)
       (left_length w size entry i old filled image (λ _ _. apart) up long)
       (left_moved files old w from filled (gains_still files w from made filled (place_keeps_maps w made filled same) placed.gains) differs entry i size image old_stands apart leaves)
@@ -81,7 +82,7 @@ module _ (files kept : BlockFiles) (entry i size offset : ℕ) (cut : Bool) (byt
       written_by
       (named_same files entry i size offset cut bytes from kind stands agrees checks w made kinds placed filled same written words_off image named.same)
       named.checks
-      (λ formed. formed_named entry i filled image named.same (filled_formed files entry i size offset cut bytes from kind stands agrees checks w made kinds placed filled same formed))
+      (headers-next from filled image (filled_headers files entry i size offset cut bytes from kind stands agrees checks w made kinds placed filled same) (headers_named entry i filled image named.same))
       (named_written files entry i size offset cut bytes from kind stands agrees checks w made kinds placed filled same written words_off image named.same)
       (left_length w size entry i old filled image (λ _ some. absurd (some none)) (outside_wider (stream_words entry i) (either (stream_words entry i) (leaving_of old)) filled image (within_left (stream_words entry i) (leaving_of old)) named.same) long)
       (named_moved files old w from filled (gains_still files w from made filled (place_keeps_maps w made filled same) placed.gains) differs image none (naming_keeps_maps entry i filled image named))

@@ -8,12 +8,13 @@ use Rattle.spec_image.specs.Footprint.{Footprint, IsWithin, SameOutside, either,
 use Rattle.spec_image.proofs.Footprints.{outside-trans, outside_wider, range_within, within_both, within_left, within_right}
 use Rattle.spec_image.proofs.Words.{same-range}
 use Rattle.spec_format.specs.Address.{blocks_256, byte_size, external, external_number, file_selector, kind_of, place}
-use Rattle.spec_format.specs.BlockFiles.{IsWellFormed, stands_in_blocks}
+use Rattle.spec_format.specs.BlockFiles.{stands_in_blocks, KeepsHeaders}
 use Rattle.spec_format.specs.Growth.{KeepsBlocks}
 use Rattle.spec_format.specs.Sealed.{RecordChecks, record_at, record_size}
 use Rattle.spec_format.specs.Storage.{kind_for}
 use Rattle.spec_format.proofs.SealedRecords.{entry_bytes}
 use Rattle.spec_format.proofs.SpareHeaders.{past_header}
+use Rattle.spec_format.proofs.Finished.{headers-next}
 use Rattle.blk_disk.specs.declared.tables.BlockFiles.{BlockFiles}
 use Rattle.blk_disk.specs.Tables.{Agrees, stands_among}
 use Rattle.blk_disk.proofs.Ranges.{stands_agree}
@@ -35,7 +36,7 @@ use Rattle.blk_stream.proofs.InsideSteps.{data_blocks, data_external, record_sam
 use Rattle.blk_stream.proofs.KeptFiles.{external_spares, headers_spared}
 use Rattle.blk_stream.proofs.KeptMaps.{blocks_spared}
 use Rattle.blk_stream.proofs.PlacesFreed.{blocky_of, freeing_blocks, freeing_external, leaving_some}
-use Rattle.blk_stream.proofs.PlacesLeft.{formed_behind, formed_named, freeing_off}
+use Rattle.blk_stream.proofs.PlacesLeft.{headers_behind, headers_named, freeing_off}
 
 clash : true ≡ false → ⊥
 clash e = cc
@@ -76,23 +77,23 @@ words_in_record entry i kind small =
 
 -- The data of a place.
 
--- a change of it leaves a well-formed folder well formed
-pub place_formed : (w : ℕ) (from image : Image) → SameOutside (data_at_place w) from image → IsWellFormed from → IsWellFormed image
+-- a change of it keeps the headers
+pub place_headers : (w : ℕ) (from image : Image) → SameOutside (data_at_place w) from image → KeepsHeaders from image
 unfolding data_at_place
-place_formed w from image same = by_test (w == 0) same
+place_headers w from image same = by_test (w == 0) same
   where
-    blocks : (kind_of w == external) ≡ false → SameOutside (data_of w) from image → IsWellFormed from → IsWellFormed image
+    blocks : (kind_of w == external) ≡ false → SameOutside (data_of w) from image → KeepsHeaders from image
     blocks t h =
         let R = range (Block (file_selector w)) (place w) (byte_size w) in
-        formed_behind R from image (record { bytes = (blocks_spared w).headers }) (λ k. refl) refl (λ n. refl) (subst (λ (F : Footprint). SameOutside F from image) (data_blocks w (blocky_of w t)) h)
+        headers_behind R from image (record { bytes = (blocks_spared w).headers }) (λ k. refl) refl (λ n. refl) (subst (λ (F : Footprint). SameOutside F from image) (data_blocks w (blocky_of w t)) h)
 
-    file : (kind_of w == external) ≡ true → SameOutside (data_of w) from image → IsWellFormed from → IsWellFormed image
+    file : (kind_of w == external) ≡ true → SameOutside (data_of w) from image → KeepsHeaders from image
     file t h =
         let R = whole (External (external_number w)) in
-        formed_behind R from image (headers_spared R (external_spares (external_number w))) (λ k. refl) refl (λ n. refl) (subst (λ (F : Footprint). SameOutside F from image) (data_external w (eqb-true (kind_of w) external t)) h)
+        headers_behind R from image (headers_spared R (external_spares (external_number w))) (λ k. refl) refl (λ n. refl) (subst (λ (F : Footprint). SameOutside F from image) (data_external w (eqb-true (kind_of w) external t)) h)
 
-    by_test : (t : Bool) → SameOutside (if t then nothing else data_of w) from image → IsWellFormed from → IsWellFormed image
-    by_test true h = formed_behind nothing from image (record { bytes = λ n i small. refl }) (λ k. refl) refl (λ n. refl) h
+    by_test : (t : Bool) → SameOutside (if t then nothing else data_of w) from image → KeepsHeaders from image
+    by_test true h = headers_behind nothing from image (record { bytes = λ n i small. refl }) (λ k. refl) refl (λ n. refl) h
     by_test false h = ⊎_elim (λ t. file t h) (λ t. blocks t h) (cases_Bool (kind_of w == external))
 
 -- what is freed lies off the data of another place
@@ -197,7 +198,7 @@ module _ (files : BlockFiles) (entry i size offset : ℕ) (cut : Bool) (bytes : 
           right = makes.right;
           same = outside_wider (new_of 0 places.site) (all_of 0 places.site) from image (new_within 0 places.site) same;
           checks = rw record_is checks;
-          formed = makes.keeps.formed;
+          headers = makes.keeps.headers;
           filled = λ differs. inl same;
           order = λ differs. inl (outside_wider (new_of 0 places.site) (either (stream_words entry i) (new_of 0 places.site)) from image (within_right (stream_words entry i) (new_of 0 places.site)) same);
         }
@@ -212,8 +213,8 @@ module _ (files : BlockFiles) (entry i size offset : ℕ) (cut : Bool) (bytes : 
       pub filled_same : (image : Image) → SameOutside (data_at_place w) made image → SameOutside (new_of w site) from image
       filled_same image same = outside-trans (new_of w site) from made image made_same (outside_wider (data_at_place w) (new_of w site) made image (data_within w site) same)
 
-      pub filled_formed : (image : Image) → SameOutside (data_at_place w) made image → IsWellFormed from → IsWellFormed image
-      filled_formed image same formed = place_formed w made image same (placed.makes.keeps.formed formed)
+      pub filled_headers : (image : Image) → SameOutside (data_at_place w) made image → KeepsHeaders from image
+      filled_headers image same = headers-next from made image placed.makes.keeps.headers (place_headers w made image same)
 
       -- it is being filled
       pub filling_writes : (image : Image) → SameOutside (data_at_place w) made image → RecordChecks entry image → Writes image
@@ -225,7 +226,7 @@ module _ (files : BlockFiles) (entry i size offset : ℕ) (cut : Bool) (bytes : 
             right = (site_fits files size w from made kinds placed).0;
             same = outside_wider (new_of w site) (all_of w site) from image (new_within w site) all;
             checks = good;
-            formed = filled_formed image same;
+            headers = filled_headers image same;
             filled = λ differs. inl all;
             order = λ differs. inl (outside_wider (new_of w site) (either (stream_words entry i) (new_of w site)) from image (within_right (stream_words entry i) (new_of w site)) all);
           }
@@ -250,7 +251,7 @@ module _ (files : BlockFiles) (entry i size offset : ℕ) (cut : Bool) (bytes : 
           right = (site_fits files size w from made kinds placed).0;
           same = named_same image named.same;
           checks = named.checks;
-          formed = λ formed. formed_named entry i filled image named.same (filled_formed filled same formed);
+          headers = headers-next from filled image (filled_headers filled same) (headers_named entry i filled image named.same);
           filled = λ differs. inr (named_written image named.same);
           order = λ differs. inl (named_order image named.same);
         }
@@ -279,7 +280,7 @@ module _ (files : BlockFiles) (entry i size offset : ℕ) (cut : Bool) (bytes : 
             right = (site_fits files size w from made kinds placed).0;
             same = left_same image leaves.same;
             checks = leaves.checks;
-            formed = λ formed. leaves.formed (filled_formed filled same formed);
+            headers = headers-next from filled image (filled_headers filled same) leaves.headers;
             filled = λ other. inr (left_written image leaves.same);
             order = λ other. ⊎_elim (λ (words : SameOutside (stream_words entry i) filled image). inl (named_order image words)) (λ (named : HasWords entry i size w image). inr named) leaves.order;
           }

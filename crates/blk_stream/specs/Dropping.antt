@@ -4,7 +4,7 @@ use Rattle.spec_image.specs.Image.{External, Image, has_file}
 use Rattle.spec_image.specs.Footprint.{Footprint, SameOutside, either, nothing}
 use Rattle.spec_image.specs.Told.{Stays, Told}
 use Rattle.spec_format.specs.Address.{block_count, external, external_number, file_selector, first_block, kind_of}
-use Rattle.spec_format.specs.BlockFiles.{IsWellFormed, is_among, max_entries_in, most_blocks}
+use Rattle.spec_format.specs.BlockFiles.{is_among, max_entries_in, most_blocks, KeepsHeaders}
 use Rattle.spec_format.specs.Claims.{is_in_file}
 use Rattle.spec_format.specs.Maps.{AreAllocations, EmptyAgrees, is_block_marked}
 use Rattle.spec_format.specs.Sealed.{RecordChecks}
@@ -62,11 +62,11 @@ pub record KeepsStream (entry i : ℕ) (from image : Image) : Type 0 where
   pub word : address_word image entry i ≡ address_word from entry i
 
 -- the first `count` streams of a record were dropped: they are empty, their blocks (and no others) are cleared in the maps and are allocations no longer, their
--- external files are gone; the later streams are unchanged, the record's checksum matches or is absent, and a well-formed folder is well formed
+-- external files are gone; the later streams are unchanged, the record's checksum matches or is absent, and the headers are kept
 pub record AreDropped (count entry : ℕ) (from image : Image) : Type 0 where
   pub same : SameOutside (dropping_of count entry from) from image
   pub checks : RecordChecks entry image
-  pub formed : IsWellFormed from → IsWellFormed image
+  pub headers : KeepsHeaders from image
   pub none : (i : ℕ) → i < count → IsEmptyStream entry i image
   pub later : (i : ℕ) → count ≤ i → i < 3 → KeepsStream entry i from image
   pub marks : (n b : ℕ) → b < most_blocks → is_block_marked image n b ≡ (if is_block_of_first count entry from n b then false else is_block_marked from n b)
@@ -75,12 +75,12 @@ pub record AreDropped (count entry : ℕ) (from image : Image) : Type 0 where
   pub empty : (n : ℕ) → max_entries_in from n ≤ most_blocks → EmptyAgrees from n → EmptyAgrees image n
   pub gone : (i : ℕ) → i < count → kind_of (address_word from entry i) ≡ external → address_word from entry i ≢ 0 → has_file image (External (external_number (address_word from entry i))) ≡ false
 
--- in the midst of dropping the three streams: the record's checksum matches or is absent, a well-formed folder is well formed, nothing outside the frame has
+-- in the midst of dropping the three streams: the record's checksum matches or is absent, the headers are kept, nothing outside the frame has
 -- changed, and blocks or file of a stream are untouched until the record has it empty
 pub record DropsInProgress (entry : ℕ) (from image : Image) : Type 0 where
   pub same : SameOutside (dropping_of 3 entry from) from image
   pub checks : RecordChecks entry image
-  pub formed : IsWellFormed from → IsWellFormed image
+  pub headers : KeepsHeaders from image
   pub order : (i : ℕ) → i < 3 → SameOutside (either (dropping_of i entry from) (stream_words entry i)) from image ⊎ IsEmptyStream entry i image
 
 -- stream i was dropped: it is empty, its blocks are cleared in the map and no allocation any more, or its external file is gone; nothing else has changed, and
@@ -88,7 +88,7 @@ pub record DropsInProgress (entry : ℕ) (from image : Image) : Type 0 where
 pub record DropsStream (entry i : ℕ) (from image : Image) : Type 0 where
   pub same : SameOutside (either (stream_words entry i) (leaving_of (address_word from entry i))) from image
   pub checks : RecordChecks entry image
-  pub formed : IsWellFormed from → IsWellFormed image
+  pub headers : KeepsHeaders from image
   pub none : IsEmptyStream entry i image
   pub marks : (n b : ℕ) → b < most_blocks → is_block_marked image n b ≡ (if is_block_of (address_word from entry i) n b then false else is_block_marked from n b)
   pub allocations : (n : ℕ) (words : List ℕ) → AreAllocations from n words → (is_in_file n (address_word from entry i) ≡ true → is_among words (address_word from entry i) ≡ true) → AreAllocations image n (left_by (address_word from entry i) n words)
@@ -102,7 +102,7 @@ pub record DropsStream (entry i : ℕ) (from image : Image) : Type 0 where
 pub record DropsStreamInProgress (entry i : ℕ) (from image : Image) : Type 0 where
   pub same : SameOutside (either (stream_words entry i) (leaving_of (address_word from entry i))) from image
   pub checks : RecordChecks entry image
-  pub formed : IsWellFormed from → IsWellFormed image
+  pub headers : KeepsHeaders from image
   pub order : SameOutside (stream_words entry i) from image ⊎ IsEmptyStream entry i image
 
 -- stream i may be dropped: its size and address word fit each other, and its blocks may be freed

@@ -3,7 +3,7 @@ use Rattle.std.specs.Prelude.{ℕ, ◌≡◌, ◌≢◌, ◌⊎◌, ◌<◌, ◌
 use Rattle.spec_image.specs.Image.{External, Image, has_file}
 use Rattle.spec_image.specs.Footprint.{Footprint, SameOutside, either, nothing}
 use Rattle.spec_format.specs.Address.{kind_of, external, external_number}
-use Rattle.spec_format.specs.BlockFiles.{IsWellFormed, is_among, max_entries_in, most_blocks}
+use Rattle.spec_format.specs.BlockFiles.{is_among, max_entries_in, most_blocks, KeepsHeaders}
 use Rattle.spec_format.specs.Claims.{is_in_file}
 use Rattle.spec_format.specs.Maps.{AreAllocations, EmptyAgrees, is_block_marked}
 use Rattle.spec_format.specs.Sealed.{RecordChecks}
@@ -24,11 +24,11 @@ use Rattle.blk_io.specs.declared.fault.Damage.{Damage}
 -- The record names the new place, and then the old one is freed.
 
 -- the record has the new words of stream i, and the old address is freed: its blocks (and no others) are cleared and it is an allocation no longer, or its file
--- is gone; nothing else has changed, the record's checksum matches or is absent, and a well-formed folder is well formed
+-- is gone; nothing else has changed, the record's checksum matches or is absent, and the headers are kept
 pub record LeavesPlace (entry i old size word : ℕ) (from image : Image) : Type 0 where
   pub same : SameOutside (either (stream_words entry i) (freeing_of old)) from image
   pub checks : RecordChecks entry image
-  pub formed : IsWellFormed from → IsWellFormed image
+  pub headers : KeepsHeaders from image
   pub named : HasWords entry i size word image
   pub marks : (n b : ℕ) → b < most_blocks → is_block_marked image n b ≡ (if is_block_of old n b then false else is_block_marked from n b)
   pub allocations : (n : ℕ) (words : List ℕ) → AreAllocations from n words → (is_in_file n old ≡ true → is_among words old ≡ true) → AreAllocations image n (left_by old n words)
@@ -41,7 +41,7 @@ pub record LeavesPlace (entry i old size word : ℕ) (from image : Image) : Type
 pub record LeavesPlaceInProgress (entry i old size word : ℕ) (from image : Image) : Type 0 where
   pub same : SameOutside (either (stream_words entry i) (freeing_of old)) from image
   pub checks : RecordChecks entry image
-  pub formed : IsWellFormed from → IsWellFormed image
+  pub headers : KeepsHeaders from image
   pub order : SameOutside (stream_words entry i) from image ⊎ HasWords entry i size word image
 
 -- A new place is made and filled.

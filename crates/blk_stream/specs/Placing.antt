@@ -5,7 +5,7 @@ use Rattle.spec_image.specs.Image.{Block, External, Image, byte, has_file}
 use Rattle.spec_image.specs.Footprint.{Footprint, SameOutside, either, nothing, whole}
 use Rattle.spec_image.specs.Told.{Stays, Told}
 use Rattle.spec_format.specs.Address.{external, external_number, file_selector, kind_of}
-use Rattle.spec_format.specs.BlockFiles.{IsWellFormed, is_among, max_entries_in, most_blocks}
+use Rattle.spec_format.specs.BlockFiles.{is_among, max_entries_in, most_blocks, KeepsHeaders}
 use Rattle.spec_format.specs.Claims.{is_in_file}
 use Rattle.spec_format.specs.Growth.{HaveGrown, KeepsBlocks}
 use Rattle.spec_format.specs.Headers.{updating_of}
@@ -70,11 +70,11 @@ IsSiteOf (InFile n) w = (kind_of w ≢ external) × (file_selector w ≡ n)
 IsSiteOf (InGrowth n) w = (kind_of w ≢ external) × (file_selector w ≡ n)
 IsSiteOf (InAddition n) w = (kind_of w ≢ external) × (file_selector w ≡ n)
 
--- no data is lost: each block that was there is there with its bytes, each external file is unchanged, and a well-formed folder is well formed
+-- no data is lost: each block that was there is there with its bytes, each external file is unchanged, and the headers are kept
 pub record LosesNothing (from image : Image) : Type 0 where
   pub blocks : KeepsBlocks from image
   pub externals : (number : ℕ) → has_file from (External number) ≡ true → image (External number) ≡ from (External number)
-  pub formed : IsWellFormed from → IsWellFormed image
+  pub headers : KeepsHeaders from image
 
 -- a place for data of a kind is being made at the right site, or was: nothing outside the frame of the site has changed, no data is lost, and where it is one
 -- of blocks, block files have grown at most

@@ -24,8 +24,8 @@ use Rattle.blk_stream.specs.Writing.{have_one_storage, size_after}
 
 -- A place is allocated.
 
--- the blocks of address w are allocated, and `kept` is the table of block files afterwards; block files have grown at most, and a well-formed folder is well
--- formed
+-- the blocks of address w are allocated, and `kept` is the table of block files afterwards; block files have grown at most, and the headers are
+-- kept
 pub record TakesBlocks (files kept : BlockFiles) (w : ℕ) (from image : Image) : Type 0 where
   pub block_kind : is_block_kind (kind_of w) ≡ true
   pub address : is_address w ≡ true
@@ -49,7 +49,7 @@ pub record TakesFile (w : ℕ) (from image : Image) : Type 0 where
 abbrev pub TakesPlace : BlockFiles → BlockFiles → ℕ → Image → Image → Type 0
 TakesPlace files kept w from image = TakesBlocks files kept w from image ⊎ TakesFile w from image
 
--- a place is being allocated: block files have grown at most and a well-formed folder is well formed, or an external file is being made
+-- a place is being allocated: block files have grown at most and the headers are kept, or an external file is being made
 abbrev pub TakesInProgress : Image → Image → Type 0
 TakesInProgress from image = StaysWhole from image ⊎ CreatesInProgress from image
 
@@ -76,12 +76,12 @@ IsFilled files kept (Some w) from image = FillsTaken files kept w from image × 
 
 -- A place is freed.
 
--- the place of address w is being freed: block files have grown at most and a well-formed folder is well formed, or nothing but the external file of w has
+-- the place of address w is being freed: block files have grown at most and the headers are kept, or nothing but the external file of w has
 -- changed
 abbrev pub FreesPlaceInProgress : ℕ → Image → Image → Type 0
 FreesPlaceInProgress w from image = StaysWhole from image ⊎ ((kind_of w ≡ external) × SameOutside (whole (External (external_number w))) from image)
 
--- the blocks of address w are freed; block files have grown at most, and a well-formed folder is well formed
+-- the blocks of address w are freed; block files have grown at most, and the headers are kept
 pub record FreesBlocks (w : ℕ) (from image : Image) : Type 0 where
   pub block_kind : kind_of w ≢ external
   pub freed : IsFreed from w image

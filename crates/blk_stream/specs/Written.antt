@@ -5,7 +5,7 @@ use Rattle.spec_image.specs.Image.{External, Image, has_file}
 use Rattle.spec_image.specs.Footprint.{Footprint, SameOutside, either, nothing}
 use Rattle.spec_image.specs.Told.{Stays, Told}
 use Rattle.spec_format.specs.Address.{block_count, external, external_number, file_selector, first_block, kind_of}
-use Rattle.spec_format.specs.BlockFiles.{IsWellFormed, is_among, max_entries_in, most_blocks}
+use Rattle.spec_format.specs.BlockFiles.{is_among, max_entries_in, most_blocks, KeepsHeaders}
 use Rattle.spec_format.specs.Claims.{claims_of_all, is_in_file, repeats}
 use Rattle.spec_format.specs.Maps.{AreAllocations, EmptyAgrees, is_block_marked}
 use Rattle.spec_format.specs.Sealed.{RecordChecks}
@@ -68,13 +68,13 @@ pub record HoldsStream (entry i : ℕ) (from image : Image) : Type 0 where
   pub long : HasPlaceLength (address_word from entry i) (size_word from entry i) from → HasPlaceLength (address_word from entry i) (size_word from entry i) image
 
 -- a write of stream i is done: it has its bytes after the write, in storage for its new size (the same place where the storage is the same); the other two
--- streams, the blocks and files of other owners, and a well-formed folder are kept, and the maps agree
+-- streams, the blocks and files of other owners, and the headers are kept, and the maps agree
 pub record StreamIsWritten (files kept : BlockFiles) (entry i offset : ℕ) (cut : Bool) (bytes : List ℕ) (from image : Image) : Type 0 where
   pub site : Site
   pub right : IsSite files (kind_for (size_word image entry i)) from site
   pub same : SameOutside (writing_of files entry i (address_word from entry i) (address_word image entry i) (size_word image entry i) site) from image
   pub checks : RecordChecks entry image
-  pub formed : IsWellFormed from → IsWellFormed image
+  pub headers : KeepsHeaders from image
   pub size : size_word image entry i ≡ size_after cut (size_word from entry i) offset (length bytes)
   pub written : stream_bytes image entry i ≡ stream_after cut (stream_bytes from entry i) offset bytes
   pub place : HasStreamPlace kept entry i image
@@ -86,8 +86,8 @@ pub record StreamIsWritten (files kept : BlockFiles) (entry i offset : ℕ) (cut
 
 -- What holds at each word.
 
--- invariant of a write of stream i, after each single write: nothing outside its frame has changed, the record's checksum matches or is absent, and a
--- well-formed folder is well formed; where the stream moves, the record is unchanged until the new place has all bytes, and the old place is untouched until
+-- invariant of a write of stream i, after each single write: nothing outside its frame has changed, the record's checksum matches or is absent, and the
+-- headers are kept; where the stream moves, the record is unchanged until the new place has all bytes, and the old place is untouched until
 -- the record names the new one
 pub record WritesStream (files : BlockFiles) (entry i size offset : ℕ) (cut : Bool) (bytes : List ℕ) (from image : Image) : Type 0 where
   pub new : ℕ
@@ -95,7 +95,7 @@ pub record WritesStream (files : BlockFiles) (entry i size offset : ℕ) (cut : 
   pub right : IsSite files (kind_for size) from site
   pub same : SameOutside (writing_of files entry i (address_word from entry i) new size site) from image
   pub checks : RecordChecks entry image
-  pub formed : IsWellFormed from → IsWellFormed image
+  pub headers : KeepsHeaders from image
   pub filled : address_word from entry i ≢ new → SameOutside (either (data_at_place new) (placing_of files (kind_for size) site)) from image ⊎ (data_at image new 0 size ≡ stream_after cut (stream_bytes from entry i) offset bytes)
   pub order : address_word from entry i ≢ new → SameOutside (either (stream_words entry i) (either (data_at_place new) (placing_of files (kind_for size) site))) from image ⊎ HasWords entry i size new image
 

@@ -4,7 +4,7 @@ use Rattle.spec_image.specs.Image.{Index, Block, External, Image, length_of}
 use Rattle.spec_image.specs.Steps.{SetLength, Delete, applied}
 use Rattle.spec_image.specs.Footprint.{Footprint, range, whole, either, IsWithin, SameOutside}
 use Rattle.spec_format.specs.Address.{kind_of, file_selector, first_block, block_count, place, byte_size, external, header_size}
-use Rattle.spec_format.specs.BlockFiles.{linked_as, next_file_in, stands_in, stands_in_blocks, IsWellFormed}
+use Rattle.spec_format.specs.BlockFiles.{linked_as, next_file_in, stands_in, stands_in_blocks, KeepsHeaders}
 use Rattle.spec_format.specs.Growth.{HaveGrown}
 use Rattle.spec_format.specs.Claims.{Claim, ExternalOf, same_claim, claims_of, has_claim}
 use Rattle.spec_folder.specs.View.{view_of}
@@ -104,11 +104,11 @@ pub record IsOfHeaders (footprint : Footprint) : Type 0 where
 abbrev pub ChangedHeadersHaveGrown : Type 0
 ChangedHeadersHaveGrown = (footprint : Footprint) (old new : Image) → IsOfHeaders footprint → SameOutside footprint old new → ((n : ℕ) → length_of old (Block n) ≤ length_of new (Block n)) → HaveGrown old new
 
--- the folder is as before but for a block file: nothing is shown to change, the same files are linked, and a well-formed folder stays so
+-- the folder is as before but for a block file: nothing is shown to change, the same files are linked, and the headers are kept
 pub record IsWithoutFile (from image : Image) : Type 0 where
   pub shown : SameBut (λ claim. false) (view_of from) (view_of image)
   pub linked : (n : ℕ) → linked_as image n ≡ linked_as from n
-  pub well_formed : IsWellFormed from → IsWellFormed image
+  pub headers : KeepsHeaders from image
 
 -- a block file that isn't linked may be deleted
 abbrev pub UnlinkedFilesMayGo : Type 0

@@ -3,7 +3,7 @@ use Rattle.std.specs.Prelude.{◌≡◌, ℕ, ◌+◌, ◌/◌, ◌^◌, ◌<◌
 use Rattle.spec_image.specs.Image.{Index, Image, byte, word}
 use Rattle.spec_image.specs.Footprint.{SameOutside, one_word}
 use Rattle.spec_format.specs.Headers.{count_of, counted_places, header_length, index_version, place_of_bucket, version_place, zero_places, heads_place, tails_place, transaction_place, operation_place}
-use Rattle.spec_format.specs.BlockFiles.{is_among, stands_in, IsWellFormed}
+use Rattle.spec_format.specs.BlockFiles.{is_among, stands_in, KeepsHeaders}
 use Rattle.spec_folder.specs.ListView.{ListWrite, Head, Tail, Transaction, Operation, put}
 use Rattle.spec_folder.specs.View.{list_of, store_of, view_of}
 use Rattle.spec_folder.specs.ShownChanges.{OnlyListChanges}
@@ -56,21 +56,21 @@ BucketsAreWritten = (from image : Image) (bucket x : ℕ) → IsIndexWord (place
 abbrev pub checked_words : List ℕ
 checked_words = 0 ∷ 4 ∷ 24 ∷ 28 ∷ 36 ∷ zero_places
 
--- the write of a word of the index that no check reads keeps a folder well formed
+-- the write of a word of the index that no check reads keeps the headers
 abbrev pub OtherWordsAreNotChecked : Type 0
-OtherWordsAreNotChecked = (from image : Image) (at : ℕ) → at % 4 ≡ 0 → is_among checked_words at ≡ false → SameOutside (one_word Index at) from image → IsWellFormed from → IsWellFormed image
+OtherWordsAreNotChecked = (from image : Image) (at : ℕ) → at % 4 ≡ 0 → is_among checked_words at ≡ false → SameOutside (one_word Index at) from image → KeepsHeaders from image
 
--- the write of the version that is made now keeps a folder well formed, whichever of the two it was
+-- the write of the version that is made now keeps the headers, whichever of the two it was
 abbrev pub VersionsMayBeRaised : Type 0
-VersionsMayBeRaised = (from image : Image) → IsIndexWord version_place index_version from image → IsWellFormed from → IsWellFormed image
+VersionsMayBeRaised = (from image : Image) → IsIndexWord version_place index_version from image → KeepsHeaders from image
 
 -- a change of the index that spares the words at `counted_places` leaves what the index counts
 abbrev pub OtherBytesAreNotCounted : Type 0
 OtherBytesAreNotCounted = (from image : Image) → ((p : ℕ) → is_among counted_places p ≡ true → word image Index p ≡ word from Index p) → count_of (byte image Index) ≡ count_of (byte from Index)
 
--- the write of the word of a bucket keeps a folder well formed
+-- the write of the word of a bucket keeps the headers
 abbrev pub BucketsAreNotChecked : Type 0
-BucketsAreNotChecked = (from image : Image) (bucket : ℕ) → SameOutside (one_word Index (place_of_bucket bucket)) from image → IsWellFormed from → IsWellFormed image
+BucketsAreNotChecked = (from image : Image) (bucket : ℕ) → SameOutside (one_word Index (place_of_bucket bucket)) from image → KeepsHeaders from image
 
 -- the write of a word of the index leaves the same addresses valid
 abbrev pub IndexWordsStandApart : Type 0

@@ -15,7 +15,7 @@ use Rattle.spec_folder.specs.Chains.{chain, bucket_of_hash}
 use Rattle.spec_folder.specs.Reasons.{Reason}
 use Rattle.spec_folder.specs.Loads.{Rule, held_rule, Loaded, load_key}
 use Rattle.spec_folder.specs.Audit.{judged, kept_as, kept_nodes, kept_among, dropped_among, kept_by}
-use Rattle.spec_folder.specs.Found.{completed, found}
+use Rattle.spec_folder.specs.Found.{completed, found, held}
 use Rattle.spec_folder.specs.Shown.{IsShown}
 use Rattle.spec_folder.specs.Candidates.{candidates, SameNamed}
 
@@ -52,6 +52,11 @@ SameKeyIsOneChain = (store : StoreView) (node other contents others dirty dirt :
 -- no node but a candidate is kept
 abbrev pub OnlyCandidatesAreKept : Type 0
 OnlyCandidatesAreKept = (view : View) → kept_by held_rule view ≡ kept_among view.store held_rule (candidates view)
+
+-- two images with the same candidates, which agree on what these name, hold the same rows
+abbrev pub SameCandidatesAreHeldAlike : Type 0
+SameCandidatesAreHeldAlike = (old new : Image) → candidates (completed (view_of old)) ≡ candidates (completed (view_of new))
+    → AllByRecursion (SameNamed (completed (view_of old)).store (completed (view_of new)).store) (candidates (completed (view_of old))) → held old ≡ held new
 
 -- two well-formed images with the same candidates, which agree on what these name, have the same recovered contents
 abbrev pub SameCandidatesHoldTheSame : Type 0

@@ -15,7 +15,7 @@ use Rattle.spec_folder.specs.Walk.{walk}
 use Rattle.spec_folder.specs.View.{View, StoreView, view_of}
 use Rattle.spec_folder.specs.Loads.{Rule, held_rule, listed_rule, Loaded}
 use Rattle.spec_folder.specs.Audit.{kept_among, kept_by, dropped_by}
-use Rattle.spec_folder.specs.Found.{row_of_loaded, completed, found}
+use Rattle.spec_folder.specs.Found.{row_of_loaded, completed, found, held}
 use Rattle.spec_folder.specs.Shown.{IsShown}
 use Rattle.spec_folder.specs.Layout.{Layout, is_in, is_listed, nodes_of, order, IsLayoutOf, Holds, Represents, OneChanged, changed_at, IsChange}
 use Rattle.spec_folder.specs.Given.{given_by, GoesWith, picked_with, IsTest}
@@ -45,6 +45,10 @@ RepresentedChainsEnd = (view : View) (state : State) (layout : Layout) → Repre
 -- where a view represents a valid state, recovery keeps the durable contents
 abbrev pub KeptAreAtRest : Type 0
 KeptAreAtRest = (view : View) (state : State) (layout : Layout) → Represents view state layout → IsValidState state → map row_of_loaded (kept_by held_rule (completed view)) ≡ rest state
+
+-- what is held are the durable contents of the state that the view represents
+abbrev pub HeldIsAtRest : Type 0
+HeldIsAtRest = (image : Image) (state : State) (layout : Layout) → Represents (view_of image) state layout → IsValidState state → held image ≡ rest state
 
 -- the recovered contents of an initialized folder are the durable contents of the state that its view represents
 abbrev pub FoundIsAtRest : Type 0

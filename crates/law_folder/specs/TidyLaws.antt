@@ -3,7 +3,7 @@ use Rattle.std.specs.Prelude.{◌≡◌, ℕ, List, true}
 use Rattle.spec_image.specs.Image.{Image}
 use Rattle.spec_image.specs.Steps.{after}
 use Rattle.spec_image.specs.Footprint.{Footprint, SameOutside}
-use Rattle.spec_format.specs.BlockFiles.{IsWellFormed}
+use Rattle.spec_format.specs.BlockFiles.{HasSoundHeaders}
 use Rattle.blk_model.specs.Items.{Item}
 use Rattle.blk_model.specs.State.{State}
 use Rattle.blk_model.specs.Effects.{used}
@@ -14,7 +14,7 @@ use Rattle.spec_folder.specs.Tidy.{HasState, IsBehindHeaders, FilesStand}
 
 -- a change after the headers leaves the files as they are
 abbrev pub FilesStandBehindHeaders : Type 0
-FilesStandBehindHeaders = (footprint : Footprint) (from image : Image) → IsBehindHeaders footprint → SameOutside footprint from image → IsWellFormed from → FilesStand from image
+FilesStandBehindHeaders = (footprint : Footprint) (from image : Image) → IsBehindHeaders footprint → SameOutside footprint from image → HasSoundHeaders from → FilesStand from image
 
 -- an image that has a state by a layout represents it
 abbrev pub StatesAreStoodFor : Type 0

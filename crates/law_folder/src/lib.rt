@@ -8,9 +8,9 @@ ghost use Rattle.law_folder.specs.AllocationLaws.{SoundFilesAreAllocated, StoodF
 ghost use Rattle.law_folder.specs.BareLaws.{NothingRepresentsTheEmptyState, FoldersWithoutEntriesHoldNothing, FoldersWithoutEntriesAreSound, FoldersWithoutEntriesRepresentTheEmptyState, FoldersWithoutEntriesStandForTheEmptyState, NewFoldersHaveNoEntries};
 ghost use Rattle.law_folder.specs.ByteLaws.{BlocksStandByTheirLast, CoveredChangesStayInside, BlocksAreCovered, ExternalFilesAreCovered, HeadersNeedNoCover, HiddenWordsNeedNoCover, CoversOfLess, MoreCovers, CoversOfEither, AgreeingImagesShowTheSame, CoveredChangesAgree, GrowthIsPastTheBlocks, SameLinksLinkTheSame, AgreementGoesOn, AgreementButMore, LongerFilesHaveGrown, GrowthIsOfAbsentBlocks, ChangedHeadersHaveGrown, GrowthKeepsStates, UnlinkedFilesMayGo};
 ghost use Rattle.law_folder.specs.CommandLaws.{UnsettledObjectsMayChange, UnsettledChangesAreAtRest, RemovalsKeepTheOthers, LessIsPlaced, LessIsRepresented, DirtyWordsSettle, WrittenDirtyWordsSettle, ChangedDoomedObjectsArePlaced, ChangedDoomedObjectsAreRepresented, DoomedChangesAreAtRest, GoneDoomedObjectsAreRepresented, DoomedDirtyWordsSettle, WrittenDoomedDirtyWordsSettle, RepresentedHoldExcept, MoreMayBeLeftOut, OthersHoldOutside, OthersHoldUnlinked, ChainedRecordsAreOnlyRecords, RecordsStayOutside, RecordsStayUnlinked, RecordsOfAnotherStateLoad, ListedItemsAreAtRest, DoomsKeepTheOthers, DoomsAtEachWrite, DoomedPartsAtEachWrite, DoomedIsPlaced, DoomedIsRepresented, HandlesAreNotShown, RestBeforeTurning, RestAfterTurning, OpensAtEachWrite, OpensEnd, WrittenEntriesStay, CreatesBeforeTheInsert, CreatesAtEachWrite, CreatesEnd, CreatesAfterTheLink, CreatesEndAtTheStep, CreatesLeaveTheRest, CreatesMayLeaveWhatWas};
-ghost use Rattle.law_folder.specs.KeptLaws.{KeptAreTheGiven, NoneOfTheGivenIsDropped, KeptAreShown, KeptAloneAreKept, LeavingOutKeepsTheSame, SameKeyIsOneChain, OnlyCandidatesAreKept, SameCandidatesHoldTheSame};
+ghost use Rattle.law_folder.specs.KeptLaws.{KeptAreTheGiven, NoneOfTheGivenIsDropped, KeptAreShown, KeptAloneAreKept, LeavingOutKeepsTheSame, SameKeyIsOneChain, OnlyCandidatesAreKept, SameCandidatesAreHeldAlike, SameCandidatesHoldTheSame};
 ghost use Rattle.law_folder.specs.ListLaws.{WalksAreTheLists, WalksAreDistinct, InsertsCommitAtTwo, InsertsEnd, RemovalsCommitAtTwo, RemovalsEnd, TouchesCommitAtTwo, TouchesEnd, CompletingAgainIsTheSame, CompletionsEnd, ChainsAreTheirRecords, RecordsAreLinkedInFront, WholeChainsAreShort, RecordsOfImagesAreFew, ChainsOfImagesAreShort, OtherChainsStay, FirstRecordsAreUnlinked, FirstRecordsLeaveChains, LaterRecordsAreUnlinked, LaterRecordsLeaveChains};
-ghost use Rattle.law_folder.specs.StateLaws.{WalksAreTheOrder, ListedAreTheRows, NothingListedIsDropped, RepresentedChainsEnd, KeptAreAtRest, FoundIsAtRest, RepresentedStatesAreShown, TidyIsInOrder, RepresentedStatesAreStoodFor, TidyStatesAreStoodFor, WhatIsStoodForIsFound, PlacedItemsAreShown, KeptArePicked, FreeFootprintsKeepStates, ChangedItemsArePlaced, ChangedItemsAreRepresented};
+ghost use Rattle.law_folder.specs.StateLaws.{WalksAreTheOrder, ListedAreTheRows, NothingListedIsDropped, RepresentedChainsEnd, KeptAreAtRest, HeldIsAtRest, FoundIsAtRest, RepresentedStatesAreShown, TidyIsInOrder, RepresentedStatesAreStoodFor, TidyStatesAreStoodFor, WhatIsStoodForIsFound, PlacedItemsAreShown, KeptArePicked, FreeFootprintsKeepStates, ChangedItemsArePlaced, ChangedItemsAreRepresented};
 ghost use Rattle.law_folder.specs.ItemLaws.{SameStoresRepresent, TouchedItemsAtEachWrite, TouchedItemsEnd, NewItemsArePlaced};
 ghost use Rattle.law_folder.specs.SearchLaws.{ChainsAreTheLayouts, RepresentedChainsAreShort, RepresentedChainsCanBeSearched, FoundRecordsAreLive, NoneFoundIsMissing};
 ghost use Rattle.law_folder.specs.ChargeLaws.{PartNamesAreNames, ItemsAreChargedAsRows, ListedChargesAreTheRows, ListedChargesAreTheTotals, OpenedChargesAreTheTotals};
@@ -100,6 +100,7 @@ pub fn one_key_is_in_one_chain()
 /// Two well-formed images with the same candidates, which agree on what these name, have the same recovered contents, since no node but a candidate is kept.
 pub fn same_candidates_hold_the_same()
     ensures only { OnlyCandidatesAreKept }
+    ensures held { SameCandidatesAreHeldAlike }
     ensures frame { SameCandidatesHoldTheSame }
 {}
 
@@ -111,6 +112,7 @@ pub fn represented_states_are_found()
     ensures dropped { NothingListedIsDropped }
     ensures ends { RepresentedChainsEnd }
     ensures kept { KeptAreAtRest }
+    ensures held { HeldIsAtRest }
     ensures found { FoundIsAtRest }
 {}
 

@@ -13,6 +13,7 @@ use Rattle.spec_image.proofs.Runs.{until-append, until_weaker2, until_last, unti
 use Rattle.spec_format.specs.Address.{is_address, is_initialized}
 use Rattle.spec_format.specs.Standing.{stands}
 use Rattle.spec_format.specs.BlockFiles.{is_among, IsWellFormed}
+use Rattle.spec_format.proofs.Finished.{formed-kept}
 use Rattle.spec_folder.specs.ListView.{ListView, ListWrite, Next, Head, Tail, Distinct, Segment, IsList, after_writes, last_or}
 use Rattle.spec_folder.specs.Completion.{remove, completed_list}
 use Rattle.spec_folder.specs.ListPlans.{writes_of, completion_writes, completed_but_operation}
@@ -150,7 +151,7 @@ writes-hold from image writes well_from well ready same can keeps =
     let P : Image → Type 0 = λ i. IsPartly image writes i × IsWritable i in
     let Q : Image → Type 0 = HoldsTheSame from in
     let each : (i : Image) → P i → Q i = λ i part.
-    holds-from from i well_from (part.0.well_formed well) part.1 (shows-both (store_of from) (store_of image) (store_of i) same part.0.shown.store)
+    holds-from from i well_from (formed-kept image i part.0.headers well) part.1 (shows-both (store_of from) (store_of image) (store_of i) same part.0.shown.store)
     (ap (λ (l : ListView). kept_among (store_of from) held_rule (walk (completed_list l))) part.0.shown.list ∙ keeps part.0.made) in
     until_weaker2 P Q P Q (steps_of_writes writes image) image each each (made-along image writes ready can)
 

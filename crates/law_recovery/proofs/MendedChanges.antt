@@ -11,7 +11,7 @@ use Rattle.spec_image.specs.Footprint.{whole}
 use Rattle.spec_image.specs.Checks.{first_of}
 use Rattle.spec_image.specs.Steps.{Delete, applied, with_words}
 use Rattle.spec_image.proofs.Footprints.{same_file_outside}
-use Rattle.spec_format.specs.Headers.{head_checks, list_checks}
+use Rattle.spec_format.specs.Headers.{list_checks, magic_of, field_checks}
 use Rattle.spec_format.specs.Claims.{ExternalOf, same_claim}
 use Rattle.spec_format.specs.Sealed.{IsMidUpdate, record_at, seal_place}
 use Rattle.spec_folder.specs.ListImages.{IsWritable}
@@ -21,7 +21,7 @@ use Rattle.law_folder.proofs.updates.IndexWords.{others-hidden, others-unchecked
 use Rattle.law_folder.proofs.states.Laid.{same_claim-eq}
 use Rattle.law_folder.proofs.updates.Nodes.{times-hidden}
 use Rattle.law_folder.proofs.lists.Walked.{walks-distinct}
-use Rattle.law_folder.proofs.updates.WellFormed.{well_formed_still}
+use Rattle.law_folder.proofs.updates.WellFormed.{headers_still}
 use Rattle.std.proofs.lemmas.Bool.{eq-eqb, or_left, or_right, or_cases, cases_eq, cases_Bool}
 use Rattle.std.proofs.lemmas.Bool.Decides.{eqb_tells}
 use Rattle.std.proofs.Math.Dec.{eqb}
@@ -32,7 +32,7 @@ use Rattle.spec_format.specs.Address.{file_selector, place, rankings, blocks_256
 use Rattle.spec_format.specs.Records.{entry_in}
 use Rattle.spec_format.specs.Hash.{hash}
 use Rattle.spec_format.specs.Claims.{Claim, claims_of, has_claim}
-use Rattle.spec_format.specs.BlockFiles.{is_among, IsWellFormed}
+use Rattle.spec_format.specs.BlockFiles.{is_among, IsWellFormed, KeepsHeaders}
 use Rattle.spec_folder.specs.ListView.{ListView, IsList}
 use Rattle.spec_folder.specs.View.{RecordFields, stands_as, follow_at, list_of, store_of, view_of}
 use Rattle.spec_folder.specs.Chains.{Chain, chain, file_and_block, bucket_of_hash, Linked, IsChain}
@@ -56,7 +56,7 @@ use Rattle.law_folder.proofs.states.Bare.{no-record}
 use Rattle.law_folder.proofs.chains.Chains.{chain-is}
 use Rattle.law_folder.proofs.claims.ClaimLists.{claim-append, no-claim}
 use Rattle.law_folder.proofs.claims.ByteChanges.{agreeing-views, views-same}
-use Rattle.spec_format.proofs.Finished.{well_formed-finished}
+use Rattle.spec_format.proofs.Finished.{well_formed-finished, formed-kept}
 use Rattle.law_folder.proofs.walks.Loading.{load-rule, load-clean}
 use Rattle.law_folder.proofs.claims.Outside.{AreClear, all-clear, load-outside, linked-same, list-outside}
 use Rattle.law_folder.proofs.walks.Shown.{kept-given}
@@ -212,7 +212,7 @@ module _ (from : Image) (mended : HasMendedLinks from) where
 
 pub links-grow : MendedLinksMayGrow
 links-grow from image mended whole =
-    links-outside (is_absent from) from image mended (whole.formed mended.well_formed) (agreeing-views (is_absent from) from image (growth-absent from image whole.grown))
+    links-outside (is_absent from) from image mended (formed-kept from image whole.headers mended.well_formed) (agreeing-views (is_absent from) from image (growth-absent from image whole.grown))
     (λ c there. claims-there from mended (walked from) c (λ x h. h) (ap (λ (ks : List Loaded). has_claim (claims_of_loaded ks) c) (sym (kept-from from mended.well_formed (record { idle = mended.rests.idle; all_kept = mended.all_kept }))) ∙ there))
 
 -- ---- one change after another
@@ -237,14 +237,16 @@ none-touched from image mended well same = links-outside (λ claim. false) from 
 pub unlinked-deleted : UnlinkedFilesMayBeDeleted
 unlinked-deleted from n mended free =
     let gone = unlinked-go from n free in
-    none-touched from (applied (Delete (Block n)) from) mended (gone.well_formed mended.well_formed) gone.shown
+    none-touched from (applied (Delete (Block n)) from) mended (formed-kept from (applied (Delete (Block n)) from) gone.headers mended.well_formed) gone.shown
 
 pub unclaimed-change : UnclaimedFilesMayChange
 unclaimed-change from image n mended unclaimed same =
     let index : image Index ≡ from Index = same_file_outside (whole (External n)) from image Index same (λ i. refl) refl in
-    let well : IsWellFormed image = well_formed_still (whole (External n)) from image (record { bytes = λ m i small. refl }) (λ m. refl) same
-    (ap (λ (bytes : Option (List ℕ)). first_of (head_checks (content (unwrap_or bytes [])) (length (unwrap_or bytes [])))) index)
-    (ap (λ (bytes : Option (List ℕ)). first_of (list_checks (content (unwrap_or bytes [])))) index) mended.well_formed in
+    let headers : KeepsHeaders from image = headers_still (whole (External n)) from image (record { bytes = λ m i small. refl }) (λ m. refl) same
+    (ap (λ (bytes : Option (List ℕ)). magic_of (content (unwrap_or bytes []))) index)
+    (ap (λ (bytes : Option (List ℕ)). first_of (field_checks (content (unwrap_or bytes [])) (length (unwrap_or bytes [])))) index)
+    (ap (λ (bytes : Option (List ℕ)). first_of (list_checks (content (unwrap_or bytes [])))) index) in
+    let well : IsWellFormed image = formed-kept from image headers mended.well_formed in
     links-outside (λ claim. same_claim claim (ExternalOf n)) from image mended well (views-same (whole (External n)) from image (λ claim. same_claim claim (ExternalOf n)) same (externals-covered from n))
     (λ claim there. apart claim unclaimed there) where
       apart : (claim : Claim) → has_claim (claims_of_loaded (kept from)) (ExternalOf n) ≡ false → has_claim (claims_of_loaded (kept from)) claim ≡ true → same_claim claim (ExternalOf n) ≡ false
@@ -265,10 +267,10 @@ same-view from image mended well views =
 
 pub hidden-change : HiddenWordsMayChange
 hidden-change from image at mended aligned inside hidden unchecked same =
-    same-view from image mended (others-unchecked from image at aligned unchecked same mended.well_formed) (others-hidden from image at aligned inside hidden same)
+    same-view from image mended (formed-kept from image (others-unchecked from image at aligned unchecked same) mended.well_formed) (others-hidden from image at aligned inside hidden same)
 
 pub version-change : VersionsMayChange
-version-change from image mended is = same-view from image mended (versions-raised from image is mended.well_formed) (others-hidden from image 4 refl (omega arith) refl is.outside)
+version-change from image mended is = same-view from image mended (formed-kept from image (versions-raised from image is) mended.well_formed) (others-hidden from image 4 refl (omega arith) refl is.outside)
 
 -- ---- seals
 
@@ -300,7 +302,7 @@ nodes-sealed from image node mended ready there mid =
     let p = standing-parts from rankings node (good-stands from node good) in
     let only : OnlyListChanges [] from image = times-hidden from image node [] (record { good = good; bytes = ready.bytes }) (record { few = omega arith; aligned = All-nil _; before = All-nil _; different = tt }) (All-nil _) mid in
     let same : list_of image ≡ list = only.list in
-    none-touched from image mended ((updates-inside from image node [] p.0 (inl p.1) mid).well_formed mended.well_formed)
+    none-touched from image mended (formed-kept from image (updates-inside from image node [] p.0 (inl p.1) mid).headers mended.well_formed)
     (record {
       links = record { head = ap (λ (l : ListView). l.head) (sym same); tail = ap (λ (l : ListView). l.tail) (sym same); transaction = ap (λ (l : ListView). l.transaction) (sym same); checks = λ w c. ap (λ (l : ListView). l.checks w) (sym same); next = λ w c. ap (λ (l : ListView). l.next w) (sym same); prev = λ w c. ap (λ (l : ListView). l.prev w) (sym same) };
       store = only.store.store;
@@ -318,7 +320,7 @@ record-sealed from image node k mended ready among_k is_k moment =
     let only : OnlyChainNextChanges w from image = law.0 in
     let link : (store_of image).chain_next w ≡ x = law.1 ∙ either (moment.made == 0) x in
     let p = standing-parts from blocks_256 w (core-standing from w rc.fields rc.here) in
-    let well : IsWellFormed image = (updates-inside from image w ((4, x) ∷ []) p.0 (inr p.1) moment).well_formed mended.well_formed in
+    let well : IsWellFormed image = formed-kept from image (updates-inside from image w ((4, x) ∷ []) p.0 (inr p.1) moment).headers mended.well_formed in
     let links = links-only from image w rc.fields rc.here only in
     stays from image mended well
     (subst (λ (l : ListView). IsList l (walked from)) (sym only.rest.list) mended.rests.whole)

@@ -38,6 +38,7 @@ use Rattle.law_folder.proofs.claims.Files.{unlinked-go}
 use Rattle.law_folder.proofs.updates.IndexWords.{beside, not-among}
 use Rattle.std.proofs.lemmas.Bool.Decides.{nat_tests}
 use Rattle.spec_format.specs.BlockFiles.{is_among}
+use Rattle.spec_format.proofs.Finished.{sound-of}
 use Rattle.law_recovery.specs.Mended.{HasMendedFiles}
 use Rattle.law_recovery.specs.MendedParts.{KeptWordsStand, KeptWordsClaim, IsRebuiltFor, RebuiltFilesAreMended, OtherWordsLeaveCounters, UnlinkedFilesLeaveTheOthers, ExternalFilesLeaveTheBlocks, MendedFilesStand, IndexWordsLeaveSeals}
 
@@ -88,7 +89,7 @@ external-leaves from image n outside keeps =
 
 pub files-mended : MendedFilesStand
 files-mended footprint from image behind outside mended keeps =
-    let f : FilesStand from image = files-stand footprint from image behind outside mended.well_formed in (
+    let f : FilesStand from image = files-stand footprint from image behind outside (sound-of from mended.well_formed) in (
       λ files. record {
         maps = λ n b linked small. f.marks n b small ∙ files.maps n b (ap is_some (sym (f.links n)) ∙ linked) small ∙ ap (λ (ks : List Loaded). has_claim (claims_of_loaded ks) (BlockOf n b)) (sym keeps.kept_same);
         counted = λ n linked. let was = ap is_some (sym (f.links n)) ∙ linked in

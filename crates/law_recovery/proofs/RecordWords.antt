@@ -24,7 +24,7 @@ use Rattle.law_folder.specs.IndexWrites.{IsIndexWord}
 use Rattle.spec_folder.specs.ListImages.{IsWritable}
 use Rattle.spec_folder.specs.ShownChanges.{OnlyChainNextChanges}
 use Rattle.law_folder.proofs.chains.ChainWords.{shown-of, shown-fields, shown-kind, same-fields, record_checks}
-use Rattle.spec_format.proofs.Finished.{whole_index}
+use Rattle.spec_format.proofs.Finished.{whole_index, formed-kept}
 use Rattle.law_folder.proofs.updates.IndexWords.{buckets-written, buckets-unchecked}
 use Rattle.law_folder.proofs.claims.Inside.{updates-inside}
 use Rattle.law_folder.proofs.updates.NodeRecords.{are_bytes-word}
@@ -59,7 +59,7 @@ bucket-written from bucket x well ready below small =
     record {
       list = written.0;
       store = written.1;
-      well_formed = buckets-unchecked from image bucket outside well;
+      well_formed = formed-kept from image (buckets-unchecked from image bucket outside) well;
       writable = record { bytes = are_bytes-word Index at x from ready.bytes; has_header = omega (arith, same, header) };
     }
 
@@ -101,7 +101,7 @@ module _ (from : Image) (w x : ℕ) (fields : RecordFields) (here : (store_of fr
   to-mid : (image : Image) → IsMidUpdate from w ((4, x) ∷ []) image × IsWritable image → IsMidNext from w x image
   to-mid image p =
       let law = by-law image p.0 in
-      record { only = law.0; chain_next = choice (p.0.made == 0) _ law.1; well_formed = (updates-inside from image w ((4, x) ∷ []) stands (inr kind) p.0).well_formed well; writable = p.1 }
+      record { only = law.0; chain_next = choice (p.0.made == 0) _ law.1; well_formed = formed-kept from image (updates-inside from image w ((4, x) ∷ []) stands (inr kind) p.0).headers well; writable = p.1 }
 
   each : Along (IsMidUpdate from w ((4, x) ∷ [])) from (sealed_steps from w ((4, x) ∷ []))
   each = let seal = entry-seal w kind in moments w from ((4, x) ∷ []) fits checked (All-cons (λ c. c.0 + 4 ≤ seal_place w) (4, x) [] (omega (arith, seal)) (All-nil (λ c. c.0 + 4 ≤ seal_place w)))

@@ -84,11 +84,11 @@ module _ (state : State) (layout : Layout) (numbers unlinked : List ℕ) (image 
 pub rearranged : StatesAreRearranged
 rearranged state other layout now unlinked left numbers from image k leaves a same = record {
   valid = a.valid;
-  well_formed = leaves.well_formed k.well_formed;
+  sound = leaves.well_formed.sound k.sound;
   represents = a.represents;
   numbers = numbers;
   owners = a.owners;
-  files = rearranged-files other now numbers left image a (words_in_use unlinked (all_loaded state layout k.numbers)) (files-same from image leaves.headers _ k.well_formed k.files) same;
+  files = rearranged-files other now numbers left image a (words_in_use unlinked (all_loaded state layout k.numbers)) (files-same from image leaves.headers _ k.sound k.files) same;
   unlinked_words = a.unlinked_words;
   sealed = a.sealed;
   session = record { crash = leaves.session.crash ∙ k.session.crash; id = λ e. k.session.id (sym leaves.session.id ∙ e); marked = a.marked };

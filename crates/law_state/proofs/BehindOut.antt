@@ -80,7 +80,7 @@ module _ (from : Image) (ready : IsWritable from) (chains : ℕ → List ℕ) (b
       only = next-links from now previous shown.0;
       list = shown.0.rest.list;
       whole = chain-now;
-      well_formed = (next-leaves from previous fields ready here good 0 (lit< tt)).well_formed;
+      headers = (next-leaves from previous fields ready here good 0 (lit< tt)).well_formed;
     };
     leaves = next-leaves from previous fields ready here good 0 (lit< tt);
     outside = next-outside from previous fields ready here good 0 (lit< tt);

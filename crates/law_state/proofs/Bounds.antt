@@ -321,7 +321,7 @@ module _ (state : State) (layout : Layout) (unlinked : List ℕ) (image : Image)
 pub allocations-few : KeptAllocationsAreFew
 allocations-few state layout unlinked image kind k block_kind = by-kind kind (grind (arith, nat_tests)) (grind (arith, nat_tests)) where
   none : first_block_damage image ≡ None
-  none = undamaged image k.well_formed
+  none = undamaged image k.sound
 
   by-kind : (q : ℕ) → 1 ≤ q → q ≤ 4 → HaveFewAllocations image q (5 * items state + length unlinked)
   by-kind zero low high = absurd (omega arith)

@@ -10,12 +10,11 @@ use Rattle.blk_model.specs.Items.{main}
 use Rattle.blk_model.specs.State.{State, Object, IsValidState, object_at}
 use Rattle.blk_model.specs.Holding.{owner, rest}
 use Rattle.spec_format.specs.Address.{kind_of, rankings}
-use Rattle.spec_format.specs.BlockFiles.{is_among, stands_in, IsWellFormed}
+use Rattle.spec_format.specs.BlockFiles.{is_among, stands_in, HasSoundHeaders}
 use Rattle.spec_format.specs.Claims.{Claim, claims_of, has_claim}
 use Rattle.spec_format.specs.Headers.{counting, this_id_of}
 use Rattle.spec_format.specs.Records.{Entry, entry_is_sealed}
 use Rattle.spec_format.proofs.Among.{is_among-append}
-use Rattle.spec_format.proofs.Finished.{well_formed-finished}
 use Rattle.law_folder.specs.CommandLaws.{IsPlacedAsLive, dirtied, marked}
 use Rattle.spec_folder.specs.Footprint.{SameNodeLinks}
 use Rattle.spec_folder.specs.Found.{charge_of}
@@ -36,7 +35,7 @@ use Rattle.blk_model.specs.Effects.{with_slot}
 use Rattle.std.proofs.Common.{get_or-set_same, get_or-set_other, ◌+◌}
 use Rattle.std.proofs.lemmas.List.Sums.{sum_by-cons}
 use Rattle.law_folder.proofs.states.DirtyWords.{written-settles}
-use Rattle.law_folder.proofs.states.Standing.{found-at_rest}
+use Rattle.law_folder.proofs.states.Standing.{held-at_rest}
 use Rattle.law_folder.proofs.commands.Touches.{same-represents}
 use Rattle.law_state.specs.Arranging.{LeavesFiles}
 use Rattle.law_state.specs.Changes.{ChangesOnly, Finds}
@@ -125,11 +124,11 @@ module _ (state : State) (layout : Layout) (unlinked : List ℕ) (from image : I
   still-represents : (node_at image node).dirty ≡ (node_at from node).dirty → Represents (view_of image) state layout
   still-represents e = subst (λ (ls : ListView). Represents (record { list = ls; store = store_of image }) state layout) (sym m.only.list) (same-represents (view_of from) state layout k.represents (store_of image) (shows e))
 
-  pub well : IsWellFormed image
-  well = m.inside.well_formed k.well_formed
+  pub well : HasSoundHeaders image
+  well = m.inside.headers.sound k.sound
 
   pub finds-as-before : (node_at image node).dirty ≡ (node_at from node).dirty → Finds (rest state) image
-  finds-as-before e = (well, found-at_rest image state layout (still-represents e) k.valid (well_formed-finished image well))
+  finds-as-before e = (well, held-at_rest image state layout (still-represents e) k.valid)
 
   pub links : SameNodeLinks node (list_of from) (list_of image)
   links = record { checks = ap (λ (ls : ListView). ls.checks node) (sym m.only.list); next = ap (λ (ls : ListView). ls.next node) (sym m.only.list); prev = ap (λ (ls : ListView). ls.prev node) (sym m.only.list) }
@@ -200,8 +199,8 @@ module _ (state : State) (layout : Layout) (unlinked : List ℕ) (from image : I
   either-found = ⊎_elim
       (λ (e : (node_at image (layout.place (main object.key))).dirty ≡ (node_at from (layout.place (main object.key))).dirty). inl (finds-as-before state layout unlinked from image k (layout.place (main object.key)) mark l lies.at m e))
       (λ (e : (node_at image (layout.place (main object.key))).dirty ≡ mark).
-      let well : IsWellFormed image = m.inside.well_formed k.well_formed in
-      inr (well, found-at_rest image (marked state number object (mark == 0)) (dirtied layout (layout.place (main object.key)) l mark) (represents-now e) valid (well_formed-finished image well)))
+      let well : HasSoundHeaders image = m.inside.headers.sound k.sound in
+      inr (well, held-at_rest image (marked state number object (mark == 0)) (dirtied layout (layout.place (main object.key)) l mark) (represents-now e) valid))
       m.dirty
 
   -- another live object lies elsewhere

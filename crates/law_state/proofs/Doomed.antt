@@ -182,7 +182,7 @@ module _ (state : State) (layout : Layout) (unlinked : List ℕ) (number : ℕ) 
 
   leaves : LeavesFiles from image
   leaves = leaves-then from between image (leaves-files (touch_range writes node) from between (touch_spares writes node) (touch_sizes writes node) outside
-      (record { crash = counter-same writes node from between outside 32 (omega arith); id = counter-same writes node from between outside 20 (omega arith) }) done.partly.well_formed) u.leaves
+      (record { crash = counter-same writes node from between outside 32 (omega arith); id = counter-same writes node from between outside 20 (omega arith) }) done.partly.headers) u.leaves
 
   sealed : AllAreSealed image now
   sealed n x is = u.sealed n x is (sealed-still from between writes node outside (removals-can from node prefix suffix rest-list).nodes (listed node (list_of from) prefix suffix rest-list.whole).good state layout k.represents done.sealed n x is (k.sealed n x is))

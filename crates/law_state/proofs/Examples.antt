@@ -13,7 +13,7 @@ use Rattle.blk_model.specs.Holding.{open_state}
 use Rattle.blk_model.specs.State.{Object}
 use Rattle.spec_format.specs.BlockFiles.{linked_as, max_entries_in, next_file_in}
 use Rattle.spec_format.specs.Headers.{count_of, counting, crash_of, place_of_bucket, this_id_of}
-use Rattle.spec_format.proofs.Finished.{whole_index}
+use Rattle.spec_format.proofs.Finished.{whole_index, formed-kept, sound-of}
 use Rattle.spec_folder.specs.Sound.{AreSealed, IsSound}
 use Rattle.spec_folder.specs.Emptiness.{no_layout}
 use Rattle.spec_folder.specs.View.{list_of}
@@ -29,7 +29,7 @@ use Rattle.law_folder.proofs.examples.ExampleFolders.{whole-counts, whole-is_all
 use Rattle.law_folder.proofs.examples.ExampleDoomed.{doomed_layout, doomed_object, doomed_state, doomed-is_valid}
 use Rattle.law_folder.proofs.examples.DoomedFolder.{doomed_folder, doomed-is_well_formed, folder-is_allocated, folder-is_represented, folder-is_in_order}
 use Rattle.law_state.specs.Keeping.{AreMarkedBy, IsInSession, Keeps}
-use Rattle.law_state.specs.KeepingLaws.{AllAreAtRest}
+use Rattle.law_state.specs.KeepingLaws.{AllAreAtRest, HasMagic}
 use Rattle.law_state.proofs.Counts.{count-beside}
 use Rattle.law_state.proofs.Empty.{empty-kept}
 use Rattle.law_state.proofs.Keeping.{kept-sound}
@@ -75,7 +75,7 @@ whole-session = record { crash = refl; id = λ e. (let z : ◌≡◌ {A = ℕ} 7
 
 -- the whole folder keeps the state of its entry
 pub whole-keeps : Keeps (one.state true) (one.layout 0) [] (opened whole_folder 7)
-whole-keeps = opened-kept whole_folder (numbered whole_folder 7) (opened whole_folder 7) (one.state true) (one.layout 0) [] (state_is_valid true) whole-is_well_formed whole-is_represented whole-is_allocated whole-tidy
+whole-keeps = opened-kept whole_folder (numbered whole_folder 7) (opened whole_folder 7) (one.state true) (one.layout 0) [] (state_is_valid true) (sound-of whole_folder whole-is_well_formed) whole-is_represented whole-is_allocated whole-tidy
     (outside_write Index 20 (word_bytes 7) whole_folder) (outside_write Index 32 (word_bytes 1) (numbered whole_folder 7)) whole-session
 
 doomed-session : IsInSession (opened doomed_folder 7) (doomed_state true) (doomed_layout 0)
@@ -87,7 +87,7 @@ doomed-session = record { crash = refl; id = λ e. (let z : ◌≡◌ {A = ℕ} 
 
 -- the folder of the doomed object keeps the object's state
 pub doomed-keeps : Keeps (doomed_state true) (doomed_layout 0) [] (opened doomed_folder 7)
-doomed-keeps = opened-kept doomed_folder (numbered doomed_folder 7) (opened doomed_folder 7) (doomed_state true) (doomed_layout 0) (0 ∷ []) (doomed-is_valid true) doomed-is_well_formed folder-is_represented folder-is_allocated doomed-tidy
+doomed-keeps = opened-kept doomed_folder (numbered doomed_folder 7) (opened doomed_folder 7) (doomed_state true) (doomed_layout 0) (0 ∷ []) (doomed-is_valid true) (sound-of doomed_folder doomed-is_well_formed) folder-is_represented folder-is_allocated doomed-tidy
     (outside_write Index 20 (word_bytes 7) doomed_folder) (outside_write Index 32 (word_bytes 1) (numbered doomed_folder 7)) doomed-session
 
 -- the whole folder is consistent, as its object is live and clean
@@ -95,8 +95,12 @@ whole-rests : AllAreAtRest (one.state true)
 whole-rests zero = refl
 whole-rests (suc n) = tt
 
+pub whole-magic : HasMagic (opened whole_folder 7)
+unfolding whole_folder zeros with_word spliced
+whole-magic = refl
+
 whole_is_sound : IsSound (opened whole_folder 7)
-whole_is_sound = kept-sound (one.state true) (one.layout 0) (opened whole_folder 7) whole-keeps whole-rests
+whole_is_sound = kept-sound (one.state true) (one.layout 0) (opened whole_folder 7) whole-keeps whole-magic whole-rests
 
 -- a new folder in which a session is opened is an empty cache
 abbrev new_opened : Image
@@ -117,8 +121,8 @@ new-links = same-links (new_folder 50) new_opened (λ n. refl)
 new_opened_is_bare : HasNoEntries new_opened
 unfolding list_of max_entries_in
 new_opened_is_bare = record {
-  well_formed = others-unchecked (numbered (new_folder 50) 7) new_opened 32 refl refl (outside_write Index 32 (word_bytes 1) (numbered (new_folder 50) 7))
-      (others-unchecked (new_folder 50) (numbered (new_folder 50) 7) 20 refl refl (outside_write Index 20 (word_bytes 7) (new_folder 50)) new_is_bare.well_formed);
+  well_formed = formed-kept (numbered (new_folder 50) 7) new_opened (others-unchecked (numbered (new_folder 50) 7) new_opened 32 refl refl (outside_write Index 32 (word_bytes 1) (numbered (new_folder 50) 7)))
+      (formed-kept (new_folder 50) (numbered (new_folder 50) 7) (others-unchecked (new_folder 50) (numbered (new_folder 50) 7) 20 refl refl (outside_write Index 20 (word_bytes 7) (new_folder 50))) new_is_bare.well_formed);
   index = let i = new_is_bare.index in record {
     head = beside 288 (inr (lit≤ tt)) ∙ i.head;
     tail = beside 308 (inr (lit≤ tt)) ∙ i.tail;

@@ -8,11 +8,11 @@ use Rattle.spec_image.specs.Footprint.{SameOutside, either, one_word, whole}
 use Rattle.spec_image.specs.Image.{File, Image, Index, Block, External, byte, has_file, length_of, word}
 use Rattle.spec_image.proofs.Footprints.{same_file_outside, same_word_outside}
 use Rattle.spec_format.specs.Address.{external, external_number, file_selector, kind_of}
-use Rattle.spec_format.specs.BlockFiles.{max_entries_in, next_file_in, stands_in, IsWellFormed}
+use Rattle.spec_format.specs.BlockFiles.{max_entries_in, next_file_in, stands_in, HasSoundHeaders, KeepsHeaders}
 use Rattle.spec_format.specs.Claims.{Claim, BlockOf, ExternalOf, claims_of, claims_of_all, has_claim, is_in_file, same_claim}
 use Rattle.spec_format.specs.Maps.{EmptyAgrees}
-use Rattle.spec_format.specs.Headers.{head_checks, list_checks, is_shown_place}
-use Rattle.spec_format.proofs.Finished.{well_formed-finished}
+use Rattle.spec_format.specs.Headers.{list_checks, is_shown_place, magic_of, field_checks}
+use Rattle.spec_format.proofs.Finished.{headers-next}
 use Rattle.spec_format.proofs.LinkedHeads.{count_whole, linked_head, HasHead}
 use Rattle.spec_folder.specs.Footprint.{AgreeBut, IsFree}
 use Rattle.spec_folder.specs.Layout.{Represents}
@@ -24,8 +24,8 @@ use Rattle.law_folder.proofs.updates.IndexWords.{others-unchecked}
 use Rattle.law_folder.proofs.states.Laid.{same_claim-self}
 use Rattle.std.proofs.lemmas.Bool.{or_from}
 use Rattle.law_folder.proofs.claims.Outside.{represents-outside}
-use Rattle.law_folder.proofs.states.Standing.{found-at_rest}
-use Rattle.law_folder.proofs.updates.WellFormed.{well_formed_still}
+use Rattle.law_folder.proofs.states.Standing.{held-at_rest}
+use Rattle.law_folder.proofs.updates.WellFormed.{headers_still}
 use Rattle.law_state.specs.Changes.{SameHeaders, StaysLinked}
 use Rattle.law_state.specs.ExternalLaws.{IsMakingExternal, MakingFilesFindsTheSame, MadeFilesAreAdded, DeletingFilesFindsTheSame, DeletedFilesAreRemoved}
 use Rattle.law_state.specs.Keeping.{IsMapped, all_loaded, words_in_use}
@@ -42,8 +42,8 @@ module _ (from image : Image) (n : ℕ) (same : SameOutside (whole (External n))
   abbrev index : image Index ≡ from Index
   index = same_file_outside (whole (External n)) from image Index same (λ i. refl) refl
 
-  pub file-formed : IsWellFormed from → IsWellFormed image
-  file-formed = well_formed_still (whole (External n)) from image (record { bytes = λ m i small. refl }) (λ m. refl) same (λ k. first_of (head_checks (at_bytes index k) (at_length index k))) (λ k. first_of (list_checks (at_bytes index k))) where
+  pub file-headers : KeepsHeaders from image
+  file-headers = headers_still (whole (External n)) from image (record { bytes = λ m i small. refl }) (λ m. refl) same (λ k. magic_of (at_bytes index k)) (λ k. first_of (field_checks (at_bytes index k) (at_length index k))) (λ k. first_of (list_checks (at_bytes index k))) where
     at_bytes : {a b : Option (List ℕ)} → a ≡ b → byte (λ file. a) Index ≡ byte (λ file. b) Index
     at_bytes e = ap (λ (o : Option (List ℕ)). byte (λ file. o) Index) e
 
@@ -62,7 +62,7 @@ mixed from image (Block m) = image (Block m)
 mixed from image (External m) = from (External m)
 
 module _ (from image : Image) (n : ℕ) (bytes : (m i : ℕ) → byte image (Block m) i ≡ byte from (Block m) i) (lengths : (m : ℕ) → length_of image (Block m) ≡ length_of from (Block m)) (there : (m : ℕ) → has_file image (Block m) ≡ has_file from (Block m)) (index : has_file image Index ≡ has_file from Index)
-    (agree : AgreeBut (file_claim n) from image) (well : IsWellFormed from) where
+    (agree : AgreeBut (file_claim n) from image) (well : HasSoundHeaders from) where
   mixed-headers : SameHeaders from (mixed from image)
   unfolding mixed
   mixed-headers = record { headers = λ m i small. bytes m i; lengths = lengths; files = files } where
@@ -158,8 +158,8 @@ module _ (from image : Image) (n : ℕ) (m : IsMakingExternal from n image) wher
     files (Block x) e = m.same.files (Block x) refl
     files (External x) e = m.same.files (External x) (or_from _ _ e refl)
 
-  pub making-formed : IsWellFormed from → IsWellFormed image
-  making-formed well = file-formed (indexed from image) image n file-only (others-unchecked from (indexed from image) 16 refl refl index-only well)
+  pub making-headers : KeepsHeaders from image
+  making-headers = headers-next from (indexed from image) image (others-unchecked from (indexed from image) 16 refl refl index-only) (file-headers (indexed from image) image n file-only)
 
   hidden : (i : ℕ) → 16 ≤ i → i < 16 + 4 → is_shown_place i ≡ false
   hidden i low high = grind (arith, nat_tests)
@@ -173,16 +173,16 @@ module _ (from image : Image) (n : ℕ) (m : IsMakingExternal from n image) wher
     beside : (p i : ℕ) → p % 4 ≡ 0 → (p == 16) ≡ false → p ≤ i → i < p + 4 → (nat_le 16 i && nat_lt i (16 + 4)) ≡ false
     beside p i even apart low high = grind (arith, nat_tests)
 
-  pub making-stays : IsWellFormed from → (x : ℕ) → StaysLinked from image x
+  pub making-stays : HasSoundHeaders from → (x : ℕ) → StaysLinked from image x
   making-stays well = stays from image n (λ x i. m.same.bytes (Block x) i refl) (λ x. m.same.lengths (Block x) refl) (λ x. m.same.files (Block x) refl) (m.same.files Index refl) making-agrees well
 
   others-there : (x : ℕ) → x ≢ n → has_file image (External x) ≡ has_file from (External x)
   others-there x apart = m.same.files (External x) (or_from _ _ (not_equal n x (λ e. apart (sym e))) refl)
 
 pub making-finds : MakingFilesFindsTheSame
-making-finds from image n m state layout unlinked k = (formed, found-at_rest image state layout represents k.valid (well_formed-finished image formed)) where
-  formed : IsWellFormed image
-  formed = making-formed from image n m k.well_formed
+making-finds from image n m state layout unlinked k = (formed, held-at_rest image state layout represents k.valid) where
+  formed : HasSoundHeaders image
+  formed = (making-headers from image n m).sound k.sound
 
   -- nobody has the number
   none : has_claim (claims_of_all (words_in_use unlinked (all_loaded state layout k.numbers))) (ExternalOf n) ≡ false
@@ -208,7 +208,7 @@ made-added from image w well kind m there stands = record {
   there = there;
   others = others-there from image (external_number w) m;
   agree = making-agrees from image (external_number w) m;
-  well_formed = making-formed from image (external_number w) m;
+  headers = making-headers from image (external_number w) m;
   session = record { crash = making-word from image (external_number w) m 32 refl refl; id = making-word from image (external_number w) m 20 refl refl };
   blocks = making-stays from image (external_number w) m well;
 } where
@@ -219,9 +219,9 @@ made-added from image w well kind m there stands = record {
 -- ---- a file is deleted
 
 pub deleting-finds : DeletingFilesFindsTheSame
-deleting-finds from image w kind same state layout unlinked k = (formed, found-at_rest image state layout represents k.valid (well_formed-finished image formed)) where
-  formed : IsWellFormed image
-  formed = file-formed from image (external_number w) same k.well_formed
+deleting-finds from image w kind same state layout unlinked k = (formed, held-at_rest image state layout represents k.valid) where
+  formed : HasSoundHeaders image
+  formed = (file-headers from image (external_number w) same).sound k.sound
 
   claims : has_claim (claims_of w) (ExternalOf (external_number w)) ≡ true
   claims = ap (λ (cs : List Claim). has_claim cs (ExternalOf (external_number w))) (its-claims w (not_equal w 0 (stands-some from w k.unlinked_words.stand.0)) (eq-eqb (kind_of w) external kind))
@@ -246,7 +246,7 @@ deleted-removed from image w well kind stands same gone = record {
   gone = gone;
   others = λ x apart. same.files (External x) (not_equal (external_number w) x (λ e. apart (sym e)));
   agree = file-agrees from image (external_number w) same;
-  well_formed = file-formed from image (external_number w) same;
+  headers = file-headers from image (external_number w) same;
   session = record { crash = index-same 32; id = index-same 20 };
   blocks = stays from image (external_number w) (λ x i. same.bytes (Block x) i refl) (λ x. same.lengths (Block x) refl) (λ x. same.files (Block x) refl) (same.files Index refl) (file-agrees from image (external_number w) same) well;
 } where

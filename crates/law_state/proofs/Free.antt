@@ -20,7 +20,7 @@ use Rattle.law_state.specs.Keeping.{AllAreSealed, AreMarkedBy, IsInSession, Keep
 use Rattle.law_state.specs.Changes.{AreOfWords, ChangesOnly, SameSession}
 use Rattle.law_state.specs.ChangeLaws.{UnlinkedPlacesMayChange, WhatIsKeptIsFound, SameCountersCountTheSame}
 use Rattle.law_state.proofs.Headers.{files-same, stand-same}
-use Rattle.law_state.proofs.Keeping.{kept-found}
+use Rattle.law_state.proofs.Keeping.{kept-held}
 
 -- what is loaded is a node and a record that are there
 pub record AreStanding (image : Image) (l : Loaded) : Type 0 where
@@ -79,11 +79,11 @@ module _ (touched : Claim → Bool) (words : List ℕ) (from image : Image) (of 
   kept-free : KeepsUncounted state layout (words ++ unlinked) image
   kept-free = record {
     valid = k.valid;
-    well_formed = only.well_formed k.well_formed;
+    sound = only.well_formed.sound k.sound;
     represents = represents-outside touched (view_of from) (view_of image) state layout (agreeing-views touched from image only.agree) free k.represents;
     numbers = k.numbers;
     owners = k.owners;
-    files = files-same from image only.headers _ k.well_formed k.files;
+    files = files-same from image only.headers _ k.sound k.files;
     unlinked_words = record { stand = stand-same from image only.headers (words ++ unlinked) k.unlinked_words.stand; free = k.unlinked_words.free; single = k.unlinked_words.single };
     sealed = sealed;
     session = session-same from image state layout only.session k.session;
@@ -93,7 +93,7 @@ pub unlinked-change : UnlinkedPlacesMayChange
 unlinked-change touched words from image of only state layout unlinked k = kept-free touched words from image of only state layout unlinked k
 
 pub then-found : WhatIsKeptIsFound
-then-found before after from image keeps state layout unlinked k = let now = keeps state layout unlinked k in (now.well_formed, kept-found state layout (after ++ unlinked) image now)
+then-found before after from image keeps state layout unlinked k = let now = keeps state layout unlinked k in (now.sound, kept-held state layout (after ++ unlinked) image now)
 
 pub same-counted : SameCountersCountTheSame
 same-counted state layout before after from image k now same = record {

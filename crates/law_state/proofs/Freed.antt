@@ -5,7 +5,7 @@ use Rattle.spec_image.specs.Image.{Image, Index, Block, byte, has_file, word}
 use Rattle.spec_image.proofs.Footprints.{same_word_outside}
 use Rattle.spec_image.proofs.Words.{same-word_at}
 use Rattle.spec_format.specs.Address.{file_selector}
-use Rattle.spec_format.specs.BlockFiles.{linked_as, max_entries_in, next_file_in, IsWellFormed}
+use Rattle.spec_format.specs.BlockFiles.{linked_as, max_entries_in, next_file_in, HasSoundHeaders}
 use Rattle.spec_format.specs.Headers.{is_extent_place}
 use Rattle.spec_format.proofs.LinkedHeads.{linked_head, HasHead}
 use Rattle.law_folder.proofs.claims.ByteChanges.{same-links, stands-linked}
@@ -47,7 +47,7 @@ pub freed-removed : FreedBlocksAreRemoved
 freed-removed from image w a = record {
   block_kind = a.block_kind;
   grown = a.stays.grown;
-  well_formed = a.stays.formed;
+  headers = a.stays.headers;
   session = record { crash = index-word from image w a 32; id = index-word from image w a 20 };
   extent = extent from image w a (file_selector w);
   allocations = a.allocations;
@@ -75,7 +75,7 @@ module _ (from image : Image) (w : ℕ) (a : AreAllocated from w image) where
   index-here : (p : ℕ) → word image Index p ≡ word from Index p
   index-here p = same_word_outside a.footprint from image Index p a.same (λ k low high. a.index k)
 
-  there : IsWellFormed image → has_file image (Block (file_selector w)) ≡ true
+  there : HasSoundHeaders image → has_file image (Block (file_selector w)) ≡ true
   there well =
       let linked : is_some (linked_as image (file_selector w)) ≡ true = ap (λ (o : Option ℕ). is_some o) (stands-linked image w a.stands a.block_kind) in
       let head : HasHead image (file_selector w) = linked_head image (file_selector w) (undamaged image well) linked in
@@ -89,13 +89,13 @@ pub allocated-added : AllocatedBlocksAreAdded
 allocated-added from image w well a = record {
   block_kind = a.block_kind;
   grown = a.stays.grown;
-  well_formed = a.stays.formed;
+  headers = a.stays.headers;
   session = record { crash = index-here from image w a 32; id = index-here from image w a 20 };
   allocations = a.allocations;
   fresh = a.fresh;
   empty = a.empty;
   updating = a.updating;
-  there = there from image w a (a.stays.formed well);
+  there = there from image w a (a.stays.headers.sound well);
   long_enough = a.long_enough;
   elsewhere = λ n apart. record {
     extent = record { linked = a.linked n apart; there = a.same.files (Block n) (a.sizes n apart); length = a.same.lengths (Block n) (a.sizes n apart); blocks = other-blocks from image w a n apart };

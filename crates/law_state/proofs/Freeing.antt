@@ -97,7 +97,7 @@ module _ (w : ℕ) (from image : Image) (a : RemovesAllocation from w image) (st
   kept : KeepsUncounted state layout unlinked image
   kept = record {
     valid = k.valid;
-    well_formed = a.well_formed k.well_formed;
+    sound = a.headers.sound k.sound;
     represents = growth-keeps from image state layout (map layout.place_of_doomed k.numbers) a.grown k.represents k.owners.exact;
     numbers = k.numbers;
     owners = k.owners;

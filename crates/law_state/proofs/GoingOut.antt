@@ -14,9 +14,9 @@ use Rattle.spec_image.proofs.Images.{length-after_write, word-after_same}
 use Rattle.spec_image.proofs.Runs.{until_last}
 use Rattle.blk_model.specs.Items.{Item}
 use Rattle.blk_model.specs.State.{State}
-use Rattle.spec_format.specs.BlockFiles.{IsWellFormed, is_among}
+use Rattle.spec_format.specs.BlockFiles.{is_among, HasSoundHeaders, KeepsHeaders}
 use Rattle.spec_format.specs.Headers.{place_of_bucket}
-use Rattle.spec_format.proofs.Finished.{whole_index}
+use Rattle.spec_format.proofs.Finished.{sound-whole}
 use Rattle.spec_folder.specs.Chains.{IsChain, Linked, bucket_of_hash, is_of_bucket}
 use Rattle.spec_folder.specs.Completion.{remove}
 use Rattle.spec_folder.specs.Footprint.{OnlyLinksChange}
@@ -76,7 +76,7 @@ chain-same old new bucket words same chain = record {
 
 -- ---- the word of a bucket
 
-module _ (from : Image) (well : IsWellFormed from) (ready : IsWritable from) (chains : ℕ → List ℕ) (bucket contents : ℕ) (alone : IsAloneIn chains bucket contents) (whole : (other : ℕ) → other < 65536 → IsChain (store_of from) other (chains other)) where
+module _ (from : Image) (well : HasSoundHeaders from) (ready : IsWritable from) (chains : ℕ → List ℕ) (bucket contents : ℕ) (alone : IsAloneIn chains bucket contents) (whole : (other : ℕ) → other < 65536 → IsChain (store_of from) other (chains other)) where
   abbrev pub emptied : Image
   emptied = unchained from bucket
 
@@ -84,13 +84,13 @@ module _ (from : Image) (well : IsWellFormed from) (ready : IsWritable from) (ch
   outside = outside_write Index (place_of_bucket bucket) (word_bytes 0) from
 
   written : IsIndexWord (place_of_bucket bucket) 0 from emptied
-  written = record { there = word-after_same from Index (place_of_bucket bucket) 0 (lit< tt) (let long : length_of from Index ≡ 262512 = whole_index from well in let small = alone.small in omega (arith, long, small)); outside = outside }
+  written = record { there = word-after_same from Index (place_of_bucket bucket) 0 (lit< tt) (let long : length_of from Index ≡ 262512 = sound-whole from well in let small = alone.small in omega (arith, long, small)); outside = outside }
 
   store-now : store_of emptied ≡ record (store_of from) { table = put (store_of from).table bucket 0 }
   store-now = (buckets-written from emptied bucket 0 written).1
 
-  pub well-now : IsWellFormed from → IsWellFormed emptied
-  well-now = buckets-unchecked from emptied bucket outside
+  pub headers-now : KeepsHeaders from emptied
+  headers-now = buckets-unchecked from emptied bucket outside
 
   pub ready-now : IsWritable emptied
   ready-now = record { bytes = are_bytes-word Index (place_of_bucket bucket) 0 from ready.bytes; has_header = let same = length-after_write from Index Index (place_of_bucket bucket) (word_bytes 0) in let header = ready.has_header in omega (arith, same, header) }
@@ -112,7 +112,7 @@ module _ (from : Image) (well : IsWellFormed from) (ready : IsWritable from) (ch
     only = table-links from emptied bucket 0 contents store-now;
     list = (buckets-written from emptied bucket 0 written).0;
     whole = chain-now;
-    well_formed = well-now;
+    headers = headers-now;
   } where
     among : (w : ℕ) → is_among (w ∷ []) w ≡ true
     among w = grind (arith, nat_tests)
@@ -131,8 +131,8 @@ module _ (state : State) (layout : Layout) (keep : Item → Bool) (chains : ℕ 
   pub out-of-list : IsRemovalDone from (layout.place item) between
   out-of-list = removal-done from (layout.place item) prefix suffix ready rest
 
-  well-between : IsWellFormed between
-  well-between = out-of-list.partly.well_formed k.well_formed
+  well-between : HasSoundHeaders between
+  well-between = out-of-list.partly.headers.sound k.sound
 
   pub ready-between : IsWritable between
   ready-between = until_last IsWritable IsWritable (operation_steps remove (layout.place item) from) from (writes-go_on from (writes_of remove (layout.place item) (list_of from)) ready)
@@ -153,7 +153,7 @@ module _ (state : State) (layout : Layout) (keep : Item → Bool) (chains : ℕ 
   out-links = table-links between out bucket 0 was.contents out-store
 
   pub out-leaves : LeavesFiles between out
-  out-leaves = table-files between out bucket (outside between well-between ready-between chains bucket was.contents alone whole-between) (well-now between well-between ready-between chains bucket was.contents alone whole-between)
+  out-leaves = table-files between out bucket (outside between well-between ready-between chains bucket was.contents alone whole-between) (headers-now between well-between ready-between chains bucket was.contents alone whole-between)
 
   pub out-sealed : (loaded : Loaded) → AreSealed between loaded → AreSealed out loaded
   out-sealed loaded = table-sealed between out bucket loaded (outside between well-between ready-between chains bucket was.contents alone whole-between)

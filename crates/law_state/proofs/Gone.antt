@@ -16,6 +16,7 @@ use Rattle.spec_format.specs.BlockFiles.{is_among, stands_in}
 use Rattle.spec_format.specs.Claims.{Claim, claims_of, claims_of_all, has_claim, repeats}
 use Rattle.spec_format.specs.Headers.{counting, this_id_of}
 use Rattle.spec_format.proofs.Among.{is_among-append}
+use Rattle.spec_format.proofs.Finished.{headers-kept}
 use Rattle.spec_folder.specs.Found.{charge_of}
 use Rattle.spec_folder.specs.Layout.{Layout, Represents, order, rule_of}
 use Rattle.spec_folder.specs.ListView.{Distinct, put}
@@ -230,7 +231,7 @@ module _ (state : State) (layout : Layout) (unlinked : List ℕ) (image : Image)
 
   pub object-gone : KeepsUncounted after (layout_without layout node) (words_of was ++ unlinked) image
   object-gone = node-gone state after layout (layout_without layout node) unlinked (a.prefix ++ a.suffix) node was image image k at.at
-      (record { headers = record { headers = λ n i small. refl; lengths = λ n. refl; files = λ file. refl }; session = record { crash = refl; id = refl }; well_formed = λ w. w })
+      (record { headers = record { headers = λ n i small. refl; lengths = λ n. refl; files = λ file. refl }; session = record { crash = refl; id = refl }; well_formed = headers-kept image })
       (order state layout ++ map layout.place_of_doomed a.prefix) (map layout.place_of_doomed a.suffix) nodes-are left-are refl refl valid represents-gone numbers-are seals marks
 
 pub gone-unlinked : GoneObjectsAreUnlinked

@@ -7,9 +7,9 @@ use Rattle.spec_image.specs.Bytes.{word_at}
 use Rattle.spec_image.specs.Image.{Image, Index, Block, External, byte, length_of}
 use Rattle.spec_image.proofs.Words.{same-word_at}
 use Rattle.spec_format.specs.Address.{block_place}
-use Rattle.spec_format.specs.BlockFiles.{block_checks, first_block_damage, linked_as, max_entries_in, most_blocks, next_file_in, stands_in, IsWellFormed}
+use Rattle.spec_format.specs.BlockFiles.{block_checks, first_block_damage, linked_as, max_entries_in, most_blocks, next_file_in, stands_in, HasSoundHeaders}
 use Rattle.spec_format.specs.Claims.{is_in_file}
-use Rattle.spec_format.specs.Headers.{head_checks, list_checks}
+use Rattle.spec_format.specs.Headers.{field_checks, list_checks}
 use Rattle.spec_format.specs.Maps.{is_block_marked, groups_of, groups_with, EmptyAgrees}
 use Rattle.spec_format.specs.Standing.{stands}
 use Rattle.spec_format.proofs.Groups.{groups_same}
@@ -19,11 +19,11 @@ use Rattle.law_folder.proofs.claims.ByteChanges.{same-links}
 use Rattle.law_state.specs.Changes.{SameHeaders}
 use Rattle.law_state.specs.Keeping.{AreFiles, IsMapped}
 
--- no block file of a well-formed folder is corrupt
-pub undamaged : (image : Image) → IsWellFormed image → first_block_damage image ≡ None
-unfolding head_checks list_checks
+-- no block file of a folder with sound headers is corrupt
+pub undamaged : (image : Image) → HasSoundHeaders image → first_block_damage image ≡ None
+unfolding field_checks list_checks
 undamaged image well =
-    let p = none_parts (head_checks (byte image Index) (length_of image Index)) (list_checks (byte image Index) ++ block_checks image) well in
+    let p = none_parts (field_checks (byte image Index) (length_of image Index)) (list_checks (byte image Index) ++ block_checks image) well in
     (none_parts (list_checks (byte image Index)) (block_checks image) p.1).1
 
 module _ (from image : Image) (same : SameHeaders from image) where
@@ -66,7 +66,7 @@ module _ (from image : Image) (same : SameHeaders from image) where
     updating = word n 56 (omega arith) ∙ m.updating;
   }
 
-  pub files-same : (words : List ℕ) → IsWellFormed from → AreFiles from words → AreFiles image words
+  pub files-same : (words : List ℕ) → HasSoundHeaders from → AreFiles from words → AreFiles image words
   files-same words well are = record {
     mapped = λ n e.
         let was : is_some (linked_as from n) ≡ true = ap (λ o. is_some o) (sym (linked-same n)) ∙ e in

@@ -127,7 +127,7 @@ module _ (state : State) (layout : Layout) (number : ℕ) (object : Object) (l :
   pub held-out-doomed : KeepsUncounted after now unlinked image
   held-out-doomed = record {
     valid = arranged.valid;
-    well_formed = h.keeps.well_formed;
+    sound = h.keeps.sound;
     represents = arranged.represents;
     numbers = number ∷ numbers;
     owners = arranged.owners;

@@ -11,7 +11,7 @@ use Rattle.blk_model.specs.Stops.{is_live_and_settled}
 use Rattle.spec_image.specs.Image.{Image}
 use Rattle.spec_format.specs.Claims.{Claim, BlockOf, ExternalOf, claims_of_all, claims_of, has_claim, is_in_file}
 use Rattle.spec_format.specs.BlockFiles.{is_among}
-use Rattle.spec_format.proofs.Finished.{well_formed-finished}
+use Rattle.spec_format.proofs.Finished.{formed-of, well_formed-finished}
 use Rattle.spec_folder.specs.View.{View, list_of, store_of, view_of}
 use Rattle.spec_folder.specs.Loads.{held_rule, listed_rule, Loaded, claims_of_loaded}
 use Rattle.spec_folder.specs.Audit.{kept_among, kept_by, dropped_by}
@@ -28,10 +28,10 @@ use Rattle.law_folder.proofs.states.Central.{none-unlisted, settled-is_test, wal
 use Rattle.law_folder.proofs.states.Laid.{IsNodeOf, laid-shown, node-of}
 use Rattle.law_folder.proofs.claims.Owner.{IsOwned, owned}
 use Rattle.law_folder.proofs.walks.Shown.{dropped-none, kept-given}
-use Rattle.law_folder.proofs.states.Standing.{claimed-exactly, found-at_rest, kept-at}
+use Rattle.law_folder.proofs.states.Standing.{claimed-exactly, found-at_rest, held-at_rest, kept-at}
 use Rattle.law_folder.proofs.states.TidyOrder.{tidy-stands}
 use Rattle.law_state.specs.Keeping.{Keeps, all_loaded, words_in_use}
-use Rattle.law_state.specs.KeepingLaws.{AllAreAtRest, KeptStatesAreFound, KeptStatesAreStoodFor, KeptStatesAreSound}
+use Rattle.law_state.specs.KeepingLaws.{AllAreAtRest, HasMagic, KeptStatesAreHeld, KeptStatesAreFound, KeptStatesAreStoodFor, KeptStatesAreSound}
 
 -- the used blocks of the words in use
 pub used-claims : (unlinked : List ℕ) (ls : List Loaded) → claims_of_all (words_in_use unlinked ls) ≡ claims_of_all unlinked ++ claims_of_loaded ls
@@ -60,8 +60,8 @@ module _ (state : State) (layout : Layout) (image : Image) (k : Keeps state layo
     sealed = k.entries.sealed;
   }
 
-  pub stands : StandsFor image state
-  stands = tidy-stands image state layout k.entries.numbers k.entries.represents k.entries.valid allocated k.entries.well_formed tidy
+  pub stands : HasMagic image → StandsFor image state
+  stands magic = tidy-stands image state layout k.entries.numbers k.entries.represents k.entries.valid allocated (formed-of image k.entries.sound magic) tidy
 
 -- ---- where each object is live and clean
 
@@ -163,11 +163,14 @@ module _ (state : State) (layout : Layout) (image : Image) (r : Represents (view
 
 -- ---- the laws
 
+pub kept-held : KeptStatesAreHeld
+kept-held state layout unlinked image k = held-at_rest image state layout k.represents k.valid
+
 pub kept-found : KeptStatesAreFound
-kept-found state layout unlinked image k = found-at_rest image state layout k.represents k.valid (well_formed-finished image k.well_formed)
+kept-found state layout unlinked image k magic = found-at_rest image state layout k.represents k.valid (well_formed-finished image (formed-of image k.sound magic))
 
 pub kept-stands : KeptStatesAreStoodFor
-kept-stands state layout image k = stands state layout image k
+kept-stands state layout image k magic = stands state layout image k magic
 
 pub kept-sound : KeptStatesAreSound
-kept-sound state layout image k at_rest = sound state layout image k.entries.represents k.entries.valid (stands state layout image k) at_rest
+kept-sound state layout image k magic at_rest = sound state layout image k.entries.represents k.entries.valid (stands state layout image k magic) at_rest

@@ -121,7 +121,7 @@ module _ (w : ℕ) (from image : Image) (a : AddsExternal from w image) (state :
   kept : KeepsUncounted state layout (w ∷ unlinked) image
   kept = record {
     valid = k.valid;
-    well_formed = a.well_formed k.well_formed;
+    sound = a.headers.sound k.sound;
     represents = represents-outside touched (view_of from) (view_of image) state layout (agreeing-views touched from image a.agree) free k.represents;
     numbers = k.numbers;
     owners = k.owners;
@@ -212,7 +212,7 @@ module _ (w : ℕ) (from image : Image) (a : RemovesExternal from w image) (stat
   left-kept : KeepsUncounted state layout unlinked image
   left-kept = record {
     valid = k.valid;
-    well_formed = a.well_formed k.well_formed;
+    sound = a.headers.sound k.sound;
     represents = represents-outside its_file (view_of from) (view_of image) state layout (agreeing-views its_file from image a.agree) gone-free k.represents;
     numbers = k.numbers;
     owners = k.owners;

@@ -16,14 +16,13 @@ use Rattle.blk_model.specs.Items.{main, same_item}
 use Rattle.blk_model.specs.State.{State, Object, IsValidState, object_at}
 use Rattle.blk_model.proofs.Same.{one_item, same_item_self}
 use Rattle.spec_format.specs.Address.{blocks_256, file_selector, place}
-use Rattle.spec_format.specs.BlockFiles.{is_among, IsWellFormed}
+use Rattle.spec_format.specs.BlockFiles.{is_among, HasSoundHeaders, KeepsHeaders}
 use Rattle.spec_format.specs.Claims.{Claim, has_claim}
 use Rattle.spec_format.specs.Hash.{hash}
 use Rattle.spec_format.specs.Headers.{header_length, place_of_bucket, this_id_of}
 use Rattle.spec_format.specs.Records.{entry_in, entry_is_sealed, node_in, node_is_sealed, entry_normal}
 use Rattle.spec_format.specs.Sealed.{record_range}
 use Rattle.spec_format.proofs.Among.{is_among-append}
-use Rattle.spec_format.proofs.Finished.{well_formed-finished}
 use Rattle.law_folder.specs.CommandLaws.{IsWrittenApart}
 use Rattle.spec_folder.specs.Chains.{bucket_of_hash, bucket_at}
 use Rattle.spec_folder.specs.Completion.{insert}
@@ -50,7 +49,7 @@ use Rattle.law_folder.proofs.updates.IndexWords.{same-shown}
 use Rattle.law_folder.proofs.states.Laid.{is_among-node}
 use Rattle.law_folder.proofs.walks.Loads.{load-then}
 use Rattle.law_folder.proofs.states.Settling.{main-listed, main-owned}
-use Rattle.law_folder.proofs.states.Standing.{found-at_rest}
+use Rattle.law_folder.proofs.states.Standing.{held-at_rest}
 use Rattle.law_folder.proofs.updates.StillShown.{core-standing}
 use Rattle.law_folder.proofs.states.Tidying.{counter-same, record-bytes, sealed-still, touch_range, touch_sizes, touch_spares}
 use Rattle.law_folder.proofs.lists.WordTurns.{inserts-can}
@@ -65,7 +64,7 @@ use Rattle.law_state.proofs.Leaving.{leaves-files, leaves-then}
 use Rattle.law_state.proofs.NewNodes.{among-doomed, some-at, still-free, unlinked-once, unlinked-still}
 use Rattle.law_state.proofs.NodeChanges.{is_dead, numbers-same, others-at}
 use Rattle.law_state.proofs.Touched.{to-front, words_at}
-use Rattle.law_state.proofs.Touching.{found-kept}
+use Rattle.law_state.proofs.Touching.{held-kept}
 
 -- ---- what the laws of the list and of a Create ask
 
@@ -102,9 +101,9 @@ module _ (state : State) (layout : Layout) (unlinked key : List ℕ) (l : Loaded
   -- the image of a moment of the insert
   pub insert-found : (image : Image) → IsPartly from (writes_of insert l.node (list_of from)) image → Finds (rest state) image
   insert-found image partly =
-      let well : IsWellFormed image = partly.well_formed k.well_formed in (
+      let well : HasSoundHeaders image = partly.headers.sound k.sound in (
         well,
-        found-kept image well ∙ ap (λ (ls : ListView). map row_of_loaded (kept_by held_rule (complete ls (store_of image)))) partly.shown.list
+        held-kept image ∙ ap (λ (ls : ListView). map row_of_loaded (kept_by held_rule (complete ls (store_of image)))) partly.shown.list
             ∙ at-each-write (view_of from) (view_of from) state layout key l written (store_of image) partly.shown.store partly.made,
       )
     where
@@ -138,13 +137,13 @@ module _ (state : State) (layout : Layout) (unlinked key : List ℕ) (l : Loaded
         idle = ap (λ (ls : ListView). ls.transaction) linked.list ∙ at-rest.idle;
       }
 
-  well : IsWellFormed image
-  well = linked.well_formed (inserted.partly.well_formed k.well_formed)
+  well : HasSoundHeaders image
+  well = linked.headers.sound (inserted.partly.headers.sound k.sound)
 
   pub link-found : IsValidState (created handle key state) → Finds (rest state) image
   link-found valid = (
     well,
-    found-at_rest image (created handle key state) (with_new layout key l) new-represents valid (well_formed-finished image well)
+    held-at_rest image (created handle key state) (with_new layout key l) new-represents valid
         ∙ creates-rest (view_of from) (view_of from) state layout key l (written state layout unlinked key l from k n) handle,
   )
 
@@ -173,7 +172,7 @@ table-word b p from image low same = same_word_outside (one_word Index (place_of
   beside : (i : ℕ) → i < header_length → (nat_le (place_of_bucket b) i && nat_lt i (place_of_bucket b + 4)) ≡ false
   beside i small = grind (arith, nat_tests)
 
-pub table-leaves : (b : ℕ) (from image : Image) → SameOutside (one_word Index (place_of_bucket b)) from image → (IsWellFormed from → IsWellFormed image) → LeavesFiles from image
+pub table-leaves : (b : ℕ) (from image : Image) → SameOutside (one_word Index (place_of_bucket b)) from image → KeepsHeaders from image → LeavesFiles from image
 table-leaves b from image same formed = leaves-files (one_word Index (place_of_bucket b)) from image (record { bytes = λ n i small. refl }) (λ file. refl) same
     (record { crash = table-word b 32 from image (lit≤ tt) same; id = table-word b 20 from image (lit≤ tt) same }) formed
 
@@ -247,10 +246,10 @@ module _ (state : State) (layout : Layout) (unlinked key : List ℕ) (l : Loaded
 
   between-leaves : LeavesFiles from between
   between-leaves = leaves-files (touch_range writes l.node) from between (touch_spares writes l.node) (touch_sizes writes l.node) outside
-      (record { crash = counter-same writes l.node from between outside 32 (omega arith); id = counter-same writes l.node from between outside 20 (omega arith) }) inserted.partly.well_formed
+      (record { crash = counter-same writes l.node from between outside 32 (omega arith); id = counter-same writes l.node from between outside 20 (omega arith) }) inserted.partly.headers
 
   leaves : LeavesFiles from image
-  leaves = leaves-then from between image between-leaves (table-leaves (bucket_at between l.contents) between image linked.outside linked.well_formed)
+  leaves = leaves-then from between image between-leaves (table-leaves (bucket_at between l.contents) between image linked.outside linked.headers)
 
   can-make : CanBeMade from writes
   can-make = inserts-can from l.node (walked from) (can-insert state layout (words_of l ++ unlinked) key l from k n)

@@ -44,21 +44,21 @@ use Rattle.law_state.proofs.NewNodes.{among-doomed, some-at, still-free, unlinke
 use Rattle.law_state.proofs.NewParts as parts
 use Rattle.law_state.proofs.NodeChanges.{is_dead, numbers-same, others-at}
 use Rattle.law_state.proofs.Touched.{to-front, words-append, words_at}
-use Rattle.law_state.proofs.Touching.{found-kept}
-use Rattle.law_state.proofs.WordStops.{found-partly}
+use Rattle.law_state.proofs.Touching.{held-kept}
+use Rattle.law_state.proofs.WordStops.{held-partly}
 
 -- ---- at each word
 
 pub part-inserts-find : PartInsertsFindEither
 part-inserts-find state objects layout unlinked key n was seen loaded from image k written partly = (
-  partly.well_formed k.well_formed,
-  found-partly from image (writes_of insert loaded.node (list_of from)) k.well_formed partly ∙ parts.parts-at-each-write (view_of from) state objects layout key n was seen loaded written (store_of image) partly.shown.store partly.made,
+  partly.headers.sound k.sound,
+  held-partly from image (writes_of insert loaded.node (list_of from)) partly ∙ parts.parts-at-each-write (view_of from) state objects layout key n was seen loaded written (store_of image) partly.shown.store partly.made,
 )
 
 pub making-finds : MakingPartsFindsTheNext
 making-finds state objects layout unlinked key n was seen loaded chains from image k written making = (
-  making.well_formed,
-  found-kept image making.well_formed
+  making.sound,
+  held-kept image
       ∙ ap (λ (nodes : List ℕ). map row_of_loaded (kept_among (store_of image) held_rule nodes)) (walk-idle (list_of image) making.list.idle ∙ walk_list (list_of image) (loaded.node ∷ order state layout) making.list.whole ∙ sym (parts.order-is (view_of from) state objects layout key n was seen loaded written))
       ∙ parts.parts-at-rest (view_of from) state objects layout key n was seen loaded written (store_of image) chains making.others,
 )

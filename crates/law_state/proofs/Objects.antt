@@ -9,7 +9,7 @@ use Rattle.spec_image.specs.Image.{Image, Index, byte}
 use Rattle.blk_model.specs.Effects.{with_slot}
 use Rattle.blk_model.specs.Items.{main}
 use Rattle.blk_model.specs.State.{State, Object, object_at}
-use Rattle.spec_format.specs.BlockFiles.{is_among, IsWellFormed}
+use Rattle.spec_format.specs.BlockFiles.{is_among, HasSoundHeaders}
 use Rattle.spec_format.specs.Claims.{Claim, claims_of, claims_of_all, has_claim, repeats}
 use Rattle.spec_format.specs.Headers.{this_id_of}
 use Rattle.spec_format.proofs.Among.{is_among-append}
@@ -40,14 +40,14 @@ use Rattle.law_state.proofs.Claimed.{once-alike}
 use Rattle.law_state.proofs.Dirtying.{dead-same, set-at, set-else}
 use Rattle.law_state.proofs.Free.{sealed-same, standing-at}
 use Rattle.law_state.proofs.NodeChanges.{node-changed}
-use Rattle.law_state.proofs.Touching.{found-kept}
+use Rattle.law_state.proofs.Touching.{held-kept}
 
 -- ---- handles
 
 pub handles-change : HandlesMayChange
 handles-change state layout unlinked image names k valid = record {
   valid = valid;
-  well_formed = k.well_formed;
+  sound = k.sound;
   represents = handles-not_shown (view_of image) state layout k.represents names;
   numbers = k.numbers;
   owners = record {
@@ -71,13 +71,13 @@ handles-uncounted state layout unlinked image names k valid = record {
 
 pub unsettled-find : UnsettledItemsFindTheSame
 unsettled-find touched state layout unlinked from image number object item loaded k only here has open_ at inside name =
-    let well : IsWellFormed image = only.well_formed k.well_formed in
-    (well, found-kept image well ∙ moment-rest touched (view_of from) (view_of image) state layout k.represents k.valid number object item here has open_ loaded at (agreeing-views touched from image only.agree) inside name)
+    let well : HasSoundHeaders image = only.well_formed.sound k.sound in
+    (well, held-kept image ∙ moment-rest touched (view_of from) (view_of image) state layout k.represents k.valid number object item here has open_ loaded at (agreeing-views touched from image only.agree) inside name)
 
 pub doomed-find : DoomedObjectsFindTheSame
 doomed-find touched state layout unlinked from image number object k only here dead free =
-    let well : IsWellFormed image = only.well_formed k.well_formed in
-    (well, found-kept image well ∙ doomed-rest touched (view_of from) (view_of image) state layout k.represents k.valid number object here dead (agreeing-views touched from image only.agree) free)
+    let well : HasSoundHeaders image = only.well_formed.sound k.sound in
+    (well, held-kept image ∙ doomed-rest touched (view_of from) (view_of image) state layout k.represents k.valid number object here dead (agreeing-views touched from image only.agree) free)
 
 -- ---- owners with something else at a node
 

@@ -197,7 +197,7 @@ module _ (state : State) (layout : Layout) (keep : Item → Bool) (chains : ℕ 
 
   pub leaves : LeavesFiles from image
   leaves = leaves-then from o.between image (leaves-files (touch_range writes node) from o.between (touch_spares writes node) (touch_sizes writes node) outside
-      (record { crash = counter-same writes node from o.between outside 32 (omega arith); id = counter-same writes node from o.between outside 20 (omega arith) }) o.unlisted.partly.well_formed) o.leaves
+      (record { crash = counter-same writes node from o.between outside 32 (omega arith); id = counter-same writes node from o.between outside 20 (omega arith) }) o.unlisted.partly.headers) o.leaves
 
   same-words : IsPermutation (words_in_use unlinked (loaded_at layout (left_nodes state layout keep k.numbers))) (words_in_use (words_of was ++ unlinked) (loaded_at layout (left_nodes state layout less k.numbers)))
   same-words =
@@ -255,7 +255,7 @@ module _ (state : State) (layout : Layout) (keep : Item → Bool) (chains : ℕ 
   pub one-more-out : KeepsPartlyOut state layout less (chains_but chains was.contents) (words_of was ++ unlinked) image
   one-more-out = record {
     valid = k.valid;
-    well_formed = leaves.well_formed k.well_formed;
+    sound = leaves.well_formed.sound k.sound;
     lies = k.lies;
     list = new-rest;
     holds = holds-now;
@@ -270,7 +270,7 @@ module _ (state : State) (layout : Layout) (keep : Item → Bool) (chains : ℕ 
         (cases_Bool (is_among gone n));
     numbers = k.numbers;
     owners = k.owners;
-    files = files-alike image _ _ same-words (files-same from image leaves.headers _ k.well_formed k.files);
+    files = files-alike image _ _ same-words (files-same from image leaves.headers _ k.sound k.files);
     stand = stand-same from image leaves.headers (words_of was ++ unlinked) stood;
     free = free;
     single = single;

@@ -4,7 +4,7 @@ use Rattle.std.specs.Prelude.{◌==◌, is_some}
 use Rattle.std.specs.List.{AllByRecursion}
 use Rattle.blk_model.specs.State.{State}
 use Rattle.spec_image.specs.Image.{Image, Index, word}
-use Rattle.spec_format.specs.BlockFiles.{IsWellFormed}
+use Rattle.spec_format.specs.BlockFiles.{KeepsHeaders}
 use Rattle.spec_format.specs.Claims.{Claim, BlockOf, ExternalOf, has_claim, repeats}
 use Rattle.spec_folder.specs.Footprint.{AgreeBut}
 use Rattle.spec_folder.specs.Layout.{Layout, rule_of, Represents}
@@ -23,7 +23,7 @@ use Rattle.law_state.specs.KeepingLaws.{OpenedFoldersKeepTheirState}
 use Rattle.law_state.proofs.Counts.{count-beside}
 use Rattle.law_state.proofs.Free.{sealed-same, standing-at}
 use Rattle.law_state.proofs.Headers.{files-same}
-use Rattle.law_state.proofs.Writes.{word-agrees, word-formed, word-headers}
+use Rattle.law_state.proofs.Writes.{word-agrees, word-headers, word-kept}
 
 -- the files of a folder in order are those of the words in use
 module _ (image : Image) (state : State) (layout : Layout) (numbers : List ℕ) (r : Represents (view_of image) state layout) (a : AllIsOwned image state layout numbers) (tidy : IsTidy image state layout numbers) where
@@ -56,11 +56,11 @@ pub opened-kept : OpenedFoldersKeepTheirState
 opened-kept from between image state layout numbers valid well r a tidy id crash session = record {
   entries = record {
     valid = valid;
-    well_formed = formed (formed-first well);
+    sound = second.sound (first.sound well);
     represents = represents-outside (λ claim. false) (view_of from) (view_of image) state layout (agreeing-views (λ claim. false) from image agree) (λ claim node is. refl) r;
     numbers = numbers;
     owners = record { exact = a.exact; once = a.once; doomed = a.doomed };
-    files = files-same between image (word-headers between image 32 refl (lit≤ tt) refl refl crash) _ (formed-first well) (files-same from between (word-headers from between 20 refl (lit≤ tt) refl refl id) _ well (files-are from state layout numbers r a tidy));
+    files = files-same between image (word-headers between image 32 refl (lit≤ tt) refl refl crash) _ (first.sound well) (files-same from between (word-headers from between 20 refl (lit≤ tt) refl refl id) _ well (files-are from state layout numbers r a tidy));
     unlinked_words = record { stand = tt; free = λ claim e. absurd (let z : false ≡ true = sym (no-claim claim) ∙ e in cc); single = none-repeats };
     sealed = λ node l here. let clear : AreClear (λ claim. false) l = clear-at (λ claim. false) state layout (λ claim node is. refl) r.holds.lies node l here in
         sealed-same (λ claim. false) from image agree l (standing-at from state layout r node l here) clear.node clear.contents (tidy.sealed node l here);
@@ -71,8 +71,8 @@ opened-kept from between image state layout numbers valid well r a tidy id crash
   agree : AgreeBut (λ claim. false) from image
   agree = agreement-goes_on (λ claim. false) from between image (word-agrees from between 20 refl (lit≤ tt) refl refl id) (word-agrees between image 32 refl (lit≤ tt) refl refl crash)
 
-  formed-first : IsWellFormed from → IsWellFormed between
-  formed-first = word-formed from between 20 refl (lit≤ tt) refl refl id
+  first : KeepsHeaders from between
+  first = word-kept from between 20 refl (lit≤ tt) refl refl id
 
-  formed : IsWellFormed between → IsWellFormed image
-  formed = word-formed between image 32 refl (lit≤ tt) refl refl crash
+  second : KeepsHeaders between image
+  second = word-kept between image 32 refl (lit≤ tt) refl refl crash

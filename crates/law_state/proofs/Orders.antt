@@ -23,7 +23,7 @@ use Rattle.law_state.specs.StopLaws.{OrdersMayBeLeft, RoomMayBeLeft, UsesGoOn, U
 
 pub left-stops : WhatIsLeftMayStop
 left-stops state moment request held image left finds = record {
-  well_formed = finds.0;
+  sound = finds.0;
   left = subst (λ (rows : List Row). StopOutcome state moment request (step state moment request).state rows) (sym finds.1) left;
 }
 

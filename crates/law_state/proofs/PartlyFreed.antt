@@ -90,7 +90,7 @@ left-there state layout keep chains unlinked from k claim node is stays =
 pub blocks-freed : BlocksAreFreedPartlyOut
 blocks-freed state layout keep chains w unlinked from image k a = record {
   valid = k.valid;
-  well_formed = a.well_formed k.well_formed;
+  sound = a.headers.sound k.sound;
   lies = k.lies;
   list = record { whole = list-still touched state layout keep chains (w ∷ unlinked) from image k agree (left-there state layout keep chains (w ∷ unlinked) from k); idle = idle-still touched state layout keep chains (w ∷ unlinked) from image k agree (left-there state layout keep chains (w ∷ unlinked) from k) };
   holds = holds-still touched state layout keep chains (w ∷ unlinked) from image k agree (left-there state layout keep chains (w ∷ unlinked) from k);
@@ -153,7 +153,7 @@ module _ (state : State) (layout : Layout) (keep : Item → Bool) (chains : ℕ 
   pub file-deleted : KeepsPartlyOut state layout keep chains unlinked image
   file-deleted = record {
     valid = k.valid;
-    well_formed = a.well_formed k.well_formed;
+    sound = a.headers.sound k.sound;
     lies = k.lies;
     list = record { whole = list-still file state layout keep chains (w ∷ unlinked) from image k a.agree file-apart; idle = idle-still file state layout keep chains (w ∷ unlinked) from image k a.agree file-apart };
     holds = holds-still file state layout keep chains (w ∷ unlinked) from image k a.agree file-apart;
@@ -177,7 +177,7 @@ files-deleted state layout keep chains w unlinked from image k a = file-deleted 
 pub out-changes : WhatIsOutMayChange
 out-changes touched state layout keep chains unlinked from image k only apart = record {
   valid = k.valid;
-  well_formed = only.well_formed k.well_formed;
+  sound = only.well_formed.sound k.sound;
   lies = k.lies;
   list = record { whole = list-still touched state layout keep chains unlinked from image k only.agree apart; idle = idle-still touched state layout keep chains unlinked from image k only.agree apart };
   holds = holds-still touched state layout keep chains unlinked from image k only.agree apart;
@@ -185,7 +185,7 @@ out-changes touched state layout keep chains unlinked from image k only apart = 
   out = k.out;
   numbers = k.numbers;
   owners = k.owners;
-  files = files-same from image only.headers _ k.well_formed k.files;
+  files = files-same from image only.headers _ k.sound k.files;
   stand = stand-same from image only.headers unlinked k.stand;
   free = k.free;
   single = k.single;

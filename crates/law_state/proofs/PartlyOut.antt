@@ -37,7 +37,7 @@ none-gone (i ∷ items) = none-gone items
 pub kept-begin : KeptStatesArePartlyOut
 kept-begin state layout unlinked image k = record {
   valid = k.valid;
-  well_formed = k.well_formed;
+  sound = k.sound;
   lies = k.represents.holds.lies;
   list = record { whole = subst (λ (items : List Item). IsListOf items) (sym (all-kept state.uses)) k.represents.list; idle = k.represents.idle };
   holds = represented-but (is_among (gone_nodes state layout (λ item. true))) (view_of image) state layout k.represents;
@@ -85,7 +85,7 @@ module _ (state : State) (layout : Layout) (unlinked : List ℕ) (objects : List
   pub ends-kept : KeepsUncounted after now unlinked image
   ends-kept = record {
     valid = w.valid;
-    well_formed = k.well_formed;
+    sound = k.sound;
     represents = represents-now;
     numbers = k.numbers;
     owners = record {
@@ -114,7 +114,7 @@ partly-out-ends state layout unlinked objects keep chains image k w = ends-kept 
 pub only-listed : OnlyListedAreOut
 only-listed state layout keep other chains unlinked image k same = record {
   valid = k.valid;
-  well_formed = k.well_formed;
+  sound = k.sound;
   lies = k.lies;
   list = subst (λ (items : List Item). IsAtRest (list_of image) (nodes_of layout items)) stay_same k.list;
   holds = subst (λ (items : List Item). HoldsExcept (is_among (nodes_of layout items)) (store_of image) state (record layout { chains = chains })) gone_same k.holds;

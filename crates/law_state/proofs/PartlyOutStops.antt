@@ -9,7 +9,7 @@ use Rattle.blk_model.specs.Items.{Item, key_of, main, part, same_item}
 use Rattle.blk_model.specs.Room.{without}
 use Rattle.blk_model.specs.State.{Object, State, object_at}
 use Rattle.spec_format.specs.Address.{external, external_number, kind_of}
-use Rattle.spec_format.specs.BlockFiles.{IsWellFormed, is_among}
+use Rattle.spec_format.specs.BlockFiles.{is_among, HasSoundHeaders}
 use Rattle.spec_format.specs.Claims.{Claim, ExternalOf, claims_of, claims_of_all, has_claim, same_claim}
 use Rattle.spec_folder.specs.Footprint.{AgreeBut, is_absent}
 use Rattle.spec_folder.specs.Layout.{HoldsExcept, Layout, is_listed, nodes_of}
@@ -32,7 +32,7 @@ use Rattle.law_state.specs.Changes.{Finds}
 use Rattle.law_state.specs.GroupLaws.{gone_nodes, owners_without}
 use Rattle.law_state.specs.PartlyOut.{KeepsPartlyOut, keeps_but}
 use Rattle.law_state.specs.PartlyOutStops.{DeletingFindsDoomed, FreeingFindsDoomed, ItemsOfAKeyLeaveOthers, LeavesOtherKeys, NextPartsFindDoomed, PartlyOutDoomsMayStop, PartlyOutFindsDoomed, PartlyOutGroupsMayStop, PartlyOutIsOut, UnlinkingItemsFindsDoomed}
-use Rattle.law_state.proofs.Externals.{file-agrees, file-formed}
+use Rattle.law_state.proofs.Externals.{file-agrees, file-headers}
 use Rattle.law_state.proofs.Groups as groups
 use Rattle.law_state.proofs.MakingFiles.{its-claims}
 use Rattle.law_state.proofs.PartlyFreed.{holds-still, idle-still, left-there, list-still}
@@ -45,7 +45,7 @@ listed-there state layout keep chains unlinked image k item listed stays = group
 
 pub partly-out-is-out : PartlyOutIsOut
 partly-out-is-out state layout key keep chains unlinked image leaves k = record {
-  well_formed = k.well_formed;
+  sound = k.sound;
   except = is_among (gone_nodes state layout keep);
   holds = k.holds;
   out = leaves.out;
@@ -85,7 +85,7 @@ own-items-leave key = (
 pub unlinking-items-find : UnlinkingItemsFindsDoomed
 unlinking-items-find state layout number object keep chains unlinked item from between image here leaves k listed stays done u =
     out-doomed state now number object (keeps_but keep item) image k.valid here (record {
-      well_formed = u.well_formed (done.partly.well_formed k.well_formed);
+      sound = u.headers.sound (done.partly.headers.sound k.sound);
       except = gone;
       holds = others-unlinked gone (store_of between) (store_of image) state now between-holds u.word u.only (chained-only state layout k.lies u.bucket u.word u.small (k.chained u.bucket u.word u.small u.chained)) chains (record { whole = u.whole; chained = λ m l ordered is kept. k.holds.chained m l ordered is kept });
       out = leaves.out;
@@ -107,11 +107,11 @@ unlinking-items-find state layout number object keep chains unlinked item from b
 
 -- a change outside what is left leaves what is found
 outside-finds : (touched : Claim → Bool) (state : State) (layout : Layout) (number : ℕ) (object : Object) (keep : Item → Bool) (chains : ℕ → List ℕ) (unlinked : List ℕ) (from image : Image) → object_at state number ≡ Some object → LeavesOtherKeys object.key keep
-    → KeepsPartlyOut state layout keep chains unlinked from → AgreeBut touched from image → ((claim : Claim) (node : ℕ) → layout.owner claim ≡ Some node → is_among (gone_nodes state layout keep) node ≡ false → touched claim ≡ false) → IsWellFormed image
+    → KeepsPartlyOut state layout keep chains unlinked from → AgreeBut touched from image → ((claim : Claim) (node : ℕ) → layout.owner claim ≡ Some node → is_among (gone_nodes state layout keep) node ≡ false → touched claim ≡ false) → HasSoundHeaders image
     → Finds (rest (doomed number state (Some object))) image
 outside-finds touched state layout number object keep chains unlinked from image here leaves k agree apart formed =
     out-doomed state (record layout { chains = chains }) number object keep image k.valid here (record {
-      well_formed = formed;
+      sound = formed;
       except = is_among (gone_nodes state layout keep);
       holds = holds-still touched state layout keep chains unlinked from image k agree apart;
       out = leaves.out;
@@ -122,11 +122,11 @@ outside-finds touched state layout number object keep chains unlinked from image
 
 pub freeing-finds : FreeingFindsDoomed
 freeing-finds state layout number object keep chains unlinked from image here leaves k grown formed =
-    outside-finds (is_absent from) state layout number object keep chains unlinked from image here leaves k (growth-absent from image grown) (left-there state layout keep chains unlinked from k) (formed k.well_formed)
+    outside-finds (is_absent from) state layout number object keep chains unlinked from image here leaves k (growth-absent from image grown) (left-there state layout keep chains unlinked from k) (formed.sound k.sound)
 
 pub deleting-doomed : DeletingFindsDoomed
 deleting-doomed state layout number object keep chains w unlinked from image here leaves k kind same =
-    outside-finds touched state layout number object keep chains (w ∷ unlinked) from image here leaves k (file-agrees from image (external_number w) same) apart (file-formed from image (external_number w) same k.well_formed)
+    outside-finds touched state layout number object keep chains (w ∷ unlinked) from image here leaves k (file-agrees from image (external_number w) same) apart ((file-headers from image (external_number w) same).sound k.sound)
   where
     touched : Claim → Bool
     touched claim = same_claim claim (ExternalOf (external_number w))

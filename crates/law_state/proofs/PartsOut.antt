@@ -28,8 +28,8 @@ use Rattle.law_folder.proofs.commands.Touches.{same-represents}
 use Rattle.law_folder.proofs.lists.Walks.{walk_list}
 use Rattle.law_state.specs.WordStops.{PartOutIsGone, PartsFindEither}
 use Rattle.law_state.proofs.NotAtRest.{filter_map-on}
-use Rattle.law_state.proofs.Touching.{found-kept}
-use Rattle.law_state.proofs.WordStops.{found-partly}
+use Rattle.law_state.proofs.Touching.{held-kept}
+use Rattle.law_state.proofs.WordStops.{held-partly}
 
 or-false : (b : Bool) → (b || false) ≡ b
 or-false true = refl
@@ -67,8 +67,8 @@ module _ (except : ℕ → Bool) (store : StoreView) (state : State) (layout : L
 pub part-out : PartOutIsGone
 unfolding keep
 part-out state layout key n image valid out = (
-  out.well_formed,
-  found-kept image out.well_formed
+  out.sound,
+  held-kept image
       ∙ ap (λ (nodes : List ℕ). map row_of_loaded (kept_among (store_of image) held_rule nodes)) (walk-idle (list_of image) out.list.idle ∙ walk_list (list_of image) (nodes_of layout (filter (λ item. not (same_item (part key n) item)) state.uses)) out.list.whole)
       ∙ part-rows out.except (store_of image) state layout out.holds valid key n out.list.whole.distinct (λ item listed keeps. out.there item listed (from-not (same_item (part key n) item) keeps)),
 )
@@ -81,8 +81,8 @@ parts-find state layout unlinked from image key n k listed removed =
     let represents : Represents shown state layout = same-represents (view_of from) state layout k.represents (store_of image) removed.shown.store in
     let a : IsAround item state.uses = around item state.uses listed (k.valid.once item) in
     let idle : IsAtRest (list_of from) (nodes_of layout state.uses) = record { whole = k.represents.list; idle = k.represents.idle } in (
-      removed.well_formed k.well_formed,
-      found-partly from image (writes_of remove (layout.place item) (list_of from)) k.well_formed removed
+      removed.headers.sound k.sound,
+      held-partly from image (writes_of remove (layout.place item) (list_of from)) removed
           ∙ ap (λ (nodes : List ℕ). map row_of_loaded (kept_among (store_of image) held_rule nodes)) (removal-walks (list_of from) layout state.uses item a idle removed.made)
           ∙ go (nat_lt removed.made 2) represents (removed-once (list_of from) layout state.uses item a idle),
     ) where

@@ -11,7 +11,7 @@ use Rattle.blk_model.specs.Holding.{rest}
 use Rattle.blk_model.specs.Items.{Item, main, part, same_item}
 use Rattle.blk_model.specs.State.{State, Object, object_at}
 use Rattle.spec_format.specs.Address.{blocks_256}
-use Rattle.spec_format.specs.BlockFiles.{is_among, IsWellFormed}
+use Rattle.spec_format.specs.BlockFiles.{is_among, HasSoundHeaders}
 use Rattle.spec_format.specs.Claims.{claims_of, has_claim}
 use Rattle.spec_format.specs.Hash.{hash}
 use Rattle.spec_format.specs.Headers.{this_id_of}
@@ -60,7 +60,7 @@ use Rattle.law_state.proofs.Free.{standing-at}
 use Rattle.law_state.proofs.Gone.{among-without, node-gone, others-owned, others-still}
 use Rattle.law_state.proofs.Leaving.{leaves-files, leaves-then}
 use Rattle.law_state.proofs.NodeChanges.{is_dead, numbers-same}
-use Rattle.law_state.proofs.Touching.{found-kept}
+use Rattle.law_state.proofs.Touching.{held-kept}
 
 -- ---- lists
 
@@ -221,11 +221,11 @@ module _ (state : State) (layout : Layout) (unlinked : List ℕ) (objects : List
 pub removals-find : RemovalsFindEither
 removals-find state layout unlinked objects keep item was from image k w here partly = (
   well,
-  found-kept image well ∙ ap (λ (ls : ListView). map row_of_loaded (kept_among (store_of image) held_rule (walk (completed_list ls)))) partly.shown.list
+  held-kept image ∙ ap (λ (ls : ListView). map row_of_loaded (kept_among (store_of image) held_rule (walk (completed_list ls)))) partly.shown.list
       ∙ ap (λ (ns : List ℕ). map row_of_loaded (kept_among (store_of image) held_rule ns)) (removals-turn (layout.place item) (list_of from) (nodes_of layout around-it.before) (nodes_of layout around-it.suffix) (rest-list state layout unlinked objects keep item was from k w here) partly.made) ∙ go (nat_lt partly.made 2),
 ) where
-  well : IsWellFormed image
-  well = partly.well_formed k.well_formed
+  well : HasSoundHeaders image
+  well = partly.headers.sound k.sound
 
   shows : Shows (store_of image) layout
   shows = shows-same (store_of from) (store_of image) layout k.represents.holds.shows partly.shown.store
@@ -270,13 +270,13 @@ module _ (state : State) (layout : Layout) (unlinked : List ℕ) (objects : List
     list-now : IsAtRest (list_of image) (nodes_of layout (filter keep state.uses))
     list-now = subst (λ (ls : ListView). IsAtRest ls (nodes_of layout (filter keep state.uses))) (sym u.list) at-rest
 
-    pub well-now : IsWellFormed image
-    well-now = u.well_formed (done.partly.well_formed k.well_formed)
+    pub well-now : HasSoundHeaders image
+    well-now = u.headers.sound (done.partly.headers.sound k.sound)
 
     pub found-now : Finds (rest later) image
     found-now = (
       well-now,
-      found-kept image well-now ∙ ap (λ (ns : List ℕ). map row_of_loaded (kept_among (store_of image) held_rule ns)) (walk-idle (list_of image) list-now.idle ∙ walk_list (list_of image) (nodes_of layout (filter keep state.uses)) list-now.whole)
+      held-kept image ∙ ap (λ (ns : List ℕ). map row_of_loaded (kept_among (store_of image) held_rule ns)) (walk-idle (list_of image) list-now.idle ∙ walk_list (list_of image) (nodes_of layout (filter keep state.uses)) list-now.whole)
           ∙ listed-rest (λ n. false) (store_of image) later (record (layout_unlisted layout its-node) { chains = chains }) holds-now w.valid (once-then state layout unlinked objects keep item was from k w here) (λ i there. refl),
     )
 
@@ -304,7 +304,7 @@ module _ (state : State) (layout : Layout) (unlinked : List ℕ) (objects : List
 
     all-leaves : LeavesFiles from image
     all-leaves = leaves-then from between image (leaves-files (touch_range writes its-node) from between (touch_spares writes its-node) (touch_sizes writes its-node) outside
-        (record { crash = counter-same writes its-node from between outside 32 (omega arith); id = counter-same writes its-node from between outside 20 (omega arith) }) done.partly.well_formed) leaves
+        (record { crash = counter-same writes its-node from between outside 32 (omega arith); id = counter-same writes its-node from between outside 20 (omega arith) }) done.partly.headers) leaves
 
     listed-rest-list : IsAtRest (list_of from) (before-it ++ its-node ∷ behind-it)
     listed-rest-list = rest-list state layout unlinked objects keep item was from k w here

@@ -29,8 +29,8 @@ use Rattle.law_state.specs.Commands.{IsStepped, MayStop}
 use Rattle.law_state.specs.Keeping.{Keeps}
 use Rattle.law_state.specs.StageLaws.{MayStopBetween, IsAtStage}
 use Rattle.law_state.specs.WordStops.{IsMidRemoval, IsMidUse, IsOut}
-use Rattle.law_state.proofs.Examples.{doomed-keeps, opened, whole-keeps}
-use Rattle.law_state.proofs.Keeping.{kept-found, kept-stands}
+use Rattle.law_state.proofs.Examples.{doomed-keeps, opened, whole-keeps, whole-magic}
+use Rattle.law_state.proofs.Keeping.{kept-stands, kept-held}
 use Rattle.spec_folder.specs.Sound.{words_of}
 use Rattle.law_state.specs.GoneLaws.{layout_without}
 use Rattle.law_state.proofs.OneCalls.{closes-of-doomed-unlink}
@@ -41,6 +41,7 @@ use Rattle.law_state.proofs.PartlyOut.{kept-begin}
 use Rattle.law_state.proofs.Stages.{ends-kept, notes-end, stages-stop}
 use Rattle.law_state.proofs.Stopping.{quiet-keep, stop-before}
 use Rattle.law_state.proofs.WordStops.{dooms-find, dooms-stop, out-doomed, uses-stop}
+use Rattle.spec_format.proofs.Finished.{headers-kept}
 
 abbrev folder : Image
 folder = opened whole_folder 7
@@ -53,7 +54,7 @@ unchanged footprint image = record { bytes = λ file i out. refl; lengths = λ f
 
 -- a Read may crash before the first word of the access of its item
 before_use : IsMidUse (one.layout 0) (main (codes "a")) folder folder
-before_use = record { made = 0; within = omega arith; shown = record { list = refl; store = same-shown (store_of folder) }; outside = unchanged _ folder; well_formed = λ well. well }
+before_use = record { made = 0; within = omega arith; shown = record { list = refl; store = same-shown (store_of folder) }; outside = unchanged _ folder; headers = headers-kept folder }
 
 read_stops : MayStop state 100 (to_read 0 0 0 1) folder
 unfolding computing
@@ -61,7 +62,7 @@ read_stops = uses-stop state 100 (to_read 0 0 0 1) [] [] (main (codes "a")) (one
 
 -- a Doom may crash before the removal of its item
 before_removal : IsMidRemoval (one.layout 0) (main (codes "a")) folder folder
-before_removal = record { made = 0; within = omega arith; shown = record { list = refl; store = same-shown (store_of folder) }; outside = unchanged _ folder; well_formed = λ well. well }
+before_removal = record { made = 0; within = omega arith; shown = record { list = refl; store = same-shown (store_of folder) }; outside = unchanged _ folder; headers = headers-kept folder }
 
 doom_finds : Finds (rest state) folder
 unfolding before_removal
@@ -74,7 +75,7 @@ doom_stops = dooms-stop state 100 (to_doom 0) 0 (one.object true) true folder wh
 -- the key of a doomed object is out of the list
 key_is_out : IsOut (doomed_state true) (doomed_layout 0) (codes "a") (is_of_another (codes "a")) (opened doomed_folder 7)
 key_is_out = record {
-  well_formed = doomed-keeps.entries.well_formed;
+  sound = doomed-keeps.entries.sound;
   except = λ node. false;
   holds = represented-but (λ node. false) (view_of (opened doomed_folder 7)) (doomed_state true) (doomed_layout 0) doomed-keeps.entries.represents;
   out = refl;
@@ -94,7 +95,7 @@ at_first : IsAtStage [] state 100 to_list folder
 at_first = record { inner = state; layout = one.layout 0; unlinked = []; kept = whole-keeps.entries; left = rest_before state 100 to_list whole-keeps.entries.valid }
 
 still : StillFinds [] folder folder
-still inner layout unlinked k = (k.well_formed, kept-found inner layout unlinked folder k)
+still inner layout unlinked k = (k.sound, kept-held inner layout unlinked folder k)
 
 only-folder : (P : Image → Type 0) → P folder → ForSome told.files P
 only-folder P holds image is = subst P (some_inj is) holds
@@ -112,7 +113,7 @@ noted = record { files = refl; trail = refl }
 
 list_is_stepped : IsStepped told told 100 to_list 1 state
 list_is_stepped = notes-end told told told 100 to_list 1 state (passes_none (MayStop state 100 to_list) refl (only-folder (MayStop state 100 to_list) (stop-before state 100 to_list folder whole-keeps.entries.valid (still state (one.layout 0) [] whole-keeps.entries))))
-    (only-folder (λ image. StandsFor image (step state 100 to_list).state) (kept-stands (step state 100 to_list).state (one.layout 0) folder list_ends)) noted
+    (only-folder (λ image. StandsFor image (step state 100 to_list).state) (kept-stands (step state 100 to_list).state (one.layout 0) folder list_ends whole-magic)) noted
 
 -- the doomed object is closed by its last handle, and its words are unlinked
 doomed_is_closed : Keeps (step (doomed_state true) 100 (to_close 0)).state (layout_without (doomed_layout 0) ((doomed_layout 0).place_of_doomed 0)) (words_of (one.loaded 0) ++ []) (opened doomed_folder 7)

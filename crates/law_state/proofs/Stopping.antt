@@ -3,7 +3,7 @@ use Rattle.std.proofs.Common.{◌≡◌, ℕ, List, [], Option, None, Some, refl
 use Rattle.std.specs.Option.{ForSome}
 use Rattle.spec_image.specs.Image.{Image}
 use Rattle.spec_image.specs.Told.{Told}
-use Rattle.spec_image.proofs.Runs.{passes_none, passes_weaker}
+use Rattle.spec_image.proofs.Runs.{passes_none, passes_weaker, until_both, until_weaker2}
 use Rattle.blk_model.specs.declared.Refusal.{Refusal}
 use Rattle.blk_model.specs.Items.{Row}
 use Rattle.blk_model.specs.Reply.{answer_of}
@@ -17,31 +17,56 @@ use Rattle.blk_model.specs.Stops.{StopOutcome}
 use Rattle.blk_model.proofs.EvictedFirst.{evictions-stop}
 use Rattle.blk_model.proofs.Refused.{refusal_from, refused_nothing}
 use Rattle.blk_model.proofs.StopRests.{rest_after, rest_before}
-use Rattle.law_state.specs.Commands.{MayStop}
+use Rattle.law_state.specs.Commands.{FinishedFoldersMayStop, FinishedFoldersMayStopAlong, MayStop, MayStopFinished}
+use Rattle.spec_format.specs.Session.{KeepsSessionWords}
+use Rattle.spec_format.proofs.Session.{quiet-words-kept}
+use Rattle.law_state.specs.Changes.{HeldIsFound}
+use Rattle.spec_folder.specs.Found.{found}
 use Rattle.law_state.specs.CommandLaws.{CallsMayStop, KeptStatesMayStop, NothingIsDone, NothingMayStop, QuietRequestsKeepTheState, RefusalsAreDone, RequestsMayStopAfter, RequestsMayStopBefore, RequestsMayStopOnceEvicted, SaysKept}
 use Rattle.law_state.specs.Keeping.{KeepsSome}
-use Rattle.law_state.proofs.Keeping.{kept-found}
+use Rattle.law_state.proofs.Keeping.{kept-held}
+use Rattle.spec_format.proofs.Finished.{formed-of, well_formed-finished}
 
 pub stop-before : RequestsMayStopBefore
 stop-before state moment request image valid finds = record {
-  well_formed = finds.0;
+  sound = finds.0;
   left = subst (λ (rows : List Row). StopOutcome state moment request (step state moment request).state rows) (sym finds.1) (rest_before state moment request valid);
 }
 
 pub stop-after : RequestsMayStopAfter
 stop-after state moment request image valid can finds = record {
-  well_formed = finds.0;
+  sound = finds.0;
   left = subst (λ (rows : List Row). StopOutcome state moment request (step state moment request).state rows) (sym finds.1) (rest_after state moment request valid can);
 }
 
 pub stop-evicted : RequestsMayStopOnceEvicted
 stop-evicted state moment request first others image valid evicts finds = record {
-  well_formed = finds.0;
+  sound = finds.0;
   left = subst (λ (rows : List Row). StopOutcome state moment request (step state moment request).state rows) (sym finds.1) (evictions-stop state moment request first others valid evicts);
 }
 
 pub kept-stop : KeptStatesMayStop
-kept-stop state layout unlinked image k moment request = stop-before state moment request image k.valid (k.well_formed, kept-found state layout unlinked image k)
+kept-stop state layout unlinked image k moment request = stop-before state moment request image k.valid (k.sound, kept-held state layout unlinked image k)
+
+-- where the index is finished the old text holds
+pub held-found : HeldIsFound
+unfolding found
+held-found rows image finds magic = let well = formed-of image finds.0 magic in (well, rw (well_formed-finished image well) finds.1)
+
+pub finished-stop : FinishedFoldersMayStop
+unfolding found
+finished-stop state moment request image stops magic =
+    let well = formed-of image stops.sound magic in
+    record { well_formed = well; left = rw (well_formed-finished image well) stops.left }
+
+pub finished-along : FinishedFoldersMayStopAlong
+finished-along state moment request image steps quiet magic stops =
+    let P : Image → Type 0 = MayStop state moment request in
+    let W : Image → Type 0 = KeepsSessionWords image in
+    let B : Image → Type 0 = λ i. P i × W i in
+    let R : Image → Type 0 = MayStopFinished state moment request in
+    let now : (i : Image) → B i → R i = λ i both. finished-stop state moment request i both.0 (both.1.magic ∙ magic) in
+    until_weaker2 B R B R steps image now now (until_both P W P W steps image stops (quiet-words-kept steps image quiet))
 
 -- ---- exits
 

@@ -103,7 +103,7 @@ module _ (state : State) (layout : Layout) (unlinked : List ℕ) (from image : I
 
   pub leaves : LeavesFiles from image
   leaves = leaves-files (touch_range (touch_writes node (list_of from)) node) from image (touch_spares (touch_writes node (list_of from)) node) (touch_sizes (touch_writes node (list_of from)) node) done.touched.outside
-      (record { crash = counter 32 (omega arith); id = counter 20 (omega arith) }) done.touched.well_formed
+      (record { crash = counter 32 (omega arith); id = counter 20 (omega arith) }) done.touched.headers
 
   pub arranged : IsArranged later layout k.numbers unlinked image
   arranged = record {

@@ -27,7 +27,7 @@ module _ (unlinked left : List ℕ) (image : Image) (same : IsPermutation unlink
 pub kept-in-any-order : KeptInAnyOrder
 kept-in-any-order state layout unlinked left image k same = record {
   valid = k.valid;
-  well_formed = k.well_formed;
+  sound = k.sound;
   represents = k.represents;
   numbers = k.numbers;
   owners = k.owners;
@@ -44,7 +44,7 @@ kept-in-any-order state layout unlinked left image k same = record {
 pub out-in-any-order : PartlyOutInAnyOrder
 out-in-any-order state layout keep chains unlinked left image k same = record {
   valid = k.valid;
-  well_formed = k.well_formed;
+  sound = k.sound;
   lies = k.lies;
   list = k.list;
   holds = k.holds;

@@ -4,7 +4,6 @@ use Rattle.std.specs.Prelude.{◌⊎◌, if◌then◌else◌, nat_lt, take}
 use Rattle.std.specs.List.{filter}
 use Rattle.std.proofs.lemmas.List.{append_assoc}
 use Rattle.spec_image.specs.Image.{Image}
-use Rattle.spec_format.specs.BlockFiles.{IsWellFormed}
 use Rattle.blk_model.specs.EvictionLaws.{EvictsFirst}
 use Rattle.blk_model.specs.Items.{Item, Row, main, part}
 use Rattle.blk_model.specs.State.{State}
@@ -16,7 +15,7 @@ use Rattle.blk_model.proofs.EvictedFirst.{evictions-stop}
 use Rattle.blk_model.proofs.StopRests.{rest_before}
 use Rattle.spec_folder.specs.Audit.{kept_among, kept_by}
 use Rattle.spec_folder.specs.Completion.{remove}
-use Rattle.spec_folder.specs.Found.{completed, found, row_of_loaded}
+use Rattle.spec_folder.specs.Found.{completed, held, row_of_loaded}
 use Rattle.spec_folder.specs.Layout.{HoldsExcept, Represents, nodes_of}
 use Rattle.spec_folder.specs.ListPlans.{writes_of}
 use Rattle.spec_folder.specs.ListSteps.{IsPartly}
@@ -38,7 +37,7 @@ use Rattle.law_state.proofs.CommandEnding.{closes-left, dooms-left, flushes-left
 use Rattle.law_state.proofs.GroupsGone.{whole-groups-go}
 use Rattle.law_state.proofs.NotAtRest.{own-uses}
 use Rattle.law_state.proofs.Orders.{left-stops, room-left, uses-go-on, uses-left}
-use Rattle.law_state.proofs.Touching.{found-kept, touches-find}
+use Rattle.law_state.proofs.Touching.{held-kept, touches-find}
 use Rattle.law_state.proofs.Unsettling.{unsettled-left}
 
 -- one of two is found, and either may be left
@@ -88,9 +87,9 @@ cleaning-stops state moment handle number object image valid can is finds =
 -- ---- removals
 
 -- in the midst of writes into the list the image shows them so far
-pub found-partly : (from image : Image) (writes : List ListWrite) → IsWellFormed from → (partly : IsPartly from writes image)
-    → found image ≡ map row_of_loaded (kept_by held_rule (completed (record { list = after_writes (take partly.made writes) (list_of from); store = store_of image })))
-found-partly from image writes well partly = found-kept image (partly.well_formed well) ∙ ap (λ (v : View). map row_of_loaded (kept_by held_rule (completed v))) (shows partly.shown.list) where
+pub held-partly : (from image : Image) (writes : List ListWrite) (partly : IsPartly from writes image)
+    → held image ≡ map row_of_loaded (kept_by held_rule (completed (record { list = after_writes (take partly.made writes) (list_of from); store = store_of image })))
+held-partly from image writes partly = held-kept image ∙ ap (λ (v : View). map row_of_loaded (kept_by held_rule (completed v))) (shows partly.shown.list) where
   shows : list_of image ≡ after_writes (take partly.made writes) (list_of from) → ◌≡◌ {A = View} (view_of image) (record { list = after_writes (take partly.made writes) (list_of from); store = store_of image })
   shows e = λ i. let v : View = record { list = e i; store = store_of image } in v
 
@@ -99,14 +98,14 @@ dooms-find state layout unlinked from image number object k here live removed =
     let node = layout.place (main object.key) in
     let shown : View = record (view_of from) { store = store_of image } in
     let represents : Represents shown state layout = same-represents (view_of from) state layout k.represents (store_of image) removed.shown.store in (
-      removed.well_formed k.well_formed,
-      found-partly from image (writes_of remove node (list_of from)) k.well_formed removed ∙ dooms-moments shown state layout represents k.valid number object here live removed.made,
+      removed.headers.sound k.sound,
+      held-partly from image (writes_of remove node (list_of from)) removed ∙ dooms-moments shown state layout represents k.valid number object here live removed.made,
     )
 
 pub out-doomed : OutIsDoomed
 out-doomed state layout number object keep image valid here out = (
-  out.well_formed,
-  found-kept image out.well_formed
+  out.sound,
+  held-kept image
       ∙ ap (λ (nodes : List ℕ). map row_of_loaded (kept_among (store_of image) held_rule nodes)) (walk-idle (list_of image) out.list.idle ∙ walk_list (list_of image) (nodes_of layout (filter keep state.uses)) out.list.whole)
       ∙ dooms-keep out.except (store_of image) state layout out.holds valid number object here keep out.out out.others out.list.whole.distinct out.there,
 )
@@ -115,8 +114,8 @@ pub doomed-parts-find : DoomedPartsFindTheSame
 doomed-parts-find state layout number object keep n from image valid here out listed stays removed =
     let shown : View = record (view_of from) { store = store_of image } in
     let holds : HoldsExcept out.except (store_of image) state layout = others-outside (λ claim. false) out.except (store_of from) (store_of image) state layout out.holds removed.shown.store.store removed.shown.store.table (λ claim node own excepted. refl) (λ bucket contents below among claim has. refl) in (
-      removed.well_formed out.well_formed,
-      found-partly from image (writes_of remove (layout.place (part object.key n)) (list_of from)) out.well_formed removed
+      removed.headers.sound out.sound,
+      held-partly from image (writes_of remove (layout.place (part object.key n)) (list_of from)) removed
           ∙ doomed-parts out.except shown state layout holds valid number object here keep out.out out.others out.there out.list n listed stays removed.made,
     )
 

@@ -116,7 +116,7 @@ outside = outside_wider (touched_by_writes removal_writes) (touch_range removal_
 
 between-leaves : LeavesFiles made_folder between
 between-leaves = leaves-files (touch_range removal_writes (nodes 2)) made_folder between (touch_spares removal_writes (nodes 2)) (touch_sizes removal_writes (nodes 2)) outside
-    (record { crash = counter-same removal_writes (nodes 2) made_folder between outside 32 (omega arith); id = counter-same removal_writes (nodes 2) made_folder between outside 20 (omega arith) }) b-unlisted.partly.well_formed
+    (record { crash = counter-same removal_writes (nodes 2) made_folder between outside 32 (omega arith); id = counter-same removal_writes (nodes 2) made_folder between outside 20 (omega arith) }) b-unlisted.partly.headers
 
 -- ---- its record goes out of its chain, from its place after the other
 

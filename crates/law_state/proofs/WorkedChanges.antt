@@ -26,6 +26,7 @@ use Rattle.spec_format.specs.Hash.{hash, mixed, of_bytes, of_four, of_one}
 use Rattle.spec_format.specs.Records.{entry_body, entry_checks, entry_in, entry_is_sealed, node_in, node_is_sealed}
 use Rattle.spec_format.specs.Sealed.{record_at, record_range}
 use Rattle.spec_format.specs.Storage.{entry_blocks, is_storage}
+use Rattle.spec_format.proofs.Finished.{headers-kept}
 use Rattle.spec_folder.specs.Entries.{IsPlain, is_key_length, role_of, stored_key, stored_stream, stored_streams}
 use Rattle.spec_folder.specs.Footprint.{IsInsideNode, IsReplaced, OnlyLinksChange}
 use Rattle.spec_folder.specs.Layout.{is_listed, rule_of}
@@ -370,7 +371,7 @@ link_changes : OnlyLinksChange (records 2) (store_of open_folder) (store_of link
 link_changes = next-links open_folder linked_folder (records 2) link-shown.0
 
 left : LeavesFiles open_folder open_folder
-left = record { headers = record { headers = λ n i small. refl; lengths = λ n. refl; files = λ file. refl }; session = record { crash = refl; id = refl }; well_formed = λ well. well }
+left = record { headers = record { headers = λ n i small. refl; lengths = λ n. refl; files = λ file. refl }; session = record { crash = refl; id = refl }; well_formed = headers-kept open_folder }
 
 -- and all is sealed
 link_leaves : (node : ℕ) (loaded : Loaded) → unsettled_layout.at node ≡ Some loaded → AreSealed linked_folder loaded

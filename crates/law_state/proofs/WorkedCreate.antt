@@ -20,7 +20,7 @@ use Rattle.spec_format.specs.Claims.{BlockOf, Claim, claims_of, claims_of_all, h
 use Rattle.spec_format.specs.Hash.{hash}
 use Rattle.spec_format.specs.Headers.{header_length, place_of_bucket}
 use Rattle.spec_format.specs.Records.{entry_in}
-use Rattle.spec_format.proofs.Finished.{whole_index}
+use Rattle.spec_format.proofs.Finished.{sound-whole}
 use Rattle.spec_folder.specs.Chains.{bucket_of_hash, file_and_block, bucket_at}
 use Rattle.spec_folder.specs.Completion.{insert}
 use Rattle.spec_folder.specs.Creation.{with_new}
@@ -243,7 +243,7 @@ abbrev linked_folder : Image
 linked_folder = with_index_word (place_of_bucket 0xA0E1) (records 3) listed_folder
 
 listed-long : length_of listed_folder Index ≡ 262512
-listed-long = whole_index listed_folder (inserted.partly.well_formed entry-kept.well_formed)
+listed-long = sound-whole listed_folder (inserted.partly.headers.sound entry-kept.sound)
 
 listed-writable : IsWritable listed_folder
 listed-writable = until_last IsWritable IsWritable (operation_steps insert (nodes 3) entry_folder) entry_folder (writes-go_on entry_folder (writes_of insert (nodes 3) (list_of entry_folder)) entry-writable)
@@ -261,7 +261,7 @@ linked : HasRecordInFront listed_folder (records 3) linked_folder
 linked = record {
   list = (buckets-written listed_folder linked_folder 0xA0E1 (records 3) link-word).0;
   store = (buckets-written listed_folder linked_folder 0xA0E1 (records 3) link-word).1 ∙ ap (λ (b : ℕ). record (store_of listed_folder) { table = put (store_of listed_folder).table b (records 3) }) (sym bucket-is);
-  well_formed = buckets-unchecked listed_folder linked_folder 0xA0E1 link-word.outside;
+  headers = buckets-unchecked listed_folder linked_folder 0xA0E1 link-word.outside;
   outside = subst (λ (b : ℕ). SameOutside (one_word Index (place_of_bucket b)) listed_folder linked_folder) (sym bucket-is) link-word.outside;
 }
 

@@ -78,7 +78,7 @@ unfolding external_number
 gone = refl
 
 file_is_deleted : RemovesExternal without_b first_file deleted_folder
-file_is_deleted = deleted-removed without_b deleted_folder first_file file_in_front.well_formed is-external.0 file_in_front.stand.0 deleting gone
+file_is_deleted = deleted-removed without_b deleted_folder first_file file_in_front.sound is-external.0 file_in_front.stand.0 deleting gone
 
 b_stays_out : KeepsPartlyOut worked worked_layout but_b chains_left (words_of the_plain) deleted_folder
 b_stays_out = files-deleted worked worked_layout but_b chains_left first_file (words_of the_plain) without_b deleted_folder file_in_front file_is_deleted

@@ -12,7 +12,7 @@ use Rattle.blk_model.specs.State.{State}
 use Rattle.blk_model.specs.Step.{step}
 use Rattle.blk_model.proofs.Computing.{computing}
 use Rattle.blk_model.proofs.StopRows.{codes_are_bytes}
-use Rattle.spec_format.proofs.Finished.{whole_index}
+use Rattle.spec_format.proofs.Finished.{sound-whole}
 use Rattle.spec_folder.specs.Layout.{IsChange, Layout}
 use Rattle.spec_folder.specs.ListImages.{steps_of_touch}
 use Rattle.spec_folder.specs.Sound.{words_of}
@@ -57,7 +57,7 @@ module _ (state : State) (layout : Layout) (from : Image) where
 
   pub counted : (before : State) (was : Layout) (unlinked : List ℕ) → KeepsUncounted state layout unlinked from → CountsItems from before was → length state.uses < 2 ^ 32 → Keeps state layout unlinked counted_folder
   counted before was unlinked k counts few =
-      counters-count state before layout was unlinked from counted_folder k counts (counters-are (length state.uses) (charged state layout) from (whole_index from k.well_formed) few (charges-small state layout unlinked from k))
+      counters-count state before layout was unlinked from counted_folder k counts (counters-are (length state.uses) (charged state layout) from (sound-whole from k.sound) few (charges-small state layout unlinked from k))
 
 -- ---- Doom
 

@@ -52,7 +52,7 @@ making_finds : StillFinds [] worked_folder made_folder
 making_finds = making-finds worked_folder made_folder (external_number first_file) making
 
 made : AddsExternal worked_folder first_file made_folder
-made = made-added worked_folder made_folder first_file worked-keeps.entries.well_formed is-external.0 making its-file.0 its-file.1
+made = made-added worked_folder made_folder first_file worked-keeps.entries.sound is-external.0 making its-file.0 its-file.1
 
 -- it is unlinked
 pub file_is_unlinked : KeepsUncounted worked worked_layout (first_file ∷ []) made_folder
@@ -74,7 +74,7 @@ unfolding external_number
 gone = refl
 
 file_is_gone : KeepsUncounted worked worked_layout [] deleted_folder
-file_is_gone = deleted-gone first_file made_folder deleted_folder (deleted-removed made_folder deleted_folder first_file file_is_unlinked.well_formed is-external.0 its-file.1 deleting gone) worked worked_layout [] file_is_unlinked
+file_is_gone = deleted-gone first_file made_folder deleted_folder (deleted-removed made_folder deleted_folder first_file file_is_unlinked.sound is-external.0 its-file.1 deleting gone) worked worked_layout [] file_is_unlinked
 
 -- its making writes a word of the index that is not kept, and its bytes may change
 index_changes : ChangesOnly (λ claim. false) with_empty made_folder

@@ -11,7 +11,7 @@ use Rattle.spec_image.proofs.Words.{length-with_words, word-there, word-zeros}
 use Rattle.spec_format.specs.Address.{block_count, block_place, block_size, byte_size, external, external_number, file_selector, first_block, is_address, is_initialized, kind_of, names_blocks, names_external, place, reserved_bits}
 use Rattle.spec_format.specs.BlockFiles.{IsWellFormed, checks_along, checks_of_kind, file_checks, files_along, is_block_count, is_link, kind_among, linked, linked_up_to, max_entries_in, next_file_in, stands_in}
 use Rattle.spec_format.specs.Hash.{hash, mixed, of_bytes, of_four, of_one, of_three, of_two}
-use Rattle.spec_format.specs.Headers.{bucket_of, head_checks, index_length, list_checks, place_of_bucket}
+use Rattle.spec_format.specs.Headers.{bucket_of, head_checks, index_length, list_checks, place_of_bucket, field_checks}
 use Rattle.spec_format.specs.Names.{child_name, read_name, split_last}
 use Rattle.spec_format.specs.NewFolder.{new_file_words, new_index_words}
 use Rattle.spec_format.specs.Records.{entry_body, entry_checks, entry_in, entry_is_sealed, node_body, node_checks, node_in, node_is_sealed}
@@ -72,7 +72,7 @@ short_folder _ = None
 
 -- no check fails
 pub short-well_formed : IsWellFormed short_folder
-unfolding short_folder head_checks list_checks checks_of_kind checks_along file_checks next_file_in is_link is_block_count linked_up_to linked files_along zeros with_word spliced block_size
+unfolding short_folder field_checks head_checks list_checks checks_of_kind checks_along file_checks next_file_in is_link is_block_count linked_up_to linked files_along zeros with_word spliced block_size
 short-well_formed = refl
 
 -- ---- what it represents

@@ -15,10 +15,10 @@ use Rattle.spec_image.proofs.Images.{length-after_write, same_file-true, word-af
 use Rattle.spec_image.proofs.Runs.{until_last}
 use Rattle.spec_image.proofs.Words.{same-word_at}
 use Rattle.spec_format.specs.Address.{file_selector, kind_of}
-use Rattle.spec_format.specs.BlockFiles.{IsWellFormed, block_checks, is_among, is_block_count, linked_as, max_entries_in, next_file_in, stands_in}
+use Rattle.spec_format.specs.BlockFiles.{block_checks, is_among, is_block_count, linked_as, max_entries_in, next_file_in, stands_in, HasSoundHeaders, KeepsHeaders}
 use Rattle.spec_format.specs.Claims.{BlockOf, is_in_file, repeats}
 use Rattle.spec_format.specs.Growth.{StaysWhole}
-use Rattle.spec_format.specs.Headers.{allocations_of, empty_of, head_checks, is_extent_place, list_checks, updating_of}
+use Rattle.spec_format.specs.Headers.{allocations_of, empty_of, is_extent_place, list_checks, updating_of, field_checks}
 use Rattle.spec_format.specs.Maps.{AreAllocations, EmptyAgrees, are_free, groups_of, groups_with, has_run, is_block_marked, is_block_marked_at, longest_run, KeepsFile}
 use Rattle.spec_format.specs.Standing.{stands}
 use Rattle.spec_format.proofs.Groups.{groups_same}
@@ -137,12 +137,12 @@ module _ (from : Image) where
   head-word : (m i : ℕ) → i + 4 ≤ 16 → word freed_folder (Block m) i ≡ word from (Block m) i
   head-word m i low = same_word_outside touched from freed_folder (Block m) i same (λ k from below. early m k (omega arith))
 
-  pub still-formed : IsWellFormed from → IsWellFormed freed_folder
-  unfolding head_checks list_checks
-  still-formed well =
-      let p = none_parts (head_checks (byte from Index) (length_of from Index)) (list_checks (byte from Index) ++ block_checks from) well in
+  still-headers-sound : HasSoundHeaders from → HasSoundHeaders freed_folder
+  unfolding field_checks list_checks
+  still-headers-sound well =
+      let p = none_parts (field_checks (byte from Index) (length_of from Index)) (list_checks (byte from Index) ++ block_checks from) well in
       let q = none_parts (list_checks (byte from Index)) (block_checks from) p.1 in
-      none_both (head_checks (byte from Index) (length_of from Index)) (list_checks (byte from Index) ++ block_checks freed_folder) p.0
+      none_both (field_checks (byte from Index) (length_of from Index)) (list_checks (byte from Index) ++ block_checks freed_folder) p.0
       (none_both (list_checks (byte from Index)) (block_checks freed_folder) q.0
       (undamaged_still from freed_folder next-same (λ m. record {
         longer = let l = same.lengths (Block m) refl in omega (arith, l);
@@ -153,11 +153,14 @@ module _ (from : Image) where
         count = λ right. subst (λ (n : ℕ). is_block_count n ≡ true) (sym (blocks-same m)) right;
       }) q.1))
 
+  pub still-headers : KeepsHeaders from freed_folder
+  still-headers = record { sound = still-headers-sound; magic = refl }
+
   stays-whole : StaysWhole from freed_folder
   stays-whole = record {
     grown = headers-change touched from freed_folder
         (record { index = λ i shown. refl; extents = extents; suffix = λ n i late. clear n i (grind (arith, nat_tests)); externals = λ n i. refl; external_sizes = λ n. refl }) same (λ n. let l = same.lengths (Block n) refl in omega (arith, l));
-    formed = still-formed;
+    headers = still-headers;
   }
 
 -- the file has no other allocation
@@ -266,7 +269,7 @@ module _ (from : Image) (header : (i : ℕ) → i < 8192 → byte from (Block 3)
 -- ---- and seen the other way it is allocated, where the word is among those that are in use
 
 module _ (from : Image) (header : (i : ℕ) → i < 8192 → byte from (Block 3) i ≡ byte worked_folder (Block 3) i) (size : length_of from (Block 3) ≡ 4202496)
-    (words rest : List ℕ) (first_word : filter (is_in_file 3) words ≡ index_word ∷ rest) (mapped : IsMapped from words 3) (linked_3 : linked_as from 3 ≡ Some 4) (long_enough : AreLongEnough from) (well : IsWellFormed from) where
+    (words rest : List ℕ) (first_word : filter (is_in_file 3) words ≡ index_word ∷ rest) (mapped : IsMapped from words 3) (linked_3 : linked_as from 3 ≡ Some 4) (long_enough : AreLongEnough from) (well : HasSoundHeaders from) where
   abbrev bare : Image
   bare = freed_folder from
 
@@ -318,7 +321,7 @@ module _ (from : Image) (header : (i : ℕ) → i < 8192 → byte from (Block 3)
     elsewhere = λ n other linked. back-file n other;
     stays = record {
       grown = headers-change touched bare from (record { index = λ i shown. refl; extents = extents; suffix = λ n i late. clear n i (grind (arith, nat_tests)); externals = λ n i. refl; external_sizes = λ n. refl }) back (λ n. let l = (same from).lengths (Block n) refl in omega (arith, l));
-      formed = λ still. well;
+      headers = record { sound = λ still. well; magic = refl };
     };
   }
 
@@ -343,7 +346,7 @@ unfolding is_in_file kind_of file_selector
 one-word = refl
 
 index_is_allocated : AreAllocated bare_folder index_word worked_folder
-index_is_allocated = are-allocated worked_folder (λ i small. refl) worked-lengths.3 (words_in_use [] (all_loaded worked worked_layout (2 ∷ []))) [] one-word (worked-files.mapped 3 (ap is_some linked-3)) linked-3 worked-keeps.entries.files.long_enough worked-keeps.entries.well_formed
+index_is_allocated = are-allocated worked_folder (λ i small. refl) worked-lengths.3 (words_in_use [] (all_loaded worked worked_layout (2 ∷ []))) [] one-word (worked-files.mapped 3 (ap is_some linked-3)) linked-3 worked-keeps.entries.files.long_enough worked-keeps.entries.sound
 
 index_is_added : AddsAllocation bare_folder index_word worked_folder
-index_is_added = allocated-added bare_folder worked_folder index_word (still-formed worked_folder worked-keeps.entries.well_formed) index_is_allocated
+index_is_added = allocated-added bare_folder worked_folder index_word ((still-headers worked_folder).sound worked-keeps.entries.sound) index_is_allocated

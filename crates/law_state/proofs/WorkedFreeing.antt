@@ -9,9 +9,9 @@ use Rattle.spec_image.specs.Steps.{Word, applied}
 use Rattle.spec_image.proofs.Footprints.{outside_write, same_word_outside}
 use Rattle.blk_model.specs.Effects.{doomed}
 use Rattle.blk_model.specs.Holding.{rest}
-use Rattle.spec_format.specs.BlockFiles.{IsWellFormed, block_checks, is_block_count, max_entries_in, next_file_in}
+use Rattle.spec_format.specs.BlockFiles.{block_checks, is_block_count, max_entries_in, next_file_in, HasSoundHeaders, KeepsHeaders}
 use Rattle.spec_format.specs.Growth.{HaveGrown}
-use Rattle.spec_format.specs.Headers.{head_checks, list_checks}
+use Rattle.spec_format.specs.Headers.{list_checks, field_checks}
 use Rattle.spec_format.proofs.Keeping.{none_both, none_parts, undamaged_still}
 use Rattle.law_folder.proofs.claims.Files.{headers-change}
 use Rattle.spec_folder.specs.Sound.{words_of}
@@ -63,12 +63,12 @@ module _ (from : Image) where
   unfolding max_entries_in
   counts-same m = head-word m 20 (lit≤ tt)
 
-  pub begun-formed : IsWellFormed from → IsWellFormed begun
-  unfolding head_checks list_checks
-  begun-formed well =
-      let p = none_parts (head_checks (byte from Index) (length_of from Index)) (list_checks (byte from Index) ++ block_checks from) well in
+  begun-headers-sound : HasSoundHeaders from → HasSoundHeaders begun
+  unfolding field_checks list_checks
+  begun-headers-sound well =
+      let p = none_parts (field_checks (byte from Index) (length_of from Index)) (list_checks (byte from Index) ++ block_checks from) well in
       let q = none_parts (list_checks (byte from Index)) (block_checks from) p.1 in
-      none_both (head_checks (byte from Index) (length_of from Index)) (list_checks (byte from Index) ++ block_checks begun) p.0
+      none_both (field_checks (byte from Index) (length_of from Index)) (list_checks (byte from Index) ++ block_checks begun) p.0
       (none_both (list_checks (byte from Index)) (block_checks begun) q.0
       (undamaged_still from begun next-same (λ m. record {
         longer = let l = lengths m in omega (arith, l);
@@ -79,9 +79,12 @@ module _ (from : Image) where
         count = λ right. subst (λ (n : ℕ). is_block_count n ≡ true) (sym (counts-same m)) right;
       }) q.1))
 
+  pub begun-headers : KeepsHeaders from begun
+  begun-headers = record { sound = begun-headers-sound; magic = refl }
+
 freeing_finds : Finds (rest (doomed 0 both (Some plain_object))) (begun without_b)
-freeing_finds = freeing-finds both worked_layout 0 plain_object but_b (chains_but chain_of (records 2)) (words_of the_plain ++ []) without_b (begun without_b) refl (own-items-leave (codes "b")).0 b_is_out (begun-grown without_b) (begun-formed without_b)
+freeing_finds = freeing-finds both worked_layout 0 plain_object but_b (chains_but chain_of (records 2)) (words_of the_plain ++ []) without_b (begun without_b) refl (own-items-leave (codes "b")).0 b_is_out (begun-grown without_b) (begun-headers without_b)
 
 -- and before it is out, the durable contents
 growth_finds : StillFinds [] worked_folder (begun worked_folder)
-growth_finds = growth-finds [] worked_folder (begun worked_folder) (begun-grown worked_folder) (begun-formed worked_folder)
+growth_finds = growth-finds [] worked_folder (begun worked_folder) (begun-grown worked_folder) (begun-headers worked_folder)

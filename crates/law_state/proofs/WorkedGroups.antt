@@ -18,7 +18,7 @@ use Rattle.law_state.specs.Keeping.{KeepsUncounted}
 use Rattle.law_state.specs.PartlyOut.{IsOneMoreOut, KeepsPartlyOut, chains_but}
 use Rattle.law_state.specs.RemovalLaws.{layout_removed}
 use Rattle.law_state.proofs.GoingOut.{IsAloneIn, goes-out, unchained, unlisted}
-use Rattle.law_state.proofs.Keeping.{kept-found}
+use Rattle.law_state.proofs.Keeping.{kept-held}
 use Rattle.law_state.proofs.OneMoreOut.{one-more-goes}
 use Rattle.law_state.proofs.PartlyOut.{kept-begin}
 use Rattle.law_state.proofs.PartlyOutStops.{own-items-leave, partly-out-groups-stop}
@@ -55,7 +55,7 @@ left-keeps = subst (λ (m : State). KeepsUncounted m left_layout (words_of the_p
 -- the Trim may crash there
 once_evicted : MayStop worked 100 (to_trim 0) without_b
 once_evicted = stop-evicted worked 100 (to_trim 0) first others without_b worked-keeps.entries.valid evicts_both
-    (subst (λ (m : State). Finds (rest m) without_b) (sym left-is) (left-keeps.well_formed, kept-found left left_layout (words_of the_plain ++ []) without_b left-keeps))
+    (subst (λ (m : State). Finds (rest m) without_b) (sym left-is) (left-keeps.sound, kept-held left left_layout (words_of the_plain ++ []) without_b left-keeps))
 
 -- ---- then the main item of `a`
 

@@ -12,14 +12,15 @@ use Rattle.spec_image.proofs.Footprints.{outside-refl, outside_longer}
 use Rattle.spec_image.proofs.Images.{length-after_set_len, same_file-true}
 use Rattle.blk_model.specs.State.{Object, object_at}
 use Rattle.spec_format.specs.Address.{block_place, block_size, file_selector, first_block, kind_of, place}
-use Rattle.spec_format.specs.BlockFiles.{IsWellFormed, block_checks, is_among, linked_as, max_entries_in, next_file_in}
+use Rattle.spec_format.specs.BlockFiles.{block_checks, is_among, linked_as, max_entries_in, next_file_in, HasSoundHeaders, KeepsHeaders}
 use Rattle.spec_format.specs.Claims.{BlockOf, Claim, ExternalOf, has_claim, is_in_file}
 use Rattle.spec_format.specs.Hash.{hash, mixed, of_bytes, of_four}
-use Rattle.spec_format.specs.Headers.{allocations_of, count_of, counting, crash_of, empty_of, head_checks, list_checks, max_entries_of, next_file_of, this_id_of, updating_of}
+use Rattle.spec_format.specs.Headers.{allocations_of, count_of, counting, crash_of, empty_of, list_checks, max_entries_of, next_file_of, this_id_of, updating_of, field_checks}
 use Rattle.spec_format.specs.Maps.{EmptyAgrees, groups_of, groups_with, is_block_marked, is_block_marked_at}
 use Rattle.spec_format.specs.Records.{entry_body, entry_in, entry_is_sealed, node_body, node_in, node_is_sealed}
 use Rattle.spec_format.proofs.Keeping.{none_both, none_parts, undamaged_still}
 use Rattle.spec_format.proofs.SpareHeaders.{SparesHeaders, heads_still, next_same}
+use Rattle.spec_format.proofs.Finished.{sound-of}
 use Rattle.spec_folder.specs.Found.{charge_of}
 use Rattle.spec_folder.specs.Layout.{Represents, order}
 use Rattle.spec_folder.specs.Loads.{Loaded}
@@ -58,14 +59,17 @@ module _ (image : Image) (m length : ℕ) (longer : length_of image (Block m) �
   spares : SparesHeaders (size_of (Block m))
   spares = record { bytes = λ n i small. refl }
 
-  pub longer-formed : IsWellFormed image → IsWellFormed lengthened
-  unfolding head_checks list_checks
-  longer-formed well =
-      let p = none_parts (head_checks (byte image Index) (length_of image Index)) (list_checks (byte image Index) ++ block_checks image) well in
+  longer-headers-sound : HasSoundHeaders image → HasSoundHeaders lengthened
+  unfolding field_checks list_checks
+  longer-headers-sound well =
+      let p = none_parts (field_checks (byte image Index) (length_of image Index)) (list_checks (byte image Index) ++ block_checks image) well in
       let q = none_parts (list_checks (byte image Index)) (block_checks image) p.1 in
-      none_both (head_checks (byte image Index) (length_of image Index)) (list_checks (byte image Index) ++ block_checks lengthened) p.0
+      none_both (field_checks (byte image Index) (length_of image Index)) (list_checks (byte image Index) ++ block_checks lengthened) p.0
       (none_both (list_checks (byte image Index)) (block_checks lengthened) q.0
       (undamaged_still image lengthened (next_same (size_of (Block m)) image lengthened spares longer-same) (heads_still (size_of (Block m)) image lengthened spares longer-same rises) q.1))
+
+  pub longer-headers : KeepsHeaders image lengthened
+  longer-headers = record { sound = longer-headers-sound; magic = refl }
 
 -- ---- the folder
 
@@ -111,9 +115,11 @@ worked-lengths = (
   length-after_set_len long_records (Block 3) 4202496,
 )
 
-worked-formed : IsWellFormed worked_folder
+worked-sound : HasSoundHeaders worked_folder
 unfolding worked_folder
-worked-formed = longer-formed long_records 3 4202496 third-longer (longer-formed long_nodes 1 270336 second-longer (longer-formed short_folder 0 45056 first-longer short-well_formed))
+worked-sound =
+    (longer-headers long_records 3 4202496 third-longer).sound
+    ((longer-headers long_nodes 1 270336 second-longer).sound ((longer-headers short_folder 0 45056 first-longer).sound (sound-of short_folder short-well_formed)))
 
 -- ---- owners
 
@@ -326,5 +332,5 @@ worked-session = record {
 
 -- the folder keeps the state
 pub worked-keeps : Keeps worked worked_layout [] worked_folder
-worked-keeps = opened-kept worked_folder worked_folder worked_folder worked worked_layout (2 ∷ []) worked-valid worked-formed worked-represents worked-owned worked-tidy
+worked-keeps = opened-kept worked_folder worked_folder worked_folder worked worked_layout (2 ∷ []) worked-valid worked-sound worked-represents worked-owned worked-tidy
     (outside-refl _ worked_folder) (outside-refl _ worked_folder) worked-session

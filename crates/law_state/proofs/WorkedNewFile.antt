@@ -14,9 +14,10 @@ use Rattle.spec_format.specs.Address.{block_count, block_place, block_size, byte
 use Rattle.spec_format.specs.BlockFiles.{IsWellFormed, checks_along, checks_of_kind, file_checks, files_along, is_block_count, is_link, kind_among, linked, linked_as, linked_up_to, max_entries_in, next_file_in, stands_in}
 use Rattle.spec_format.specs.Claims.{BlockOf, Claim, claims_of, claims_of_all, has_claim, is_in_file, repeats}
 use Rattle.spec_format.specs.Growth.{HaveGrown}
-use Rattle.spec_format.specs.Headers.{allocations_of, head_checks, list_checks, updating_of}
+use Rattle.spec_format.specs.Headers.{allocations_of, head_checks, list_checks, updating_of, field_checks}
 use Rattle.spec_format.specs.Maps.{AreAllocations, EmptyAgrees, KeepsFile, groups_of, groups_with, is_block_marked}
 use Rattle.spec_format.specs.Standing.{stands, stands_as_blocks}
+use Rattle.spec_format.proofs.Finished.{sound-of, magic-of}
 use Rattle.law_folder.proofs.claims.ByteChanges.{stands-same}
 use Rattle.law_folder.proofs.claims.ClaimLists.{claim-append}
 use Rattle.law_folder.proofs.claims.Files.{growth-absent, words-there}
@@ -87,7 +88,7 @@ other-word n i apart late = same-word_at (byte added_folder (Block n)) (byte who
 -- ---- the links
 
 added-formed : IsWellFormed added_folder
-unfolding added_folder whole_folder head_checks list_checks checks_of_kind checks_along file_checks next_file_in is_link is_block_count linked_up_to linked files_along zeros with_word spliced block_size
+unfolding added_folder whole_folder field_checks head_checks list_checks checks_of_kind checks_along file_checks next_file_in is_link is_block_count linked_up_to linked files_along zeros with_word spliced block_size
 added-formed = refl
 
 links : (linked added_folder 1 ≡ 0 ∷ 4 ∷ []) × (linked added_folder 2 ≡ 1 ∷ []) × (linked added_folder 3 ≡ 2 ∷ []) × (linked added_folder 4 ≡ 3 ∷ [])
@@ -256,9 +257,9 @@ node_is_allocated = record {
   stands = new-stands;
   long_enough = new-long;
   elsewhere = λ n other linked. other-file n other;
-  stays = record { grown = grown; formed = λ well. added-formed };
+  stays = record { grown = grown; headers = record { sound = λ sound. sound-of added_folder added-formed; magic = magic-of added_folder added-formed ∙ sym (magic-of whole_folder whole-is_well_formed) } };
 }
 
 -- so the allocation is added
 node_is_added : AddsAllocation whole_folder new_word added_folder
-node_is_added = allocated-added whole_folder added_folder new_word whole-is_well_formed node_is_allocated
+node_is_added = allocated-added whole_folder added_folder new_word (sound-of whole_folder whole-is_well_formed) node_is_allocated

@@ -74,9 +74,9 @@ abbrev words_used : List ℕ
 words_used = (nodes 1 ∷ records 1 ∷ 0xA0010006 ∷ 0xA0010007 ∷ nodes 0 ∷ records 0 ∷ []) ++ flat_map words_of (all_loaded left left_layout out_in_front.numbers)
 
 index_is_added : AddsAllocation freed_of_a index_word without_a
-index_is_added = allocated-added freed_of_a without_a index_word index_is_gone.well_formed
+index_is_added = allocated-added freed_of_a without_a index_word index_is_gone.sound
     (are-allocated without_a (a_is_whole_out.leaves.headers.headers 3) (a_is_whole_out.leaves.headers.lengths 3 ∙ worked-lengths.3) (index_word ∷ words_used) (filter (is_in_file 3) words_used) (first-word words_used)
-    (out_in_front.files.mapped 3 (ap is_some out-linked)) out-linked out_in_front.files.long_enough out_in_front.well_formed)
+    (out_in_front.files.mapped 3 (ap is_some out-linked)) out-linked out_in_front.files.long_enough out_in_front.sound)
 
 index_is_unlinked : KeepsUncounted left left_layout (index_word ∷ nodes 1 ∷ records 1 ∷ 0xA0010006 ∷ 0xA0010007 ∷ nodes 0 ∷ records 0 ∷ []) without_a
 index_is_unlinked = allocated-unlinked index_word freed_of_a without_a index_is_added left left_layout (nodes 1 ∷ records 1 ∷ 0xA0010006 ∷ 0xA0010007 ∷ nodes 0 ∷ records 0 ∷ []) index_is_gone

@@ -11,13 +11,13 @@ use Rattle.blk_model.specs.Room.{single, without}
 use Rattle.blk_model.specs.State.{Object, State}
 use Rattle.blk_model.proofs.Computing.{computing}
 use Rattle.spec_format.specs.Address.{block_count, blocks_256, external_number, file_selector, first_block, kind_of, place, rankings}
-use Rattle.spec_format.specs.BlockFiles.{IsWellFormed, is_among}
+use Rattle.spec_format.specs.BlockFiles.{is_among, KeepsHeaders}
 use Rattle.spec_format.specs.Claims.{Claim, claims_of, has_claim, repeats}
 use Rattle.spec_format.specs.Hash.{hash, mixed, of_bytes, of_four}
 use Rattle.spec_format.specs.Headers.{place_of_bucket}
 use Rattle.spec_format.specs.Records.{entry_in, entry_is_sealed, node_checks}
 use Rattle.spec_format.specs.Sealed.{record_range}
-use Rattle.spec_format.proofs.Finished.{whole_index}
+use Rattle.spec_format.proofs.Finished.{sound-whole}
 use Rattle.spec_folder.specs.Chains.{bucket_of_hash, file_and_block}
 use Rattle.spec_folder.specs.Completion.{insert, remove}
 use Rattle.spec_folder.specs.Creation.{linked_front, with_first}
@@ -261,7 +261,7 @@ abbrev linked_folder : Image
 linked_folder = with_index_word (place_of_bucket 0xB6C) (records 1) listed_folder
 
 link-word : IsIndexWord (place_of_bucket 0xB6C) (records 1) listed_folder linked_folder
-link-word = index-word-is listed_folder (place_of_bucket 0xB6C) (records 1) (whole_index listed_folder (inserted.partly.well_formed bare-keeps.well_formed)) (lit≤ tt) (lit< tt)
+link-word = index-word-is listed_folder (place_of_bucket 0xB6C) (records 1) (sound-whole listed_folder (inserted.partly.headers.sound bare-keeps.sound)) (lit≤ tt) (lit< tt)
 
 link-store : store_of linked_folder ≡ record (store_of listed_folder) { table = put (store_of listed_folder).table 0xB6C (records 1) }
 link-store = (buckets-written listed_folder linked_folder 0xB6C (records 1) link-word).1
@@ -285,11 +285,11 @@ list-now : HasListAtRest (nodes 1 ∷ nodes 0 ∷ nodes 2 ∷ []) linked_folder
 list-now = subst (λ (l : ListView). IsAtRest l (nodes 1 ∷ nodes 0 ∷ nodes 2 ∷ [])) (sym (buckets-written listed_folder linked_folder 0xB6C (records 1) link-word).0)
     (subst (λ (ns : List ℕ). HasListAtRest (nodes 1 ∷ ns) listed_folder) walks (inserted.inserted can-be-inserted))
 
-well-linked : IsWellFormed listed_folder → IsWellFormed linked_folder
-well-linked = buckets-unchecked listed_folder linked_folder 0xB6C link-word.outside
+headers-linked : KeepsHeaders listed_folder linked_folder
+headers-linked = buckets-unchecked listed_folder linked_folder 0xB6C link-word.outside
 
 making : IsMakingPart bare bare_layout (codes "a") the_part all_chains linked_folder
-making = record { well_formed = well-linked (inserted.partly.well_formed bare-keeps.well_formed); list = list-now; others = mid-part }
+making = record { sound = headers-linked.sound (inserted.partly.headers.sound bare-keeps.sound); list = list-now; others = mid-part }
 
 making_finds : Finds (rest (with_first bare objects (part (codes "a") 0))) linked_folder
 making_finds = making-finds bare objects bare_layout (words_of the_part ++ []) (codes "a") 0 dirty_parent dirty_parent the_part all_chains bare_folder linked_folder bare-keeps written making
@@ -304,7 +304,7 @@ insert-outside = outside_wider (touched_by_writes insert_writes) (touch_range in
 
 insert-leaves : LeavesFiles bare_folder listed_folder
 insert-leaves = leaves-files (touch_range insert_writes (nodes 1)) bare_folder listed_folder (touch_spares insert_writes (nodes 1)) (touch_sizes insert_writes (nodes 1)) insert-outside
-    (record { crash = counter-same insert_writes (nodes 1) bare_folder listed_folder insert-outside 32 (omega arith); id = counter-same insert_writes (nodes 1) bare_folder listed_folder insert-outside 20 (omega arith) }) inserted.partly.well_formed
+    (record { crash = counter-same insert_writes (nodes 1) bare_folder listed_folder insert-outside 32 (omega arith); id = counter-same insert_writes (nodes 1) bare_folder listed_folder insert-outside 20 (omega arith) }) inserted.partly.headers
 
 insert-can : CanBeMade bare_folder insert_writes
 insert-can = inserts-can bare_folder (nodes 1) (walked bare_folder) can-be-inserted
@@ -351,7 +351,7 @@ parent-loads = records-unlinked (store_of listed_folder) (store_of linked_folder
 
 part_is_made : IsPartMade bare bare_layout (codes "a") 0 dirty_parent dirty_parent the_part bare_folder linked_folder
 part_is_made = record {
-  leaves = leaves-then bare_folder listed_folder linked_folder insert-leaves (table-files listed_folder linked_folder 0xB6C link-word.outside well-linked);
+  leaves = leaves-then bare_folder listed_folder linked_folder insert-leaves (table-files listed_folder linked_folder 0xB6C link-word.outside headers-linked);
   list = list-now;
   others = mid-part;
   sees = parent-loads;

@@ -218,7 +218,7 @@ part-unlisted = out-of-list worked worked_layout (λ item. true) chain_of [] wor
 
 part_is_out : IsPartOut worked worked_layout (codes "a") 0 (unlisted worked_folder (nodes 1))
 part_is_out = record {
-  well_formed = part-unlisted.partly.well_formed worked-keeps.entries.well_formed;
+  sound = part-unlisted.partly.headers.sound worked-keeps.entries.sound;
   except = λ node. false;
   holds = holds-between worked worked_layout worked_folder (unlisted worked_folder (nodes 1)) worked-keeps.entries part-unlisted;
   there = λ item listed other. refl;

@@ -29,7 +29,7 @@ use Rattle.law_state.specs.PlainRemovals.{IsRemoving}
 use Rattle.law_state.proofs.ChangedStates.{main-changed}
 use Rattle.law_state.proofs.DoneSteps.{touch-done}
 use Rattle.law_state.proofs.GoingOut.{chain-same, unlisted}
-use Rattle.law_state.proofs.Keeping.{kept-found}
+use Rattle.law_state.proofs.Keeping.{kept-held}
 use Rattle.law_state.proofs.OneCalls.{reads-end-by-touch, reads-stop}
 use Rattle.law_state.proofs.PartlyOut.{kept-begin}
 use Rattle.law_state.proofs.PartlyOutStops.{own-items-leave, unlinking-items-find}
@@ -41,6 +41,7 @@ use Rattle.law_state.proofs.WorkedKept.{worked-keeps, worked_folder}
 use Rattle.law_state.proofs.WorkedMarks.{opened, opened-keeps, opened-writable, opened_folder}
 use Rattle.law_state.proofs.WorkedRemovals.{b-unlisted, part-unlisted, touched_b}
 use Rattle.law_state.proofs.WorkedState.{chain_of, nodes, plain_object, records, the_plain, worked, worked_layout}
+use Rattle.spec_format.proofs.Finished.{headers-kept}
 
 -- ---- uses
 
@@ -82,7 +83,7 @@ read_has_effect = record {
 
 -- before its first word what a crash may leave is found
 read_finds_left : FindsLeft opened 100 (to_read 6 0 0 2) opened_folder
-read_finds_left = record { held = rest opened; left = rest_before opened 100 (to_read 6 0 0 2) opened-keeps.entries.valid; finds = (opened-keeps.entries.well_formed, kept-found opened worked_layout [] opened_folder opened-keeps.entries) }
+read_finds_left = record { held = rest opened; left = rest_before opened 100 (to_read 6 0 0 2) opened-keeps.entries.valid; finds = (opened-keeps.entries.sound, kept-held opened worked_layout [] opened_folder opened-keeps.entries) }
 
 -- ---- removals
 
@@ -106,7 +107,7 @@ still_chained = record {
     only = record { beside = record { node_fields = λ u. refl; key_place = λ u fields clear is right short. refl; stored = λ size u clear. refl }; entry = λ u. refl };
     list = refl;
     whole = λ other small. chain-same (store_of worked_folder) (store_of (unlisted worked_folder (nodes 2))) other (chain_of other) b-unlisted.partly.shown.store (worked-keeps.entries.represents.holds.shows.chains other small);
-    well_formed = λ well. well;
+    headers = headers-kept (unlisted worked_folder (nodes 2));
   };
 }
 

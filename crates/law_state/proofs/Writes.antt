@@ -7,12 +7,11 @@ use Rattle.spec_image.specs.Image.{Image, Index, Block, External, File, byte, ha
 use Rattle.spec_image.specs.Footprint.{SameOutside, one_word, range, whole, IsWithin}
 use Rattle.spec_image.proofs.Footprints.{same_file_outside, same_word_outside}
 use Rattle.spec_format.specs.Address.{byte_size, file_selector, place}
-use Rattle.spec_format.specs.BlockFiles.{is_among, IsWellFormed}
+use Rattle.spec_format.specs.BlockFiles.{is_among, HasSoundHeaders, KeepsHeaders}
 use Rattle.spec_format.specs.Claims.{ExternalOf, claims_of, has_claim, same_claim}
 use Rattle.spec_format.proofs.SpareHeaders.{past_header}
 use Rattle.spec_image.specs.Checks.{first_of}
-use Rattle.spec_format.specs.Headers.{head_checks, list_checks, is_shown_place}
-use Rattle.spec_format.proofs.Finished.{well_formed-finished}
+use Rattle.spec_format.specs.Headers.{list_checks, is_shown_place, magic_of, field_checks}
 use Rattle.spec_folder.specs.Footprint.{AgreeBut}
 use Rattle.spec_folder.specs.View.{view_of}
 use Rattle.spec_folder.specs.Layout.{Represents}
@@ -22,8 +21,8 @@ use Rattle.law_folder.proofs.claims.Covers.{blocks-covered, covers-less, externa
 use Rattle.law_folder.proofs.claims.Files.{growth-keeps}
 use Rattle.law_folder.proofs.updates.IndexWords.{others-unchecked}
 use Rattle.law_folder.proofs.claims.Inside.{writes-inside}
-use Rattle.law_folder.proofs.states.Standing.{found-at_rest}
-use Rattle.law_folder.proofs.updates.WellFormed.{well_formed_still}
+use Rattle.law_folder.proofs.states.Standing.{held-at_rest}
+use Rattle.law_folder.proofs.updates.WellFormed.{headers_still}
 use Rattle.law_state.specs.Changes.{SameHeaders}
 use Rattle.law_state.specs.ChangeLaws.{kept_words, BlockWritesChangeOnly, ExternalWritesChangeOnly, OtherWordsChangeOnly, GrowthFindsTheSame}
 
@@ -42,7 +41,7 @@ block-writes from image w at n stands apart low high same = record {
     files = λ file. same.files file refl;
   };
   session = record { crash = index-word 32; id = index-word 20 };
-  well_formed = (writes-inside from image w at n stands apart low high same).well_formed;
+  well_formed = (writes-inside from image w at n stands apart low high same).headers;
 } where
   index-word : (p : ℕ) → word image Index p ≡ word from Index p
   index-word p = same_word_outside (range (Block (file_selector w)) at n) from image Index p same (λ k low high. refl)
@@ -65,7 +64,7 @@ external-writes from image n same there = record {
     files = files;
   };
   session = record { crash = index-word 32; id = index-word 20 };
-  well_formed = well_formed_still (whole (External n)) from image (record { bytes = λ m i small. refl }) (λ m. refl) same (λ k. first_of (head_checks (at_bytes index k) (at_length index k))) (λ k. first_of (list_checks (at_bytes index k)));
+  well_formed = headers_still (whole (External n)) from image (record { bytes = λ m i small. refl }) (λ m. refl) same (λ k. magic_of (at_bytes index k)) (λ k. first_of (field_checks (at_bytes index k) (at_length index k))) (λ k. first_of (list_checks (at_bytes index k)));
 } where
   index : image Index ≡ from Index
   index = same_file_outside (whole (External n)) from image Index same (λ i. refl) refl
@@ -103,8 +102,8 @@ module _ (from image : Image) (at : ℕ) (aligned : at % 4 ≡ 0) (small : at < 
   pub word-headers : SameHeaders from image
   word-headers = record { headers = λ m i below. same.bytes (Block m) i refl; lengths = λ m. same.lengths (Block m) refl; files = λ file. same.files file refl }
 
-  pub word-formed : IsWellFormed from → IsWellFormed image
-  word-formed = others-unchecked from image at aligned unchecked same
+  pub word-kept : KeepsHeaders from image
+  word-kept = others-unchecked from image at aligned unchecked same
 
   pub other-word : (p : ℕ) → p % 4 ≡ 0 → (p == at) ≡ false → word image Index p ≡ word from Index p
   other-word p even differs = same_word_outside (one_word Index at) from image Index p same (λ k low high. apart-from at p k aligned even differs low high)
@@ -117,13 +116,13 @@ index-words from image at aligned small unshown unchecked unkept same = record {
   agree = word-agrees from image at aligned small unshown unchecked same;
   headers = word-headers from image at aligned small unshown unchecked same;
   session = record { crash = other-word from image at aligned small unshown unchecked same 32 refl (not-kept at 32 unkept refl); id = other-word from image at aligned small unshown unchecked same 20 refl (not-kept at 20 unkept refl) };
-  well_formed = word-formed from image at aligned small unshown unchecked same;
+  well_formed = word-kept from image at aligned small unshown unchecked same;
 }
 
 -- ---- growth
 
 pub growth-finds : GrowthFindsTheSame
 growth-finds words from image grown formed state layout unlinked k =
-    let well : IsWellFormed image = formed k.well_formed in
+    let well : HasSoundHeaders image = formed.sound k.sound in
     let r : Represents (view_of image) state layout = growth-keeps from image state layout (map layout.place_of_doomed k.numbers) grown k.represents k.owners.exact in
-    (well, found-at_rest image state layout r k.valid (well_formed-finished image well))
+    (well, held-at_rest image state layout r k.valid)

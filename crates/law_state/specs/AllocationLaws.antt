@@ -3,7 +3,7 @@ use Rattle.std.specs.Prelude.{◌≡◌, ◌≢◌, ◌≤◌, ℕ, List, [], �
 use Rattle.spec_image.specs.Footprint.{Footprint, SameOutside}
 use Rattle.spec_image.specs.Image.{File, Index, Block, Image, byte, length_of}
 use Rattle.spec_format.specs.Address.{block_place, external, file_selector, kind_of}
-use Rattle.spec_format.specs.BlockFiles.{is_among, linked_as, max_entries_in, stands_in, IsWellFormed}
+use Rattle.spec_format.specs.BlockFiles.{is_among, linked_as, max_entries_in, stands_in, HasSoundHeaders}
 use Rattle.spec_format.specs.Growth.{StaysWhole}
 use Rattle.spec_format.specs.Headers.{is_extent_place, updating_of}
 use Rattle.spec_format.specs.Maps.{AreAllocations, EmptyAgrees, KeepsFile}
@@ -53,4 +53,4 @@ pub record AreAllocated (from : Image) (w : ℕ) (image : Image) : Type 0 where
 
 -- the allocation of blocks, as `AreAllocated` tells it, adds their allocation
 abbrev pub AllocatedBlocksAreAdded : Type 0
-AllocatedBlocksAreAdded = (from image : Image) (w : ℕ) → IsWellFormed from → AreAllocated from w image → AddsAllocation from w image
+AllocatedBlocksAreAdded = (from image : Image) (w : ℕ) → HasSoundHeaders from → AreAllocated from w image → AddsAllocation from w image

@@ -3,18 +3,18 @@ use Rattle.std.specs.Prelude.{List, ℕ}
 use Rattle.std.specs.List.Sorted.{IsPermutation}
 use Rattle.blk_model.specs.State.{State, IsValidState}
 use Rattle.spec_image.specs.Image.{Index, Image, byte}
-use Rattle.spec_format.specs.BlockFiles.{IsWellFormed}
 use Rattle.spec_format.specs.Headers.{this_id_of}
+use Rattle.spec_format.specs.BlockFiles.{KeepsHeaders}
 use Rattle.spec_folder.specs.Layout.{Layout, Represents}
 use Rattle.spec_folder.specs.View.{view_of}
 use Rattle.law_state.specs.Changes.{SameHeaders, SameSession}
 use Rattle.law_state.specs.Keeping.{AllAreSealed, AreMarkedBy, AreOwners, AreUnlinked, KeepsUncounted, all_loaded, words_in_use}
 
--- the headers, the lengths and the session are as before, and a well-formed folder stays so
+-- the headers, the lengths and the session are as before, and the headers are kept
 pub record LeavesFiles (from image : Image) : Type 0 where
   pub headers : SameHeaders from image
   pub session : SameSession from image
-  pub well_formed : IsWellFormed from → IsWellFormed image
+  pub well_formed : KeepsHeaders from image
 
 -- a state lies in a folder by a layout, with these doomed objects and unlinked words: as in `KeepsUncounted`, but for the files and for whether a session is
 -- open

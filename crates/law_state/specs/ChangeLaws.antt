@@ -4,7 +4,7 @@ use Rattle.blk_model.specs.State.{State}
 use Rattle.spec_image.specs.Image.{Index, Block, External, Image, has_file}
 use Rattle.spec_image.specs.Footprint.{SameOutside, one_word, range, whole}
 use Rattle.spec_format.specs.Address.{byte_size, external, file_selector, kind_of, place}
-use Rattle.spec_format.specs.BlockFiles.{is_among, stands_in, IsWellFormed}
+use Rattle.spec_format.specs.BlockFiles.{is_among, stands_in, KeepsHeaders}
 use Rattle.spec_format.specs.Claims.{Claim, ExternalOf, claims_of, has_claim, same_claim}
 use Rattle.spec_format.specs.Growth.{HaveGrown}
 use Rattle.spec_format.specs.Headers.{header_length}
@@ -15,7 +15,7 @@ use Rattle.law_state.specs.Changes.{AddsAllocation, AddsExternal, AreOfWords, Ch
 
 -- Any call.
 
--- where a call keeps each state that was kept, the durable contents of such a state are recovered after it
+-- where a call keeps each state that was kept, the durable contents of such a state are held after it
 abbrev pub WhatIsKeptIsFound : Type 0
 WhatIsKeptIsFound = (before after : List ℕ) (from image : Image) → KeepsWith before after from image → StillFinds before from image
 
@@ -50,10 +50,9 @@ OtherWordsChangeOnly = (from image : Image) (at : ℕ) → at % 4 ≡ 0 → at <
 
 -- Growth.
 
--- while block files grow or are added, their maps and counters change, in a folder that stays well formed, the durable contents are
--- recovered
+-- while block files grow or are added, their maps and counters change, and the headers are kept, the durable contents are held
 abbrev pub GrowthFindsTheSame : Type 0
-GrowthFindsTheSame = (words : List ℕ) (from image : Image) → HaveGrown from image → (IsWellFormed from → IsWellFormed image) → StillFinds words from image
+GrowthFindsTheSame = (words : List ℕ) (from image : Image) → HaveGrown from image → KeepsHeaders from image → StillFinds words from image
 
 -- Allocations.
 

@@ -7,21 +7,29 @@ use Rattle.spec_image.specs.Image.{Index, Block, External, File, Image, byte, ha
 use Rattle.spec_format.specs.Address.{block_place, external, external_number, file_selector, header_size, kind_of}
 use Rattle.spec_format.specs.Growth.{HaveGrown}
 use Rattle.spec_format.specs.Maps.{AreAllocations, EmptyAgrees}
-use Rattle.spec_format.specs.BlockFiles.{is_among, linked_as, max_entries_in, stands_in, IsWellFormed}
+use Rattle.spec_format.specs.BlockFiles.{is_among, linked_as, max_entries_in, stands_in, HasSoundHeaders, IsWellFormed, KeepsHeaders}
 use Rattle.spec_format.specs.Claims.{Claim, ExternalOf, claims_of_all, has_claim, same_claim}
-use Rattle.spec_format.specs.Headers.{count_of, crash_of, this_id_of, updating_of}
-use Rattle.spec_folder.specs.Found.{found}
+use Rattle.spec_format.specs.Headers.{count_of, crash_of, index_magic, magic_of, this_id_of, updating_of}
+use Rattle.spec_folder.specs.Found.{found, held}
 use Rattle.spec_folder.specs.Footprint.{AgreeBut}
 use Rattle.spec_folder.specs.Layout.{Layout}
 use Rattle.law_state.specs.Keeping.{IsMapped, KeepsUncounted}
 
 -- How calls are composed.
 
--- the folder is well formed, and these rows are its recovered contents
+-- no check of a header fails but perhaps that of the magic word, and these rows are held: where the index is finished they are the recovered contents
 abbrev pub Finds : List Row → Image → Type 0
-Finds rows image = IsWellFormed image × (found image ≡ rows)
+Finds rows image = HasSoundHeaders image × (held image ≡ rows)
 
--- at a moment of a call: whatever state was kept with these words unlinked, the recovered contents are the durable ones in it
+-- the folder is well formed, and these rows are its recovered contents
+abbrev pub FindsFinished : List Row → Image → Type 0
+FindsFinished rows image = IsWellFormed image × (found image ≡ rows)
+
+-- what is held is recovered where the magic word of a finished index is there
+abbrev pub HeldIsFound : Type 0
+HeldIsFound = (rows : List Row) (image : Image) → Finds rows image → magic_of (byte image Index) ≡ index_magic → FindsFinished rows image
+
+-- at a moment of a call: whatever state was kept with these words unlinked, its durable contents are held
 abbrev pub StillFinds : List ℕ → Image → Image → Type 0
 StillFinds words from image = (state : State) (layout : Layout) (unlinked : List ℕ) → KeepsUncounted state layout (words ++ unlinked) from → Finds (rest state) image
 
@@ -51,7 +59,7 @@ pub record ChangesOnly (touched : Claim → Bool) (from image : Image) : Type 0 
   pub agree : AgreeBut touched from image
   pub headers : SameHeaders from image
   pub session : SameSession from image
-  pub well_formed : IsWellFormed from → IsWellFormed image
+  pub well_formed : KeepsHeaders from image
 
 -- the blocks and external files are among those of some words
 abbrev pub AreOfWords : (Claim → Bool) → List ℕ → Type 0
@@ -76,7 +84,7 @@ pub record StaysLinked (from image : Image) (n : ℕ) : Type 0 where
 pub record AddsAllocation (from : Image) (w : ℕ) (image : Image) : Type 0 where
   pub block_kind : kind_of w ≢ external
   pub grown : HaveGrown from image
-  pub well_formed : IsWellFormed from → IsWellFormed image
+  pub headers : KeepsHeaders from image
   pub session : SameSession from image
   pub allocations : is_some (linked_as from (file_selector w)) ≡ true → (words : List ℕ) → AreAllocations from (file_selector w) words → AreAllocations image (file_selector w) (w ∷ words)
   pub fresh : is_some (linked_as from (file_selector w)) ≡ false → AreAllocations image (file_selector w) (w ∷ [])
@@ -91,7 +99,7 @@ pub record AddsAllocation (from : Image) (w : ℕ) (image : Image) : Type 0 wher
 pub record RemovesAllocation (from : Image) (w : ℕ) (image : Image) : Type 0 where
   pub block_kind : kind_of w ≢ external
   pub grown : HaveGrown from image
-  pub well_formed : IsWellFormed from → IsWellFormed image
+  pub headers : KeepsHeaders from image
   pub session : SameSession from image
   pub extent : SameExtent from image (file_selector w)
   pub allocations : (words : List ℕ) → AreAllocations from (file_selector w) words → is_among words w ≡ true → AreAllocations image (file_selector w) (filter (λ x. not (x == w)) words)
@@ -111,7 +119,7 @@ pub record AddsExternal (from : Image) (w : ℕ) (image : Image) : Type 0 where
   pub there : has_file image (External (external_number w)) ≡ true
   pub others : (m : ℕ) → m ≢ external_number w → has_file image (External m) ≡ has_file from (External m)
   pub agree : AgreeBut (λ claim. same_claim claim (ExternalOf (external_number w))) from image
-  pub well_formed : IsWellFormed from → IsWellFormed image
+  pub headers : KeepsHeaders from image
   pub session : SameSession from image
   pub blocks : (n : ℕ) → StaysLinked from image n
 
@@ -122,6 +130,6 @@ pub record RemovesExternal (from : Image) (w : ℕ) (image : Image) : Type 0 whe
   pub gone : has_file image (External (external_number w)) ≡ false
   pub others : (m : ℕ) → m ≢ external_number w → has_file image (External m) ≡ has_file from (External m)
   pub agree : AgreeBut (λ claim. same_claim claim (ExternalOf (external_number w))) from image
-  pub well_formed : IsWellFormed from → IsWellFormed image
+  pub headers : KeepsHeaders from image
   pub session : SameSession from image
   pub blocks : (n : ℕ) → StaysLinked from image n

@@ -21,15 +21,15 @@ use Rattle.law_state.specs.Commands.{Does, ForKept, MayStop, MayStopAtEach}
 
 -- Crashes.
 
--- a request may crash where the durable contents before it are recovered
+-- a request may crash where the durable contents before it are held
 abbrev pub RequestsMayStopBefore : Type 0
 RequestsMayStopBefore = (state : State) (moment : ℕ) (request : Request) (image : Image) → IsValidState state → Finds (rest state) image → MayStop state moment request image
 
--- a request may crash where the durable contents after it are recovered
+-- a request may crash where the durable contents after it are held
 abbrev pub RequestsMayStopAfter : Type 0
 RequestsMayStopAfter = (state : State) (moment : ℕ) (request : Request) (image : Image) → IsValidState state → IsRequest request → Finds (rest (step state moment request).state) image → MayStop state moment request image
 
--- a request may crash once its first groups are evicted, where the durable contents without them are recovered
+-- a request may crash once its first groups are evicted, where the durable contents without them are held
 abbrev pub RequestsMayStopOnceEvicted : Type 0
 RequestsMayStopOnceEvicted = (state : State) (moment : ℕ) (request : Request) (first others : List Group) (image : Image) → IsValidState state → EvictsFirst state moment request first others → Finds (rest (without first state)) image → MayStop state moment request image
 
@@ -60,6 +60,6 @@ RefusalsAreDone keeps = (told now : Told) (moment : ℕ) (request : Request) (wh
 abbrev pub QuietRequestsKeepTheState : Type 0
 QuietRequestsKeepTheState = (state : State) (moment handle stream : ℕ) → ((step state moment to_list).state ≡ state) × (((step state moment to_total).state ≡ state) × ((step state moment (to_size handle stream)).state ≡ state))
 
--- a call after each of whose words the old durable contents are still recovered may crash at each
+-- a call after each of whose words the old durable contents are still held may crash at each
 abbrev pub CallsMayStop : (keeps : State → Image → Type 0) → Type 0
 CallsMayStop keeps = SaysKept keeps → (told now : Told) (moment : ℕ) (request : Request) → Passes told now (λ image. ForSome told.files (λ from. StillFinds [] from image)) → MayStopAtEach keeps told now moment request

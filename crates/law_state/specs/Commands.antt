@@ -1,7 +1,7 @@
 -- What a command owes to a folder that keeps a state, for every request; the cache's own condition, on a state and an image, is a parameter.
 use Rattle.std.specs.Prelude.{◌≡◌, ◌⊎◌, ℕ, ◌-◌, ◌^◌, List, [], ◌∷◌, ◌++◌, min}
 use Rattle.std.specs.Option.{ForSome}
-use Rattle.spec_image.specs.Image.{Image}
+use Rattle.spec_image.specs.Image.{Index, Image, byte}
 use Rattle.spec_image.specs.Steps.{Note, TrailStep}
 use Rattle.spec_image.specs.Told.{Along, Applies, IsQuiet, Passes, Told}
 use Rattle.blk_model.specs.declared.Answer.{Answer}
@@ -10,14 +10,30 @@ use Rattle.blk_model.specs.Request.{Request}
 use Rattle.blk_model.specs.State.{State}
 use Rattle.blk_model.specs.Step.{step}
 use Rattle.blk_model.specs.Stops.{StopOutcome}
-use Rattle.spec_format.specs.BlockFiles.{IsWellFormed}
-use Rattle.spec_folder.specs.Found.{found}
+use Rattle.spec_format.specs.BlockFiles.{HasSoundHeaders, IsWellFormed}
+use Rattle.spec_format.specs.Headers.{index_magic, magic_of}
+use Rattle.spec_folder.specs.Found.{found, held}
 use Rattle.spec_folder.specs.StandsFor.{StandsFor}
 
--- a request may crash here: the folder is well formed, and its recovered contents are a crash outcome of the request
+-- a request may crash here: the headers are sound, and what is held is a crash outcome of the request
 pub record MayStop (state : State) (moment : ℕ) (request : Request) (image : Image) : Type 0 where
+  pub sound : HasSoundHeaders image
+  pub left : StopOutcome state moment request (step state moment request).state (held image)
+
+-- a request may crash here, and the index is finished: the folder is well formed, and its recovered contents are a crash outcome of the request
+pub record MayStopFinished (state : State) (moment : ℕ) (request : Request) (image : Image) : Type 0 where
   pub well_formed : IsWellFormed image
   pub left : StopOutcome state moment request (step state moment request).state (found image)
+
+-- where a request may crash and the magic word of a finished index is there, a crash outcome of it is recovered
+abbrev pub FinishedFoldersMayStop : Type 0
+FinishedFoldersMayStop = (state : State) (moment : ℕ) (request : Request) (image : Image) → MayStop state moment request image → magic_of (byte image Index) ≡ index_magic → MayStopFinished state moment request image
+
+-- so it is at each of some steps that a command may make, where the index is finished before the first
+abbrev pub FinishedFoldersMayStopAlong : Type 0
+FinishedFoldersMayStopAlong =
+    (state : State) (moment : ℕ) (request : Request) (image : Image) (steps : List TrailStep) → IsQuiet steps → magic_of (byte image Index) ≡ index_magic
+    → Along (MayStop state moment request) image steps → Along (MayStopFinished state moment request) image steps
 
 -- P holds of each state that the cache's condition has with the image, where the folder is observable
 abbrev pub ForKept : (State → Image → Type 0) → Told → (State → Type 0) → Type 0

@@ -5,7 +5,7 @@ use Rattle.std.specs.declared.option.Option.TheVariants.{None, Some}
 use Rattle.blk_model.specs.Items.{main}
 use Rattle.blk_model.specs.State.{State, Object, IsValidState, object_at}
 use Rattle.spec_image.specs.Image.{Index, Block, External, Image, byte, has_file}
-use Rattle.spec_format.specs.BlockFiles.{linked_as, stands_in, IsWellFormed}
+use Rattle.spec_format.specs.BlockFiles.{linked_as, stands_in, HasSoundHeaders}
 use Rattle.spec_format.specs.Claims.{Claim, ExternalOf, claims_of_all, has_claim, is_in_file, repeats}
 use Rattle.spec_format.specs.Headers.{count_of, counting, crash_of, this_id_of, updating_of}
 use Rattle.spec_format.specs.Maps.{AreAllocations, EmptyAgrees}
@@ -88,8 +88,8 @@ pub record IsInSession (image : Image) (state : State) (layout : Layout) : Type 
 pub record KeepsUncounted (state : State) (layout : Layout) (unlinked : List ℕ) (image : Image) : Type 0 where
   -- the state is one that a cache may have
   pub valid : IsValidState state
-  -- no check of a header fails
-  pub well_formed : IsWellFormed image
+  -- no check of a header fails but perhaps that of the magic word
+  pub sound : HasSoundHeaders image
   -- the list, the chains and the records show the state by the layout, and the transaction word is 0
   pub represents : Represents (view_of image) state layout
   -- the numbers of the doomed objects

@@ -4,10 +4,10 @@ use Rattle.blk_model.specs.State.{State, Bounds, IsValidState, object_at}
 use Rattle.blk_model.specs.Holding.{open_state, rest}
 use Rattle.spec_image.specs.Image.{Index, Image, byte}
 use Rattle.spec_image.specs.Footprint.{SameOutside, one_word}
-use Rattle.spec_format.specs.BlockFiles.{IsWellFormed}
-use Rattle.spec_format.specs.Headers.{crash_of, this_id_of}
+use Rattle.spec_format.specs.BlockFiles.{HasSoundHeaders}
+use Rattle.spec_format.specs.Headers.{crash_of, index_magic, magic_of, this_id_of}
 use Rattle.spec_folder.specs.View.{view_of}
-use Rattle.spec_folder.specs.Found.{found}
+use Rattle.spec_folder.specs.Found.{found, held}
 use Rattle.spec_folder.specs.Layout.{Layout, Represents}
 use Rattle.spec_folder.specs.Emptiness.{no_layout}
 use Rattle.spec_folder.specs.Sound.{IsSound}
@@ -16,21 +16,29 @@ use Rattle.spec_folder.specs.Tidy.{IsTidy}
 use Rattle.law_folder.specs.BareLaws.{HasNoEntries}
 use Rattle.law_state.specs.Keeping.{IsInSession, KeepsUncounted, Keeps}
 
--- the recovered contents are the durable ones of the state that a folder keeps, whatever is unlinked or uncounted
-abbrev pub KeptStatesAreFound : Type 0
-KeptStatesAreFound = (state : State) (layout : Layout) (unlinked : List ℕ) (image : Image) → KeepsUncounted state layout unlinked image → found image ≡ rest state
+-- what is held are the durable contents of the state that a folder keeps, whatever is unlinked or uncounted
+abbrev pub KeptStatesAreHeld : Type 0
+KeptStatesAreHeld = (state : State) (layout : Layout) (unlinked : List ℕ) (image : Image) → KeepsUncounted state layout unlinked image → held image ≡ rest state
 
--- a folder that keeps a state with nothing unlinked represents it
+-- the magic word of a finished index is there
+abbrev pub HasMagic : Image → Type 0
+HasMagic image = magic_of (byte image Index) ≡ index_magic
+
+-- and they are recovered where the index is finished
+abbrev pub KeptStatesAreFound : Type 0
+KeptStatesAreFound = (state : State) (layout : Layout) (unlinked : List ℕ) (image : Image) → KeepsUncounted state layout unlinked image → HasMagic image → found image ≡ rest state
+
+-- a folder that keeps a state with nothing unlinked represents it, where the index is finished
 abbrev pub KeptStatesAreStoodFor : Type 0
-KeptStatesAreStoodFor = (state : State) (layout : Layout) (image : Image) → Keeps state layout [] image → StandsFor image state
+KeptStatesAreStoodFor = (state : State) (layout : Layout) (image : Image) → Keeps state layout [] image → HasMagic image → StandsFor image state
 
 -- each object is live and clean
 abbrev pub AllAreAtRest : State → Type 0
 AllAreAtRest state = (number : ℕ) → IfSome (object_at state number) (λ object. (object.live && object.settled) ≡ true)
 
--- a folder that keeps a state with nothing unlinked, in which each object is live and clean, is consistent
+-- a finished folder that keeps a state with nothing unlinked, in which each object is live and clean, is consistent
 abbrev pub KeptStatesAreSound : Type 0
-KeptStatesAreSound = (state : State) (layout : Layout) (image : Image) → Keeps state layout [] image → AllAreAtRest state → IsSound image
+KeptStatesAreSound = (state : State) (layout : Layout) (image : Image) → Keeps state layout [] image → HasMagic image → AllAreAtRest state → IsSound image
 
 -- an empty cache, in which a session is open, keeps the empty state
 abbrev pub FoldersWithoutEntriesKeepTheEmptyState : Type 0
@@ -44,5 +52,5 @@ ChangesWord at from image = SameOutside (one_word Index at) from image
 
 -- where a folder represents a state, with exact maps and all in order, and the number of the session and then the crash word are written, it keeps the state
 abbrev pub OpenedFoldersKeepTheirState : Type 0
-OpenedFoldersKeepTheirState = (from between image : Image) (state : State) (layout : Layout) (numbers : List ℕ) → IsValidState state → IsWellFormed from → Represents (view_of from) state layout → AllIsOwned from state layout numbers → IsTidy from state layout numbers
+OpenedFoldersKeepTheirState = (from between image : Image) (state : State) (layout : Layout) (numbers : List ℕ) → IsValidState state → HasSoundHeaders from → Represents (view_of from) state layout → AllIsOwned from state layout numbers → IsTidy from state layout numbers
     → ChangesWord 20 from between → ChangesWord 32 between image → IsInSession image state layout → Keeps state layout [] image

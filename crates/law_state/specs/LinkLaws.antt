@@ -7,11 +7,11 @@ use Rattle.blk_model.specs.Items.{Item}
 use Rattle.blk_model.specs.State.{State, Object}
 use Rattle.spec_image.specs.Footprint.{SameOutside, one_word}
 use Rattle.spec_image.specs.Image.{Image, Index}
-use Rattle.spec_format.specs.BlockFiles.{IsWellFormed}
 use Rattle.spec_format.specs.Claims.{Claim, claims_of, has_claim}
 use Rattle.spec_format.specs.Headers.{place_of_bucket}
 use Rattle.spec_format.specs.Records.{entry_is_sealed}
 use Rattle.spec_format.specs.Sealed.{record_range}
+use Rattle.spec_format.specs.BlockFiles.{KeepsHeaders}
 use Rattle.spec_folder.specs.Footprint.{IsClear, IsFreeBut, IsInsideNode, OnlyLinksChange}
 use Rattle.spec_folder.specs.Found.{charge_of}
 use Rattle.spec_folder.specs.Layout.{Layout, order}
@@ -35,7 +35,7 @@ TableWordsChangeLinks = (from image : Image) (bucket w word : ℕ) → store_of 
 
 -- the write of a word of the table leaves headers, lengths and the session as they are
 abbrev pub TableWordsLeaveFiles : Type 0
-TableWordsLeaveFiles = (from image : Image) (bucket : ℕ) → SameOutside (one_word Index (place_of_bucket bucket)) from image → (IsWellFormed from → IsWellFormed image) → LeavesFiles from image
+TableWordsLeaveFiles = (from image : Image) (bucket : ℕ) → SameOutside (one_word Index (place_of_bucket bucket)) from image → KeepsHeaders from image → LeavesFiles from image
 
 -- the write of a word of the table leaves all seals
 abbrev pub TableWordsLeaveSeals : Type 0

@@ -8,8 +8,8 @@ use Rattle.blk_model.specs.Items.{main}
 use Rattle.blk_model.specs.State.{State, IsValidState}
 use Rattle.spec_image.specs.Footprint.{SameOutside, one_word}
 use Rattle.spec_image.specs.Image.{Image, Index, byte}
-use Rattle.spec_format.specs.BlockFiles.{IsWellFormed}
 use Rattle.spec_format.specs.Headers.{place_of_bucket, this_id_of}
+use Rattle.spec_format.specs.BlockFiles.{KeepsHeaders}
 use Rattle.spec_folder.specs.Chains.{bucket_at}
 use Rattle.spec_folder.specs.Completion.{insert}
 use Rattle.spec_folder.specs.Creation.{IsFrontOfChain, IsNewEntry, with_new}
@@ -47,15 +47,15 @@ pub record IsInsertDone (from : Image) (node : ℕ) (image : Image) : Type 0 whe
 pub record HasRecordInFront (from : Image) (w : ℕ) (image : Image) : Type 0 where
   pub list : list_of image ≡ list_of from
   pub store : store_of image ≡ record (store_of from) { table = put (store_of from).table (bucket_at from w) w }
-  pub well_formed : IsWellFormed from → IsWellFormed image
+  pub headers : KeepsHeaders from image
   pub outside : SameOutside (one_word Index (place_of_bucket (bucket_at from w))) from image
 
--- at each word of the insert of a new entry's node the old durable contents are recovered
+-- at each word of the insert of a new entry's node the old durable contents are held
 abbrev pub InsertsFindTheSame : Type 0
 InsertsFindTheSame = (state : State) (layout : Layout) (unlinked key : List ℕ) (loaded : Loaded) (from image : Image) → KeepsUncounted state layout unlinked from → IsNewEntryOf state layout key loaded from
     → IsPartly from (writes_of insert loaded.node (list_of from)) image → Finds (rest state) image
 
--- the old durable contents are recovered also where a new entry's record is linked after the insert
+-- the old durable contents are held also where a new entry's record is linked after the insert
 abbrev pub LinksFindTheSame : Type 0
 LinksFindTheSame = (state : State) (layout : Layout) (unlinked key : List ℕ) (loaded : Loaded) (handle : ℕ) (from between image : Image) → KeepsUncounted state layout unlinked from → IsNewEntryOf state layout key loaded from
     → IsValidState (created handle key state) → IsInsertDone from loaded.node between → HasRecordInFront between loaded.contents image → Finds (rest state) image

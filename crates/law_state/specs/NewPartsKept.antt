@@ -8,7 +8,7 @@ use Rattle.blk_model.specs.Items.{PartValue, main, part}
 use Rattle.blk_model.specs.State.{Object, State, object_at}
 use Rattle.blk_model.specs.Totals.{is_doomed_slot}
 use Rattle.spec_image.specs.Image.{Image}
-use Rattle.spec_format.specs.BlockFiles.{IsWellFormed}
+use Rattle.spec_format.specs.BlockFiles.{HasSoundHeaders}
 use Rattle.spec_folder.specs.Completion.{insert}
 use Rattle.spec_folder.specs.Creation.{with_first}
 use Rattle.spec_folder.specs.Layout.{Layout, order, rule_of}
@@ -24,7 +24,7 @@ use Rattle.law_state.specs.Keeping.{KeepsUncounted}
 use Rattle.law_state.specs.NewPartLaws.{IsMidPart, IsPartWritten, with_new_part}
 use Rattle.law_state.specs.PartStates.{with_value}
 
--- at each word of the insert of the part's node the old durable contents are recovered, and from the second write on the durable contents with the part, which
+-- at each word of the insert of the part's node the old durable contents are held, and from the second write on the durable contents with the part, which
 -- are the same while its object is dirty
 abbrev pub PartInsertsFindEither : Type 0
 PartInsertsFindEither = (state : State) (objects : List (Option Object)) (layout : Layout) (unlinked key : List ℕ) (n : ℕ) (was seen loaded : Loaded) (from image : Image) → KeepsUncounted state layout unlinked from → IsPartWritten (view_of from) state objects layout key n was seen loaded
@@ -32,11 +32,11 @@ PartInsertsFindEither = (state : State) (objects : List (Option Object)) (layout
 
 -- a part is being made: its node is in the list, and all nodes but the part's and its parent's are as they were, with these chains
 pub record IsMakingPart (state : State) (layout : Layout) (key : List ℕ) (loaded : Loaded) (chains : ℕ → List ℕ) (image : Image) : Type 0 where
-  pub well_formed : IsWellFormed image
+  pub sound : HasSoundHeaders image
   pub list : HasListAtRest (loaded.node ∷ order state layout) image
   pub others : IsMidPart (store_of image) layout key loaded chains
 
--- once a new part's node is in the list, the durable contents with the part are recovered, while its record is linked and its parent's bit set
+-- once a new part's node is in the list, the durable contents with the part are held, while its record is linked and its parent's bit set
 abbrev pub MakingPartsFindsTheNext : Type 0
 MakingPartsFindsTheNext =
     (state : State) (objects : List (Option Object)) (layout : Layout) (unlinked key : List ℕ) (n : ℕ) (was seen loaded : Loaded) (chains : ℕ → List ℕ) (from image : Image)

@@ -35,14 +35,14 @@ HandlesAreNotCounted = (state : State) (layout : Layout) (unlinked : List ℕ) (
 
 -- At each word.
 
--- while what lies at the node of an item of a dirty object changes, and what unlinked words name, the old durable contents are recovered; the record keeps its
+-- while what lies at the node of an item of a dirty object changes, and what unlinked words name, the old durable contents are held; the record keeps its
 -- place in its chain, and a part its name
 abbrev pub UnsettledItemsFindTheSame : Type 0
 UnsettledItemsFindTheSame = (touched : Claim → Bool) (state : State) (layout : Layout) (unlinked : List ℕ) (from image : Image) (number : ℕ) (object : Object) (item : Item) (loaded : Loaded) → KeepsUncounted state layout unlinked from → ChangesOnly touched from image
     → object_at state number ≡ Some object → has_item object item ≡ true → object.settled ≡ false → layout.at (layout.place item) ≡ Some loaded
     → IsInsideNode touched (view_of from) (view_of image) layout (layout.place item) loaded → KeepsName (store_of from) (store_of image) item loaded.contents → Finds (model.rest state) image
 
--- while what lies at the node of a doomed object changes, and what unlinked words name, the old durable contents are recovered, also where its record is torn
+-- while what lies at the node of a doomed object changes, and what unlinked words name, the old durable contents are held, also where its record is torn
 abbrev pub DoomedObjectsFindTheSame : Type 0
 DoomedObjectsFindTheSame = (touched : Claim → Bool) (state : State) (layout : Layout) (unlinked : List ℕ) (from image : Image) (number : ℕ) (object : Object) → KeepsUncounted state layout unlinked from → ChangesOnly touched from image
     → object_at state number ≡ Some object → object.live ≡ false → IsFreeBut (layout.place_of_doomed number) touched layout → Finds (model.rest state) image

@@ -11,7 +11,7 @@ use Rattle.blk_model.specs.Room.{Group, whole, without}
 use Rattle.blk_model.specs.State.{State, Object, IsValidState, is_named, object_at}
 use Rattle.blk_model.specs.Step.{step}
 use Rattle.spec_image.specs.Image.{Image}
-use Rattle.spec_format.specs.BlockFiles.{is_among, stands_in, IsWellFormed}
+use Rattle.spec_format.specs.BlockFiles.{is_among, stands_in, HasSoundHeaders}
 use Rattle.spec_format.specs.Claims.{Claim, claims_of_all, has_claim, repeats}
 use Rattle.spec_format.specs.Headers.{table_length}
 use Rattle.spec_folder.specs.Layout.{HoldsExcept, IsLayoutOf, Layout, is_listed, nodes_of}
@@ -36,7 +36,7 @@ left_nodes state layout keep numbers = nodes_of layout (filter keep state.uses) 
 -- counters and external files are those of its words and of the unlinked ones, which are nobody's or of what is out
 pub record KeepsPartlyOut (state : State) (layout : Layout) (keep : Item → Bool) (chains : ℕ → List ℕ) (unlinked : List ℕ) (image : Image) : Type 0 where
   pub valid : IsValidState state
-  pub well_formed : IsWellFormed image
+  pub sound : HasSoundHeaders image
   pub lies : IsLayoutOf state layout
   pub list : HasListAtRest (nodes_of layout (filter keep state.uses)) image
   pub holds : HoldsExcept (is_among (gone_nodes state layout keep)) (store_of image) state (record layout { chains = chains })

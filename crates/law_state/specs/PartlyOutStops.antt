@@ -13,8 +13,8 @@ use Rattle.blk_model.specs.State.{IsValidState, Object, State, is_named, object_
 use Rattle.spec_image.specs.Footprint.{SameOutside, whole}
 use Rattle.spec_image.specs.Image.{External, Image}
 use Rattle.spec_format.specs.Address.{external, external_number, kind_of}
-use Rattle.spec_format.specs.BlockFiles.{IsWellFormed}
 use Rattle.spec_format.specs.Growth.{HaveGrown}
+use Rattle.spec_format.specs.BlockFiles.{KeepsHeaders}
 use Rattle.spec_folder.specs.Layout.{Layout, is_listed}
 use Rattle.spec_folder.specs.Removal.{is_of_another}
 use Rattle.law_state.specs.Changes.{Finds}
@@ -38,28 +38,28 @@ abbrev pub PartlyOutIsOut : Type 0
 PartlyOutIsOut = (state : State) (layout : Layout) (key : List ℕ) (keep : Item → Bool) (chains : ℕ → List ℕ) (unlinked : List ℕ) (image : Image) → LeavesOtherKeys key keep → KeepsPartlyOut state layout keep chains unlinked image
     → IsOut state (record layout { chains = chains }) key keep image
 
--- the durable contents with an object doomed are recovered while its main item is out and its parts go out one after another
+-- the durable contents with an object doomed are held while its main item is out and its parts go out one after another
 abbrev pub PartlyOutFindsDoomed : Type 0
 PartlyOutFindsDoomed = (state : State) (layout : Layout) (number : ℕ) (object : Object) (keep : Item → Bool) (chains : ℕ → List ℕ) (unlinked : List ℕ) (image : Image) → object_at state number ≡ Some object → LeavesOtherKeys object.key keep
     → KeepsPartlyOut state layout keep chains unlinked image → Finds (rest (doomed number state (Some object))) image
 
--- the durable contents with an object doomed are recovered at each word of the removal of its next part, once its main item is out
+-- the durable contents with an object doomed are held at each word of the removal of its next part, once its main item is out
 abbrev pub NextPartsFindDoomed : Type 0
 NextPartsFindDoomed = (state : State) (layout : Layout) (number : ℕ) (object : Object) (keep : Item → Bool) (chains : ℕ → List ℕ) (unlinked : List ℕ) (n : ℕ) (from image : Image) → object_at state number ≡ Some object → LeavesOtherKeys object.key keep
     → KeepsPartlyOut state layout keep chains unlinked from → is_listed state (part object.key n) ≡ true → keep (part object.key n) ≡ true → IsMidRemoval layout (part object.key n) from image → Finds (rest (doomed number state (Some object))) image
 
--- the durable contents with an object doomed are recovered while the record of its next item, the main one or a part, goes out of its chain, before it has
+-- the durable contents with an object doomed are held while the record of its next item, the main one or a part, goes out of its chain, before it has
 abbrev pub UnlinkingItemsFindsDoomed : Type 0
 UnlinkingItemsFindsDoomed = (state : State) (layout : Layout) (number : ℕ) (object : Object) (keep : Item → Bool) (chains : ℕ → List ℕ) (unlinked : List ℕ) (item : Item) (from between image : Image) → object_at state number ≡ Some object → LeavesOtherKeys object.key (keeps_but keep item)
     → KeepsPartlyOut state layout keep chains unlinked from → is_listed state item ≡ true → keep item ≡ true → IsRemovalDone from (layout.place item) between → IsUnlinking (record layout { chains = chains }) chains between image
     → Finds (rest (doomed number state (Some object))) image
 
--- the durable contents with an object doomed are recovered while blocks are freed, once its main item is out
+-- the durable contents with an object doomed are held while blocks are freed, once its main item is out
 abbrev pub FreeingFindsDoomed : Type 0
 FreeingFindsDoomed = (state : State) (layout : Layout) (number : ℕ) (object : Object) (keep : Item → Bool) (chains : ℕ → List ℕ) (unlinked : List ℕ) (from image : Image) → object_at state number ≡ Some object → LeavesOtherKeys object.key keep
-    → KeepsPartlyOut state layout keep chains unlinked from → HaveGrown from image → (IsWellFormed from → IsWellFormed image) → Finds (rest (doomed number state (Some object))) image
+    → KeepsPartlyOut state layout keep chains unlinked from → HaveGrown from image → KeepsHeaders from image → Finds (rest (doomed number state (Some object))) image
 
--- the durable contents with an object doomed are recovered while the external file of an unlinked word is changed or deleted, once its main item is out
+-- the durable contents with an object doomed are held while the external file of an unlinked word is changed or deleted, once its main item is out
 abbrev pub DeletingFindsDoomed : Type 0
 DeletingFindsDoomed = (state : State) (layout : Layout) (number : ℕ) (object : Object) (keep : Item → Bool) (chains : ℕ → List ℕ) (w : ℕ) (unlinked : List ℕ) (from image : Image) → object_at state number ≡ Some object → LeavesOtherKeys object.key keep
     → KeepsPartlyOut state layout keep chains (w ∷ unlinked) from → kind_of w ≡ external → SameOutside (whole (External (external_number w))) from image → Finds (rest (doomed number state (Some object))) image

@@ -42,7 +42,7 @@ pub record IsRemoved (layout : Layout) (item : Item) (was : Loaded) (from image 
   pub leaves : LeavesFiles removing.between image
   pub sealed : (node : ℕ) (loaded : Loaded) → layout.at node ≡ Some loaded → AreSealed removing.between loaded → AreSealed image loaded
 
--- while the record of an object without parts and without a handle goes out of its chain, the durable contents with it doomed are recovered, before the word
+-- while the record of an object without parts and without a handle goes out of its chain, the durable contents with it doomed are held, before the word
 -- that takes it out and from then on
 abbrev pub RemovingFindsDoomed : Type 0
 RemovingFindsDoomed = (state : State) (layout : Layout) (unlinked : List ℕ) (from image : Image) (number : ℕ) (object : Object) (was : Loaded) → KeepsUncounted state layout unlinked from → object_at state number ≡ Some object → object.live ≡ true → object.parts ≡ [] → is_named state number ≡ false
@@ -56,7 +56,7 @@ DoomedObjectsAreRemoved =
     → is_named state number ≡ false
     → IsRemoved layout (main object.key) was from image → KeepsUncounted (doomed number state (Some object)) (layout_removed layout (layout.place (main object.key)) was.contents) (words_of was ++ unlinked) image
 
--- while the record of a part that goes alone goes out of its chain, the durable contents without the part are recovered
+-- while the record of a part that goes alone goes out of its chain, the durable contents without the part are held
 abbrev pub RemovingFindsPartGone : Type 0
 RemovingFindsPartGone = (state : State) (layout : Layout) (unlinked : List ℕ) (from image : Image) (number n : ℕ) (object : Object) (was : Loaded) → KeepsUncounted state layout unlinked from → object_at state number ≡ Some object → object.live ≡ true → is_some (part_at object n) ≡ true
     → (IsRemoving layout (part object.key n) was layout.chains from image → Finds (rest (without (single object.key n ∷ []) state)) image) × (IsRemoving layout (part object.key n) was (chains_without layout was.contents) from image → Finds (rest (without (single object.key n ∷ []) state)) image)

@@ -43,7 +43,7 @@ pub record IsMarked (from : Image) (node mark : ℕ) (image : Image) : Type 0 wh
   pub now : (node_at image node).dirty ≡ mark
   pub sealed : IsSealed image node
 
--- while the dirty word of a main item's node changes, the durable contents are recovered with the object clean or dirty as before, or as it is afterwards
+-- while the dirty word of a main item's node changes, the durable contents are held with the object clean or dirty as before, or as it is afterwards
 abbrev pub MarkingFindsEither : Type 0
 MarkingFindsEither = (state : State) (layout : Layout) (unlinked : List ℕ) (from image : Image) (number : ℕ) (object : Object) (loaded : Loaded) (mark : ℕ) → KeepsUncounted state layout unlinked from → IsPlacedAsLive state layout number object loaded
     → IsValidState (marked state number object (mark == 0)) → IsMarking from (layout.place (main object.key)) mark image → Finds (rest state) image ⊎ Finds (rest (marked state number object (mark == 0))) image
@@ -63,7 +63,7 @@ MarkingKeepsTheCounters = (state : State) (layout : Layout) (unlinked : List ℕ
 
 -- The dirty word of a doomed object, which a Write to a clean one sets.
 
--- while the dirty word of a doomed object's node changes, the old durable contents are recovered
+-- while the dirty word of a doomed object's node changes, the old durable contents are held
 abbrev pub DoomedMarkingFindsTheSame : Type 0
 DoomedMarkingFindsTheSame = (state : State) (layout : Layout) (unlinked : List ℕ) (from image : Image) (number : ℕ) (object : Object) (loaded : Loaded) (mark : ℕ) → KeepsUncounted state layout unlinked from → IsPlacedAsDoomed state layout number object loaded
     → IsMarking from (layout.place_of_doomed number) mark image → Finds (rest state) image

@@ -7,7 +7,7 @@ use Rattle.blk_model.specs.Items.{Item, same_item}
 use Rattle.blk_model.specs.State.{State, Object, IsValidState, object_at}
 use Rattle.blk_model.specs.Totals.{is_doomed_slot}
 use Rattle.spec_image.specs.Image.{Image}
-use Rattle.spec_format.specs.BlockFiles.{is_among, IsWellFormed}
+use Rattle.spec_format.specs.BlockFiles.{is_among, KeepsHeaders}
 use Rattle.spec_format.specs.Headers.{table_length}
 use Rattle.spec_folder.specs.Chains.{IsChain}
 use Rattle.spec_folder.specs.Completion.{remove}
@@ -54,7 +54,7 @@ layout_unlisted layout node = placed_less layout (put layout.at node None) layou
 abbrev pub layout_removed : Layout → ℕ → ℕ → Layout
 layout_removed layout node contents = placed_less layout (put layout.at node None) (chains_without layout contents) (owner_without layout node)
 
--- at each word of the removal of an item's node the old durable contents are recovered, and from the second write on the durable contents without the item
+-- at each word of the removal of an item's node the old durable contents are held, and from the second write on the durable contents without the item
 abbrev pub RemovalsFindEither : Type 0
 RemovalsFindEither =
     (state : State) (layout : Layout) (unlinked : List ℕ) (objects : List (Option Object)) (keep : Item → Bool) (item : Item) (was : Loaded) (from image : Image)
@@ -70,9 +70,9 @@ pub record IsUnlinking (layout : Layout) (chains : ℕ → List ℕ) (from image
   pub only : OnlyLinksChange word (store_of from) (store_of image)
   pub list : list_of image ≡ list_of from
   pub whole : (other : ℕ) → other < table_length → IsChain (store_of image) other (chains other)
-  pub well_formed : IsWellFormed from → IsWellFormed image
+  pub headers : KeepsHeaders from image
 
--- while the record of an item that is out of the list goes out of its chain, the durable contents without the item are recovered
+-- while the record of an item that is out of the list goes out of its chain, the durable contents without the item are held
 abbrev pub UnlinkingFindsTheOthers : Type 0
 UnlinkingFindsTheOthers =
     (state : State) (layout : Layout) (unlinked : List ℕ) (objects : List (Option Object)) (keep : Item → Bool) (item : Item) (was : Loaded) (from between image : Image)

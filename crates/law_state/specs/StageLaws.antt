@@ -31,7 +31,7 @@ pub record IsAtStage (words : List ℕ) (state : State) (moment : ℕ) (request 
   pub kept : KeepsUncounted inner layout (words ++ unlinked) image
   pub left : MayLeave state moment request (rest inner)
 
--- the folder is well formed, and its recovered contents are a crash outcome of the request
+-- the headers are sound, and what is held is a crash outcome of the request
 pub record FindsLeft (state : State) (moment : ℕ) (request : Request) (image : Image) : Type 0 where
   pub held : List Row
   pub left : MayLeave state moment request held
@@ -45,12 +45,12 @@ MayStopBetween keeps told now later moment request = ForKept keeps told (λ stat
 abbrev pub StagesGoOn : Type 0
 StagesGoOn = (before after : List ℕ) (state : State) (moment : ℕ) (request : Request) (from image : Image) → KeepsWith before after from image → IsAtStage before state moment request from → IsAtStage after state moment request image
 
--- at a stage, a call after each of whose words the old durable contents are recovered may crash at each
+-- at a stage, a call after each of whose words the old durable contents are held may crash at each
 abbrev pub StagesMayStop : (keeps : State → Image → Type 0) → Type 0
 StagesMayStop keeps = (told now later : Told) (moment : ℕ) (request : Request) (words : List ℕ) → ForKept keeps told (λ state. ForSome now.files (IsAtStage words state moment request))
     → Passes now later (λ image. ForSome now.files (λ from. StillFinds words from image)) → MayStopBetween keeps told now later moment request
 
--- a call at each of whose words a crash outcome of the request is recovered may crash at each
+-- a call at each of whose words a crash outcome of the request is held may crash at each
 abbrev pub WhatIsFoundMayStop : (keeps : State → Image → Type 0) → Type 0
 WhatIsFoundMayStop keeps = (told now later : Told) (moment : ℕ) (request : Request) → ForKept keeps told (λ state. Passes now later (FindsLeft state moment request)) → MayStopBetween keeps told now later moment request
 

@@ -15,7 +15,7 @@ use Rattle.law_state.specs.Changes.{Finds}
 use Rattle.law_state.specs.Commands.{MayStop}
 use Rattle.law_state.specs.CommandStates.{IsUnsettled, KeepsOtherKeys, MayLeave, Unsettles, amidst, in_order, with_names, with_room}
 
--- a request may crash where a crash outcome of it is recovered
+-- a request may crash where a crash outcome of it is held
 abbrev pub WhatIsLeftMayStop : Type 0
 WhatIsLeftMayStop = (state : State) (moment : ℕ) (request : Request) (held : List Row) (image : Image) → MayLeave state moment request held → Finds held image → MayStop state moment request image
 

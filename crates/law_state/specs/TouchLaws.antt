@@ -15,7 +15,7 @@ use Rattle.law_state.specs.Changes.{Finds}
 use Rattle.law_state.specs.Commands.{MayStop}
 use Rattle.law_state.specs.Keeping.{KeepsUncounted}
 
--- at each word of the access of an item's node the old durable contents are recovered, and from the second write on the durable contents with the item in front
+-- at each word of the access of an item's node the old durable contents are held, and from the second write on the durable contents with the item in front
 abbrev pub TouchesFindEither : Type 0
 TouchesFindEither = (state : State) (layout : Layout) (unlinked : List ℕ) (from image : Image) → KeepsUncounted state layout unlinked from → (item : Item) → is_listed state item ≡ true
     → (touched : IsTouched from (layout.place item) (touch_writes (layout.place item) (list_of from)) image) → Finds (if nat_lt touched.made 2 then rest state else rest (record state { uses = used item state.uses })) image

@@ -1,7 +1,6 @@
 -- Where each command may crash, at each word of its calls: uses of items, dirty words, removals and groups.
 use Rattle.std.specs.Prelude.{◌≡◌, ◌⊎◌, ℕ, Bool, List, [], ◌∷◌, ◌++◌, None, Some, filter, false, not, if◌then◌else◌, nat_lt, true}
 use Rattle.spec_image.specs.Image.{Image}
-use Rattle.spec_format.specs.BlockFiles.{IsWellFormed}
 use Rattle.blk_model.specs.EvictionLaws.{EvictsFirst}
 use Rattle.blk_model.specs.Items.{Item, key_of, main, part, same_item}
 use Rattle.blk_model.specs.State.{IsValidState, Object, State, is_named, object_at}
@@ -11,6 +10,7 @@ use Rattle.blk_model.specs.ListSteps.{dooms, uses_of}
 use Rattle.blk_model.specs.Refusals.{refused}
 use Rattle.blk_model.specs.Request.{IsRequest, Request, to_close, to_flush}
 use Rattle.blk_model.specs.Room.{Group, single, whole, without}
+use Rattle.spec_format.specs.BlockFiles.{HasSoundHeaders}
 use Rattle.spec_folder.specs.Completion.{remove}
 use Rattle.spec_folder.specs.Layout.{HoldsExcept, Layout, is_listed, nodes_of}
 use Rattle.spec_folder.specs.ListImages.{HasListAtRest}
@@ -44,7 +44,7 @@ UnsettledUsesMayStop = (state : State) (moment : ℕ) (request : Request) (numbe
 
 -- Dirty words.
 
--- a request may crash while it makes its object dirty: with the object clean or dirty, the durable contents are recovered
+-- a request may crash while it makes its object dirty: with the object clean or dirty, the durable contents are held
 abbrev pub UnsettlingMayStop : Type 0
 UnsettlingMayStop = (state : State) (moment : ℕ) (request : Request) (number : ℕ) (object : Object) (image : Image) → IsValidState state → Unsettles state moment request number object
     → Finds (rest (with_room state moment request)) image ⊎ Finds (rest (marked (with_room state moment request) number object false)) image → MayStop state moment request image
@@ -65,7 +65,7 @@ CleaningMayStop = (state : State) (moment handle number : ℕ) (object : Object)
 abbrev pub IsMidRemoval : Layout → Item → Image → Image → Type 0
 IsMidRemoval layout item from image = IsPartly from (writes_of remove (layout.place item) (list_of from)) image
 
--- at each word of the removal of an object's main item the old durable contents are recovered, and from the second write on the durable contents with the
+-- at each word of the removal of an object's main item the old durable contents are held, and from the second write on the durable contents with the
 -- object doomed
 abbrev pub DoomsFindEither : Type 0
 DoomsFindEither = (state : State) (layout : Layout) (unlinked : List ℕ) (from image : Image) (number : ℕ) (object : Object) → KeepsUncounted state layout unlinked from → object_at state number ≡ Some object → object.live ≡ true
@@ -74,7 +74,7 @@ DoomsFindEither = (state : State) (layout : Layout) (unlinked : List ℕ) (from 
 -- some items are still listed, among them all of other keys and not the main item of this key, and what lies at their nodes is there, whatever lies at the
 -- others
 pub record IsOut (state : State) (layout : Layout) (key : List ℕ) (keep : Item → Bool) (image : Image) : Type 0 where
-  pub well_formed : IsWellFormed image
+  pub sound : HasSoundHeaders image
   pub except : ℕ → Bool
   pub holds : HoldsExcept except (store_of image) state layout
   pub out : keep (main key) ≡ false
@@ -82,42 +82,42 @@ pub record IsOut (state : State) (layout : Layout) (key : List ℕ) (keep : Item
   pub there : (item : Item) → is_listed state item ≡ true → keep item ≡ true → except (layout.place item) ≡ false
   pub list : HasListAtRest (nodes_of layout (filter keep state.uses)) image
 
--- once an object's main item is out of the list, the durable contents with the object doomed are recovered, while its record is unlinked and marked or freed
+-- once an object's main item is out of the list, the durable contents with the object doomed are held, while its record is unlinked and marked or freed
 abbrev pub OutIsDoomed : Type 0
 OutIsDoomed = (state : State) (layout : Layout) (number : ℕ) (object : Object) (keep : Item → Bool) (image : Image) → IsValidState state → object_at state number ≡ Some object → IsOut state layout object.key keep image → Finds (rest (doomed number state (Some object))) image
 
--- at each word of the removal of a part, once the main item is out of the list, the durable contents with the object doomed are recovered
+-- at each word of the removal of a part, once the main item is out of the list, the durable contents with the object doomed are held
 abbrev pub DoomedPartsFindTheSame : Type 0
 DoomedPartsFindTheSame = (state : State) (layout : Layout) (number : ℕ) (object : Object) (keep : Item → Bool) (n : ℕ) (from image : Image) → IsValidState state → object_at state number ≡ Some object → IsOut state layout object.key keep from
     → is_listed state (part object.key n) ≡ true → keep (part object.key n) ≡ true → IsMidRemoval layout (part object.key n) from image → Finds (rest (doomed number state (Some object))) image
 
--- a Doom or a DoomKey may crash where the durable contents before it are recovered, or those with its object doomed
+-- a Doom or a DoomKey may crash where the durable contents before it are held, or those with its object doomed
 abbrev pub DoomsMayStop : Type 0
 DoomsMayStop = (state : State) (moment : ℕ) (request : Request) (number : ℕ) (object : Object) (before : Bool) (image : Image) → IsValidState state → IsRequest request → refused moment request state ≡ None → IsDoomOf request state number → object_at state number ≡ Some object
     → Finds (if before then rest state else rest (doomed number state (Some object))) image → MayStop state moment request image
 
 -- Parts that go alone.
 
--- at each word of the removal of a part the old durable contents are recovered, and from the second write on the durable contents without the part
+-- at each word of the removal of a part the old durable contents are held, and from the second write on the durable contents without the part
 abbrev pub PartsFindEither : Type 0
 PartsFindEither = (state : State) (layout : Layout) (unlinked : List ℕ) (from image : Image) (key : List ℕ) (n : ℕ) → KeepsUncounted state layout unlinked from → is_listed state (part key n) ≡ true
     → (removed : IsMidRemoval layout (part key n) from image) → Finds (if nat_lt removed.made 2 then rest state else rest (without (single key n ∷ []) state)) image
 
 -- all items but a part are listed, and what lies at their nodes is there, whatever lies at the part's
 pub record IsPartOut (state : State) (layout : Layout) (key : List ℕ) (n : ℕ) (image : Image) : Type 0 where
-  pub well_formed : IsWellFormed image
+  pub sound : HasSoundHeaders image
   pub except : ℕ → Bool
   pub holds : HoldsExcept except (store_of image) state layout
   pub there : (item : Item) → is_listed state item ≡ true → same_item (part key n) item ≡ false → except (layout.place item) ≡ false
   pub list : HasListAtRest (nodes_of layout (filter (λ item. not (same_item (part key n) item)) state.uses)) image
 
--- once a part is out of the list the durable contents without it are recovered
+-- once a part is out of the list the durable contents without it are held
 abbrev pub PartOutIsGone : Type 0
 PartOutIsGone = (state : State) (layout : Layout) (key : List ℕ) (n : ℕ) (image : Image) → IsValidState state → IsPartOut state layout key n image → Finds (rest (without (single key n ∷ []) state)) image
 
 -- Groups.
 
--- a request may crash while its next group is evicted: the durable contents before that are recovered, or those without the group
+-- a request may crash while its next group is evicted: the durable contents before that are held, or those without the group
 abbrev pub GroupsMayStop : Type 0
 GroupsMayStop = (state : State) (moment : ℕ) (request : Request) (first others : List Group) (group : Group) (before : Bool) (image : Image) → IsValidState state → EvictsFirst state moment request first (group ∷ others)
     → Finds (if before then rest (without first state) else rest (without (group ∷ []) (without first state))) image → MayStop state moment request image

@@ -44,7 +44,7 @@ pub fn objects_are_marked()
     ensures counted { MarkingKeepsTheCounters }
 {}
 
-/// While the dirty flag of a doomed object's node changes, recovery gives the old durable contents; then the folder keeps the state in which the object is
+/// While the dirty flag of a doomed object's node changes, the folder holds the old durable contents; then the folder keeps the state in which the object is
 /// clean where the flag is 0, and else dirty. The counters stay right, since they count no doomed object.
 pub fn doomed_objects_are_marked()
     ensures find { DoomedMarkingFindsTheSame }
@@ -60,7 +60,7 @@ pub fn counters_are_written()
     ensures counted { WrittenCountersCount }
 {}
 
-/// While an external file is made, or that of an unlinked word is changed or deleted, recovery gives the old durable contents. It is made (`AddsExternal`) once
+/// While an external file is made, or that of an unlinked word is changed or deleted, the folder holds the old durable contents. It is made (`AddsExternal`) once
 /// it is there, and deleted (`RemovesExternal`) once it isn't.
 pub fn external_files_come_and_go()
     ensures making { MakingFilesFindsTheSame }
@@ -69,7 +69,7 @@ pub fn external_files_come_and_go()
     ensures deleted { DeletedFilesAreRemoved }
 {}
 
-/// While the node of a new object's entry is inserted and its record is linked, recovery gives the old durable contents; then the folder keeps the state with
+/// While the node of a new object's entry is inserted and its record is linked, the folder holds the old durable contents; then the folder keeps the state with
 /// the object but for the counters, and the entry's words are unlinked no longer. That state has one item more, with its cost.
 pub fn new_entries_are_kept()
     ensures inserting { InsertsFindTheSame }
@@ -91,7 +91,7 @@ pub fn new_parts_are_shown()
     ensures ends { NewPartsEnd }
 {}
 
-/// While a part of a sparse object is made, recovery gives the old durable contents of the folder, and from the second write of its insert on those with the
+/// While a part of a sparse object is made, the folder holds the old durable contents of the folder, and from the second write of its insert on those with the
 /// part. Then the folder keeps the state with the part but for the counters, and the part's words are unlinked no longer.
 pub fn new_parts_are_kept()
     ensures inserting { PartInsertsFindEither }
@@ -113,7 +113,7 @@ pub fn handles_are_not_kept()
     ensures counted { HandlesAreNotCounted }
 {}
 
-/// While what lies at a node of a dirty or a doomed object changes, and what unlinked words name, recovery gives the old durable contents. Once it has changed,
+/// While what lies at a node of a dirty or a doomed object changes, and what unlinked words name, the folder holds the old durable contents. Once it has changed,
 /// and its words and the unlinked ones are those that were there, the folder keeps the changed state but for the counters.
 pub fn changed_objects_are_kept()
     ensures unsettled { UnsettledItemsFindTheSame }
@@ -129,7 +129,7 @@ pub fn gone_objects_are_unlinked()
     ensures counted { GoneObjectsAreNotCounted }
 {}
 
-/// While an item goes out of the LRU list, recovery gives the old durable contents, and from the second write on those without it, also while its record goes
+/// While an item goes out of the LRU list, the folder holds the old durable contents, and from the second write on those without it, also while its record goes
 /// out of its chain. Then the folder keeps the state without it but for the counters, and its words are unlinked.
 pub fn removed_items_are_unlinked()
     ensures removing { RemovalsFindEither }

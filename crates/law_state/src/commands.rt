@@ -135,7 +135,7 @@ pub fn uses_may_be_stopped()
     ensures cleans { CleaningMayStop }
 {}
 
-/// At each word of the removal of an object's main item, recovery gives the old durable contents, and from the second write on those with the object doomed; of
+/// At each word of the removal of an object's main item, the folder holds the old durable contents, and from the second write on those with the object doomed; of
 /// a part that goes alone it gives the old ones, and then those without it. So a Doom or a DoomKey may crash there, and a request while its next group is
 /// evicted.
 pub fn removals_may_be_stopped()
@@ -180,7 +180,7 @@ pub fn commands_of_one_call()
     ensures unsettling_stops { UnsettlingMarksMayStop }
 {}
 
-/// While the record of a plain object without a handle, or of a part that goes alone, goes out of its chain, recovery gives the durable contents without it.
+/// While the record of a plain object without a handle, or of a part that goes alone, goes out of its chain, the folder holds the durable contents without it.
 /// Once it is removed, the folder keeps the state without it but for the counters, and its words are unlinked. So a Doom or a DoomKey of a plain object ends,
 /// with or without a handle, and so the next group is evicted.
 pub fn plain_objects_are_removed()
@@ -219,7 +219,7 @@ pub fn held_objects_go_part_after_part()
     ensures dooms { HeldOutDoomsEnd }
 {}
 
-/// Once the main item of an object is out, and while its parts go out one after another, recovery gives the durable contents with the object doomed. So it does
+/// Once the main item of an object is out, and while its parts go out one after another, the folder holds the durable contents with the object doomed. So it does
 /// at each word of the removal of a part, while a record goes out of its chain, while blocks are freed and while an external file is deleted; and there a Doom
 /// or a DoomKey may crash, and a request whose next group is evicted.
 pub fn parts_may_be_stopped_between()

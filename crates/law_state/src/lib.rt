@@ -2,8 +2,10 @@
 //! bodies.
 #![tactic(auto)]
 
+ghost use Rattle.law_state.specs.Changes.{HeldIsFound};
+ghost use Rattle.law_state.specs.Commands.{FinishedFoldersMayStop, FinishedFoldersMayStopAlong};
 ghost use Rattle.law_state.specs.Keeping.{KeepsSome};
-ghost use Rattle.law_state.specs.KeepingLaws.{KeptStatesAreFound, KeptStatesAreStoodFor, KeptStatesAreSound, FoldersWithoutEntriesKeepTheEmptyState, OpenedFoldersKeepTheirState};
+ghost use Rattle.law_state.specs.KeepingLaws.{KeptStatesAreHeld, KeptStatesAreFound, KeptStatesAreStoodFor, KeptStatesAreSound, FoldersWithoutEntriesKeepTheEmptyState, OpenedFoldersKeepTheirState};
 ghost use Rattle.law_state.specs.TouchLaws.{TouchesFindEither, OpensMayStop};
 ghost use Rattle.law_state.specs.CommandLaws.{RequestsMayStopBefore, RequestsMayStopAfter, RequestsMayStopOnceEvicted, KeptStatesMayStop, SaysKept, NothingMayStop, NothingIsDone, RefusalsAreDone, QuietRequestsKeepTheState, CallsMayStop};
 ghost use Rattle.law_state.specs.ChangeLaws.{WhatIsKeptIsFound, SameCountersCountTheSame, UnlinkedPlacesMayChange, BlockWritesChangeOnly, ExternalWritesChangeOnly, OtherWordsChangeOnly, GrowthFindsTheSame, AllocatedBlocksAreUnlinked, FreedBlocksAreGone, MadeFilesAreUnlinked, DeletedFilesAreGone};
@@ -33,6 +35,7 @@ pub use commands::{
 /// The recovered contents of a folder that keeps a state are the durable contents of that state. With nothing unlinked the folder represents the state, and is
 /// consistent where each object is live and clean.
 pub fn kept_states_are_stood_for()
+    ensures held { KeptStatesAreHeld }
     ensures found { KeptStatesAreFound }
     ensures stands { KeptStatesAreStoodFor }
     ensures sound { KeptStatesAreSound }
@@ -51,6 +54,7 @@ pub fn opened_folders_keep_their_state()
 /// After a call that keeps each state that was kept, the durable contents of such a state are recovered; where it leaves the counters of the index as they
 /// were, it keeps the state with its counters.
 pub fn calls_keep_states()
+    ensures held { HeldIsFound }
     ensures found { WhatIsKeptIsFound }
     ensures counters { SameCountersCountTheSame }
 {}
@@ -66,7 +70,7 @@ pub fn unlinked_places_may_change()
 {}
 
 /// The allocation of blocks keeps each state, with their word unlinked; the freeing of unlinked blocks keeps it too, and their word is in use no longer. While
-/// block files grow, in a folder that stays well formed, recovery gives the durable contents.
+/// block files grow, in a folder that stays well formed, the folder holds the durable contents.
 pub fn blocks_are_allocated()
     ensures growth { GrowthFindsTheSame }
     ensures unlinked { AllocatedBlocksAreUnlinked }
@@ -80,6 +84,8 @@ pub fn requests_may_be_stopped()
     ensures after { RequestsMayStopAfter }
     ensures evicted { RequestsMayStopOnceEvicted }
     ensures kept { KeptStatesMayStop }
+    ensures finished { FinishedFoldersMayStop }
+    ensures along { FinishedFoldersMayStopAlong }
 {}
 
 /// A request of which no step was made may crash, and is done where it leaves the state as it is and its answer is the model's, as a refusal, a List, a Total

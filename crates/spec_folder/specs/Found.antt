@@ -39,9 +39,13 @@ kept image = kept_by held_rule (completed (view_of image))
 unfoldable pub dropped : Image → List (ℕ × Reason)
 dropped image = dropped_by held_rule (completed (view_of image))
 
+-- the rows of the kept records, in the order of the LRU list, whether or not the index is initialized
+abbrev pub held : Image → List Row
+held image = map row_of_loaded (kept image)
+
 -- the recovered contents of a folder: the rows of the kept records, in the order of the LRU list; none of an uninitialized folder
 unfoldable pub found : Image → List Row
-found image = if unfinished image then [] else map row_of_loaded (kept image)
+found image = if unfinished image then [] else held image
 
 -- the recovered contents are those of another image; the folder is well formed where that one was, and usable where that one was so
 pub record HoldsStill (entry image : Image) : Type 0 where

@@ -3,7 +3,7 @@ use Rattle.std.specs.Prelude.{◌≡◌, ◌≤◌, ℕ, true, List, [], ◌∷�
 use Rattle.spec_image.specs.Image.{Index, Image, AreBytes, length_of}
 use Rattle.spec_image.specs.Steps.{TrailStep, after}
 use Rattle.spec_format.specs.Headers.{header_length}
-use Rattle.spec_format.specs.BlockFiles.{IsWellFormed}
+use Rattle.spec_format.specs.BlockFiles.{KeepsHeaders}
 use Rattle.spec_folder.specs.ListView.{ListWrite, IsAtRest}
 use Rattle.spec_folder.specs.Walk.{walk}
 use Rattle.spec_folder.specs.Completion.{completed_list}
@@ -66,9 +66,9 @@ abbrev pub stopped_folder : List ℕ → Image → Image
 stopped_folder [] image = image
 stopped_folder (count ∷ counts) image = stopped_folder counts (after (take count (completion_steps image)) image)
 
--- the redo gives the same LRU list and the same walk of two images; they show the same but for the list, and the new one is well formed if the old one was
+-- the redo gives the same LRU list and the same walk of two images; they show the same but for the list, and the headers are kept
 pub record StopsAlike (from image : Image) : Type 0 where
   pub list : CompletesAlike from image
   pub walk : completed_walk image ≡ completed_walk from
   pub store : ShowsTheSame (store_of from) (store_of image)
-  pub well_formed : IsWellFormed from → IsWellFormed image
+  pub headers : KeepsHeaders from image

@@ -5,7 +5,7 @@ use Rattle.spec_image.specs.Steps.{TrailStep, word_step, after}
 use Rattle.spec_image.specs.Footprint.{Footprint, SameOutside, nothing, one_word, either}
 use Rattle.spec_format.specs.Address.{kind_of, rankings}
 use Rattle.spec_format.specs.Records.{node_is_sealed, node_next_place, node_prev_place}
-use Rattle.spec_format.specs.BlockFiles.{IsWellFormed}
+use Rattle.spec_format.specs.BlockFiles.{KeepsHeaders}
 use Rattle.spec_format.specs.Sealed.{sealed_steps, record_range}
 use Rattle.spec_folder.specs.ListView.{ListWrite, Next, Prev, Head, Tail, Transaction, Operation}
 use Rattle.spec_folder.specs.View.{node_at}
@@ -47,7 +47,7 @@ pub record IsPartly (from : Image) (writes : List ListWrite) (image : Image) : T
   pub within : made ≤ length writes
   pub shown : OnlyListChanges (take made writes) from image
   pub outside : SameOutside (touched_by_writes writes) from image
-  pub well_formed : IsWellFormed from → IsWellFormed image
+  pub headers : KeepsHeaders from image
 
 -- P holds of each node whose next or prev is written
 abbrev pub AreOf : (ℕ → Type 0) → List ListWrite → Type 0
@@ -110,4 +110,4 @@ pub record IsTouched (from : Image) (node : ℕ) (writes : List ListWrite) (imag
   pub within : made ≤ length writes
   pub shown : OnlyListChanges (take made writes) from image
   pub outside : SameOutside (either (touched_by_writes writes) (record_range node)) from image
-  pub well_formed : IsWellFormed from → IsWellFormed image
+  pub headers : KeepsHeaders from image

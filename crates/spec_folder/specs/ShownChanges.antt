@@ -2,7 +2,7 @@
 use Rattle.std.specs.Prelude.{◌≡◌, ◌≢◌, ◌⊎◌, ℕ, true, false, nat_le, List}
 use Rattle.std.specs.declared.option.Option.TheVariants.{Some}
 use Rattle.spec_image.specs.Image.{Image}
-use Rattle.spec_format.specs.BlockFiles.{stands_in, IsWellFormed}
+use Rattle.spec_format.specs.BlockFiles.{stands_in, KeepsHeaders}
 use Rattle.spec_format.specs.Claims.{claims_of, has_claim}
 use Rattle.spec_folder.specs.ListView.{ListWrite, after_writes}
 use Rattle.spec_folder.specs.View.{StoreView, RecordFields, list_of, store_of, view_of}
@@ -11,11 +11,11 @@ use Rattle.spec_folder.specs.Entries.{is_key_length}
 use Rattle.spec_folder.specs.Footprint.{IsClear, SameStore, SameBut}
 use Rattle.spec_format.specs.Storage.{longest_short_key}
 
--- two images show the same but for the blocks of a word, the same addresses are valid, and the new one is well formed if the old one was
+-- two images show the same but for the blocks of a word, the same addresses are valid, and the headers are kept
 pub record ChangesInside (w : ℕ) (from image : Image) : Type 0 where
   pub shown : SameBut (has_claim (claims_of w)) (view_of from) (view_of image)
   pub stands : (u : ℕ) → stands_in image u ≡ stands_in from u
-  pub well_formed : IsWellFormed from → IsWellFormed image
+  pub headers : KeepsHeaders from image
 
 -- two store views agree on all words and on the table
 pub record ShowsTheSame (old new : StoreView) : Type 0 where

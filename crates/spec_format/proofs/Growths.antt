@@ -8,6 +8,7 @@ use Rattle.spec_format.specs.Address.{kind_of, file_selector, first_block, block
 use Rattle.spec_format.specs.BlockFiles.{linked_as, max_entries_in, stands_in_blocks}
 use Rattle.spec_format.specs.Standing.{is_linked_as, stands_as_blocks}
 use Rattle.spec_format.specs.Growth.{HaveGrown, KeepsBlocks, StaysWhole}
+use Rattle.spec_format.proofs.Finished.{headers-kept, headers-next}
 use Rattle.spec_format.proofs.SpareHeaders.{past_header}
 
 -- nothing has changed
@@ -34,10 +35,10 @@ grown_then a b c one other = record {
 
 -- a folder that stays whole, where nothing or one change after another is made
 pub whole_not : (image : Image) → StaysWhole image image
-whole_not image = record { grown = grown_not image; formed = λ was. was }
+whole_not image = record { grown = grown_not image; headers = headers-kept image }
 
 pub whole_then : (a b c : Image) → StaysWhole a b → StaysWhole b c → StaysWhole a c
-whole_then a b c one other = record { grown = grown_then a b c one.grown other.grown; formed = λ was. other.formed (one.formed was) }
+whole_then a b c one other = record { grown = grown_then a b c one.grown other.grown; headers = headers-next a b c one.headers other.headers }
 
 -- a file that is linked as a kind
 is_linked : (o : Option ℕ) (kind : ℕ) → is_linked_as o kind ≡ true → o ≡ Some kind

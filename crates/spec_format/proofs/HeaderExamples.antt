@@ -6,7 +6,7 @@ use Rattle.std.specs.declared.option.Option.{Option}
 use Rattle.spec_image.specs.Bytes.{content, word_bytes}
 use Rattle.spec_image.specs.Image.{Image, Index, empty_image, with_file}
 use Rattle.spec_image.specs.Checks.{Damage, first_of}
-use Rattle.spec_format.specs.Headers.{head_checks, list_checks, unfinished, first_index_damage, place_of_bucket, index_length, table_length}
+use Rattle.spec_format.specs.Headers.{field_checks, head_checks, list_checks, unfinished, first_index_damage, place_of_bucket, index_length, table_length}
 
 -- a header with these fields, and zeros elsewhere
 header : ℕ → ℕ → ℕ → ℕ → ℕ → ℕ → ℕ
@@ -17,68 +17,68 @@ damage : ℕ → ℕ → Option Damage
 damage at found = Some (record { file = Index; at = at; found = found })
 
 whole_index : first_of (head_checks (header 0xC103CAC3 0x20000 0 65536 0) 262512) ≡ None
-unfolding header head_checks
+unfolding header field_checks head_checks
 whole_index = refl
 
 new_version : first_of (head_checks (header 0xC103CAC3 0x30000 0 65536 0) 262512) ≡ None
-unfolding header head_checks
+unfolding header field_checks head_checks
 new_version = refl
 
 no_table_length : first_of (head_checks (header 0xC103CAC3 0x20000 0 0 0) 262512) ≡ None
-unfolding header head_checks
+unfolding header field_checks head_checks
 no_table_length = refl
 
 other_magic : first_of (head_checks (header 0xC103CAC4 0x20000 0 65536 0) 262512) ≡ damage 0 0xC103CAC4
-unfolding header damage head_checks
+unfolding header damage field_checks head_checks
 other_magic = refl
 
 short_index : first_of (head_checks (header 0xC103CAC3 0x20000 0 65536 0) 262511) ≡ damage 262512 262511
-unfolding header damage head_checks
+unfolding header damage field_checks head_checks
 short_index = refl
 
 huge_index : first_of (head_checks (header 0xC103CAC3 0x20000 0 65536 0) (2 ^ 32 + 262512)) ≡ damage 262512 262512
-unfolding header damage head_checks
+unfolding header damage field_checks head_checks
 huge_index = refl
 
 other_version : first_of (head_checks (header 0xC103CAC3 0x20001 0 65536 0) 262512) ≡ damage 4 0x20001
-unfolding header damage head_checks
+unfolding header damage field_checks head_checks
 other_version = refl
 
 later_version : first_of (head_checks (header 0xC103CAC3 0x40000 0 65536 0) 262512) ≡ damage 4 0x40000
-unfolding header damage head_checks
+unfolding header damage field_checks head_checks
 later_version = refl
 
 some_stats : first_of (head_checks (header 0xC103CAC3 0x20000 0x90000000 65536 0) 262512) ≡ damage 24 0x90000000
-unfolding header damage head_checks
+unfolding header damage field_checks head_checks
 some_stats = refl
 
 table_of_one : first_of (head_checks (header 0xC103CAC3 0x20000 0 1 0) 262512) ≡ damage 28 1
-unfolding header damage head_checks
+unfolding header damage field_checks head_checks
 table_of_one = refl
 
 an_experiment : first_of (head_checks (header 0xC103CAC3 0x20000 0 65536 9) 262512) ≡ damage 36 9
-unfolding header damage head_checks
+unfolding header damage field_checks head_checks
 an_experiment = refl
 
 -- the checks go in order
 magic_before_length : first_of (head_checks (header 1 2 3 4 5) 368) ≡ damage 0 1
-unfolding header damage head_checks
+unfolding header damage field_checks head_checks
 magic_before_length = refl
 
 length_before_version : first_of (head_checks (header 0xC103CAC3 2 3 4 5) 368) ≡ damage 262512 368
-unfolding header damage head_checks
+unfolding header damage field_checks head_checks
 length_before_version = refl
 
 version_before_stats : first_of (head_checks (header 0xC103CAC3 2 3 4 5) 262512) ≡ damage 4 2
-unfolding header damage head_checks
+unfolding header damage field_checks head_checks
 version_before_stats = refl
 
 stats_before_table_len : first_of (head_checks (header 0xC103CAC3 0x20000 3 4 5) 262512) ≡ damage 24 3
-unfolding header damage head_checks
+unfolding header damage field_checks head_checks
 stats_before_table_len = refl
 
 table_len_before_experiment : first_of (head_checks (header 0xC103CAC3 0x20000 0 4 5) 262512) ≡ damage 28 4
-unfolding header damage head_checks
+unfolding header damage field_checks head_checks
 table_len_before_experiment = refl
 
 -- a content of zeros but for one byte
@@ -131,7 +131,7 @@ unfolding unfinished index_alone
 magic_alone = refl
 
 cut_after_the_magic : first_index_damage (index_alone (word_bytes 0xC103CAC3)) ≡ damage 262512 4
-unfolding head_checks list_checks damage index_alone
+unfolding field_checks head_checks list_checks damage index_alone
 cut_after_the_magic = refl
 
 buckets : (place_of_bucket 0 ≡ 368) × (place_of_bucket 65535 ≡ 262508) × (place_of_bucket table_length ≡ index_length)

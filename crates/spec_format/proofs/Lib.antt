@@ -25,3 +25,5 @@ pub mod SealedFields
 pub mod Growths
 pub mod LinkedHeads
 pub mod Groups
+pub mod Buckets
+pub mod Session

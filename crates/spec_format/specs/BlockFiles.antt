@@ -1,12 +1,12 @@
 -- The block files that are linked, the checks of their headers, and the first failed check of a folder.
 use Rattle.std.proofs.Common.{zero, suc}
-use Rattle.std.specs.Prelude.{ℕ, ◌-◌, ◌%◌, ◌≡◌, ◌⊎◌, List, [], ◌∷◌, ◌++◌, Bool, not, ◌&&◌, ◌||◌, ◌==◌, nat_le, nat_lt, if◌then◌else◌, None, Some}
+use Rattle.std.specs.Prelude.{ℕ, ◌-◌, ◌%◌, ◌≡◌, ◌⊎◌, List, [], ◌∷◌, ◌++◌, Bool, not, ◌&&◌, ◌||◌, ◌==◌, nat_le, nat_lt, if◌then◌else◌, None, Some, ◌↔◌}
 use Rattle.std.specs.List.{list_any, flat_map}
 use Rattle.std.specs.declared.option.Option.{Option}
 use Rattle.spec_image.specs.Image.{Index, Block, External, Image, has_file, length_of, byte}
 use Rattle.spec_image.specs.Checks.{Damage, first_of, check_word, check_length}
 use Rattle.spec_format.specs.Address.{rankings, blocks_256, blocks_1k, blocks_4k, block_size, header_size}
-use Rattle.spec_format.specs.Headers.{HasWholeIndex, IsUnfinished, block_magic, block_version, blocks_place, entry_size_of, entry_size_place, head_checks, list_checks, magic_of, magic_place, max_entries_of, next_file_of, this_file_of, this_file_place, version_of, version_place}
+use Rattle.spec_format.specs.Headers.{HasWholeIndex, IsUnfinished, block_magic, block_version, blocks_place, entry_size_of, entry_size_place, field_checks, head_checks, index_magic, list_checks, magic_of, magic_place, max_entries_of, next_file_of, this_file_of, this_file_place, version_of, version_place}
 use Rattle.spec_format.specs.Standing.{stands, stands_as_blocks}
 
 -- the most files of one kind
@@ -138,6 +138,27 @@ IsUsable image = IsUnfinished image ⊎ IsWellFormed image
 pub record IsDamagedBy (damage : Damage) (image : Image) : Type 0 where
   pub finished : IsUnfinished image → ⊥
   pub first : first_damage image ≡ Some damage
+
+-- no check of a header fails but perhaps that of the index's magic word, which isn't asked
+abbrev pub HasSoundHeaders : Image → Type 0
+HasSoundHeaders image = first_of (field_checks (byte image Index) (length_of image Index) ++ list_checks (byte image Index) ++ block_checks image) ≡ None
+
+-- a folder is well formed exactly where its headers are sound and the magic word of an initialized index is there
+abbrev pub WellFormedIsSound : Type 0
+WellFormedIsSound = (image : Image) → IsWellFormed image ↔ (HasSoundHeaders image × (magic_of (byte image Index) ≡ index_magic))
+
+-- sound headers stay sound, and the magic word is as before
+pub record KeepsHeaders (from image : Image) : Type 0 where
+  pub sound : HasSoundHeaders from → HasSoundHeaders image
+  pub magic : magic_of (byte image Index) ≡ magic_of (byte from Index)
+
+-- a well-formed folder whose headers are kept is well formed
+abbrev pub KeptHeadersStayFormed : Type 0
+KeptHeadersStayFormed = (from image : Image) → KeepsHeaders from image → IsWellFormed from → IsWellFormed image
+
+-- the index of a folder with sound headers has all its bytes
+abbrev pub SoundHasWholeIndex : Type 0
+SoundHasWholeIndex = (image : Image) → HasSoundHeaders image → HasWholeIndex image
 
 -- the folder has an initialized index, and no check of a header fails
 pub record IsWhole (image : Image) : Type 0 where

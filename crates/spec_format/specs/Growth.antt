@@ -3,7 +3,7 @@ use Rattle.std.specs.Prelude.{ℕ, ◌+◌, ◌≡◌, ◌<◌, ◌≤◌, true,
 use Rattle.spec_image.specs.Image.{Index, Block, External, Image, byte, length_of}
 use Rattle.spec_format.specs.Address.{byte_size, file_selector, header_size, place}
 use Rattle.spec_format.specs.Headers.{is_shown_place}
-use Rattle.spec_format.specs.BlockFiles.{linked_as, max_entries_in, stands_in_blocks, IsWellFormed}
+use Rattle.spec_format.specs.BlockFiles.{linked_as, max_entries_in, stands_in_blocks, KeepsHeaders}
 use Rattle.spec_image.specs.Footprint.{Footprint, SameOutside}
 
 -- block files have grown or been linked at most: a linked file stays linked as its kind, keeps the bytes after its header, and gets no shorter and
@@ -22,12 +22,12 @@ pub record KeepsBlocks (from image : Image) : Type 0 where
   pub bytes : (w i : ℕ) → stands_in_blocks from w ≡ true → place w ≤ i → i < place w + byte_size w
       → byte image (Block (file_selector w)) i ≡ byte from (Block (file_selector w)) i
 
--- block files have grown at most, and a well-formed folder is well formed
+-- block files have grown at most, and the headers are kept: sound ones stay sound, with the same magic word
 pub record StaysWhole (from image : Image) : Type 0 where
   pub grown : HaveGrown from image
-  pub formed : IsWellFormed from → IsWellFormed image
+  pub headers : KeepsHeaders from image
 
--- all outside a footprint is as before, block files have grown or been linked at most, and a well-formed folder stays well formed
+-- all outside a footprint is as before, block files have grown or been linked at most, and the headers are kept
 pub record StaysWholeOutside (footprint : Footprint) (from image : Image) : Type 0 where
   pub outside : SameOutside footprint from image
   pub stays : StaysWhole from image

@@ -304,16 +304,19 @@ unfinished image = not (has_file image Index) || nat_lt (length_of image Index) 
 abbrev pub UnfinishedAgrees : Type 0
 UnfinishedAgrees = (image : Image) → IsTrue (unfinished image) ↔ IsUnfinished image
 
--- the checks of an initialized index's header and length, in their order: the magic, the length, and the fields that have one value, or one of two
-unfoldable pub head_checks : (ℕ → ℕ) → ℕ → List (Option Damage)
-head_checks f length =
-    check_word Index f magic_place (magic_of f == index_magic)
-    ∷ check_length Index index_length length (length == index_length)
+-- the checks of an index's header and length but for that of the magic word, in their order: the length, and the fields that have one value, or one of two
+unfoldable pub field_checks : (ℕ → ℕ) → ℕ → List (Option Damage)
+field_checks f length =
+    check_length Index index_length length (length == index_length)
     ∷ check_word Index f version_place (is_index_version (version_of f))
     ∷ check_word Index f 24 (stats_of f == 0)
     ∷ check_word Index f 28 ((table_len_of f == 0) || (table_len_of f == table_length))
     ∷ check_word Index f 36 (experiment_of f == 0)
     ∷ []
+
+-- the checks of a finished index's header and length, in their order: the magic word, and then the others
+unfoldable pub head_checks : (ℕ → ℕ) → ℕ → List (Option Damage)
+head_checks f length = check_word Index f magic_place (magic_of f == index_magic) ∷ field_checks f length
 
 -- the places of the index's words that have to be 0: those after the first of sizes, of heads and of tails, and that of operation_list
 abbrev pub zero_places : List ℕ

@@ -12,3 +12,4 @@ pub mod Growth
 pub mod Maps
 pub mod Sealed
 pub mod NewFolder
+pub mod Session

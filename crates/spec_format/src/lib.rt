@@ -4,8 +4,9 @@
 #![tactic(auto)]
 
 ghost use Rattle.spec_format.specs.Headers.{UnfinishedAgrees};
-ghost use Rattle.spec_format.specs.BlockFiles.{WellFormedIsFinished, WellFormedHasWholeIndex};
+ghost use Rattle.spec_format.specs.BlockFiles.{KeptHeadersStayFormed, SoundHasWholeIndex, WellFormedIsFinished, WellFormedIsSound, WellFormedHasWholeIndex};
 ghost use Rattle.spec_format.specs.Names.{ReadsNames};
+ghost use Rattle.spec_format.specs.Session.{CommandsKeepSessionWords, QuietStepsKeepSessionWords};
 ghost use Rattle.spec_format.specs.Sealed.{WholeUpdatesAreMade};
 
 /// The test `unfinished` is true of an image exactly where its index is uninitialized.
@@ -22,6 +23,19 @@ pub fn reads_names()
 pub fn well_formed_is_finished()
     ensures finished { WellFormedIsFinished }
     ensures whole { WellFormedHasWholeIndex }
+{}
+
+/// Well formed is sound headers and the magic word of an initialized index; headers that are kept keep it, and sound ones have the index's whole length.
+pub fn well_formed_is_sound()
+    ensures sound { WellFormedIsSound }
+    ensures kept { KeptHeadersStayFormed }
+    ensures whole { SoundHasWholeIndex }
+{}
+
+/// A call of a command leaves the magic word, the version, the number of the session and the crash word.
+pub fn commands_keep_session_words()
+    ensures along { QuietStepsKeepSessionWords }
+    ensures after { CommandsKeepSessionWords }
 {}
 
 /// Once a record is the updated one, and all else is as before, the image is one of its sealed update, with all changes made.

@@ -166,36 +166,36 @@ noted_step_by_step = (λ before e. absurd (no_note before e), (λ before e. absu
 noted_after_each_prefix : AtEachPrefix gone_when_noted small (Delete (External 1) ∷ Note 1 ∷ [])
 noted_after_each_prefix = at_each_prefix gone_when_noted small (Delete (External 1) ∷ Note 1 ∷ []) noted_step_by_step
 
--- A call that makes an index and writes a byte into it.
+-- A call that makes a block file and writes a byte into it.
 
 told_before : Told
 told_before = record { files = Some small; trail = Some (record { start = small; steps = [] }) }
 
 told_after : Told
-told_after = record { files = Some (after (SetLength Index 2 ∷ Word Index 1 (5 ∷ []) ∷ []) small); trail = Some (record { start = small; steps = SetLength Index 2 ∷ Word Index 1 (5 ∷ []) ∷ [] }) }
+told_after = record { files = Some (after (SetLength (Block 9) 2 ∷ Word (Block 9) 1 (5 ∷ []) ∷ []) small); trail = Some (record { start = small; steps = SetLength (Block 9) 2 ∷ Word (Block 9) 1 (5 ∷ []) ∷ [] }) }
 
 -- the external file stays, and in the end the byte is there
-byte_written : PassesTo told_before told_after (λ image. has_file image (External 1) ≡ true) (λ image. byte image Index 1 ≡ 5)
+byte_written : PassesTo told_before told_after (λ image. has_file image (External 1) ≡ true) (λ image. byte image (Block 9) 1 ≡ 5)
 unfolding told_before told_after small resized zeros spliced
 byte_written = record {
-  steps = SetLength Index 2 ∷ Word Index 1 (5 ∷ []) ∷ [];
+  steps = SetLength (Block 9) 2 ∷ Word (Block 9) 1 (5 ∷ []) ∷ [];
   applies = record { files = refl; trail = refl };
   quiet = tt;
-  along = λ image is. let same : small ≡ image = some_inj is in subst (λ (i : Image). (has_file i (External 1) ≡ true) × ((has_file (after (SetLength Index 2 ∷ []) i) (External 1) ≡ true) × (byte (after (SetLength Index 2 ∷ Word Index 1 (5 ∷ []) ∷ []) i) Index 1 ≡ 5))) same (refl, (refl, refl));
+  along = λ image is. let same : small ≡ image = some_inj is in subst (λ (i : Image). (has_file i (External 1) ≡ true) × ((has_file (after (SetLength (Block 9) 2 ∷ []) i) (External 1) ≡ true) × (byte (after (SetLength (Block 9) 2 ∷ Word (Block 9) 1 (5 ∷ []) ∷ []) i) (Block 9) 1 ≡ 5))) same (refl, (refl, refl));
 }
 
--- there is no index until the first step is made, and one from then on
-index_made : Commits 1 told_before told_after (λ image. has_file image Index ≡ false) (λ image. has_file image Index ≡ true)
+-- there is no such file until the first step is made, and one from then on
+file_made : Commits 1 told_before told_after (λ image. has_file image (Block 9) ≡ false) (λ image. has_file image (Block 9) ≡ true)
 unfolding told_before told_after small resized zeros spliced
-index_made = record {
-  steps = SetLength Index 2 ∷ Word Index 1 (5 ∷ []) ∷ [];
+file_made = record {
+  steps = SetLength (Block 9) 2 ∷ Word (Block 9) 1 (5 ∷ []) ∷ [];
   applies = record { files = refl; trail = refl };
   quiet = tt;
-  commits = λ image is. let same : small ≡ image = some_inj is in subst (λ (i : Image). (has_file i Index ≡ false) × ((has_file (after (SetLength Index 2 ∷ []) i) Index ≡ true) × (has_file (after (SetLength Index 2 ∷ Word Index 1 (5 ∷ []) ∷ []) i) Index ≡ true))) same (refl, (refl, refl));
+  commits = λ image is. let same : small ≡ image = some_inj is in subst (λ (i : Image). (has_file i (Block 9) ≡ false) × ((has_file (after (SetLength (Block 9) 2 ∷ []) i) (Block 9) ≡ true) × (has_file (after (SetLength (Block 9) 2 ∷ Word (Block 9) 1 (5 ∷ []) ∷ []) i) (Block 9) ≡ true))) same (refl, (refl, refl));
 }
 
 -- two clauses of the call hold together
-both_clauses : PassesTo told_before told_after (λ image. (has_file image (External 1) ≡ true) × (has_file image (External 1) ≡ true)) (λ image. (byte image Index 1 ≡ 5) × (byte image Index 1 ≡ 5))
+both_clauses : PassesTo told_before told_after (λ image. (has_file image (External 1) ≡ true) × (has_file image (External 1) ≡ true)) (λ image. (byte image (Block 9) 1 ≡ 5) × (byte image (Block 9) 1 ≡ 5))
 unfolding told_before
 both_clauses = passes_both (record { start = small; steps = [] }) refl byte_written byte_written
 

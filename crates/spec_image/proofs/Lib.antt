@@ -3,6 +3,7 @@ pub mod Words
 pub mod Images
 pub mod Cuts
 pub mod Runs
+pub mod Quiet
 pub mod WordSteps
 pub mod NotesLemmas
 pub mod Orders

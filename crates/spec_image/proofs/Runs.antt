@@ -1,10 +1,10 @@
 -- How the steps of several calls go together.
-use Rattle.std.proofs.Common.{◌≡◌, ℕ, ◌+◌, ◌%◌, ◌≤◌, ◌⊎◌, inl, inr, take, drop, List, [], ◌∷◌, ◌++◌, length, Option, None, Some, Result, Ok, Err, OnOk, OnErr, refl, sym, ◌∙◌, ap, subst, arith, append_assoc}
+use Rattle.std.proofs.Common.{◌≡◌, ℕ, ◌+◌, ◌%◌, ◌≤◌, ◌⊎◌, inl, inr, Bool, true, false, take, drop, List, [], ◌∷◌, ◌++◌, length, Option, None, Some, Result, Ok, Err, OnOk, OnErr, refl, sym, ◌∙◌, ap, subst, arith, append_assoc}
 use Rattle.std.specs.Option.{option_map, ForSome}
 use Rattle.std.proofs.lemmas.List.{append-nil, take_all}
 use Rattle.spec_image.specs.Image.{File, Image}
 use Rattle.spec_image.specs.Steps.{TrailStep, Word, SetLength, Delete, Note, applied, after, words}
-use Rattle.spec_image.specs.Told.{Told, Trail, Applies, AppliesPrefix, Along, Until, IsQuiet, PassesTo, longer}
+use Rattle.spec_image.specs.Told.{Told, Trail, Applies, AppliesPrefix, Along, Until, IsQuiet, OnlyWhere, PassesTo, is_quiet, longer}
 use Rattle.spec_image.specs.Laws.{StepsOfOneCallAreOne}
 use Rattle.spec_image.proofs.Cuts.{after-append, words-split}
 
@@ -79,20 +79,27 @@ pub told_rel : {a b : Told} {s : List TrailStep} (P : Image → Image → Type 0
 told_rel {a} {b} {s} P part all old there new now =
     told_part (P old) part (λ image is. subst (λ (i : Image). Along (P old) i s) (some_inj (sym there ∙ is)) (all old)) new now
 
+-- where a test holds, what follows it may be weaker
+pub only_weaker : {P Q : Type 0} (test : Bool) → (P → Q) → OnlyWhere test P → OnlyWhere test Q
+only_weaker {P} {Q} true weaker holds = weaker holds
+only_weaker {P} {Q} false weaker holds = holds
+
+-- what holds where the test does
+pub only_there : {P : Type 0} (test : Bool) → OnlyWhere test P → (test ≡ true) × P
+only_there {P} true holds = (refl, holds)
+only_there {P} false holds = absurd holds
+
+pub only_here : {P : Type 0} (test : Bool) → test ≡ true → P → OnlyWhere test P
+only_here {P} test is holds = rw is holds
+
 -- a prefix of quiet steps is quiet
 pub quiet_prefix : (s t : List TrailStep) → IsQuiet (s ++ t) → IsQuiet s
 quiet_prefix [] t quiet = tt
-quiet_prefix (Word f at bs ∷ s) t quiet = quiet_prefix s t quiet
-quiet_prefix (SetLength f n ∷ s) t quiet = quiet_prefix s t quiet
-quiet_prefix (Delete f ∷ s) t quiet = quiet_prefix s t quiet
-quiet_prefix (Note n ∷ s) t quiet = absurd quiet
+quiet_prefix (x ∷ s) t quiet = only_weaker (is_quiet x) (λ rest. quiet_prefix s t rest) quiet
 
 pub quiet-append : (s t : List TrailStep) → IsQuiet s → IsQuiet t → IsQuiet (s ++ t)
 quiet-append [] t first second = second
-quiet-append (Word f at bs ∷ s) t first second = quiet-append s t first second
-quiet-append (SetLength f n ∷ s) t first second = quiet-append s t first second
-quiet-append (Delete f ∷ s) t first second = quiet-append s t first second
-quiet-append (Note n ∷ s) t first second = absurd first
+quiet-append (x ∷ s) t first second = only_weaker (is_quiet x) (λ rest. quiet-append s t rest second) first
 
 pub until_prefix : (P Q : Image → Type 0) (s t : List TrailStep) (image : Image) → ((image : Image) → P image → Q image) → Until P Q image (s ++ t) → Until P Q image s
 until_prefix P Q [] [] image weaker all = all

@@ -1,34 +1,51 @@
 -- What words that are written one by one do to the files.
-use Rattle.std.proofs.Common.{◌≡◌, ℕ, zero, suc, ◌+◌, ◌<◌, ◌≤◌, Bool, true, false, nat_le, ◌&&◌, if◌then◌else◌, ◌%◌, ◌==◌, List, [], ◌∷◌, Option, sym, subst, get_or, length, arith}
+use Rattle.std.proofs.Common.{◌≡◌, ℕ, zero, suc, ◌+◌, ◌<◌, ◌≤◌, Bool, true, false, nat_le, ◌&&◌, if◌then◌else◌, ◌%◌, ◌==◌, List, [], ◌∷◌, Option, refl, sym, subst, get_or, length, arith}
 use Rattle.std.proofs.lemmas.Bool.Decides.{nat_tests}
 use Rattle.spec_image.specs.Bytes.{word_bytes}
-use Rattle.spec_image.specs.Image.{File, Image, bytes_of, length_of, with_file}
+use Rattle.spec_image.specs.Image.{File, Index, Block, External, Image, bytes_of, length_of, with_file}
 use Rattle.spec_image.specs.Steps.{TrailStep, Word, applied, after, words, before_words, word_step, word_steps, with_word}
 use Rattle.spec_image.specs.Steps.{SetLength, Delete, Note}
-use Rattle.spec_image.specs.Told.{Until, Along, IsQuiet}
+use Rattle.spec_image.specs.Told.{Until, Along, IsQuiet, is_quiet}
+use Rattle.spec_image.proofs.Runs.{only_here, only_there}
 use Rattle.spec_image.proofs.Images.{bytes_of-written, length-after_write}
 
-pub quiet-word_step : (f : File) (place value : ℕ) → IsQuiet (word_step f place value)
-unfolding word_step
-quiet-word_step f place value = tt
+-- a file that isn't the index
+abbrev pub IsBesideIndex : File → Type 0
+IsBesideIndex Index = ⊥
+IsBesideIndex (Block n) = Unit {0}
+IsBesideIndex (External n) = Unit {0}
 
-pub quiet-word_steps : (f : File) (ws : List (ℕ × ℕ)) → IsQuiet (word_steps f ws)
-unfolding word_step
-quiet-word_steps f [] = tt
-quiet-word_steps f (w ∷ ws) = quiet-word_steps f ws
+-- a write into it is quiet
+word-quiet : (f : File) → IsBesideIndex f → (place : ℕ) (bytes : List ℕ) → is_quiet (Word f place bytes) ≡ true
+word-quiet Index beside place bytes = absurd beside
+word-quiet (Block n) beside place bytes = refl
+word-quiet (External n) beside place bytes = refl
 
-quiet-before : (f : File) (place b : ℕ) (steps : List TrailStep) → IsQuiet steps → IsQuiet (before_words f place b steps)
+-- the write of a word that spares the words of the session
+pub quiet-word_step : (f : File) (place value : ℕ) → is_quiet (Word f place (word_bytes value)) ≡ true → IsQuiet (word_step f place value)
+unfolding word_step
+quiet-word_step f place value is = only_here (is_quiet (Word f place (word_bytes value))) is tt
+
+pub quiet-word_steps : (f : File) (ws : List (ℕ × ℕ)) → IsBesideIndex f → IsQuiet (word_steps f ws)
+unfolding word_step
+quiet-word_steps f [] beside = tt
+quiet-word_steps f (w ∷ ws) beside = only_here (is_quiet (Word f w.0 (word_bytes w.1))) (word-quiet f beside w.0 (word_bytes w.1)) (quiet-word_steps f ws beside)
+
+quiet-before : (f : File) (place b : ℕ) (steps : List TrailStep) → IsBesideIndex f → IsQuiet steps → IsQuiet (before_words f place b steps)
 unfolding before_words
-quiet-before f place b [] quiet = tt
-quiet-before f place b (Word g at w ∷ steps) quiet = elim ((place + 1) % 4 == 0) as (λ t. IsQuiet (if t then Word f place (b ∷ []) ∷ Word g at w ∷ steps else Word f place (b ∷ w) ∷ steps)) [ true ↦ quiet | false ↦ quiet ]
-quiet-before f place b (SetLength g n ∷ steps) quiet = quiet
-quiet-before f place b (Delete g ∷ steps) quiet = quiet
-quiet-before f place b (Note n ∷ steps) quiet = quiet
+quiet-before f place b [] beside quiet = only_here (is_quiet (Word f place (b ∷ []))) (word-quiet f beside place (b ∷ [])) tt
+quiet-before f place b (Word g at w ∷ steps) beside quiet = elim ((place + 1) % 4 == 0) as (λ t. IsQuiet (if t then Word f place (b ∷ []) ∷ Word g at w ∷ steps else Word f place (b ∷ w) ∷ steps)) [
+  true ↦ only_here (is_quiet (Word f place (b ∷ []))) (word-quiet f beside place (b ∷ [])) quiet
+  | false ↦ only_here (is_quiet (Word f place (b ∷ w))) (word-quiet f beside place (b ∷ w)) (only_there (is_quiet (Word g at w)) quiet).1
+]
+quiet-before f place b (SetLength g n ∷ steps) beside quiet = only_here (is_quiet (Word f place (b ∷ []))) (word-quiet f beside place (b ∷ [])) quiet
+quiet-before f place b (Delete g ∷ steps) beside quiet = only_here (is_quiet (Word f place (b ∷ []))) (word-quiet f beside place (b ∷ [])) quiet
+quiet-before f place b (Note n ∷ steps) beside quiet = only_here (is_quiet (Word f place (b ∷ []))) (word-quiet f beside place (b ∷ [])) quiet
 
-pub quiet-words : (f : File) (place : ℕ) (bs : List ℕ) → IsQuiet (words f place bs)
+pub quiet-words : (f : File) (place : ℕ) (bs : List ℕ) → IsBesideIndex f → IsQuiet (words f place bs)
 unfolding words
-quiet-words f place [] = tt
-quiet-words f place (b ∷ bs) = quiet-before f place b (words f (place + 1) bs) (quiet-words f (place + 1) bs)
+quiet-words f place [] beside = tt
+quiet-words f place (b ∷ bs) beside = quiet-before f place b (words f (place + 1) bs) beside (quiet-words f (place + 1) bs beside)
 
 -- no file has changed its length
 abbrev pub SameLengths : Image → Image → Type 0

@@ -1,9 +1,10 @@
 -- The laws of this crate, which say that its definitions fit together.
 use Rattle.std.specs.Prelude.{◌≡◌, ℕ, ◌+◌, ◌<◌, List, ◌++◌, Some, length}
 use Rattle.std.specs.List.{All}
+use Rattle.std.specs.Option.{ForSome}
 use Rattle.spec_image.specs.Image.{File, Image, HasRange, with_file}
 use Rattle.spec_image.specs.Steps.{TrailStep, IsTrail, after, words, written_over}
-use Rattle.spec_image.specs.Told.{Told, Trail, Applies, Along}
+use Rattle.spec_image.specs.Told.{Told, Trail, Applies, Along, HasNoNote, IsQuiet, PassesTo, SaysTheSameSession}
 use Rattle.spec_image.specs.Notes.{AreTrue, notes_in}
 use Rattle.spec_image.specs.Footprint.{SameOutside, range, touched_by_all}
 
@@ -30,6 +31,18 @@ StepsStayInside = (steps : List TrailStep) (image : Image) → Along (SameOutsid
 abbrev pub StepsOfOneCallAreOne : Type 0
 StepsOfOneCallAreOne = (old new : Told) (trail : Trail) (steps others : List TrailStep) → old.trail ≡ Some trail → Applies old new steps
     → Applies old new others → steps ≡ others
+
+-- at each of some steps that a command may make it is the same session as before the first
+abbrev pub QuietStepsKeepTheSession : Type 0
+QuietStepsKeepTheSession = (steps : List TrailStep) (image : Image) → IsQuiet steps → Along (SaysTheSameSession image) image steps
+
+-- so it is after a call of a command
+abbrev pub CommandsKeepTheSession : Type 0
+CommandsKeepTheSession = (old new : Told) (P Q : Image → Type 0) → PassesTo old new P Q → ForSome old.files (λ from. ForSome new.files (SaysTheSameSession from))
+
+-- steps that a command may make are none of them a note
+abbrev pub QuietStepsHaveNoNote : Type 0
+QuietStepsHaveNoNote = (steps : List TrailStep) → IsQuiet steps → HasNoNote steps
 
 -- true completion markers can be joined: steps with true notes, and then steps whose notes go on from theirs, have true notes together
 abbrev pub NotesGoOn : Type 0

@@ -1,9 +1,9 @@
 -- What a folder tells, and what its calls do to that.
-use Rattle.std.specs.Prelude.{◌≡◌, ℕ, zero, suc, ◌-◌, ◌^◌, ◌<◌, ◌≤◌, min, List, [], ◌∷◌, ◌++◌, length, take, drop, Option, None}
+use Rattle.std.specs.Prelude.{◌≡◌, ℕ, zero, suc, ◌+◌, ◌-◌, ◌^◌, ◌<◌, ◌≤◌, ◌&&◌, ◌||◌, Bool, true, false, nat_le, nat_lt, min, List, [], ◌∷◌, ◌++◌, length, take, drop, Option, None}
 use Rattle.std.specs.Option.{option_map, ForSome}
 use Rattle.spec_image.specs.Bytes.{range_at}
-use Rattle.spec_image.specs.Image.{File, Image, AreBytes, byte, length_of}
-use Rattle.spec_image.specs.Steps.{TrailStep, Note, applied, after}
+use Rattle.spec_image.specs.Image.{File, Index, Block, External, Image, AreBytes, byte, has_file, length_of}
+use Rattle.spec_image.specs.Steps.{TrailStep, Word, SetLength, Delete, Note, applied, after}
 
 -- a write trace: the image at the start and the steps since
 pub record Trail : Type 0 where
@@ -64,19 +64,65 @@ CommitsAt (suc count) P Q image [] = P image
 CommitsAt (suc count) P Q image (step ∷ steps) = P image × CommitsAt count P Q (applied step image) steps
 
 -- no step is a note
+abbrev pub HasNoNote : List TrailStep → Type 0
+HasNoNote [] = Unit {0}
+HasNoNote (Note number ∷ steps) = ⊥
+HasNoNote (step ∷ steps) = HasNoNote steps
+
+-- whether a step is one that a command may make: it is no note; a write into the index lies from place 8 to 19 or from 36 on, so it spares the words that say
+-- what session it is; and the index is neither deleted nor given a length
+abbrev pub is_quiet : TrailStep → Bool
+is_quiet (Word Index place bytes) = (nat_le 8 place && nat_le (place + length bytes) 20) || nat_le 36 place
+is_quiet (Word (Block n) place bytes) = true
+is_quiet (Word (External n) place bytes) = true
+is_quiet (SetLength Index size) = false
+is_quiet (SetLength (Block n) size) = true
+is_quiet (SetLength (External n) size) = true
+is_quiet (Delete Index) = false
+is_quiet (Delete (Block n)) = true
+is_quiet (Delete (External n)) = true
+is_quiet (Note number) = false
+
+-- P, and the test holds
+abbrev pub OnlyWhere : Bool → Type 0 → Type 0
+OnlyWhere true P = P
+OnlyWhere false P = ⊥
+
+-- each step is one that a command may make: none is a note, and none touches what says which session it is
 abbrev pub IsQuiet : List TrailStep → Type 0
 IsQuiet [] = Unit {0}
-IsQuiet (Note number ∷ steps) = ⊥
-IsQuiet (step ∷ steps) = IsQuiet steps
+IsQuiet (step ∷ steps) = OnlyWhere (is_quiet step) (IsQuiet steps)
 
--- steps were made, none of them a note; P holds of the files before each of them, and Q after the last
+-- whether a byte of the index is of the words that say what session it is: below place 8 (the magic word and the version), or from 20 to 35 (among them the
+-- number of the session and the crash word)
+abbrev pub is_of_session : ℕ → Bool
+is_of_session place = nat_lt place 8 || (nat_le 20 place && nat_lt place 36)
+
+-- it is the same session: these bytes of the index are as before, and so are its length and whether it is there
+pub record SaysTheSameSession (from image : Image) : Type 0 where
+  pub bytes : (place : ℕ) → is_of_session place ≡ true → byte image Index place ≡ byte from Index place
+  pub size : length_of image Index ≡ length_of from Index
+  pub there : has_file image Index ≡ has_file from Index
+
+-- steps of a maker or an opener were made, which may touch every word, none of them a note; P holds of the files before each of them, and Q after the last
+pub record PassesAnyTo (old new : Told) (P Q : Image → Type 0) : Type 0 where
+  pub steps : List TrailStep
+  pub applies : Applies old new steps
+  pub unnoted : HasNoNote steps
+  pub along : ForSome old.files (λ image. Until P Q image steps)
+
+-- and P holds of the image before each of them and after the last
+abbrev pub PassesAny : Told → Told → (Image → Type 0) → Type 0
+PassesAny old new P = PassesAnyTo old new P P
+
+-- steps of a command were made, none of them a note; P holds of the files before each of them, and Q after the last
 pub record PassesTo (old new : Told) (P Q : Image → Type 0) : Type 0 where
   pub steps : List TrailStep
   pub applies : Applies old new steps
   pub quiet : IsQuiet steps
   pub along : ForSome old.files (λ image. Until P Q image steps)
 
--- steps were made, none of them a note; P holds of the image before each of them and after the last
+-- steps of a command were made, none of them a note; P holds of the image before each of them and after the last
 abbrev pub Passes : Told → Told → (Image → Type 0) → Type 0
 Passes old new P = PassesTo old new P P
 
@@ -105,7 +151,7 @@ pub record GivesBytes (image : Image) (file : File) (place : ℕ) (old new : Lis
   pub front : take count new ≡ range_at (byte image file) place count
   pub rest : drop count new ≡ drop count old
 
--- steps were made, none of them a note; P holds until so many of them are made, and Q from then on
+-- steps of a command were made, none of them a note; P holds until so many of them are made, and Q from then on
 pub record Commits (count : ℕ) (old new : Told) (P Q : Image → Type 0) : Type 0 where
   pub steps : List TrailStep
   pub applies : Applies old new steps

@@ -3,7 +3,7 @@
 //! The crate has definitions that the contracts of the other crates cite, and their laws.
 #![tactic(auto)]
 
-ghost use Rattle.spec_image.specs.Laws.{WordsWriteTheBytes, WordsAreAligned, WordsStayInside, StepsStayInside, StepsOfOneCallAreOne, NotesGoOn};
+ghost use Rattle.spec_image.specs.Laws.{WordsWriteTheBytes, WordsAreAligned, WordsStayInside, StepsStayInside, StepsOfOneCallAreOne, QuietStepsKeepTheSession, CommandsKeepTheSession, QuietStepsHaveNoNote, NotesGoOn};
 
 /// After the word steps of a write its bytes are in the file, and nothing else has changed.
 pub fn words_write_the_bytes()
@@ -28,6 +28,13 @@ pub fn steps_stay_inside()
 /// Where the write trace is told before a call, two lists of steps that the call applied are equal, so two clauses of one contract speak of the same steps.
 pub fn steps_of_one_call_are_one()
     ensures { StepsOfOneCallAreOne }
+{}
+
+/// A call of a command touches no word that says what session it is, and makes no note.
+pub fn commands_keep_the_session()
+    ensures along { QuietStepsKeepTheSession }
+    ensures after { CommandsKeepTheSession }
+    ensures unnoted { QuietStepsHaveNoNote }
 {}
 
 /// Steps with true notes (completion markers), and then steps whose notes go on from theirs, have true notes together.

@@ -4,14 +4,15 @@ use Rattle.std.specs.Option.{option_map}
 use Rattle.std.proofs.lemmas.List.{append-nil, length-append}
 use Rattle.spec_image.specs.Image.{Image}
 use Rattle.spec_image.specs.Steps.{TrailStep, Note, applied, after}
-use Rattle.spec_image.specs.Told.{Told, Applies, Along, Passes, IsQuiet}
+use Rattle.spec_image.specs.Told.{Told, Applies, Along, HasNoNote, Passes, PassesAny}
 use Rattle.spec_image.specs.Notes.{AlongFrom, notes_in}
 use Rattle.spec_image.proofs.Cuts.{after-append}
-use Rattle.spec_image.proofs.Runs.{grows_then, passes_end}
+use Rattle.spec_image.proofs.Runs.{grows_then}
+use Rattle.spec_image.proofs.Quiet.{any_end, no-note}
 use Rattle.spec_image.proofs.NotesLemmas.{along_from-last, along_from-append, along_from-one, at_each_prefix, notes_in-append, are_true-append}
 use Rattle.spec_format.specs.BlockFiles.{IsWellFormed}
 use Rattle.spec_format.specs.Headers.{IsUnfinished}
-use Rattle.spec_format.proofs.Finished.{finished_whole}
+use Rattle.spec_format.proofs.Finished.{finished_whole, magic-of}
 use Rattle.blk_model.specs.Items.{Row}
 use Rattle.blk_model.specs.State.{State, IsValidState}
 use Rattle.blk_model.specs.Holding.{rest}
@@ -20,7 +21,8 @@ use Rattle.blk_model.proofs.StopRests.{rest_before}
 use Rattle.spec_folder.specs.Found.{HoldsStill, found}
 use Rattle.spec_folder.specs.StandsFor.{StandsFor}
 use Rattle.law_folder.proofs.states.StoodFor.{stood-found}
-use Rattle.law_state.specs.Commands.{IsNoted, IsStepped, MayStop}
+use Rattle.law_state.specs.Commands.{IsNoted, IsStepped, MayStop, MayStopFinished}
+use Rattle.law_state.proofs.Stopping.{finished-along}
 use Rattle.spec_run.specs.Run.{Stamped, state_after, state_then, state_at, command_after}
 use Rattle.spec_run.specs.Moments.{IsStopped, IsLeftAt, Completes}
 use Rattle.spec_run.specs.Opening.{has_opened}
@@ -83,7 +85,7 @@ stopped_at_rest from opened commands done more steps image e marked count stands
 
 -- after a step that completes nothing
 pub stopped_within : (from : Image) (opened : State) (commands : List Stamped) (n : ℕ) (made : List TrailStep) (x : TrailStep) (image : Image)
-    → has_opened made ≡ true → notes_in made ≡ n → IsQuiet (x ∷ []) → IsWellFormed image → IsLeftAt opened commands n (command_after commands n) (found image)
+    → has_opened made ≡ true → notes_in made ≡ n → HasNoNote (x ∷ []) → IsWellFormed image → IsLeftAt opened commands n (command_after commands n) (found image)
     → IsStopped from opened commands (made ++ x ∷ []) image
 stopped_within from opened commands n made x image marked count quiet well_formed left = record {
   usable = inr well_formed;
@@ -102,10 +104,10 @@ stopped_within from opened commands n made x image marked count quiet well_forme
         let same = snoc_step made before x last split in
         not_complete made x marked quiet (subst (λ (b : List TrailStep). Completes b x) (sym same.0) (subst (Completes before) (sym same.1) complete))
 
--- quiet steps once the opening has ended
+-- steps without a note once the opening has ended
 pub quiet_along : (from : Image) (opened : State) (commands : List Stamped) (n : ℕ) (R : Image → Type 0)
     → ((image : Image) → R image → IsWellFormed image × IsLeftAt opened commands n (command_after commands n) (found image))
-    → (made : List TrailStep) (image : Image) (steps : List TrailStep) → has_opened made ≡ true → notes_in made ≡ n → IsQuiet steps
+    → (made : List TrailStep) (image : Image) (steps : List TrailStep) → has_opened made ≡ true → notes_in made ≡ n → HasNoNote steps
     → IsStopped from opened commands made image → Along R image steps → AlongFrom (IsStopped from opened commands) made image steps
 quiet_along from opened commands n R gives made image [] marked count quiet here all = here
 quiet_along from opened commands n R gives made image (x ∷ steps) marked count quiet here all =
@@ -123,7 +125,7 @@ pub some_after : {a b : Told} {s : List TrailStep} (from : Image) → a.files �
 some_after {s = s} from there applies = applies.files ∙ ap (option_map (after s)) there
 
 -- a crash in a command, as one of the run
-stopped_in_left : (opened : State) (commands done more : List Stamped) (c : Stamped) → commands ≡ done ++ c ∷ more → (image : Image) → MayStop (state_after opened done) c.moment c.request image
+stopped_in_left : (opened : State) (commands done more : List Stamped) (c : Stamped) → commands ≡ done ++ c ∷ more → (image : Image) → MayStopFinished (state_after opened done) c.moment c.request image
     → IsWellFormed image × IsLeftAt opened commands (length done) (command_after commands (length done)) (found image)
 stopped_in_left opened commands done more c e image stopped = (stopped.well_formed, left_in opened commands done more c (found image) e stopped.left)
 
@@ -140,7 +142,8 @@ one_more from opened done old mid new c there before made =
     let last = state_after-one opened done c in
     let rests : StandsFor (after t middle) (state_after opened (done ++ c ∷ [])) = subst (λ (x : State). StandsFor (after t middle) x) (sym last) (made.stands (after t middle) at_end) in
     let marked = opened_more s t before.opens in
-    let count = quiet_counts s t (length done) before.noted made.quiet in
+    let none = no-note t made.quiet in
+    let count = quiet_counts s t (length done) before.noted none in
     let grown : length (done ++ c ∷ []) ≡ length done + 1 = length-append done (c ∷ []) in
     let noted : notes_in (s ++ t ++ note ∷ []) ≡ length (done ++ c ∷ []) = notes_in-append (s ++ t) (note ∷ []) ∙ ap (λ (n : ℕ). n + 1) count ∙ sym grown in
     let joined : s ++ (t ++ note ∷ []) ≡ s ++ t ++ note ∷ [] = sym (append_assoc s t (note ∷ [])) in
@@ -150,15 +153,16 @@ one_more from opened done old mid new c there before made =
       opens = opened_more (s ++ t) (note ∷ []) marked;
       noted = noted;
       notes = are_true-append 0 (s ++ t) (note ∷ [])
-          (are_true-append 0 s t before.notes (quiet_true (0 + notes_in s) t made.quiet))
+          (are_true-append 0 s t before.notes (quiet_true (0 + notes_in s) t none))
           (let zero_in : 0 + notes_in (s ++ t) ≡ length done = omega (arith, count) in (ap (λ (n : ℕ). n + 1) (sym zero_in), tt));
       stands = λ image is. subst (λ (i : Image). StandsFor i (state_after opened (done ++ c ∷ []))) (some_same (sym at_end ∙ is)) rests;
       along = λ commands more e.
           let more_after : commands ≡ done ++ c ∷ more = e ∙ append_assoc done (c ∷ []) more in
           let first = before.along commands (c ∷ more) more_after in
           let P : List TrailStep → Image → Type 0 = IsStopped from opened commands in
-          let second = quiet_along from opened commands (length done) (MayStop (state_after opened done) c.moment c.request) (stopped_in_left opened commands done more c more_after)
-          s middle t before.opens before.noted made.quiet (along_from-last P [] from s first) (made.stops middle at_middle) in
+          let second = quiet_along from opened commands (length done) (MayStopFinished (state_after opened done) c.moment c.request) (stopped_in_left opened commands done more c more_after)
+          s middle t before.opens before.noted none (along_from-last P [] from s first)
+          (finished-along (state_after opened done) c.moment c.request middle t made.quiet (magic-of middle (before.stands middle at_middle).well_formed) (made.stops middle at_middle)) in
           let both = along_from-append P [] from s t first second in
           let final_image : after (s ++ t) from ≡ after t middle = after-append s t from in
           along_from-one P [] from (s ++ t) note both
@@ -172,7 +176,7 @@ one_more from opened done old mid new c there before made =
 
 -- a run that was ended in the midst of a call, or after its last
 pub stops_with : {from : Image} {opened : State} {commands done : List Stamped} {old mid new : Told} (more : List Stamped) (R : Image → Type 0) → old.files ≡ Some from
-    → Progress from opened done old mid → Passes mid new R → commands ≡ done ++ more
+    → Progress from opened done old mid → PassesAny mid new R → commands ≡ done ++ more
     → ((image : Image) → R image → IsWellFormed image × IsLeftAt opened commands (length done) (command_after commands (length done)) (found image))
     → Stops from opened commands old new
 stops_with {from} {opened} {commands} {done} {old} {mid} {new} more R there before made e gives =
@@ -182,14 +186,14 @@ stops_with {from} {opened} {commands} {done} {old} {mid} {new} more R there befo
     let at_middle = some_after from there before.applies in
     let P : List TrailStep → Image → Type 0 = IsStopped from opened commands in
     let first = before.along commands more e in
-    let second = quiet_along from opened commands (length done) R gives s middle t before.opens before.noted made.quiet (along_from-last P [] from s first) (made.along middle at_middle) in
-    let count = quiet_counts s t (length done) before.noted made.quiet in
+    let second = quiet_along from opened commands (length done) R gives s middle t before.opens before.noted made.unnoted (along_from-last P [] from s first) (made.along middle at_middle) in
+    let count = quiet_counts s t (length done) before.noted made.unnoted in
     let all = ap (λ (l : List Stamped). length l) e ∙ length-append done more in
     record {
       steps = s ++ t;
       applies = grows_then before.applies made.applies;
       stops = at_each_prefix P from (s ++ t) (along_from-append P [] from s t first second);
-      notes = are_true-append 0 s t before.notes (quiet_true (0 + notes_in s) t made.quiet);
+      notes = are_true-append 0 s t before.notes (quiet_true (0 + notes_in s) t made.unnoted);
       few = omega (arith, count, all);
     }
 
@@ -206,10 +210,20 @@ stays from opened done more old new before =
       few = omega (arith, count, all);
     }
 
+-- a command that was done in part, at each of whose words the folder is finished
+finished_part : (from : Image) (opened : State) (done : List Stamped) (old mid new : Told) (c : Stamped) → old.files ≡ Some from → Progress from opened done old mid
+    → Passes mid new (MayStop (state_after opened done) c.moment c.request) → PassesAny mid new (MayStopFinished (state_after opened done) c.moment c.request)
+finished_part from opened done old mid new c there before made = record {
+  steps = made.steps;
+  applies = made.applies;
+  unnoted = no-note made.steps made.quiet;
+  along = λ image is. finished-along (state_after opened done) c.moment c.request image made.steps made.quiet (magic-of image (before.stands image is).well_formed) (made.along image is);
+}
+
 -- a command that was done in part, or noted
 pub stopped : RunsMayStopInACommand
 stopped from opened done more old mid new c there before (inl made) =
-    stops_with (c ∷ more) (MayStop (state_after opened done) c.moment c.request) there before made refl (stopped_in_left opened (done ++ c ∷ more) done more c refl)
+    stops_with (c ∷ more) (MayStopFinished (state_after opened done) c.moment c.request) there before (finished_part from opened done old mid new c there before made) refl (stopped_in_left opened (done ++ c ∷ more) done more c refl)
 stopped from opened done more old mid new c there before (inr made) =
     subst (λ (l : List Stamped). Stops from opened l old new) (append_assoc done (c ∷ []) more)
     (stays from opened (done ++ c ∷ []) more old new (one_more from opened done old mid new c there before made))
@@ -217,10 +231,10 @@ stopped from opened done more old mid new c there before (inr made) =
 -- the same with the notes counted: a command that was done in part isn't noted
 pub stopped_part : (from : Image) (opened : State) (done more : List Stamped) (old mid new : Told) (c : Stamped) → old.files ≡ Some from → Progress from opened done old mid
     → Passes mid new (MayStop (state_after opened done) c.moment c.request) → StopsAfter from opened (done ++ c ∷ more) (length done) old new
-unfolding stops_with
+unfolding stops_with finished_part
 stopped_part from opened done more old mid new c there before made = record {
-  stops = stops_with (c ∷ more) (MayStop (state_after opened done) c.moment c.request) there before made refl (stopped_in_left opened (done ++ c ∷ more) done more c refl);
-  count = quiet_counts before.steps made.steps (length done) before.noted made.quiet;
+  stops = stops_with (c ∷ more) (MayStopFinished (state_after opened done) c.moment c.request) there before (finished_part from opened done old mid new c there before made) refl (stopped_in_left opened (done ++ c ∷ more) done more c refl);
+  count = quiet_counts before.steps made.steps (length done) before.noted (no-note made.steps made.quiet);
 }
 
 -- and one that was noted is
@@ -258,6 +272,6 @@ ended from opened commands old mid new there before still =
     record {
       stops = stop;
       opens = opened_more before.steps passed.steps before.opens;
-      noted = quiet_counts before.steps passed.steps (length commands) before.noted passed.quiet;
-      holds = λ other is. (passes_end passed other is).found_same ∙ same;
+      noted = quiet_counts before.steps passed.steps (length commands) before.noted passed.unnoted;
+      holds = λ other is. (any_end passed other is).found_same ∙ same;
     }

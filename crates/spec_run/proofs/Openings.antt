@@ -2,7 +2,7 @@
 use Rattle.std.proofs.Common.{ℕ, ◌+◌, ◌≡◌, inl, inr, true, false, ◌||◌, List, [], ◌∷◌, ◌++◌, Some, refl, sym, ◌∙◌, ap, subst, arith, append_assoc}
 use Rattle.spec_image.specs.Image.{Image}
 use Rattle.spec_image.specs.Steps.{TrailStep, applied, after}
-use Rattle.spec_image.specs.Told.{Along, IsQuiet}
+use Rattle.spec_image.specs.Told.{Along, HasNoNote}
 use Rattle.spec_image.specs.Notes.{AlongFrom, notes_in}
 use Rattle.spec_image.proofs.Cuts.{after-append}
 use Rattle.spec_image.proofs.NotesLemmas.{along_from-one, at_each_prefix, notes_in-append, are_true-append}
@@ -44,7 +44,7 @@ stopped_first from opened commands usable =
     stopped_before from opened commands [] from usable refl refl (λ before last split complete. no_last before last split) (record { usable = λ u. u; formed = λ w. w; found_same = refl })
 
 opening_along : (from : Image) (opened : State) (commands : List Stamped) (made : List TrailStep) (image : Image) (steps : List TrailStep) → IsUsable from → has_opened (made ++ steps) ≡ false
-    → notes_in made ≡ 0 → IsQuiet steps → IsStopped from opened commands made image → Along (HoldsStill from) image steps → AlongFrom (IsStopped from opened commands) made image steps
+    → notes_in made ≡ 0 → HasNoNote steps → IsStopped from opened commands made image → Along (HoldsStill from) image steps → AlongFrom (IsStopped from opened commands) made image steps
 opening_along from opened commands made image [] usable none unnoted quiet here all = here
 opening_along from opened commands made image (x ∷ steps) usable none unnoted quiet here all =
     let next = applied x image in
@@ -80,17 +80,17 @@ begun from opened old new there usable opens =
     let at_end = some_after from there opens.applies in
     let stands = opens.stands image at_end in
     let marked : has_opened all ≡ true = opened-append s (open_mark ∷ []) ∙ ap (λ b. b || true) opens.unmarked in
-    let count : notes_in all ≡ 0 = notes_in-append s (open_mark ∷ []) ∙ ap (λ (n : ℕ). n + 0) (quiet_notes s opens.quiet) in
+    let count : notes_in all ≡ 0 = notes_in-append s (open_mark ∷ []) ∙ ap (λ (n : ℕ). n + 0) (quiet_notes s opens.unnoted) in
     record {
       steps = all;
       applies = opens.applies;
       opens = marked;
       noted = count;
-      notes = are_true-append 0 s (open_mark ∷ []) (quiet_true 0 s opens.quiet) tt;
+      notes = are_true-append 0 s (open_mark ∷ []) (quiet_true 0 s opens.unnoted) tt;
       stands = λ other is. subst (λ (i : Image). StandsFor i opened) (some_same (sym at_end ∙ is)) stands;
       along = λ commands more e.
           let P : List TrailStep → Image → Type 0 = IsStopped from opened commands in
-          let first : AlongFrom P [] from s = opening_along from opened commands [] from s usable opens.unmarked refl opens.quiet
+          let first : AlongFrom P [] from s = opening_along from opened commands [] from s usable opens.unmarked refl opens.unnoted
           (stopped_first from opened commands usable)
           (along_before (HoldsStill from) s (open_mark ∷ []) from opens.along) in
           along_from-one P [] from s open_mark first
@@ -102,12 +102,12 @@ begun from opened old new there usable opens =
 pub failed : RunsMayStopInTheOpening
 failed from opened commands old new there usable (inl broken) =
     let P : List TrailStep → Image → Type 0 = IsStopped from opened commands in
-    let unnoted = quiet_notes broken.steps broken.quiet in
+    let unnoted = quiet_notes broken.steps broken.unnoted in
     record {
       steps = broken.steps;
       applies = broken.applies;
-      stops = at_each_prefix P from broken.steps (opening_along from opened commands [] from broken.steps usable broken.unmarked refl broken.quiet (stopped_first from opened commands usable) broken.along);
-      notes = quiet_true 0 broken.steps broken.quiet;
+      stops = at_each_prefix P from broken.steps (opening_along from opened commands [] from broken.steps usable broken.unmarked refl broken.unnoted (stopped_first from opened commands usable) broken.along);
+      notes = quiet_true 0 broken.steps broken.unnoted;
       few = omega (arith, unnoted);
     }
 failed from opened commands old new there usable (inr opens) = stays from opened [] commands old new (begun from opened old new there usable opens)

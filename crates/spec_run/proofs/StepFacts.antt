@@ -1,9 +1,9 @@
--- Quiet steps, marks, and the last of some steps.
+-- Steps without a note, marks, and the last of some steps.
 use Rattle.std.proofs.Common.{ℕ, ◌≡◌, Bool, true, false, ◌||◌, List, [], ◌∷◌, ◌++◌, refl, sym, ◌∙◌, ap, arith}
 use Rattle.std.proofs.lemmas.List.Folds.{list_any-append}
 use Rattle.spec_image.specs.Image.{Image}
 use Rattle.spec_image.specs.Steps.{TrailStep, Word, SetLength, Delete, Note}
-use Rattle.spec_image.specs.Told.{Along, IsQuiet}
+use Rattle.spec_image.specs.Told.{Along, HasNoNote}
 use Rattle.spec_image.specs.Notes.{AreTrue, notes_in}
 use Rattle.spec_image.proofs.NotesLemmas.{notes_in-append}
 use Rattle.spec_run.specs.Opening.{has_opened, marks_open}
@@ -19,26 +19,26 @@ pub along_head : (P : Image → Type 0) (image : Image) (s : List TrailStep) →
 along_head P image [] all = all
 along_head P image (x ∷ s) all = all.0
 
-pub quiet_first : (x : TrailStep) (s : List TrailStep) → IsQuiet (x ∷ s) → IsQuiet (x ∷ [])
+pub quiet_first : (x : TrailStep) (s : List TrailStep) → HasNoNote (x ∷ s) → HasNoNote (x ∷ [])
 quiet_first (Word f at bs) s quiet = tt
 quiet_first (SetLength f n) s quiet = tt
 quiet_first (Delete f) s quiet = tt
 quiet_first (Note n) s quiet = quiet
 
-pub quiet_later : (x : TrailStep) (s : List TrailStep) → IsQuiet (x ∷ s) → IsQuiet s
+pub quiet_later : (x : TrailStep) (s : List TrailStep) → HasNoNote (x ∷ s) → HasNoNote s
 quiet_later (Word f at bs) s quiet = quiet
 quiet_later (SetLength f n) s quiet = quiet
 quiet_later (Delete f) s quiet = quiet
 quiet_later (Note n) s quiet = absurd quiet
 
-pub quiet_notes : (s : List TrailStep) → IsQuiet s → notes_in s ≡ 0
+pub quiet_notes : (s : List TrailStep) → HasNoNote s → notes_in s ≡ 0
 quiet_notes [] quiet = refl
 quiet_notes (Word f at bs ∷ s) quiet = quiet_notes s quiet
 quiet_notes (SetLength f n ∷ s) quiet = quiet_notes s quiet
 quiet_notes (Delete f ∷ s) quiet = quiet_notes s quiet
 quiet_notes (Note n ∷ s) quiet = absurd quiet
 
-pub quiet_true : (n : ℕ) (s : List TrailStep) → IsQuiet s → AreTrue n s
+pub quiet_true : (n : ℕ) (s : List TrailStep) → HasNoNote s → AreTrue n s
 quiet_true n [] quiet = tt
 quiet_true n (Word f at bs ∷ s) quiet = quiet_true n s quiet
 quiet_true n (SetLength f m ∷ s) quiet = quiet_true n s quiet
@@ -58,18 +58,18 @@ none_before s t none = first (has_opened s) (has_opened t) (sym (opened-append s
     first true b e = true_false refl e
     first false b e = refl
 
-pub quiet_counts : (made s : List TrailStep) (n : ℕ) → notes_in made ≡ n → IsQuiet s → notes_in (made ++ s) ≡ n
+pub quiet_counts : (made s : List TrailStep) (n : ℕ) → notes_in made ≡ n → HasNoNote s → notes_in (made ++ s) ≡ n
 quiet_counts made s n count quiet = let none = quiet_notes s quiet in let all = notes_in-append made s in omega (arith, none, all, count)
 
 -- a step that is no note completes nothing once the opening has ended
-pub not_complete : (made : List TrailStep) (x : TrailStep) → has_opened made ≡ true → IsQuiet (x ∷ []) → Completes made x → ⊥
+pub not_complete : (made : List TrailStep) (x : TrailStep) → has_opened made ≡ true → HasNoNote (x ∷ []) → Completes made x → ⊥
 not_complete made (Word f at bs) marked quiet complete = true_false marked complete.0
 not_complete made (SetLength f n) marked quiet complete = complete
 not_complete made (Delete f) marked quiet complete = complete
 not_complete made (Note n) marked quiet complete = quiet
 
 -- nor where it isn't the mark
-pub not_marked : (made : List TrailStep) (x : TrailStep) → has_opened (made ++ x ∷ []) ≡ false → IsQuiet (x ∷ []) → Completes made x → ⊥
+pub not_marked : (made : List TrailStep) (x : TrailStep) → has_opened (made ++ x ∷ []) ≡ false → HasNoNote (x ∷ []) → Completes made x → ⊥
 not_marked made (Word f at bs) none quiet complete =
     true_false (opened-append made (Word f at bs ∷ []) ∙ ap (λ b. has_opened made || b) (ap (λ b. b || false) complete.1) ∙ or_true (has_opened made)) none
   where

@@ -10,7 +10,7 @@ use Rattle.spec_image.specs.Told.{Told}
 use Rattle.spec_image.proofs.Footprints.{outside_write}
 use Rattle.spec_image.proofs.Runs.{some_inj}
 use Rattle.spec_format.specs.BlockFiles.{IsWellFormed}
-use Rattle.spec_format.proofs.Finished.{well_formed-finished}
+use Rattle.spec_format.proofs.Finished.{formed-kept, well_formed-finished}
 use Rattle.blk_model.specs.Effects.{effect}
 use Rattle.blk_model.specs.Refusals.{evicted, refusals}
 use Rattle.blk_model.specs.Request.{to_total}
@@ -29,8 +29,8 @@ use Rattle.law_folder.proofs.examples.WholeFolder.{whole_folder, whole-is_well_f
 use Rattle.law_folder.proofs.states.StoodFor.{stood-found}
 use Rattle.law_folder.proofs.updates.IndexWords.{others-hidden, others-unchecked}
 use Rattle.law_state.specs.Commands.{IsNoted, MayStop}
-use Rattle.law_state.proofs.Examples.{numbered, opened, whole-keeps}
-use Rattle.law_state.proofs.Keeping.{kept-stands}
+use Rattle.law_state.proofs.Examples.{numbered, opened, whole-keeps, whole-magic}
+use Rattle.law_state.proofs.Keeping.{kept-held, kept-stands}
 use Rattle.spec_run.specs.Moments.{IsStopped}
 use Rattle.spec_run.specs.Opening.{Opens, open_mark}
 use Rattle.spec_run.specs.Progress.{IsWholeRun, Progress}
@@ -44,7 +44,7 @@ use Rattle.spec_run.proofs.Openings.{begun}
 pub crash_word_hidden : (from image : Image) → IsWellFormed from → SameOutside (one_word Index 32) from image → HoldsStill from image
 unfolding found kept
 crash_word_hidden from image formed outside =
-    let now : IsWellFormed image = others-unchecked from image 32 refl refl outside formed in
+    let now : IsWellFormed image = formed-kept from image (others-unchecked from image 32 refl refl outside) formed in
     record {
       usable = λ usable. inr now;
       formed = λ formed. now;
@@ -65,7 +65,7 @@ abbrev state : State
 state = one.state true
 
 from_formed : IsWellFormed from
-from_formed = others-unchecked whole_folder from 20 refl refl (outside_write Index 20 (word_bytes 7) whole_folder) whole-is_well_formed
+from_formed = formed-kept whole_folder from (others-unchecked whole_folder from 20 refl refl (outside_write Index 20 (word_bytes 7) whole_folder)) whole-is_well_formed
 
 -- what a folder tells after some steps
 abbrev told_after : List TrailStep → Told
@@ -80,12 +80,12 @@ abbrev close_mark : TrailStep
 close_mark = Word Index 32 (word_bytes 0)
 
 marked_stands : StandsFor (opened whole_folder 7) state
-marked_stands = kept-stands state (one.layout 0) (opened whole_folder 7) whole-keeps
+marked_stands = kept-stands state (one.layout 0) (opened whole_folder 7) whole-keeps whole-magic
 
 opens : Opens from state (told_after []) (told_after (open_mark ∷ []))
 opens = record {
   before = [];
-  quiet = tt;
+  unnoted = tt;
   unmarked = refl;
   applies = record { files = refl; trail = refl };
   along = (held_self from, crash_word_hidden from (opened whole_folder 7) from_formed (outside_write Index 32 (word_bytes 1) from));
@@ -102,8 +102,8 @@ total_noted = record {
   quiet = tt;
   applies = record { files = refl; trail = refl };
   stops = λ image is. subst (λ (i : Image). MayStop state 60 to_total i) (some_inj is) (record {
-    well_formed = marked_stands.well_formed;
-    left = subst (StopOutcome state 60 to_total (step state 60 to_total).state) (sym (stood-found (opened whole_folder 7) state marked_stands)) (rest_before state 60 to_total marked_stands.shows.valid);
+    sound = whole-keeps.entries.sound;
+    left = subst (StopOutcome state 60 to_total (step state 60 to_total).state) (sym (kept-held state (one.layout 0) [] (opened whole_folder 7) whole-keeps.entries)) (rest_before state 60 to_total marked_stands.shows.valid);
   });
   stands = λ image is. subst (λ (i : Image). StandsFor i (step state 60 to_total).state) (some_inj is) (subst (λ (s : State). StandsFor (opened whole_folder 7) s) (sym total_stays) marked_stands);
 }
@@ -119,7 +119,7 @@ worked_run =
     (λ image is. record {
       steps = close_mark ∷ [];
       applies = record { files = refl; trail = refl };
-      quiet = tt;
+      unnoted = tt;
       along = λ other at. subst (λ (i : Image). HoldsStill image i × HoldsStill image (applied close_mark i)) (some_inj (sym is ∙ at))
           (held_self image, crash_word_hidden image (applied close_mark image) (subst IsWellFormed (some_inj is) marked_stands.well_formed) (outside_write Index 32 (word_bytes 0) image));
     })

@@ -5,7 +5,7 @@ use Rattle.std.specs.Option.{ForSome}
 use Rattle.spec_image.specs.Image.{Image}
 use Rattle.spec_image.specs.Steps.{TrailStep, after}
 use Rattle.spec_image.specs.Notes.{AtEachPrefix, notes_in}
-use Rattle.spec_image.specs.Told.{Told, Passes}
+use Rattle.spec_image.specs.Told.{Told, PassesAny}
 use Rattle.blk_model.specs.Sizes.{handle_names}
 use Rattle.blk_model.specs.Items.{Item, main, part, Row, item_of}
 use Rattle.blk_model.specs.State.{State, Bounds, IsValidState, is_named, named_by, object_at}
@@ -74,7 +74,7 @@ NoteNumbersAreExact = (count : ℕ) → count < 2 ^ 64 → note_number count ≡
 -- a run is whole where all its commands are done and the steps after them leave the recovered contents as they are
 abbrev pub RunsEnd : Type 0
 RunsEnd = (from : Image) (opened : State) (commands : List Stamped) (old mid new : Told) → old.files ≡ Some from → Progress from opened commands old mid
-    → ForSome mid.files (λ image. Passes mid new (HoldsStill image)) → IsWholeRun from opened commands old new
+    → ForSome mid.files (λ image. PassesAny mid new (HoldsStill image)) → IsWholeRun from opened commands old new
 
 -- Iterations.
 

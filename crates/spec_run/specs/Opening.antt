@@ -6,7 +6,7 @@ use Rattle.std.specs.Str.{bytes_eq}
 use Rattle.spec_image.specs.Bytes.{word_bytes}
 use Rattle.spec_image.specs.Image.{Image, Index, same_file}
 use Rattle.spec_image.specs.Steps.{TrailStep, Word, SetLength, Delete, Note}
-use Rattle.spec_image.specs.Told.{Told, Applies, Along, IsQuiet}
+use Rattle.spec_image.specs.Told.{Told, Applies, Along, HasNoNote}
 use Rattle.blk_model.specs.State.{State}
 use Rattle.spec_folder.specs.Found.{HoldsStill}
 use Rattle.spec_folder.specs.StandsFor.{StandsFor}
@@ -30,7 +30,7 @@ open_mark = Word Index 32 (word_bytes 1)
 -- folder represents the state that is opened
 pub record Opens (from : Image) (opened : State) (old new : Told) : Type 0 where
   pub before : List TrailStep
-  pub quiet : IsQuiet before
+  pub unnoted : HasNoNote before
   pub unmarked : has_opened before ≡ false
   pub applies : Applies old new (before ++ open_mark ∷ [])
   pub along : Along (HoldsStill from) from (before ++ open_mark ∷ [])
@@ -39,7 +39,7 @@ pub record Opens (from : Image) (opened : State) (old new : Told) : Type 0 where
 -- an opening that broke off: no step that was made is a note or marks a session as open, and at each the recovered contents are those of the old folder
 pub record BreaksOff (from : Image) (old new : Told) : Type 0 where
   pub steps : List TrailStep
-  pub quiet : IsQuiet steps
+  pub unnoted : HasNoNote steps
   pub unmarked : has_opened steps ≡ false
   pub applies : Applies old new steps
   pub along : Along (HoldsStill from) from steps

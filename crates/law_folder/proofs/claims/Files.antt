@@ -16,8 +16,8 @@ use Rattle.spec_format.specs.Address.{kind_of, file_selector, first_block, block
 use Rattle.spec_format.specs.Standing.{is_linked_as}
 use Rattle.spec_format.specs.Claims.{Claim, BlockOf, ExternalOf, claims_of, claims_of_all, has_claim}
 use Rattle.spec_image.specs.Bytes.{content}
-use Rattle.spec_format.specs.Headers.{next_file_of, max_entries_of, head_checks, list_checks}
-use Rattle.spec_format.specs.BlockFiles.{file_checks, checks_along, checks_of_kind, block_checks, linked_up_to, IsWellFormed, is_among, linked, files_along, kind_among, linked_as, next_file_in, max_entries_in, stands_in}
+use Rattle.spec_format.specs.Headers.{next_file_of, max_entries_of, field_checks, list_checks}
+use Rattle.spec_format.specs.BlockFiles.{file_checks, checks_along, checks_of_kind, block_checks, linked_up_to, KeepsHeaders, is_among, linked, files_along, kind_among, linked_as, next_file_in, max_entries_in, stands_in}
 use Rattle.spec_folder.specs.View.{view_of}
 use Rattle.spec_folder.specs.Layout.{rule_of}
 use Rattle.spec_folder.specs.Sound.{words_of}
@@ -242,11 +242,14 @@ module _ (image : Image) (m : ℕ) (free : linked_as image m ≡ None) where
   pub blocks-same : block_checks gone ≡ block_checks image
   blocks-same = rw (type-checks 1 up-same.0 none-linked.0, type-checks 2 up-same.1 none-linked.1, type-checks 3 up-same.2 none-linked.2, type-checks 4 up-same.3 none-linked.3) refl
 
-  gone-well : IsWellFormed image → IsWellFormed gone
-  gone-well well = ap (λ (cs : List (Option Damage)). first_of (head_checks (byte image Index) (length_of image Index) ++ list_checks (byte image Index) ++ cs)) blocks-same ∙ well
+  gone-headers : KeepsHeaders image gone
+  gone-headers = record {
+    sound = λ sound. ap (λ (cs : List (Option Damage)). first_of (field_checks (byte image Index) (length_of image Index) ++ list_checks (byte image Index) ++ cs)) blocks-same ∙ sound;
+    magic = refl;
+  }
 
 pub unlinked-go : UnlinkedFilesMayGo
-unlinked-go image m free = record { shown = agreeing-views (λ claim. false) image (gone image m free) (gone-agree image m free); linked = linked-same image m free; well_formed = gone-well image m free }
+unlinked-go image m free = record { shown = agreeing-views (λ claim. false) image (gone image m free) (gone-agree image m free); linked = linked-same image m free; headers = gone-headers image m free }
 
 -- ---- headers
 

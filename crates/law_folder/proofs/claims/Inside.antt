@@ -8,8 +8,8 @@ use Rattle.spec_image.specs.Image.{Index, Block, Image, byte, length_of, same_fi
 use Rattle.spec_image.specs.Footprint as files
 use Rattle.spec_image.proofs.Footprints.{range_within}
 use Rattle.spec_format.specs.Address.{kind_of, block_count, block_size, file_selector, first_block, external_number, place, byte_size, block_place, external, rankings, blocks_256}
-use Rattle.spec_format.specs.Headers.{head_checks, list_checks}
-use Rattle.spec_format.specs.BlockFiles.{stands_in, IsWellFormed}
+use Rattle.spec_format.specs.Headers.{field_checks, list_checks, magic_of}
+use Rattle.spec_format.specs.BlockFiles.{stands_in, KeepsHeaders}
 use Rattle.spec_format.specs.Claims.{Claim, BlockOf, ExternalOf, same_claim, claims_of, has_claim}
 use Rattle.spec_folder.specs.View.{view_of}
 use Rattle.spec_folder.specs.Footprint.{IsClear, SameBut, Covers}
@@ -21,7 +21,7 @@ use Rattle.spec_format.specs.Sealed.{BeginsWithRecord, record_range, record_size
 use Rattle.spec_format.proofs.SpareHeaders.{SparesHeaders}
 use Rattle.spec_folder.specs.ShownChanges.{ChangesInside}
 use Rattle.law_folder.specs.BlockWrites.{WritesStayInside, UpdatesStayInside}
-use Rattle.law_folder.proofs.updates.WellFormed.{before_range, well_formed_still}
+use Rattle.law_folder.proofs.updates.WellFormed.{before_range, headers_still}
 
 -- a used block of a file
 unfoldable pub in_file : ℕ → Claim → Bool
@@ -102,16 +102,16 @@ module _ (from image : Image) (w at n : ℕ) (st : stands_in from w ≡ true) (b
   unfolding F
   spares = record { bytes = λ m i small. before_range (Block (file_selector w)) (Block m) at n i (let b = behind-header w in omega arith) }
 
-  well-formed : IsWellFormed from → IsWellFormed image
+  headers : KeepsHeaders from image
   unfolding F
-  well-formed =
+  headers =
       let index : byte image Index ≡ byte from Index = λ j i. same.bytes Index i refl j in
       let size : length_of image Index ≡ length_of from Index = same.lengths Index refl in
-      well_formed_still F from image spares (λ m. refl) same (λ j. first_of (head_checks (index j) (size j))) (λ j. first_of (list_checks (index j)))
+      headers_still F from image spares (λ m. refl) same (λ j. magic_of (index j)) (λ j. first_of (field_checks (index j) (size j))) (λ j. first_of (list_checks (index j)))
 
   pub inside : ChangesInside w from image
   unfolding F
-  inside = record { shown = views-same F from image (has_claim (claims_of w)) same covers; stands = stands-all; well_formed = well-formed }
+  inside = record { shown = views-same F from image (has_claim (claims_of w)) same covers; stands = stands-all; headers = headers }
 
 pub writes-inside : WritesStayInside
 writes-inside from image w at n st block_kind low high same = inside from image w at n st block_kind low high same

@@ -6,6 +6,7 @@ use Rattle.spec_image.specs.Footprint.{Footprint}
 use Rattle.spec_image.proofs.Runs.{until_last}
 use Rattle.blk_model.specs.State.{State, IsValidState}
 use Rattle.blk_model.specs.Effects.{used}
+use Rattle.spec_format.proofs.Finished.{formed-kept, sound-of}
 use Rattle.spec_folder.specs.View.{view_of, store_of, list_of}
 use Rattle.spec_folder.specs.ListView.{ListWrite, IsList, IsAtRest, after_writes}
 use Rattle.spec_folder.specs.ListPlans.{touch_writes}
@@ -27,14 +28,14 @@ states-stand image state layout numbers has = tidy-stands image state layout num
 pub touched-state : TouchesKeepStates
 touched-state from state layout numbers has ready item moment there = record {
   valid = ends.1;
-  well_formed = touched.well_formed has.well_formed;
+  well_formed = formed-kept from image touched.headers has.well_formed;
   represents = record {
     holds = ends.0.holds;
     list = subst (λ (ns : List ℕ). IsList (list_of image) ns) (sym new-order) at-rest.whole;
     idle = at-rest.idle;
   };
   allocated = moved-allocated from image state later layout numbers refl prefix node suffix old-order new-order F (touch_spares ws node) (touch_sizes ws node) touched.outside has.allocated;
-  tidy = moved-tidy from image state later layout numbers refl prefix node suffix old-order new-order F (touch_spares ws node) (touch_sizes ws node) touched.outside has.well_formed
+  tidy = moved-tidy from image state later layout numbers refl prefix node suffix old-order new-order F (touch_spares ws node) (touch_sizes ws node) touched.outside (sound-of from has.well_formed)
       (counter-same ws node from image touched.outside)
       (sealed-still from image ws node touched.outside (touches-can from node prefix suffix rest).nodes good state layout has.represents (touches-keep from node moment prefix suffix ready rest)) has.tidy;
 } where

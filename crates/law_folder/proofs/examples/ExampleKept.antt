@@ -10,7 +10,7 @@ use Rattle.spec_format.specs.Address.{is_address, is_initialized, names_external
 use Rattle.spec_format.specs.Storage.{kind_for, blocks_for, entry_blocks, is_storage}
 use Rattle.spec_format.specs.Standing.{stands, stands_as_blocks}
 use Rattle.spec_format.specs.Records.{node_checks, entry_checks, node_in, entry_in}
-use Rattle.spec_format.specs.Headers.{head_checks, list_checks}
+use Rattle.spec_format.specs.Headers.{field_checks, head_checks, list_checks}
 use Rattle.spec_format.specs.BlockFiles.{next_file_in, max_entries_in, files_along, linked, linked_up_to, kind_among, is_link, is_block_count, file_checks, checks_along, checks_of_kind, is_among, IsWellFormed}
 use Rattle.spec_folder.specs.Walk.{walk, walk_from}
 use Rattle.spec_folder.specs.Completion.{counts, completed_list}
@@ -53,7 +53,7 @@ dirty_folder (Block (suc (suc (suc zero)))) = Some (with_words (new_file_words 3
 dirty_folder _ = None
 
 are-well_formed : IsWellFormed (folder_with small_records) × IsWellFormed dirty_folder
-unfolding folder_with dirty_folder head_checks list_checks checks_of_kind checks_along file_checks next_file_in is_link is_block_count linked_up_to linked files_along zeros with_word spliced block_size
+unfolding folder_with dirty_folder field_checks head_checks list_checks checks_of_kind checks_along file_checks next_file_in is_link is_block_count linked_up_to linked files_along zeros with_word spliced block_size
 are-well_formed = (refl, refl)
 
 -- the walks are another

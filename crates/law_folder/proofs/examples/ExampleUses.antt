@@ -21,7 +21,7 @@ use Rattle.spec_format.specs.BlockFiles.{is_among, IsWhole}
 use Rattle.spec_format.specs.Growth.{HaveGrown}
 use Rattle.spec_format.specs.Headers.{HasWholeIndex, index_length, is_extent_place}
 use Rattle.spec_format.specs.Hash.{hash, mixed, of_bytes, of_one}
-use Rattle.spec_format.proofs.Finished.{finished_whole, whole_index as whole_index_is}
+use Rattle.spec_format.proofs.Finished.{finished_whole, whole_index as whole_index_is, sound-of}
 use Rattle.spec_folder.specs.View.{StoreView, view_of, store_of}
 use Rattle.spec_folder.specs.ListView.{after_writes}
 use Rattle.spec_folder.specs.Completion.{insert}
@@ -243,7 +243,7 @@ stream-is_behind = record { bytes = λ n i small. behind (1 == n) i small; sizes
   behind true i small = grind (arith, nat_tests)
 
 files-still_stand : FilesStand whole_folder (applied (Word (Block 1) 8448 (121 ∷ 122 ∷ [])) whole_folder)
-files-still_stand = files-stand (range (Block 1) 8448 2) whole_folder (applied (Word (Block 1) 8448 (121 ∷ 122 ∷ [])) whole_folder) stream-is_behind (outside_write (Block 1) 8448 (121 ∷ 122 ∷ []) whole_folder) whole-is_well_formed
+files-still_stand = files-stand (range (Block 1) 8448 2) whole_folder (applied (Word (Block 1) 8448 (121 ∷ 122 ∷ [])) whole_folder) stream-is_behind (outside_write (Block 1) 8448 (121 ∷ 122 ∷ []) whole_folder) (sound-of whole_folder whole-is_well_formed)
 
 whole-found : volume.found whole_folder ≡ rest (one.state true)
 whole-found = stood-found whole_folder (one.state true) whole-stands

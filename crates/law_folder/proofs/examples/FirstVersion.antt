@@ -6,7 +6,7 @@ use Rattle.spec_image.specs.Bytes.{content, spliced, word_at, zeros}
 use Rattle.spec_image.specs.Image.{Image, Index, byte}
 use Rattle.spec_image.specs.Steps.{with_word, with_words}
 use Rattle.spec_format.specs.Address.{block_size}
-use Rattle.spec_format.specs.Headers.{CountsAs, count_of, first_version, head_checks, list_checks, version_of}
+use Rattle.spec_format.specs.Headers.{CountsAs, count_of, first_version, field_checks, head_checks, list_checks, version_of}
 use Rattle.spec_format.specs.BlockFiles.{next_file_in, max_entries_in, files_along, linked, linked_up_to, is_link, is_block_count, file_checks, checks_along, checks_of_kind, linked_as, IsWellFormed}
 use Rattle.spec_format.specs.Maps.{EmptyAgrees}
 use Rattle.spec_folder.specs.View.{View, list_of, store_of, view_of}
@@ -44,7 +44,7 @@ unfolding with_index whole_folder zeros with_word spliced
 first-version = refl
 
 first-is_well_formed : IsWellFormed first_folder
-unfolding with_index whole_folder head_checks list_checks checks_of_kind checks_along file_checks next_file_in is_link is_block_count linked_up_to linked files_along zeros with_word spliced block_size
+unfolding with_index whole_folder field_checks head_checks list_checks checks_of_kind checks_along file_checks next_file_in is_link is_block_count linked_up_to linked files_along zeros with_word spliced block_size
 first-is_well_formed = refl
 
 -- any other word is as it was

@@ -14,7 +14,7 @@ use Rattle.spec_format.specs.Address.{is_address, is_initialized, names_external
 use Rattle.spec_format.specs.Storage.{kind_for, blocks_for, entry_blocks, is_storage}
 use Rattle.spec_format.specs.Standing.{stands, stands_as_blocks}
 use Rattle.spec_format.specs.Records.{node_checks, node_is_sealed, entry_checks, entry_is_sealed, node_in, node_body, entry_in, entry_body}
-use Rattle.spec_format.specs.Headers.{unfinished, head_checks, list_checks, index_length, place_of_bucket, bucket_of}
+use Rattle.spec_format.specs.Headers.{unfinished, field_checks, head_checks, list_checks, index_length, place_of_bucket, bucket_of}
 use Rattle.spec_format.specs.BlockFiles.{is_among, next_file_in, max_entries_in, files_along, linked, linked_up_to, kind_among, is_link, is_block_count, file_checks, checks_along, checks_of_kind, first_damage}
 use Rattle.spec_format.specs.Claims.{claims_of, has_claim, overlap, repeats}
 use Rattle.spec_folder.specs.Walk.{walk, walk_from}
@@ -56,7 +56,7 @@ folder_with records _ = None
 
 -- no check fails
 small_is_well_formed : first_damage (folder_with small_records) ≡ None
-unfolding folder_with head_checks list_checks checks_of_kind checks_along file_checks next_file_in is_link is_block_count linked_up_to linked files_along zeros with_word spliced block_size
+unfolding folder_with field_checks head_checks list_checks checks_of_kind checks_along file_checks next_file_in is_link is_block_count linked_up_to linked files_along zeros with_word spliced block_size
 small_is_well_formed = refl
 
 -- the recovered contents of the small folder are the entry
@@ -92,7 +92,7 @@ cut_to size _ = None
 
 -- where block 1 isn't there, no check fails
 pub cut_is_well_formed : first_damage (cut_to 8448) ≡ None
-unfolding cut_to head_checks list_checks checks_of_kind checks_along file_checks next_file_in is_link is_block_count linked_up_to linked files_along zeros with_word spliced block_size
+unfolding cut_to field_checks head_checks list_checks checks_of_kind checks_along file_checks next_file_in is_link is_block_count linked_up_to linked files_along zeros with_word spliced block_size
 cut_is_well_formed = refl
 
 -- what a node names, whose record is this, with a key and no streams

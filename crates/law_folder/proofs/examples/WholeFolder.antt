@@ -14,7 +14,7 @@ use Rattle.spec_format.specs.Address.{is_address, is_initialized, names_external
 use Rattle.spec_format.specs.Storage.{kind_for, blocks_for, entry_blocks, is_storage}
 use Rattle.spec_format.specs.Standing.{stands, stands_as_blocks}
 use Rattle.spec_format.specs.Records.{node_checks, node_is_sealed, entry_checks, entry_is_sealed, node_in, node_body, entry_in, entry_body}
-use Rattle.spec_format.specs.Headers.{unfinished, head_checks, list_checks, index_length, place_of_bucket, bucket_of}
+use Rattle.spec_format.specs.Headers.{unfinished, field_checks, head_checks, list_checks, index_length, place_of_bucket, bucket_of}
 use Rattle.spec_format.specs.BlockFiles.{next_file_in, max_entries_in, files_along, linked, linked_up_to, kind_among, is_link, is_block_count, file_checks, checks_along, checks_of_kind, linked_as, IsWellFormed}
 use Rattle.spec_folder.specs.ListView.{IsList}
 use Rattle.spec_folder.specs.View.{list_of, checks_at, next_at, prev_at, store_of, node_fields_at, fields_at, follow_at, key_place_at, stored_at, view_of}
@@ -55,7 +55,7 @@ whole_folder _ = None
 
 -- no check fails
 pub whole-is_well_formed : IsWellFormed whole_folder
-unfolding whole_folder head_checks list_checks checks_of_kind checks_along file_checks next_file_in is_link is_block_count linked_up_to linked files_along zeros with_word spliced block_size
+unfolding whole_folder field_checks head_checks list_checks checks_of_kind checks_along file_checks next_file_in is_link is_block_count linked_up_to linked files_along zeros with_word spliced block_size
 whole-is_well_formed = refl
 
 -- the node of the entry loads by itself

@@ -4,6 +4,7 @@ use Rattle.spec_image.specs.Image.{Image}
 use Rattle.spec_image.specs.Steps.{TrailStep, applied, after}
 use Rattle.spec_image.specs.Told.{Along}
 use Rattle.spec_image.proofs.Runs.{until_weaker2}
+use Rattle.spec_format.proofs.Finished.{headers-kept, headers-next}
 use Rattle.spec_folder.specs.ListView.{ListView, ListWrite}
 use Rattle.spec_folder.specs.Walk.{walk}
 use Rattle.spec_folder.specs.ListPlans.{completion_writes, completed_but_operation}
@@ -77,11 +78,11 @@ stop_once image count ready =
     let stopped : Image = after (take count (steps_of_writes ws image)) image in
     let part : IsPartly image ws stopped = prefix_holds (IsPartly image ws) count (steps_of_writes ws image) image (writes_show ws image ready (completion_can image)).along in (
       prefix_holds IsWritable count (steps_of_writes ws image) image (writes-go_on image ws ready),
-      record { list = partly-alike image stopped part; walk = alike-walk image stopped (partly-alike image stopped part); store = part.shown.store; well_formed = part.well_formed },
+      record { list = partly-alike image stopped part; walk = alike-walk image stopped (partly-alike image stopped part); store = part.shown.store; headers = part.headers },
     )
 
 pub completions-stop : CompletionsMayBeStopped
-completions-stop image [] ready = record { list = refl; walk = refl; store = same-shown (store_of image); well_formed = λ well. well }
+completions-stop image [] ready = record { list = refl; walk = refl; store = same-shown (store_of image); headers = headers-kept image }
 completions-stop image (count ∷ counts) ready =
     let once = stop_once image count ready in
     let between : Image = after (take count (steps_of_writes (completion_writes (list_of image)) image)) image in
@@ -90,5 +91,5 @@ completions-stop image (count ∷ counts) ready =
       list = more.list ∙ once.1.list;
       walk = more.walk ∙ once.1.walk;
       store = shows-both (store_of image) (store_of between) (store_of (stopped_folder counts between)) once.1.store more.store;
-      well_formed = λ well. more.well_formed (once.1.well_formed well);
+      headers = headers-next image between (stopped_folder counts between) once.1.headers more.headers;
     }

@@ -17,6 +17,7 @@ use Rattle.spec_format.specs.Records.{node_in}
 use Rattle.spec_format.specs.Sealed.{AreChanges, IsMidUpdate, IsUpdated, record_at, record_range, seal_place, sealed_steps}
 use Rattle.spec_format.proofs.SealedFields.{record_word, updated_is_new}
 use Rattle.spec_format.proofs.SealedRecords.{node_bytes, node_seal, moments, updated}
+use Rattle.spec_format.proofs.Finished.{headers-next}
 use Rattle.spec_folder.specs.ListView.{ListView, ListWrite, Operation, Transaction, after_writes, IsAtRest}
 use Rattle.spec_folder.specs.Walk.{walk}
 use Rattle.spec_folder.specs.Completion.{insert, remove, move, completed_list}
@@ -152,7 +153,7 @@ module _ (from : Image) (ready : IsWritable from) (node moment : ℕ) (good : (l
           within = omega arith;
           shown = subst (λ (w : List ListWrite). OnlyListChanges w from image) (sym (take_all (length ws) ws (omega arith))) sum;
           outside = outside-trans (either F G) from i image (outside_wider F (either F G) from i (within_left F G) here.outside) (outside_wider G (either F G) i image (within_right F G) m.outside);
-          well_formed = λ well. (updates-inside i image node changes is.stands (inl is.kind) m).well_formed (here.well_formed well);
+          headers = headers-next from i image here.headers (updates-inside i image node changes is.stands (inl is.kind) m).headers;
         },
       ) in
       until_weaker2 M R M R (sealed_steps i node changes) i step step (moments node i changes is.fits is.checks all)
@@ -164,7 +165,7 @@ module _ (from : Image) (ready : IsWritable from) (node moment : ℕ) (good : (l
       let R : Image → Type 0 = λ image. (list_of image ≡ after_writes ws (list_of from)) × IsTouched from node ws image in
       let F : Footprint = touched_by_writes ws in
       let G : Footprint = record_range node in
-      let first : (image : Image) → P image → T image = λ image p. record { made = p.made; within = p.within; shown = p.shown; outside = outside_wider F (either F G) from image (within_left F G) p.outside; well_formed = p.well_formed } in
+      let first : (image : Image) → P image → T image = λ image p. record { made = p.made; within = p.within; shown = p.shown; outside = outside_wider F (either F G) from image (within_left F G) p.outside; headers = p.headers } in
       let second : (image : Image) → R image → T image = λ image r. r.1 in
       until-append T T (steps_of_writes ws from) (sealed_steps (after (steps_of_writes ws from) from) node (times_of moment)) from
       (until_weaker2 P T P T (steps_of_writes ws from) from first first (writes_show ws from ready can).along)

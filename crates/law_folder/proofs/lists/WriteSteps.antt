@@ -19,6 +19,7 @@ use Rattle.spec_format.specs.BlockFiles.{is_among, linked_as, max_entries_in, st
 use Rattle.spec_format.specs.Sealed.{RecordChecks, IsMidUpdate, IsUpdated, seal_place, record_size, record_at, record_range, sealed_steps, update_steps, update_words, placed, new_seal}
 use Rattle.spec_format.proofs.RecordBytes.{take-before_word}
 use Rattle.spec_format.proofs.SealedRecords.{node_seal, record_inside, moments, updated}
+use Rattle.spec_format.proofs.Finished.{headers-kept, headers-next}
 use Rattle.spec_folder.specs.ListView.{ListView, ListWrite, Next, Prev, Head, Tail, Transaction, Operation}
 use Rattle.spec_folder.specs.View.{list_of}
 use Rattle.spec_folder.specs.ShownChanges.{OnlyListChanges}
@@ -79,7 +80,7 @@ writes-go_on image (write ∷ writes) is =
 
 -- none of them is made
 pub nothing_made : (writes : List ListWrite) (image : Image) → IsPartly image writes image
-nothing_made writes image = record { made = 0; within = omega arith; shown = subst (λ (ws : List ListWrite). OnlyListChanges ws image image) (sym (take_none writes)) (changes-begin image); outside = outside-refl (touched_by_writes writes) image; well_formed = λ well. well }
+nothing_made writes image = record { made = 0; within = omega arith; shown = subst (λ (ws : List ListWrite). OnlyListChanges ws image image) (sym (take_none writes)) (changes-begin image); outside = outside-refl (touched_by_writes writes) image; headers = headers-kept image }
   where
     take_none : (writes : List ListWrite) → take 0 writes ≡ []
     take_none [] = refl
@@ -134,7 +135,7 @@ index_word at x write from ready small inside aligned free law touched =
       within = omega arith;
       shown = shown;
       outside = subst (λ (F : Footprint). SameOutside (either F nothing) from new) (sym touched) (outside_wider (one_word Index at) (either (one_word Index at) nothing) from new (within_left (one_word Index at) nothing) out);
-      well_formed = others-unchecked from new at aligned free out;
+      headers = others-unchecked from new at aligned free out;
     } in
     ((nothing_made (write x ∷ []) from, last), shown)
 
@@ -154,7 +155,7 @@ link_word w p x write from ready good inside law touched =
       within = moment.within;
       shown = law image moment;
       outside = subst (λ (F : Footprint). SameOutside (either F nothing) from image) (sym touched) (outside_wider (record_range w) (either (record_range w) nothing) from image (within_left (record_range w) nothing) moment.outside);
-      well_formed = (updates-inside from image w changes node.stands (inl node.kind) moment).well_formed;
+      headers = (updates-inside from image w changes node.stands (inl node.kind) moment).headers;
     } in
     let new : Image = after steps from in
     let last : IsMidUpdate from w changes new = until_last (IsMidUpdate from w changes) (IsMidUpdate from w changes) steps from each in
@@ -197,7 +198,7 @@ first_part from write writes image part = record {
   within = omega (arith, part.within);
   shown = subst (λ (ws : List ListWrite). OnlyListChanges ws from image) (front_of part.made write writes part.within) part.shown;
   outside = outside_wider (either (touched_by_write write) nothing) (touched_by_writes (write ∷ writes)) from image (within_both (touched_by_write write) nothing (touched_by_writes (write ∷ writes)) (within_left (touched_by_write write) (touched_by_writes writes)) (nothing_in (touched_by_writes (write ∷ writes)))) part.outside;
-  well_formed = part.well_formed;
+  headers = part.headers;
 }
   where
     clash : false ≡ true → ⊥
@@ -214,7 +215,7 @@ later_part from between write writes first shown image part =
       within = omega (arith, part.within);
       shown = changes-add (write ∷ []) (take part.made writes) from between image shown part.shown;
       outside = outside-trans whole from between image (first_part from write writes between first).outside (outside_wider (touched_by_writes writes) whole between image (within_right (touched_by_write write) (touched_by_writes writes)) part.outside);
-      well_formed = λ well. part.well_formed (first.well_formed well);
+      headers = headers-next from between image first.headers part.headers;
     }
 
 -- the nodes check as before
@@ -279,19 +280,19 @@ writes-made image writes ready can = (writes_show writes image ready can).ends
 pub writable-writes : (writes : List ListWrite) (image : Image) → IsWritable image → IsWritable (after (steps_of_writes writes image) image)
 writable-writes writes image is = until_last IsWritable IsWritable (steps_of_writes writes image) image (writes-go_on image writes is)
 
--- no step is a note
+-- each step is one that a command may make
 pub quiet-sealed : (image : Image) (w : ℕ) (changes : List (ℕ × ℕ)) → IsQuiet (sealed_steps image w changes)
 unfolding update_steps
-quiet-sealed image w changes = quiet-word_steps (Block (file_selector w)) (placed (place w) (update_words (seal_place w) changes (new_seal image w changes)))
+quiet-sealed image w changes = quiet-word_steps (Block (file_selector w)) (placed (place w) (update_words (seal_place w) changes (new_seal image w changes))) tt
 
 quiet-write : (write : ListWrite) (image : Image) → IsQuiet (write_steps write image)
 unfolding write_steps
 quiet-write (Next w x) image = quiet-sealed image w ((16, x) ∷ [])
 quiet-write (Prev w x) image = quiet-sealed image w ((20, x) ∷ [])
-quiet-write (Head x) image = quiet-word_step Index 288 x
-quiet-write (Tail x) image = quiet-word_step Index 308 x
-quiet-write (Transaction x) image = quiet-word_step Index 328 x
-quiet-write (Operation x) image = quiet-word_step Index 332 x
+quiet-write (Head x) image = quiet-word_step Index 288 x refl
+quiet-write (Tail x) image = quiet-word_step Index 308 x refl
+quiet-write (Transaction x) image = quiet-word_step Index 328 x refl
+quiet-write (Operation x) image = quiet-word_step Index 332 x refl
 
 pub quiet-writes : (writes : List ListWrite) (image : Image) → IsQuiet (steps_of_writes writes image)
 quiet-writes [] image = tt

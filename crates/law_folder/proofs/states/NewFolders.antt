@@ -11,7 +11,7 @@ use Rattle.spec_image.specs.Order.{IsBefore}
 use Rattle.spec_image.proofs.Splices.{length-zeros, content-zeros, content-spliced_outside}
 use Rattle.spec_image.proofs.Words.{word-beside, word-there, word-zeros, length-with_words}
 use Rattle.spec_format.specs.Address.{block_size, header_size}
-use Rattle.spec_format.specs.Headers.{count_of, counting, head_checks, list_checks, index_length, index_magic, index_version, place_of_bucket, table_length}
+use Rattle.spec_format.specs.Headers.{count_of, counting, field_checks, head_checks, list_checks, index_length, index_magic, index_version, place_of_bucket, table_length}
 use Rattle.spec_format.proofs.Counts.{count-is}
 use Rattle.spec_format.specs.BlockFiles.{next_file_in, max_entries_in, files_along, linked, linked_as, kind_among, is_link, is_block_count, file_checks, checks_along, checks_of_kind, linked_up_to, IsWellFormed}
 use Rattle.spec_folder.specs.View.{list_of}
@@ -132,7 +132,7 @@ bare-file moment n small = record {
 }
 
 well-formed : (moment : ℕ) → IsWellFormed (new_folder moment)
-unfolding new_folder head_checks list_checks checks_of_kind checks_along file_checks next_file_in is_link is_block_count linked_up_to linked files_along zeros with_word spliced block_size
+unfolding new_folder field_checks head_checks list_checks checks_of_kind checks_along file_checks next_file_in is_link is_block_count linked_up_to linked files_along zeros with_word spliced block_size
 well-formed moment = refl
 
 bare : (moment : ℕ) → HasNoEntries (new_folder moment)

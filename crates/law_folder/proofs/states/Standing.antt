@@ -24,7 +24,7 @@ use Rattle.spec_folder.specs.Layout.{Layout, is_listed, order, rule_of, HasDirty
 use Rattle.spec_folder.specs.Given.{given_by}
 use Rattle.spec_folder.specs.StandsFor.{KeepsDoomed, AreDoomed, ShowsState, StandsFor, doomed_of, IsOwner, AllIsOwned}
 use Rattle.spec_folder.specs.Sound.{EndsWhole, AreOwned, IsInOrder}
-use Rattle.law_folder.specs.StateLaws.{FoundIsAtRest}
+use Rattle.law_folder.specs.StateLaws.{FoundIsAtRest, HeldIsAtRest}
 use Rattle.law_folder.proofs.claims.ClaimLists.{claim-append, no-claim, repeats-append, contents-claims, some-claim}
 use Rattle.law_folder.proofs.walks.Loads.{load-then}
 use Rattle.law_folder.proofs.states.Laid.{IsNodeOf, node-of, item-of}
@@ -233,6 +233,10 @@ module _ (image : Image) (m : State) (y : Layout) (r : Represents (view_of image
 
   pub stands-for : IsWellFormed image → version_of (byte image Index) ≡ index_version → IsInOrder image (kept_by listed_rule (view_of image)) (map (λ (d : ℕ × Loaded). d.1) (doomed_of y numbers)) → StandsFor image m
   stands-for well version in_order = record { well_formed = well; version = version; shows = shows-state; doomed = doomed_of y numbers; are_doomed = are-doomed; owned = are-owned; in_order = in_order }
+
+pub held-at_rest : HeldIsAtRest
+unfolding kept
+held-at_rest image m y r valid = found-rest (view_of image) m y r valid
 
 -- an initialized folder that represents a state holds the durable contents
 pub found-at_rest : FoundIsAtRest

@@ -10,7 +10,7 @@ use Rattle.spec_image.specs.Footprint.{Footprint, SameOutside, either}
 use Rattle.spec_image.proofs.Words.{same-word_at}
 use Rattle.spec_format.specs.Address.{kind_of, rankings, blocks_256, file_selector, place}
 use Rattle.spec_format.specs.Claims.{is_in_file}
-use Rattle.spec_format.specs.BlockFiles.{is_among, linked_as, IsWellFormed}
+use Rattle.spec_format.specs.BlockFiles.{is_among, linked_as, HasSoundHeaders}
 use Rattle.spec_format.specs.Records.{entry_is_sealed, entry_in}
 use Rattle.spec_format.specs.Sealed.{record_range}
 use Rattle.spec_format.specs.Headers.{counting}
@@ -164,9 +164,9 @@ module _ (from image : Image) (state after : State) (layout : Layout) (numbers :
       let c : length (x ∷ prefix ++ suffix) ≡ length (prefix ++ x ∷ suffix) = (let l = length-append prefix suffix in let m = length-append prefix (x ∷ suffix) in grind (arith, common_steps, l, m)) in
       a ∙ c ∙ sym b
 
-  pub moved-tidy : IsWellFormed from → ((i : ℕ) → i + 3 < 288 → word_at (byte image Index) i ≡ word_at (byte from Index) i) → ((w : ℕ) (loaded : Loaded) → layout.at w ≡ Some loaded → sound.AreSealed from loaded → sound.AreSealed image loaded)
+  pub moved-tidy : HasSoundHeaders from → ((i : ℕ) → i + 3 < 288 → word_at (byte image Index) i ≡ word_at (byte from Index) i) → ((w : ℕ) (loaded : Loaded) → layout.at w ≡ Some loaded → sound.AreSealed from loaded → sound.AreSealed image loaded)
       → IsTidy from state layout numbers → IsTidy image after layout numbers
-  moved-tidy well counters seals t = record {
+  moved-tidy sound counters seals t = record {
     only_linked = only-same F from image spares sizes same t.only_linked;
     long_enough = long-same F from image spares sizes same t.long_enough;
     counted = λ n linked.
@@ -175,7 +175,7 @@ module _ (from image : Image) (state after : State) (layout : Layout) (numbers :
         let moved = moved-same (λ (ns : List ℕ). count_by (is_in_file n) (flat_map words_of (loaded_at layout ns))) (counts-add (is_in_file n) words_of layout.at) prefix x (suffix ++ doomed_nodes layout numbers) in
         let counts : count_by (is_in_file n) (flat_map words_of (loaded_at layout (order state layout ++ doomed_nodes layout numbers))) ≡ count_by (is_in_file n) (flat_map words_of (loaded_at layout (order after layout ++ doomed_nodes layout numbers)))
         = ap (λ (ns : List ℕ). count_by (is_in_file n) (flat_map words_of (loaded_at layout ns))) old-all ∙ sym moved ∙ ap (λ (ns : List ℕ). count_by (is_in_file n) (flat_map words_of (loaded_at layout ns))) (sym new-all) in
-        let still = counted-same F from image spares sizes same n (flat_map words_of (loaded_at layout (order state layout ++ doomed_nodes layout numbers))) (few-blocks from n well was) c in
+        let still = counted-same F from image spares sizes same n (flat_map words_of (loaded_at layout (order state layout ++ doomed_nodes layout numbers))) (few-blocks from n sound was) c in
         record { num_entries = still.num_entries ∙ counts; empty = still.empty; updating = still.updating };
     counts = same-count (byte image Index) (byte from Index) (counters 4 (omega arith)) (counters 8 (omega arith)) (counters 12 (omega arith)) (counters 48 (omega arith)) (counters 52 (omega arith)) (counters 268 (omega arith))
         ∙ t.counts ∙ ap (λ (n : ℕ). counting n (sum_by charge_of (loaded_at layout (order state layout)))) (sym uses-long)

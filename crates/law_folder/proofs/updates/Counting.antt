@@ -7,8 +7,8 @@ use Rattle.spec_image.specs.Footprint.{Footprint, SameOutside}
 use Rattle.spec_image.proofs.Words.{same-word_at}
 use Rattle.spec_format.specs.Maps.{is_block_marked, groups_of, groups_with, EmptyAgrees}
 use Rattle.spec_format.specs.Address.{block_place, is_block_kind}
-use Rattle.spec_format.specs.Headers.{head_checks, list_checks}
-use Rattle.spec_format.specs.BlockFiles.{block_checks, is_among, linked, max_entries_in, linked_as, kind_among, most_blocks, IsWellFormed}
+use Rattle.spec_format.specs.Headers.{field_checks, list_checks}
+use Rattle.spec_format.specs.BlockFiles.{block_checks, is_among, linked, max_entries_in, linked_as, kind_among, most_blocks, HasSoundHeaders}
 use Rattle.spec_format.proofs.Keeping.{none_parts}
 use Rattle.spec_format.proofs.LinkedHeads.{count_whole, linked_checked}
 use Rattle.std.specs.Int.{bit_at}
@@ -18,7 +18,7 @@ use Rattle.law_folder.specs.TidyLaws.{FilesStandBehindHeaders}
 use Rattle.law_folder.proofs.claims.ByteChanges.{same-links}
 use Rattle.spec_format.proofs.Groups.{groups_same}
 
--- a linked file of a well-formed folder has no more blocks than a file may have
+-- a linked file of a folder with sound headers has no more blocks than a file may have
 some-type : (lists : ℕ → List ℕ) (n : ℕ) → is_some (kind_among lists n) ≡ true → (kind : ℕ) × (is_block_kind kind ≡ true) × (is_among (lists kind) n ≡ true)
 unfolding kind_among
 some-type lists n some = go (is_among (lists 1) n) (is_among (lists 2) n) (is_among (lists 3) n) (is_among (lists 4) n) refl refl refl refl some where
@@ -30,10 +30,10 @@ some-type lists n some = go (is_among (lists 1) n) (is_among (lists 2) n) (is_am
   go false false false true e f g h some = (4, refl, h)
   go false false false false e f g h some = absurd (let bad : false ≡ true = some in cc)
 
-pub few-blocks : (image : Image) (n : ℕ) → IsWellFormed image → is_some (linked_as image n) ≡ true → max_entries_in image n ≤ most_blocks
-unfolding head_checks list_checks
-few-blocks image n well some =
-    let p = none_parts (head_checks (byte image Index) (length_of image Index)) (list_checks (byte image Index) ++ block_checks image) well in
+pub few-blocks : (image : Image) (n : ℕ) → HasSoundHeaders image → is_some (linked_as image n) ≡ true → max_entries_in image n ≤ most_blocks
+unfolding field_checks list_checks
+few-blocks image n sound some =
+    let p = none_parts (field_checks (byte image Index) (length_of image Index)) (list_checks (byte image Index) ++ block_checks image) sound in
     let q = none_parts (list_checks (byte image Index)) (block_checks image) p.1 in
     let k = some-type (linked image) n some in
     (count_whole (max_entries_in image n) (linked_checked image k.0 n q.1 k.1 k.2).count).1
@@ -75,12 +75,12 @@ module _ (F : Footprint) (from image : Image) (spares : SparesHeaders F) (sizes 
       subst (λ (e : ℕ). block_place kind e ≤ length_of image (Block n)) (sym (blocks_same F from image spares same n)) (subst (λ (k : ℕ). block_place kind (max_entries_in from n) ≤ k) (sym a) l)
 
 pub files-stand : FilesStandBehindHeaders
-files-stand footprint from image behind same well =
+files-stand footprint from image behind same sound =
     let spares : SparesHeaders footprint = record { bytes = behind.bytes } in
     record {
       links = links-same footprint from image spares behind.sizes same;
       marks = marks-same footprint from image spares behind.sizes same;
-      counted = λ n words some is. counted-same footprint from image spares behind.sizes same n words (few-blocks from n well some) is;
+      counted = λ n words some is. counted-same footprint from image spares behind.sizes same n words (few-blocks from n sound some) is;
       only_linked = only-same footprint from image spares behind.sizes same;
       long_enough = long-same footprint from image spares behind.sizes same;
       externals = λ n. same.files (External n) (behind.sizes (External n));

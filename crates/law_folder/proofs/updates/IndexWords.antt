@@ -10,16 +10,16 @@ use Rattle.spec_image.specs.Checks.{first_of, check_found, check_word}
 use Rattle.spec_image.specs.Image.{Index, Block, External, File, Image, byte, length_of, word}
 use Rattle.spec_image.specs.Footprint.{SameOutside, one_word}
 use Rattle.spec_image.proofs.Footprints.{same_file_outside, same_word_outside}
-use Rattle.spec_format.specs.Headers.{head_checks, list_checks, zero_places, index_magic, index_version, is_index_version, index_length, version_of, table_length, place_of_bucket}
+use Rattle.spec_format.specs.Headers.{field_checks, list_checks, zero_places, index_version, is_index_version, index_length, version_of, table_length, place_of_bucket}
 use Rattle.spec_format.proofs.Counts.{same-count}
-use Rattle.spec_format.proofs.Finished.{well_formed-version}
+use Rattle.spec_format.proofs.Finished.{sound-version}
 use Rattle.spec_format.specs.Standing.{stands, stands_as_blocks}
-use Rattle.spec_format.specs.BlockFiles.{is_among, linked, next_file_in, max_entries_in, stands_in, IsWellFormed}
+use Rattle.spec_format.specs.BlockFiles.{is_among, linked, next_file_in, max_entries_in, stands_in, KeepsHeaders}
 use Rattle.spec_folder.specs.ListView.{ListView, put}
 use Rattle.spec_folder.specs.View.{StoreView, list_of, checks_at, next_at, prev_at, store_of, node_fields_at, fields_at, follow_at, key_place_at, stored_at}
 use Rattle.spec_folder.specs.ShownChanges.{ShowsTheSame}
 use Rattle.law_folder.specs.IndexWrites.{shown_words, checked_words, HeadsAreWritten, TailsAreWritten, TransactionsAreWritten, OperationsAreWritten, OtherWordsAreNotShown, BucketsAreWritten, OtherWordsAreNotChecked, VersionsMayBeRaised, OtherBytesAreNotCounted, BucketsAreNotChecked, IndexWordsStandApart}
-use Rattle.law_folder.proofs.updates.WellFormed.{well_formed_still}
+use Rattle.law_folder.proofs.updates.WellFormed.{headers_still}
 
 -- an image with another index
 unfoldable pub with_index : Image → Option (List ℕ) → Image
@@ -158,11 +158,10 @@ same-zeros f g (p ∷ places) same = λ i. check_found Index p (same.0 i) (same.
 abbrev SameVersionCheck : (ℕ → ℕ) → (ℕ → ℕ) → Type 0
 SameVersionCheck f g = check_word Index f 4 (is_index_version (version_of f)) ≡ check_word Index g 4 (is_index_version (version_of g))
 
-same-heads : (f g : ℕ → ℕ) (m n : ℕ) → m ≡ n → SameVersionCheck f g → AllByRecursion (λ p. word_at f p ≡ word_at g p) (0 ∷ 24 ∷ 28 ∷ 36 ∷ []) → head_checks f m ≡ head_checks g n
-unfolding head_checks
-same-heads f g m n size b (a, (c, (d, (e, rest)))) = λ i.
-    check_found Index 0 (a i) (a i == index_magic)
-    ∷ check_found Index index_length (size i % 2 ^ 32) (size i == index_length)
+same-heads : (f g : ℕ → ℕ) (m n : ℕ) → m ≡ n → SameVersionCheck f g → AllByRecursion (λ p. word_at f p ≡ word_at g p) (24 ∷ 28 ∷ 36 ∷ []) → field_checks f m ≡ field_checks g n
+unfolding field_checks
+same-heads f g m n size b (c, (d, (e, rest))) = λ i.
+    check_found Index index_length (size i % 2 ^ 32) (size i == index_length)
     ∷ b i
     ∷ check_found Index 24 (c i) (c i == 0)
     ∷ check_found Index 28 (d i) ((d i == 0) || (d i == table_length))
@@ -173,14 +172,14 @@ same-heads f g m n size b (a, (c, (d, (e, rest)))) = λ i.
 abbrev other_checked : List ℕ
 other_checked = 0 ∷ 24 ∷ 28 ∷ 36 ∷ zero_places
 
--- a folder in which they are the same, and the check of the version gives the same
+-- the headers are kept where they are the same, and the check of the version gives the same
 checked-still : (from image : Image) (at : ℕ) → SameOutside (one_word Index at) from image → SameVersionCheck (byte image Index) (byte from Index)
-    → ((p : ℕ) → p % 4 ≡ 0 → p + 4 ≤ 368 → is_among other_checked p ≡ true → word image Index p ≡ word from Index p) → IsWellFormed from → IsWellFormed image
+    → ((p : ℕ) → p % 4 ≡ 0 → p + 4 ≤ 368 → is_among other_checked p ≡ true → word image Index p ≡ word from Index p) → KeepsHeaders from image
 unfolding list_checks
 checked-still from image at same version s =
-    well_formed_still (one_word Index at) from image (record { bytes = λ m i small. refl }) (λ m. refl) same
+    headers_still (one_word Index at) from image (record { bytes = λ m i small. refl }) (λ m. refl) same (s 0 refl (lit≤ tt) refl)
     (ap first_of (same-heads (byte image Index) (byte from Index) (length_of image Index) (length_of from Index) (same.lengths Index refl) version
-    (s 0 refl (lit≤ tt) refl, (s 24 refl (lit≤ tt) refl, (s 28 refl (lit≤ tt) refl, (s 36 refl (lit≤ tt) refl, tt))))))
+    (s 24 refl (lit≤ tt) refl, (s 28 refl (lit≤ tt) refl, (s 36 refl (lit≤ tt) refl, tt)))))
     (ap first_of (same-zeros (byte image Index) (byte from Index) zero_places (
       s 272 refl (lit≤ tt) refl,
       (
@@ -240,9 +239,14 @@ raised : (f g : ℕ → ℕ) → word_at f 4 ≡ index_version → is_index_vers
 raised f g is read = ap (λ (v : ℕ). check_found Index 4 v (is_index_version v)) is ∙ ap (check_found Index 4 (version_of g)) (sym read)
 
 pub versions-raised : VersionsMayBeRaised
-versions-raised from image is well =
-    checked-still from image 4 is.outside (raised (byte image Index) (byte from Index) is.there (well_formed-version from well))
-    (λ p even inside there. word-still from image 4 is.outside p (beside p 4 even refl (not-among other_checked p 4 there refl))) well
+versions-raised from image is =
+    record {
+      sound = λ sound.
+          (checked-still from image 4 is.outside (raised (byte image Index) (byte from Index) is.there (sound-version from sound))
+          (λ p even inside there. word-still from image 4 is.outside p (beside p 4 even refl (not-among other_checked p 4 there refl)))).sound
+          sound;
+      magic = word-still from image 4 is.outside 0 (inl (omega arith));
+    }
 
 pub others-uncounted : OtherBytesAreNotCounted
 others-uncounted from image same = same-count (byte image Index) (byte from Index) (same 4 refl) (same 8 refl) (same 12 refl) (same 48 refl) (same 52 refl) (same 268 refl)

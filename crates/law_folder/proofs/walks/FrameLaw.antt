@@ -15,7 +15,7 @@ use Rattle.spec_folder.specs.Reasons.{Reason}
 use Rattle.spec_folder.specs.Loads.{Rule, held_rule, Loaded, load, record_claims, all_claims}
 use Rattle.spec_folder.specs.Entries.{is_key_length, stored_key, Role, IsPlain, IsParent, IsPart, parent_role, part_role, role_of}
 use Rattle.spec_folder.specs.Audit.{admit, is_parent_of, is_parent_role, is_orphan, is_orphan_role, shares_key, is_child, verdict, with_verdict, verdicts, tried, kept_among, kept_by}
-use Rattle.law_folder.specs.KeptLaws.{IsDroppedIfLeftOut, SameCandidatesHoldTheSame}
+use Rattle.law_folder.specs.KeptLaws.{IsDroppedIfLeftOut, SameCandidatesAreHeldAlike, SameCandidatesHoldTheSame}
 use Rattle.spec_folder.specs.Walk.{walk}
 use Rattle.spec_folder.specs.Found.{found, kept, completed, row_of_loaded}
 use Rattle.spec_folder.specs.View.{view_of}
@@ -190,8 +190,12 @@ only-candidates v =
 pub frame-views : (v u : View) → candidates v ≡ candidates u → AllByRecursion (SameNamed v.store u.store) (candidates v) → kept_by held_rule v ≡ kept_by held_rule u
 frame-views v u same agree = only-candidates v ∙ kept_among-same v.store u.store held_rule (candidates v) agree ∙ ap (kept_among u.store held_rule) same ∙ sym (only-candidates u)
 
--- so do two well-formed images
+-- so do two images, and well-formed ones are found alike
+pub frame-held : SameCandidatesAreHeldAlike
+unfolding kept
+frame-held a b same agree = ap (map row_of_loaded) (frame-views (completed (view_of a)) (completed (view_of b)) same agree)
+
 pub frame-law : SameCandidatesHoldTheSame
-unfolding found kept
+unfolding found
 frame-law a b well_a well_b same agree =
-    rw (well_formed-finished a well_a, well_formed-finished b well_b) (ap (map row_of_loaded) (frame-views (completed (view_of a)) (completed (view_of b)) same agree))
+    rw (well_formed-finished a well_a, well_formed-finished b well_b) (frame-held a b same agree)

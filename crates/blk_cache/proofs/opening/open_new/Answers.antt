@@ -1,8 +1,8 @@
 use Rattle.std.proofs.Common.{◌≡◌, ◌∙◌, Some, inl, arith, rules}
 use Rattle.std.proofs.lemmas.Result.{IfOk-weaker, on_ok_weaker}
 use Rattle.spec_image.specs.Image.{Image}
-use Rattle.spec_image.specs.Told.{Passes}
-use Rattle.spec_image.proofs.Runs.{passes_end}
+use Rattle.spec_image.specs.Told.{PassesAny}
+use Rattle.spec_image.proofs.Quiet.{any_end}
 use Rattle.spec_format.proofs.Finished.{whole_index}
 use Rattle.spec_folder.specs.Found.{HoldsStill}
 use Rattle.blk_io.proofs.Carried.{if_damaged_weaker}
@@ -19,7 +19,7 @@ use Rattle.blk_cache.proofs.opening.open_new.Goals.{After-open_made}
 
 pub returns-in_err-make-clause-stops : goal.returns-in_err-make-clause-stops
 returns-in_err-make-clause-stops g c from there =
-    inl (making-breaks from c.args.moment there (c.requires.unfinished from there) (passes_end (making-still from c.args.moment (c.requires.unfinished from there) c.make.ensures.stops)) c.make.ensures.prefix)
+    inl (making-breaks from c.args.moment there (c.requires.unfinished from there) (any_end (making-still from c.args.moment (c.requires.unfinished from there) c.make.ensures.stops)) c.make.ensures.prefix)
 
 pub returns-in_err-make-clause-writes : goal.returns-in_err-make-clause-writes
 returns-in_err-make-clause-writes g c = record {
@@ -32,11 +32,11 @@ pub open_made-requires : goal.open_made-requires
 open_made-requires g c = record { complete = λ i here. whole_index i (made-formed i (c.args.moment, c.in_ok-make.ensures.made i here)) }
 
 module _ (g : given.Over) (c : After-open_made g) (from : Image) (there : (g.F.Folder.told c.args.folder.now).files ≡ Some from) where
-  abbrev first : Passes (g.F.Folder.told c.args.folder.now) (g.F.Folder.told c.make.new.f) (HoldsStill from)
+  abbrev first : PassesAny (g.F.Folder.told c.args.folder.now) (g.F.Folder.told c.make.new.f) (HoldsStill from)
   first = making-still from c.args.moment (c.requires.unfinished from there) c.make.ensures.stops
 
   broken : RepairBreaksOff (g.F.Folder.told c.args.folder.now) (g.F.Folder.told c.make.new.f) (HoldsStill from)
-  broken = making-breaks from c.args.moment there (c.requires.unfinished from there) (passes_end first) c.make.ensures.prefix
+  broken = making-breaks from c.args.moment there (c.requires.unfinished from there) (any_end first) c.make.ensures.prefix
 
   abbrev mid : Image
   mid = (still-told from there first).0

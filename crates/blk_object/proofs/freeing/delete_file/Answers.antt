@@ -3,7 +3,7 @@ use Rattle.std.proofs.lemmas.Result.{on_ok_weaker}
 use Rattle.spec_image.proofs.Runs.{passes_end, passes_weaker, some_inj}
 use Rattle.spec_image.specs.Image.{Index}
 use Rattle.spec_format.specs.Address.{external_number}
-use Rattle.spec_format.specs.BlockFiles.{stands_in, IsWellFormed}
+use Rattle.spec_format.specs.BlockFiles.{stands_in, HasSoundHeaders}
 use Rattle.blk_io.proofs.Carried.{silent_part}
 use Rattle.blk_object.proofs.KeptExternalFiles.{deletions-remove}
 use Rattle.blk_stream.proofs.PlacesFreed.{agrees_deleted}
@@ -18,7 +18,7 @@ returns-clause-freed g c =
     on_ok_weaker c.delete.result
     (λ none from there formed stands image now. record {
       removed = inr (deletions-remove c.args.place (g.F.Folder.told c.args.folder.now) (g.F.Folder.told c.delete.new.f) c.requires.kind
-          (λ other is. subst IsWellFormed (some_inj (sym there ∙ is)) formed) (λ other is. subst (λ i. stands_in i c.args.place ≡ true) (some_inj (sym there ∙ is)) stands) c.delete.ensures.stops none from there image now);
+          (λ other is. subst HasSoundHeaders (some_inj (sym there ∙ is)) formed) (λ other is. subst (λ i. stands_in i c.args.place ≡ true) (some_inj (sym there ∙ is)) stands) c.delete.ensures.stops none from there image now);
       index = λ i. (passes_end (c.delete.ensures.stops from there) image now).outside.bytes Index i refl;
     })
     c.delete.ensures.file

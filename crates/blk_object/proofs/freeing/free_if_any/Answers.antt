@@ -22,5 +22,5 @@ returns-in-Some-clause-freed g c =
     on_ok_weaker c.free_place.result
     (λ freed from there may image now.
     let one = one-may c.args.place c.in-Some.addr from c.in-Some.is may in
-    one-freed c.args.place c.in-Some.addr from image c.in-Some.is (freed from there one.kept.well_formed one.kept.stand.0 image now))
+    one-freed c.args.place c.in-Some.addr from image c.in-Some.is (freed from there one.kept.sound one.kept.stand.0 image now))
     c.free_place.ensures.freed

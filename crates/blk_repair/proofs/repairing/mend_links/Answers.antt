@@ -2,7 +2,8 @@ use Rattle.std.proofs.Common.{◌≡◌, ◌∙◌, Some, sym, subst}
 use Rattle.std.proofs.lemmas.Result.{on_ok_weaker}
 use Rattle.std.specs.Option.{ForSome}
 use Rattle.spec_image.specs.Image.{Image}
-use Rattle.spec_image.specs.Told.{Applies, Passes}
+use Rattle.spec_image.specs.Told.{Applies, PassesAny}
+use Rattle.spec_image.proofs.Quiet.{passes_any}
 use Rattle.blk_io.proofs.Carried.{if_damaged_weaker, told_at_end}
 use Rattle.law_recovery.specs.ChainRepair.{chain_repair_steps}
 use Rattle.law_recovery.specs.ListRepair.{HoldsTheSame, IsListMended, list_repair_steps}
@@ -35,8 +36,8 @@ module _ (g : given.Over) (c : goal.After-mend_buckets g) (from : Image) (there 
   first : RepairBreaksOff (g.F.Folder.told c.args.folder.now) (g.F.Folder.told c.mend_list.new.folder) (HoldsTheSame from)
   first = list-breaks (g.F.Folder.told c.args.folder.now) (g.F.Folder.told c.mend_list.new.folder) c.walked_nodes.result.now c.kept_nodes.result.now from there scanned c.mend_list.ensures.prefix
 
-  held : Passes (g.F.Folder.told c.args.folder.now) (g.F.Folder.told c.mend_list.new.folder) (HoldsTheSame from)
-  held = c.mend_list.ensures.stops from there scanned
+  held : PassesAny (g.F.Folder.told c.args.folder.now) (g.F.Folder.told c.mend_list.new.folder) (HoldsTheSame from)
+  held = passes_any (c.mend_list.ensures.stops from there scanned)
 
   mended : ForSome (g.F.Folder.told c.mend_list.new.folder).files (IsListMended from)
   mended = c.in_ok-mend_list.ensures.mended from there scanned

@@ -1,5 +1,6 @@
 use Rattle.std.proofs.Common.{◌∙◌, ap, ◌%◌, ◌^◌, ℕ, inl}
 use Rattle.std.proofs.lemmas.Result.{on_ok_weaker}
+use Rattle.spec_image.proofs.Quiet.{passes_any}
 use Rattle.blk_io.proofs.Carried.{if_damaged_weaker}
 use Rattle.blk_repair.specs.Counters.{index_steps}
 use Rattle.blk_repair.proofs.CounterRuns.{index-open}
@@ -20,7 +21,7 @@ returns-clause-mended g c =
     on_ok-both c.mend_index.result
     (λ mended words from there entry next.
     rest-done c.args.scan.now c.bare.result.now c.bare.ensures (g.F.Folder.told c.args.folder.now) (g.F.Folder.told c.seal_records.new.folder) entry from there next
-    (c.seal_records.ensures.stops from there entry (seals-next c.args.scan.now c.bare.result.now c.bare.ensures entry from next)) (g.F.Folder.told c.mend_index.new.folder) c.low_word-items.result c.bytes-bytes.result c.args.this_id
+    (passes_any (c.seal_records.ensures.stops from there entry (seals-next c.args.scan.now c.bare.result.now c.bare.ensures entry from next))) (g.F.Folder.told c.mend_index.new.folder) c.low_word-items.result c.bytes-bytes.result c.args.this_id
     (c.low_word-items.ensures ∙ ap (λ (n : ℕ). n % 2 ^ 32) c.items.ensures) c.bytes-bytes.ensures
     (c.in_ok-seal_records.ensures.sealed from there entry (seals-next c.args.scan.now c.bare.result.now c.bare.ensures entry from next)) mended words) c.mend_index.ensures.mended c.mend_index.ensures.words
 
@@ -50,7 +51,7 @@ returns-clause-untold g c some =
     if_damaged_weaker c.mend_index.result _ _
     (λ damage none.
     none-before (g.F.Folder.told c.args.folder.now) (g.F.Folder.told c.seal_records.new.folder)
-    (λ from there. still-told from there (c.seal_records.ensures.stops from there (some from there).0 (seals-next c.args.scan.now c.bare.result.now c.bare.ensures (some from there).0 from (some from there).1))) none) c.mend_index.ensures.untold
+    (λ from there. still-told from there (passes_any (c.seal_records.ensures.stops from there (some from there).0 (seals-next c.args.scan.now c.bare.result.now c.bare.ensures (some from there).0 from (some from there).1)))) none) c.mend_index.ensures.untold
 
 pub returns-clause-clean : goal.returns-clause-clean
 returns-clause-clean g c =

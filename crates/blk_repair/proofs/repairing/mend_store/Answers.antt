@@ -1,4 +1,5 @@
 use Rattle.std.proofs.Common.{ℕ, List, sym, subst, ◌∙◌}
+use Rattle.spec_image.proofs.Quiet.{passes_any}
 use Rattle.blk_io.proofs.Carried.{carried, if_damaged_weaker}
 use Rattle.blk_alloc.specs.Rebuilding.{IsShortReadOf}
 use Rattle.blk_repair.specs.Deletions.{DeletesOthers}
@@ -25,7 +26,7 @@ returns-in_err-delete_others-clause-stops g c from there entry next =
 
 pub returns-clause-mended : goal.returns-clause-mended
 returns-clause-mended g c from there entry next =
-    store-done c.args.claims.now (g.F.Folder.told c.args.folder.now) (g.F.Folder.told c.mend_files.new.folder) (g.F.Folder.told c.delete_others.new.folder) entry from there next (c.mend_files.ensures.stops from there entry next.holds.keeps) (c.in_ok-mend_files.ensures.mended from there entry next)
+    store-done c.args.claims.now (g.F.Folder.told c.args.folder.now) (g.F.Folder.told c.mend_files.new.folder) (g.F.Folder.told c.delete_others.new.folder) entry from there next (passes_any (c.mend_files.ensures.stops from there entry next.holds.keeps)) (c.in_ok-mend_files.ensures.mended from there entry next)
     c.in_ok-delete_others.ensures.mended
 
 pub returns-clause-stops : goal.returns-clause-stops

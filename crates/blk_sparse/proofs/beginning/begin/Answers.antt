@@ -9,14 +9,14 @@ use Rattle.blk_io.proofs.Carried.{carried, if_damaged_weaker}
 use Rattle.blk_model.specs.Holding.{rest}
 use Rattle.blk_disk.specs.Open.{IsOpen}
 use Rattle.law_state.specs.Changes.{Finds}
-use Rattle.law_state.proofs.Keeping.{kept-found}
+use Rattle.law_state.proofs.Keeping.{kept-held}
 use Rattle.blk_sparse.specs.Beginning.{HasIndex, HasParentLength}
 use Rattle.blk_sparse.proofs.Begun.{has-length}
 use Rattle.blk_sparse.proofs.beginning.begin.Goals as goal
 
 pub returns-in_err-key_len-clause-stops : goal.returns-in_err-key_len-clause-stops
 returns-in_err-key_len-clause-stops g c from there state layout unlinked number object node p =
-    passes_none (Finds (rest state)) c.in_err-key_len.ensures.reads.stays (λ image is. subst (Finds (rest state)) (some_inj (sym there ∙ is)) (p.kept.well_formed, kept-found state layout unlinked from p.kept))
+    passes_none (Finds (rest state)) c.in_err-key_len.ensures.reads.stays (λ image is. subst (Finds (rest state)) (some_inj (sym there ∙ is)) (p.kept.sound, kept-held state layout unlinked from p.kept))
 
 pub returns-in_err-key_len-clause-untold : goal.returns-in_err-key_len-clause-untold
 returns-in_err-key_len-clause-untold g c from there state layout unlinked number object node p =

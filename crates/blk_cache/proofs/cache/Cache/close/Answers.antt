@@ -8,7 +8,7 @@ use Rattle.blk_disk.specs.declared.tables.BlockFiles.{BlockFiles}
 use Rattle.blk_disk.specs.Open.{IsOpen}
 use Rattle.law_state.proofs.Stopping.{nothing-stops, refusals-done}
 use Rattle.blk_handles.specs.Bindings.{Bindings, is_open}
-use Rattle.blk_cache.specs.CacheKeeping.{KeepsState}
+use Rattle.blk_cache.specs.CacheKeeping.{HoldsState}
 use Rattle.blk_disk.specs.Tables.{Agrees}
 use Rattle.blk_cache.proofs.CloseSteps.{bound-there, free-refused, free-there, last-entry, last-named, last-stands, several-done, was-last, was-more}
 use Rattle.blk_cache.proofs.CloseGone.{closed-done, closed-may, closed-stops}
@@ -23,13 +23,13 @@ use Rattle.blk_cache.proofs.cache.Cache.close.Goals as goal
 pub returns-then-is_none-clause-does : goal.returns-then-is_none-clause-does
 returns-then-is_none-clause-does g c moment =
     let old : Told = g.F.Folder.told c.args.folder.now in
-    refusals-done (KeepsState c.args.self.now) old old moment (to_close c.args.handle) refusal.BadHandle refl
+    refusals-done (HoldsState c.args.self.now) old old moment (to_close c.args.handle) refusal.BadHandle refl
     (λ image there state k. free-refused c.args.self.now state image k moment c.args.handle (free-there c.args.self.now.handles c.args.handle c.object.result c.object.ensures.object (c.is_none.ensures ∙ ap not c.if-is_none.true)))
 
 pub returns-then-is_none-clause-stops : goal.returns-then-is_none-clause-stops
 returns-then-is_none-clause-stops g c moment =
     let old : Told = g.F.Folder.told c.args.folder.now in
-    nothing-stops (KeepsState c.args.self.now) (says-kept c.args.self.now) old old moment (to_close c.args.handle) refl
+    nothing-stops (HoldsState c.args.self.now) (says-kept c.args.self.now) old old moment (to_close c.args.handle) refl
 
 -- One name of several.
 
@@ -43,7 +43,7 @@ returns-in-More-clause-does g c moment =
 pub returns-in-More-clause-stops : goal.returns-in-More-clause-stops
 returns-in-More-clause-stops g c moment =
     let old : Told = g.F.Folder.told c.args.folder.now in
-    nothing-stops (KeepsState c.args.self.now) (says-kept c.args.self.now) old old moment (to_close c.args.handle) refl
+    nothing-stops (HoldsState c.args.self.now) (says-kept c.args.self.now) old old moment (to_close c.args.handle) refl
 
 pub returns-in-More-clause-is_open : goal.returns-in-More-clause-is_open
 returns-in-More-clause-is_open g c image here = subst (λ (files : BlockFiles). IsOpen files image) (sym c.release.ensures.others.files) (c.requires.is_open image here)
@@ -58,7 +58,7 @@ read_charge-requires g c =
 
 pub returns-in_err-charge-in-Last-clause-stops : goal.returns-in_err-charge-in-Last-clause-stops
 returns-in_err-charge-in-Last-clause-stops g c moment =
-    nothing-stops (KeepsState c.args.self.now) (says-kept c.args.self.now) (g.F.Folder.told c.args.folder.now) (g.F.Folder.told c.read_charge.new.folder) moment (to_close c.args.handle) c.in_err-charge-in-Last.ensures.reads.stays
+    nothing-stops (HoldsState c.args.self.now) (says-kept c.args.self.now) (g.F.Folder.told c.args.folder.now) (g.F.Folder.told c.read_charge.new.folder) moment (to_close c.args.handle) c.in_err-charge-in-Last.ensures.reads.stays
 
 pub returns-in_err-charge-in-Last-clause-is_open : goal.returns-in_err-charge-in-Last-clause-is_open
 returns-in_err-charge-in-Last-clause-is_open g c image now =

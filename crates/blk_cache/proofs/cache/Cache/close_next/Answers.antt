@@ -8,7 +8,7 @@ use Rattle.blk_model.specs.Request.{to_close}
 use Rattle.blk_model.specs.Step.{step}
 use Rattle.law_state.specs.Commands.{ForKept, IsNoted, IsStepped, note_number}
 use Rattle.blk_cache.specs.CacheKeeping.{KeepsState}
-use Rattle.blk_cache.proofs.Notes.{not-noted, noted-does, noted-ends, noted-steps, open-on, same-files}
+use Rattle.blk_cache.proofs.Notes.{not-noted, noted-ends, noted-keeps, noted-steps, open-on, same-files}
 use Rattle.blk_cache.proofs.cache.Cache.close_next.Goals as goal
 
 -- what holds of the least name that is bound
@@ -32,8 +32,8 @@ returns-in_err-note-clause-stepped g c =
 pub returns-clause-kept : goal.returns-clause-kept
 returns-clause-kept g c =
     if-some (position is_some c.args.self.now.handles) c.in-Some.handle (λ handle. ForKept (KeepsState c.args.self.now) (g.F.Folder.told c.args.f.now) (λ state. ForSome (g.F.Folder.told c.note.new.folder).files (KeepsState c.note.new.self (step state c.args.moment (to_close handle)).state))) (sym c.least_name.ensures ∙ c.in-Some.is)
-    (λ image there state k. (noted-does c.args.self.now c.close.new.self c.note.new.self (g.F.Folder.told c.args.f.now) (g.F.Folder.told c.close.new.folder) (g.F.Folder.told c.note.new.folder) c.args.moment (to_close c.in-Some.handle) (note_number (c.args.self.now.notes + 1)) (c.in_ok-close.ensures.stops c.args.moment) c.in_ok-close.field-0 (c.in_ok-close.ensures.does c.args.moment)
-    (made c.args.self.now.notes c.close.new.self.notes (g.F.Folder.told c.close.new.folder) (g.F.Folder.told c.note.new.folder) c.in_ok-close.ensures.notes c.in_ok-note.ensures.done) c.in_ok-note.ensures.others image there state k).kept)
+    (λ image there state k. (noted-keeps c.args.self.now c.close.new.self c.note.new.self (g.F.Folder.told c.args.f.now) (g.F.Folder.told c.close.new.folder) (g.F.Folder.told c.note.new.folder) c.args.moment (to_close c.in-Some.handle) (note_number (c.args.self.now.notes + 1)) (c.in_ok-close.ensures.stops c.args.moment) c.in_ok-close.field-0 (c.in_ok-close.ensures.does c.args.moment)
+    (made c.args.self.now.notes c.close.new.self.notes (g.F.Folder.told c.close.new.folder) (g.F.Folder.told c.note.new.folder) c.in_ok-close.ensures.notes c.in_ok-note.ensures.done) c.in_ok-note.ensures.others image there state k))
 
 pub returns-clause-stepped : goal.returns-clause-stepped
 returns-clause-stepped g c =

@@ -8,7 +8,7 @@ use Rattle.blk_model.specs.Request.{to_create}
 use Rattle.blk_model.specs.declared.Refusal.{Refusal}
 use Rattle.law_state.specs.Commands.{Does, MayStopAtEach}
 use Rattle.law_state.proofs.Stopping.{nothing-stops, refusals-done}
-use Rattle.blk_cache.specs.CacheKeeping.{KeepsState}
+use Rattle.blk_cache.specs.CacheKeeping.{HoldsState}
 use Rattle.blk_cache.specs.CommandClauses.{KeepsAny}
 use Rattle.blk_cache.specs.Creating.{WantsRoomAlone, create_refusal}
 use Rattle.blk_cache.specs.Stepping.{SaysEvicted, SaysPrefix}
@@ -22,7 +22,7 @@ use Rattle.blk_cache.proofs.cache.Cache.create.Goals as goal
 
 pub returns-in_err-why-clause-stops : goal.returns-in_err-why-clause-stops
 returns-in_err-why-clause-stops g c =
-    nothing-stops (KeepsState c.args.self.now) (says-kept c.args.self.now) (g.F.Folder.told c.args.folder.now) (g.F.Folder.told c.refuses_create.new.folder) c.args.moment (to_create c.args.handle c.args.key.now) c.in_err-why.ensures.reads.stays
+    nothing-stops (HoldsState c.args.self.now) (says-kept c.args.self.now) (g.F.Folder.told c.args.folder.now) (g.F.Folder.told c.refuses_create.new.folder) c.args.moment (to_create c.args.handle c.args.key.now) c.in_err-why.ensures.reads.stays
 
 pub returns-in_err-why-clause-front : goal.returns-in_err-why-clause-front
 returns-in_err-why-clause-front g c = front-before c.args.moment c.args.handle c.args.key.now c.args.self.now (g.F.Folder.told c.args.folder.now) c.args.failed.now c.args.failed.now (g.K.Sink.written c.args.out.now) (g.K.Sink.written c.args.out.now)
@@ -31,12 +31,12 @@ returns-in_err-why-clause-front g c = front-before c.args.moment c.args.handle c
 
 pub returns-in-Some-clause-does : goal.returns-in-Some-clause-does
 returns-in-Some-clause-does g c =
-    refusals-done (KeepsState c.args.self.now) (g.F.Folder.told c.args.folder.now) (g.F.Folder.told c.refuses_create.new.folder) c.args.moment (to_create c.args.handle c.args.key.now) c.in-Some.why c.in_ok-why.ensures.reads.stays
+    refusals-done (HoldsState c.args.self.now) (g.F.Folder.told c.args.folder.now) (g.F.Folder.told c.refuses_create.new.folder) c.args.moment (to_create c.args.handle c.args.key.now) c.in-Some.why c.in_ok-why.ensures.reads.stays
     (λ image there state k. c.in_ok-why.ensures.refused image there state c.args.moment k ∙ ap (λ (o : Option Refusal). create_refusal o (no_room c.args.moment (to_create c.args.handle c.args.key.now) state)) c.in-Some.is)
 
 pub returns-in-Some-clause-stops : goal.returns-in-Some-clause-stops
 returns-in-Some-clause-stops g c =
-    nothing-stops (KeepsState c.args.self.now) (says-kept c.args.self.now) (g.F.Folder.told c.args.folder.now) (g.F.Folder.told c.refuses_create.new.folder) c.args.moment (to_create c.args.handle c.args.key.now) c.in_ok-why.ensures.reads.stays
+    nothing-stops (HoldsState c.args.self.now) (says-kept c.args.self.now) (g.F.Folder.told c.args.folder.now) (g.F.Folder.told c.refuses_create.new.folder) c.args.moment (to_create c.args.handle c.args.key.now) c.in_ok-why.ensures.reads.stays
 
 pub returns-in-Some-clause-says : goal.returns-in-Some-clause-says
 returns-in-Some-clause-says g c =
@@ -61,12 +61,12 @@ same-told a b P same holds = subst P (sym same) holds
 pub returns-clause-does : goal.returns-clause-does
 returns-clause-does g c =
     if_ok_weaker c.create_where_room.result
-    (λ answer. same-told (g.F.Folder.told c.args.folder.now) (g.F.Folder.told c.refuses_create.new.folder) (λ (t : Told). Does (KeepsState c.args.self.now) (KeepsState c.create_where_room.new.self) t (g.F.Folder.told c.create_where_room.new.folder) c.args.moment (to_create c.args.handle c.args.key.now) answer) (sym c.in_ok-why.ensures.reads.stays))
+    (λ answer. same-told (g.F.Folder.told c.args.folder.now) (g.F.Folder.told c.refuses_create.new.folder) (λ (t : Told). Does (HoldsState c.args.self.now) (HoldsState c.create_where_room.new.self) t (g.F.Folder.told c.create_where_room.new.folder) c.args.moment (to_create c.args.handle c.args.key.now) answer) (sym c.in_ok-why.ensures.reads.stays))
     (c.create_where_room.ensures.does (same-told (g.F.Folder.told c.refuses_create.new.folder) (g.F.Folder.told c.args.folder.now) (λ (t : Told). WantsRoomAlone c.args.self.now t c.args.moment c.args.handle c.args.key.now) c.in_ok-why.ensures.reads.stays (λ image there state k. c.in_ok-why.ensures.refused image there state c.args.moment k ∙ ap (λ (o : Option Refusal). create_refusal o (no_room c.args.moment (to_create c.args.handle c.args.key.now) state)) c.in_default.is)))
 
 pub returns-clause-stops : goal.returns-clause-stops
 returns-clause-stops g c =
-    same-told (g.F.Folder.told c.args.folder.now) (g.F.Folder.told c.refuses_create.new.folder) (λ (t : Told). MayStopAtEach (KeepsState c.args.self.now) t (g.F.Folder.told c.create_where_room.new.folder) c.args.moment (to_create c.args.handle c.args.key.now)) (sym c.in_ok-why.ensures.reads.stays)
+    same-told (g.F.Folder.told c.args.folder.now) (g.F.Folder.told c.refuses_create.new.folder) (λ (t : Told). MayStopAtEach (HoldsState c.args.self.now) t (g.F.Folder.told c.create_where_room.new.folder) c.args.moment (to_create c.args.handle c.args.key.now)) (sym c.in_ok-why.ensures.reads.stays)
     (c.create_where_room.ensures.stops (same-told (g.F.Folder.told c.refuses_create.new.folder) (g.F.Folder.told c.args.folder.now) (λ (t : Told). WantsRoomAlone c.args.self.now t c.args.moment c.args.handle c.args.key.now) c.in_ok-why.ensures.reads.stays (λ image there state k. c.in_ok-why.ensures.refused image there state c.args.moment k ∙ ap (λ (o : Option Refusal). create_refusal o (no_room c.args.moment (to_create c.args.handle c.args.key.now) state)) c.in_default.is)))
 
 pub returns-clause-says : goal.returns-clause-says

@@ -6,7 +6,7 @@ use Rattle.blk_io.specs.Streams.{Appends}
 use Rattle.blk_model.specs.Room.{Group, without}
 use Rattle.blk_model.specs.State.{State}
 use Rattle.blk_script.specs.Reply.{evicted_text}
-use Rattle.blk_cache.specs.CacheKeeping.{KeepsState}
+use Rattle.blk_cache.specs.CacheKeeping.{HoldsState}
 use Rattle.blk_cache.specs.Covering.{AreCovered}
 use Rattle.blk_cache.specs.Evicting.{IsEvicting}
 use Rattle.blk_cache.proofs.CoveredParts.{none-covered}
@@ -39,7 +39,7 @@ returns-clause-does g c passes =
     (λ given. whole-does c.args.self.now (g.F.Folder.told c.args.folder.now) (g.F.Folder.told c.evict_for.new.folder) c.args.moment c.args.handle c.args.key.now passes
     (room-groups c.args.self.now (g.F.Folder.told c.args.folder.now) c.args.moment c.args.handle c.args.key.now c.none.result (λ (state : State) (groups : List Group). Passes (g.F.Folder.told c.args.folder.now) (g.F.Folder.told c.evict_for.new.folder) (IsEvicting groups state)) c.none.ensures passes c.in_ok-evict_for.ensures.stops)
     c.evict_for.new.self
-    (room-groups c.args.self.now (g.F.Folder.told c.args.folder.now) c.args.moment c.args.handle c.args.key.now c.none.result (λ (state : State) (groups : List Group). ForSome (g.F.Folder.told c.evict_for.new.folder).files (KeepsState c.evict_for.new.self (without groups state))) c.none.ensures passes c.in_ok-evict_for.ensures.evicted)
+    (room-groups c.args.self.now (g.F.Folder.told c.args.folder.now) c.args.moment c.args.handle c.args.key.now c.none.result (λ (state : State) (groups : List Group). ForSome (g.F.Folder.told c.evict_for.new.folder).files (HoldsState c.evict_for.new.self (without groups state))) c.none.ensures passes c.in_ok-evict_for.ensures.evicted)
     (g.F.Folder.told c.end_create.new.folder) c.end_create.new.self given)
     c.end_create.ensures.does
 
@@ -48,7 +48,7 @@ returns-clause-stops g c passes =
     whole-stops c.args.self.now (g.F.Folder.told c.args.folder.now) (g.F.Folder.told c.evict_for.new.folder) c.args.moment c.args.handle c.args.key.now passes
     (room-groups c.args.self.now (g.F.Folder.told c.args.folder.now) c.args.moment c.args.handle c.args.key.now c.none.result (λ (state : State) (groups : List Group). Passes (g.F.Folder.told c.args.folder.now) (g.F.Folder.told c.evict_for.new.folder) (IsEvicting groups state)) c.none.ensures passes c.in_ok-evict_for.ensures.stops)
     c.evict_for.new.self
-    (room-groups c.args.self.now (g.F.Folder.told c.args.folder.now) c.args.moment c.args.handle c.args.key.now c.none.result (λ (state : State) (groups : List Group). ForSome (g.F.Folder.told c.evict_for.new.folder).files (KeepsState c.evict_for.new.self (without groups state))) c.none.ensures passes c.in_ok-evict_for.ensures.evicted)
+    (room-groups c.args.self.now (g.F.Folder.told c.args.folder.now) c.args.moment c.args.handle c.args.key.now c.none.result (λ (state : State) (groups : List Group). ForSome (g.F.Folder.told c.evict_for.new.folder).files (HoldsState c.evict_for.new.self (without groups state))) c.none.ensures passes c.in_ok-evict_for.ensures.evicted)
     (g.F.Folder.told c.end_create.new.folder) c.end_create.ensures.stops
 
 pub returns-clause-says : goal.returns-clause-says
@@ -67,7 +67,7 @@ returns-clause-untold g c passes some =
     whole-untold c.args.self.now (g.F.Folder.told c.args.folder.now) (g.F.Folder.told c.evict_for.new.folder) c.args.moment c.args.handle c.args.key.now passes
     (room-groups c.args.self.now (g.F.Folder.told c.args.folder.now) c.args.moment c.args.handle c.args.key.now c.none.result (λ (state : State) (groups : List Group). Passes (g.F.Folder.told c.args.folder.now) (g.F.Folder.told c.evict_for.new.folder) (IsEvicting groups state)) c.none.ensures passes c.in_ok-evict_for.ensures.stops)
     c.evict_for.new.self
-    (room-groups c.args.self.now (g.F.Folder.told c.args.folder.now) c.args.moment c.args.handle c.args.key.now c.none.result (λ (state : State) (groups : List Group). ForSome (g.F.Folder.told c.evict_for.new.folder).files (KeepsState c.evict_for.new.self (without groups state))) c.none.ensures passes c.in_ok-evict_for.ensures.evicted)
+    (room-groups c.args.self.now (g.F.Folder.told c.args.folder.now) c.args.moment c.args.handle c.args.key.now c.none.result (λ (state : State) (groups : List Group). ForSome (g.F.Folder.told c.evict_for.new.folder).files (HoldsState c.evict_for.new.self (without groups state))) c.none.ensures passes c.in_ok-evict_for.ensures.evicted)
     c.end_create.result c.end_create.ensures.untold some
 
 pub returns-clause-quiet : goal.returns-clause-quiet

@@ -10,7 +10,7 @@ use Rattle.blk_model.specs.State.{State}
 use Rattle.blk_model.specs.declared.Refusal.TheVariants as refusal
 use Rattle.law_state.proofs.Stopping.{nothing-stops, refusals-done}
 use Rattle.blk_cache.specs.declared.dooming_objects.Target.{Target}
-use Rattle.blk_cache.specs.CacheKeeping.{KeepsState}
+use Rattle.blk_cache.specs.CacheKeeping.{HoldsState}
 use Rattle.blk_cache.specs.CommandClauses.{KeepsAny}
 use Rattle.blk_cache.specs.DoomingObjects.{IsDoomTarget, IsTargetAt}
 use Rattle.blk_cache.proofs.DoomSteps.{key-done, key-stops, missing-refused, no-key-refused}
@@ -25,15 +25,15 @@ use Rattle.blk_cache.proofs.cache.Cache.doom_key.Goals as goal
 pub returns-then-is_no_key-clause-does : goal.returns-then-is_no_key-clause-does
 returns-then-is_no_key-clause-does g c moment =
     let none : no_key c.args.key.now ≡ true = search rules in
-    refusals-done (KeepsState c.args.self.now) (g.F.Folder.told c.args.folder.now) (g.F.Folder.told c.args.folder.now) moment (to_doom_key c.args.key.now) refusal.BadKey refl (λ image there state k. no-key-refused state moment c.args.key.now none)
+    refusals-done (HoldsState c.args.self.now) (g.F.Folder.told c.args.folder.now) (g.F.Folder.told c.args.folder.now) moment (to_doom_key c.args.key.now) refusal.BadKey refl (λ image there state k. no-key-refused state moment c.args.key.now none)
 
 pub returns-then-is_no_key-clause-stops : goal.returns-then-is_no_key-clause-stops
-returns-then-is_no_key-clause-stops g c moment = nothing-stops (KeepsState c.args.self.now) (says-kept c.args.self.now) (g.F.Folder.told c.args.folder.now) (g.F.Folder.told c.args.folder.now) moment (to_doom_key c.args.key.now) refl
+returns-then-is_no_key-clause-stops g c moment = nothing-stops (HoldsState c.args.self.now) (says-kept c.args.self.now) (g.F.Folder.told c.args.folder.now) (g.F.Folder.told c.args.folder.now) moment (to_doom_key c.args.key.now) refl
 
 -- The search failed.
 
 pub returns-in_err-target-clause-stops : goal.returns-in_err-target-clause-stops
-returns-in_err-target-clause-stops g c moment = nothing-stops (KeepsState c.args.self.now) (says-kept c.args.self.now) (g.F.Folder.told c.args.folder.now) (g.F.Folder.told c.find_target.new.folder) moment (to_doom_key c.args.key.now) c.in_err-target.ensures.reads.stays
+returns-in_err-target-clause-stops g c moment = nothing-stops (HoldsState c.args.self.now) (says-kept c.args.self.now) (g.F.Folder.told c.args.folder.now) (g.F.Folder.told c.find_target.new.folder) moment (to_doom_key c.args.key.now) c.in_err-target.ensures.reads.stays
 
 pub returns-in_err-target-clause-is_open : goal.returns-in_err-target-clause-is_open
 returns-in_err-target-clause-is_open g c image now = c.requires.is_open image (ap (λ (t : Told). t.files) (sym c.in_err-target.ensures.reads.stays) ∙ now)
@@ -43,12 +43,12 @@ returns-in_err-target-clause-is_open g c image now = c.requires.is_open image (a
 pub returns-in_default-clause-does : goal.returns-in_default-clause-does
 returns-in_default-clause-does g c moment =
     let some : no_key c.args.key.now ≡ false = search rules in
-    refusals-done (KeepsState c.args.self.now) (g.F.Folder.told c.args.folder.now) (g.F.Folder.told c.find_target.new.folder) moment (to_doom_key c.args.key.now) refusal.Missing c.in_ok-target.ensures.reads.stays
+    refusals-done (HoldsState c.args.self.now) (g.F.Folder.told c.args.folder.now) (g.F.Folder.told c.find_target.new.folder) moment (to_doom_key c.args.key.now) refusal.Missing c.in_ok-target.ensures.reads.stays
     (λ image there state k. missing-refused state moment c.args.key.now some
     (subst (λ (o : Option Target). IsDoomTarget state k.layout c.args.key.now o) c.in_default.is (c.in_ok-target.ensures.target image there state k.layout [] k.kept.entries)))
 
 pub returns-in_default-clause-stops : goal.returns-in_default-clause-stops
-returns-in_default-clause-stops g c moment = nothing-stops (KeepsState c.args.self.now) (says-kept c.args.self.now) (g.F.Folder.told c.args.folder.now) (g.F.Folder.told c.find_target.new.folder) moment (to_doom_key c.args.key.now) c.in_ok-target.ensures.reads.stays
+returns-in_default-clause-stops g c moment = nothing-stops (HoldsState c.args.self.now) (says-kept c.args.self.now) (g.F.Folder.told c.args.folder.now) (g.F.Folder.told c.find_target.new.folder) moment (to_doom_key c.args.key.now) c.in_ok-target.ensures.reads.stays
 
 pub returns-in_default-clause-is_open : goal.returns-in_default-clause-is_open
 returns-in_default-clause-is_open g c image now = c.requires.is_open image (ap (λ (t : Told). t.files) (sym c.in_ok-target.ensures.reads.stays) ∙ now)
@@ -60,7 +60,7 @@ doom_found-requires-clause-is_open g c image now = c.requires.is_open image (ap 
 
 pub returns-in_err-doom_found-clause-stops : goal.returns-in_err-doom_found-clause-stops
 returns-in_err-doom_found-clause-stops g c moment =
-    let found : ForSome (g.F.Folder.told c.args.folder.now).files (λ image. (state : State) (k : KeepsState c.args.self.now state image) → IsTargetAt state k.layout c.args.key.now c.in-Some.target) =
+    let found : ForSome (g.F.Folder.told c.args.folder.now).files (λ image. (state : State) (k : HoldsState c.args.self.now state image) → IsTargetAt state k.layout c.args.key.now c.in-Some.target) =
     λ image there state k. subst (λ (o : Option Target). IsDoomTarget state k.layout c.args.key.now o) c.in-Some.is (c.in_ok-target.ensures.target image there state k.layout [] k.kept.entries) in
     let bytes : IsBytes c.args.key.now = All-from_get_or (λ (b : ℕ). b < 256) c.args.key.now 0 (λ i within. omega (arith, c.type_inv.key i)) in
     let some : no_key c.args.key.now ≡ false = search rules in
@@ -68,7 +68,7 @@ returns-in_err-doom_found-clause-stops g c moment =
 
 pub returns-in_err-doom_found-clause-untold : goal.returns-in_err-doom_found-clause-untold
 returns-in_err-doom_found-clause-untold g c any =
-    let found : ForSome (g.F.Folder.told c.args.folder.now).files (λ image. (state : State) (k : KeepsState c.args.self.now state image) → IsTargetAt state k.layout c.args.key.now c.in-Some.target) =
+    let found : ForSome (g.F.Folder.told c.args.folder.now).files (λ image. (state : State) (k : HoldsState c.args.self.now state image) → IsTargetAt state k.layout c.args.key.now c.in-Some.target) =
     λ image there state k. subst (λ (o : Option Target). IsDoomTarget state k.layout c.args.key.now o) c.in-Some.is (c.in_ok-target.ensures.target image there state k.layout [] k.kept.entries) in
     let bytes : IsBytes c.args.key.now = All-from_get_or (λ (b : ℕ). b < 256) c.args.key.now 0 (λ i within. omega (arith, c.type_inv.key i)) in
     let same : (g.F.Folder.told c.find_target.new.folder).files ≡ (g.F.Folder.told c.args.folder.now).files = ap (λ (t : Told). t.files) c.in_ok-target.ensures.reads.stays in
@@ -79,7 +79,7 @@ returns-in_err-doom_found-clause-untold g c any =
 
 pub returns-clause-does : goal.returns-clause-does
 returns-clause-does g c moment =
-    let found : ForSome (g.F.Folder.told c.args.folder.now).files (λ image. (state : State) (k : KeepsState c.args.self.now state image) → IsTargetAt state k.layout c.args.key.now c.in-Some.target) =
+    let found : ForSome (g.F.Folder.told c.args.folder.now).files (λ image. (state : State) (k : HoldsState c.args.self.now state image) → IsTargetAt state k.layout c.args.key.now c.in-Some.target) =
     λ image there state k. subst (λ (o : Option Target). IsDoomTarget state k.layout c.args.key.now o) c.in-Some.is (c.in_ok-target.ensures.target image there state k.layout [] k.kept.entries) in
     let bytes : IsBytes c.args.key.now = All-from_get_or (λ (b : ℕ). b < 256) c.args.key.now 0 (λ i within. omega (arith, c.type_inv.key i)) in
     let some : no_key c.args.key.now ≡ false = search rules in
@@ -87,7 +87,7 @@ returns-clause-does g c moment =
 
 pub returns-clause-stops : goal.returns-clause-stops
 returns-clause-stops g c moment =
-    let found : ForSome (g.F.Folder.told c.args.folder.now).files (λ image. (state : State) (k : KeepsState c.args.self.now state image) → IsTargetAt state k.layout c.args.key.now c.in-Some.target) =
+    let found : ForSome (g.F.Folder.told c.args.folder.now).files (λ image. (state : State) (k : HoldsState c.args.self.now state image) → IsTargetAt state k.layout c.args.key.now c.in-Some.target) =
     λ image there state k. subst (λ (o : Option Target). IsDoomTarget state k.layout c.args.key.now o) c.in-Some.is (c.in_ok-target.ensures.target image there state k.layout [] k.kept.entries) in
     let bytes : IsBytes c.args.key.now = All-from_get_or (λ (b : ℕ). b < 256) c.args.key.now 0 (λ i within. omega (arith, c.type_inv.key i)) in
     let some : no_key c.args.key.now ≡ false = search rules in

@@ -8,7 +8,7 @@ use Rattle.blk_io.specs.Streams.{Appends}
 use Rattle.blk_model.specs.Refusals.{evicted_for}
 use Rattle.blk_model.specs.Room.{Group, fits, room, without}
 use Rattle.blk_script.specs.Reply.{evicted_text}
-use Rattle.blk_cache.specs.CacheKeeping.{KeepsState}
+use Rattle.blk_cache.specs.CacheKeeping.{HoldsState}
 use Rattle.blk_cache.specs.Evicting.{IsEvicting}
 use Rattle.blk_evict.specs.RoomPrinting.{PrintsUnlessFailed}
 use Rattle.blk_cache.proofs.RoomMade.{none-goes, none-kept, none-printed-of, none-stops, wanted-goes}
@@ -18,7 +18,7 @@ pub returns-then-wants_none-clause-evicted : goal.returns-then-wants_none-clause
 returns-then-wants_none-clause-evicted g c image there state k covered are passes now then_there =
     let wanted : ((c.args.bytes == 0 && c.args.items == 0) || fits state.limits.max_bytes c.args.bytes c.args.items state) ≡ true = sym (c.wants_none.ensures.none state image k) ∙ (let e : c.wants_none.result ≡ true = search rules in e) in
     let none = none-goes state covered c.args.bytes c.args.items passes wanted in
-    none-kept c.args.self.now state (evicted_for (room state covered c.args.bytes c.args.items)) now none (subst (KeepsState c.args.self.now state) (some_inj (sym there ∙ then_there)) k)
+    none-kept c.args.self.now state (evicted_for (room state covered c.args.bytes c.args.items)) now none (subst (HoldsState c.args.self.now state) (some_inj (sym there ∙ then_there)) k)
 
 pub returns-then-wants_none-clause-prints : goal.returns-then-wants_none-clause-prints
 returns-then-wants_none-clause-prints g c image there state k covered are passes =
@@ -57,7 +57,7 @@ pub returns-clause-evicted : goal.returns-clause-evicted
 returns-clause-evicted g c image there state k covered are passes =
     let wanted : ((c.args.bytes == 0 && c.args.items == 0) || fits state.limits.max_bytes c.args.bytes c.args.items state) ≡ false = sym (c.wants_none.ensures.none state image k) ∙ (let e : c.wants_none.result ≡ false = search rules in e) in
     let goes = wanted-goes state covered c.args.bytes c.args.items passes wanted in
-    subst (λ (gs : List Group). ForSome (g.F.Folder.told c.evict_until.new.folder).files (KeepsState c.evict_until.new.self (without gs state))) goes (c.in_ok-evict_until.ensures.evicted image there state k covered are)
+    subst (λ (gs : List Group). ForSome (g.F.Folder.told c.evict_until.new.folder).files (HoldsState c.evict_until.new.self (without gs state))) goes (c.in_ok-evict_until.ensures.evicted image there state k covered are)
 
 pub returns-clause-prints : goal.returns-clause-prints
 returns-clause-prints g c image there state k covered are passes =

@@ -5,7 +5,7 @@ use Rattle.blk_model.specs.Items.{Item}
 use Rattle.blk_model.specs.State.{State}
 use Rattle.blk_disk.specs.Open.{IsOpen}
 use Rattle.blk_disk.specs.Tables.{is_node_among}
-use Rattle.blk_cache.specs.CacheKeeping.{KeepsState}
+use Rattle.blk_cache.specs.CacheKeeping.{HoldsState}
 use Rattle.blk_cache.specs.Covering.{AreCovered}
 use Rattle.blk_cache.specs.Evicting.{OnlyItemsChange, is_met}
 use Rattle.blk_evict.specs.RoomPrinting.{FailsWhereItRose}
@@ -24,5 +24,5 @@ invariant-loop g l = record {
   sink_later : GoesOn g.K.Sink.is g.K.Sink.faults l.fn.out l.out;
   quiet : l.fn.failed ≡ true → (l.failed ≡ true) × (g.K.Sink.written l.out ≡ g.K.Sink.written l.fn.out);
   fails : FailsWhereItRose l.fn.failed l.failed (g.K.Sink.faults l.fn.out) (g.K.Sink.faults l.out);
-  evicted : ForSome (g.F.Folder.told l.fn.folder).files (λ image. (state : State) (kept : KeepsState l.fn.self state image) (covered : List Item) → AreCovered state kept.layout covered l.fn.parts → HasEvicted (is_met l.fn.goal) state covered l.fn.parts l.fn.self l.self l.behind l.counter (g.F.Folder.told l.fn.folder) (g.F.Folder.told l.folder) l.fn.failed l.failed (g.K.Sink.written l.fn.out) (g.K.Sink.written l.out));
+  evicted : ForSome (g.F.Folder.told l.fn.folder).files (λ image. (state : State) (kept : HoldsState l.fn.self state image) (covered : List Item) → AreCovered state kept.layout covered l.fn.parts → HasEvicted (is_met l.fn.goal) state covered l.fn.parts l.fn.self l.self l.behind l.counter (g.F.Folder.told l.fn.folder) (g.F.Folder.told l.folder) l.fn.failed l.failed (g.K.Sink.written l.fn.out) (g.K.Sink.written l.out));
 }

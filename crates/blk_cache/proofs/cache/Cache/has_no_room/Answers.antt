@@ -3,7 +3,7 @@ use Rattle.blk_model.specs.Refusals.{is_full}
 use Rattle.blk_model.specs.Request.{to_create}
 use Rattle.blk_model.specs.declared.Refusal.TheVariants as refusal
 use Rattle.law_state.proofs.Stopping.{nothing-stops, refusals-done}
-use Rattle.blk_cache.specs.CacheKeeping.{KeepsState}
+use Rattle.blk_cache.specs.CacheKeeping.{HoldsState}
 use Rattle.blk_cache.specs.Covering.{AreCovered}
 use Rattle.blk_cache.proofs.CoveredParts.{none-covered}
 use Rattle.blk_cache.proofs.CreateWhole.{free-passes, front-before, full-refused, refused-says}
@@ -12,7 +12,7 @@ use Rattle.blk_cache.proofs.cache.Cache.has_no_room.Goals as goal
 
 pub returns-clause-does : goal.returns-clause-does
 returns-clause-does c over told moment handle alone =
-    refusals-done (KeepsState c.args.self.now) told told moment (to_create handle c.args.key.now) refusal.Full refl
+    refusals-done (HoldsState c.args.self.now) told told moment (to_create handle c.args.key.now) refusal.Full refl
     (full-refused c.args.self.now told moment handle c.args.key.now alone
     (λ image there state k. sym (c.is_full.ensures.full state image k [] (subst (AreCovered state k.layout []) (sym c.none.ensures) (none-covered state k.layout))) ∙ over))
 
@@ -24,7 +24,7 @@ returns-clause-says c over told moment handle alone failed written =
 
 pub returns-clause-stops : goal.returns-clause-stops
 returns-clause-stops c told moment handle =
-    nothing-stops (KeepsState c.args.self.now) (says-kept c.args.self.now) told told moment (to_create handle c.args.key.now) refl
+    nothing-stops (HoldsState c.args.self.now) (says-kept c.args.self.now) told told moment (to_create handle c.args.key.now) refl
 
 pub returns-clause-front : goal.returns-clause-front
 returns-clause-front c told moment handle written =

@@ -4,7 +4,7 @@ use Rattle.blk_model.specs.Request.{to_list}
 use Rattle.blk_model.specs.declared.Answer.TheVariants as answer
 use Rattle.law_state.proofs.Stopping.{nothing-done, quiet-keep}
 use Rattle.blk_object.proofs.DamageChecks.{handed, moved, short-checked}
-use Rattle.blk_cache.specs.CacheKeeping.{KeepsState}
+use Rattle.blk_cache.specs.CacheKeeping.{HoldsState}
 use Rattle.blk_cache.proofs.Ends.{kept-open}
 use Rattle.blk_cache.proofs.ListedRows.{list-answer, rows-said}
 use Rattle.blk_cache.proofs.cache.Cache.list.Goals as goal
@@ -16,7 +16,7 @@ returns-in_err-count-clause-untold g c any =
 
 pub returns-clause-does : goal.returns-clause-does
 returns-clause-does g c moment =
-    nothing-done (KeepsState c.args.self.now) (g.F.Folder.told c.args.folder.now) (g.F.Folder.told c.word.new.f) moment to_list _ c.in_ok-count.ensures.reads.stays
+    nothing-done (HoldsState c.args.self.now) (g.F.Folder.told c.args.folder.now) (g.F.Folder.told c.word.new.f) moment to_list _ c.in_ok-count.ensures.reads.stays
     (λ image there state k.
     let q = quiet-keep state moment 0 0 in
     (q.0, ap answer.Listed (c.from.ensures ∙ c.in_ok-count.ensures.word image there ∙ rows-said state k.layout image k.kept) ∙ sym (list-answer state moment)))

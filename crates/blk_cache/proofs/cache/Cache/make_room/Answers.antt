@@ -7,7 +7,7 @@ use Rattle.blk_lru.proofs.Results.{if_ok_weaker}
 use Rattle.blk_model.specs.Refusals.{evicted_for, is_full}
 use Rattle.blk_model.specs.Room.{room, without}
 use Rattle.blk_script.specs.Reply.{evicted_text}
-use Rattle.blk_cache.specs.CacheKeeping.{KeepsState}
+use Rattle.blk_cache.specs.CacheKeeping.{HoldsState}
 use Rattle.blk_cache.specs.Covering.{AreCovered}
 use Rattle.blk_cache.specs.Evicting.{IsEvicting}
 use Rattle.blk_cache.specs.MakingRoom.{says_full}
@@ -22,7 +22,7 @@ returns-clause-full g c = if_ok_weaker c.make_room_beside.result
 
 pub returns-clause-made : goal.returns-clause-made
 returns-clause-made g c = on_ok_weaker c.make_room_beside.result
-    (for-none c.args.self.now c.none.result (g.F.Folder.told c.args.folder.now) (λ state covered. ForSome (g.F.Folder.told c.make_room_beside.new.folder).files (KeepsState c.make_room_beside.new.self (without (evicted_for (room state covered c.args.bytes c.args.items)) state))) c.none.ensures)
+    (for-none c.args.self.now c.none.result (g.F.Folder.told c.args.folder.now) (λ state covered. ForSome (g.F.Folder.told c.make_room_beside.new.folder).files (HoldsState c.make_room_beside.new.self (without (evicted_for (room state covered c.args.bytes c.args.items)) state))) c.none.ensures)
     c.make_room_beside.ensures.made
 
 pub returns-clause-prints : goal.returns-clause-prints

@@ -3,7 +3,7 @@ use Rattle.spec_image.proofs.Runs.{some_inj}
 use Rattle.blk_io.proofs.Carried.{carried}
 use Rattle.blk_model.specs.Refusals.{evicted_for, is_full}
 use Rattle.blk_model.specs.Room.{room}
-use Rattle.blk_cache.specs.CacheKeeping.{KeepsState}
+use Rattle.blk_cache.specs.CacheKeeping.{HoldsState}
 use Rattle.blk_cache.proofs.RoomMade.{full-none, none-kept, none-printed-of, none-stops}
 use Rattle.blk_cache.proofs.cache.Cache.make_room_beside.Goals as goal
 
@@ -17,7 +17,7 @@ pub returns-then-is_full-clause-made : goal.returns-then-is_full-clause-made
 returns-then-is_full-clause-made g c image there state k covered are now then_there =
     let full : is_full (room state covered c.args.bytes c.args.items) ≡ true = sym (c.is_full.ensures.full state image k covered are) ∙ (let e : c.is_full.result ≡ true = search rules in e) in
     let none = full-none state covered c.args.bytes c.args.items full in
-    none-kept c.args.self.now state (evicted_for (room state covered c.args.bytes c.args.items)) now none (subst (KeepsState c.args.self.now state) (some_inj (sym there ∙ then_there)) k)
+    none-kept c.args.self.now state (evicted_for (room state covered c.args.bytes c.args.items)) now none (subst (HoldsState c.args.self.now state) (some_inj (sym there ∙ then_there)) k)
 
 pub returns-then-is_full-clause-prints : goal.returns-then-is_full-clause-prints
 returns-then-is_full-clause-prints g c image there state k covered are =

@@ -9,7 +9,7 @@ use Rattle.blk_disk.specs.Open.{IsOpen}
 use Rattle.blk_lru.specs.Damages.{IsTouchDamage}
 use Rattle.law_state.proofs.Stopping.{nothing-stops, refusals-done}
 use Rattle.blk_evict.specs.declared.looking.Live.{Live}
-use Rattle.blk_cache.specs.CacheKeeping.{KeepsState}
+use Rattle.blk_cache.specs.CacheKeeping.{HoldsState}
 use Rattle.blk_cache.specs.CommandClauses.{IsOpenDamage}
 use Rattle.blk_evict.specs.Looking.{IsLive}
 use Rattle.blk_cache.proofs.OpenSteps.{IsFoundIn, mid-listed, opened-does, opened-stops}
@@ -23,19 +23,19 @@ use Rattle.blk_cache.proofs.cache.Cache.open.Goals as goal
 pub returns-in-Some-clause-does : goal.returns-in-Some-clause-does
 returns-in-Some-clause-does g c =
     let old : Told = g.F.Folder.told c.args.folder.now in
-    refusals-done (KeepsState c.args.self.now) old old c.args.moment (to_open c.args.handle c.args.key.now) c.in-Some.why refl
+    refusals-done (HoldsState c.args.self.now) old old c.args.moment (to_open c.args.handle c.args.key.now) c.in-Some.why refl
     (λ image there state k. refused-early c.args.self.now state image k c.args.moment c.args.handle c.args.key.now c.in-Some.why (sym c.refuses_open.ensures ∙ c.in-Some.is))
 
 pub returns-in-Some-clause-stops : goal.returns-in-Some-clause-stops
 returns-in-Some-clause-stops g c =
     let old : Told = g.F.Folder.told c.args.folder.now in
-    nothing-stops (KeepsState c.args.self.now) (says-kept c.args.self.now) old old c.args.moment (to_open c.args.handle c.args.key.now) refl
+    nothing-stops (HoldsState c.args.self.now) (says-kept c.args.self.now) old old c.args.moment (to_open c.args.handle c.args.key.now) refl
 
 -- The search failed.
 
 pub returns-in_err-live-clause-stops : goal.returns-in_err-live-clause-stops
 returns-in_err-live-clause-stops g c =
-    nothing-stops (KeepsState c.args.self.now) (says-kept c.args.self.now) (g.F.Folder.told c.args.folder.now) (g.F.Folder.told c.find_live.new.folder) c.args.moment (to_open c.args.handle c.args.key.now) c.in_err-live.ensures.reads.stays
+    nothing-stops (HoldsState c.args.self.now) (says-kept c.args.self.now) (g.F.Folder.told c.args.folder.now) (g.F.Folder.told c.find_live.new.folder) c.args.moment (to_open c.args.handle c.args.key.now) c.in_err-live.ensures.reads.stays
 
 pub returns-in_err-live-clause-is_open : goal.returns-in_err-live-clause-is_open
 returns-in_err-live-clause-is_open g c image now = c.requires.is_open image (ap (λ (t : Told). t.files) (sym c.in_err-live.ensures.reads.stays) ∙ now)
@@ -44,13 +44,13 @@ returns-in_err-live-clause-is_open g c image now = c.requires.is_open image (ap 
 
 pub returns-in_default-2-clause-does : goal.returns-in_default-2-clause-does
 returns-in_default-2-clause-does g c =
-    refusals-done (KeepsState c.args.self.now) (g.F.Folder.told c.args.folder.now) (g.F.Folder.told c.find_live.new.folder) c.args.moment (to_open c.args.handle c.args.key.now) refusal.Missing c.in_ok-live.ensures.reads.stays
+    refusals-done (HoldsState c.args.self.now) (g.F.Folder.told c.args.folder.now) (g.F.Folder.told c.find_live.new.folder) c.args.moment (to_open c.args.handle c.args.key.now) refusal.Missing c.in_ok-live.ensures.reads.stays
     (λ image there state k. refused-missing c.args.self.now state image k c.args.moment c.args.handle c.args.key.now (sym c.refuses_open.ensures ∙ c.in_default.is)
     (subst (λ (o : Option Live). IsLive state k.layout c.args.key.now o) c.in_default-2.is (c.in_ok-live.ensures.live image there state k.layout [] k.kept.entries)))
 
 pub returns-in_default-2-clause-stops : goal.returns-in_default-2-clause-stops
 returns-in_default-2-clause-stops g c =
-    nothing-stops (KeepsState c.args.self.now) (says-kept c.args.self.now) (g.F.Folder.told c.args.folder.now) (g.F.Folder.told c.find_live.new.folder) c.args.moment (to_open c.args.handle c.args.key.now) c.in_ok-live.ensures.reads.stays
+    nothing-stops (HoldsState c.args.self.now) (says-kept c.args.self.now) (g.F.Folder.told c.args.folder.now) (g.F.Folder.told c.find_live.new.folder) c.args.moment (to_open c.args.handle c.args.key.now) c.in_ok-live.ensures.reads.stays
 
 pub returns-in_default-2-clause-is_open : goal.returns-in_default-2-clause-is_open
 returns-in_default-2-clause-is_open g c image now = c.requires.is_open image (ap (λ (t : Told). t.files) (sym c.in_ok-live.ensures.reads.stays) ∙ now)

@@ -7,7 +7,7 @@ use Rattle.blk_model.specs.Request.{request_of, to_close, to_doom, to_doom_key, 
 use Rattle.blk_model.specs.declared.Command.{Command}
 use Rattle.law_state.specs.Commands.{Does, MayStopAtEach}
 use Rattle.law_state.proofs.Stopping.{nothing-stops}
-use Rattle.blk_cache.specs.CacheKeeping.{KeepsState}
+use Rattle.blk_cache.specs.CacheKeeping.{HoldsState}
 use Rattle.blk_cache.specs.CommandClauses.{FlushesClean}
 use Rattle.blk_cache.specs.Stepping.{SaysEvicted, SaysPrefix}
 use Rattle.blk_cache.proofs.CreateWhole.{on-ok}
@@ -17,7 +17,7 @@ use Rattle.blk_cache.proofs.StepTexts.{prefix-nothing, says-nothing}
 use Rattle.blk_cache.proofs.cache.Cache.perform.Goals as goal
 
 pub returns-in-Create-clause-stops : goal.returns-in-Create-clause-stops
-returns-in-Create-clause-stops g c = subst (λ (cmd : Command). MayStopAtEach (KeepsState c.args.self.now) (g.F.Folder.told c.args.folder.now) (g.F.Folder.told c.create.new.folder) c.args.moment (request_of cmd)) (sym c.in-Create.is) c.create.ensures.stops
+returns-in-Create-clause-stops g c = subst (λ (cmd : Command). MayStopAtEach (HoldsState c.args.self.now) (g.F.Folder.told c.args.folder.now) (g.F.Folder.told c.create.new.folder) c.args.moment (request_of cmd)) (sym c.in-Create.is) c.create.ensures.stops
 
 pub returns-in-Create-clause-says : goal.returns-in-Create-clause-says
 returns-in-Create-clause-says g c = subst (λ (cmd : Command). OnOk c.create.result (SaysEvicted c.args.self.now (g.F.Folder.told c.args.folder.now) c.args.moment (request_of cmd) c.args.failed.now c.create.new.failed (g.K.Sink.written c.args.out.now) (g.K.Sink.written c.create.new.out))) (sym c.in-Create.is) c.create.ensures.says
@@ -26,7 +26,7 @@ pub returns-in-Create-clause-front : goal.returns-in-Create-clause-front
 returns-in-Create-clause-front g c = subst (λ (cmd : Command). SaysPrefix c.args.self.now (g.F.Folder.told c.args.folder.now) c.args.moment (request_of cmd) (g.K.Sink.written c.args.out.now) (g.K.Sink.written c.create.new.out)) (sym c.in-Create.is) c.create.ensures.front
 
 pub returns-in-Open-clause-stops : goal.returns-in-Open-clause-stops
-returns-in-Open-clause-stops g c = subst (λ (cmd : Command). MayStopAtEach (KeepsState c.args.self.now) (g.F.Folder.told c.args.folder.now) (g.F.Folder.told c.open.new.folder) c.args.moment (request_of cmd)) (sym c.in-Open.is) c.open.ensures.stops
+returns-in-Open-clause-stops g c = subst (λ (cmd : Command). MayStopAtEach (HoldsState c.args.self.now) (g.F.Folder.told c.args.folder.now) (g.F.Folder.told c.open.new.folder) c.args.moment (request_of cmd)) (sym c.in-Open.is) c.open.ensures.stops
 
 pub returns-in-Open-clause-says : goal.returns-in-Open-clause-says
 returns-in-Open-clause-says g c = subst (λ (cmd : Command). OnOk c.open.result (SaysEvicted c.args.self.now (g.F.Folder.told c.args.folder.now) c.args.moment (request_of cmd) c.args.failed.now c.args.failed.now (g.K.Sink.written c.args.out.now) (g.K.Sink.written c.args.out.now))) (sym c.in-Open.is)
@@ -38,7 +38,7 @@ returns-in-Open-clause-front g c = subst (λ (cmd : Command). SaysPrefix c.args.
     (prefix-nothing c.args.self.now (g.F.Folder.told c.args.folder.now) c.args.moment (to_open c.in-Open.handle c.in-Open.key.now) tt c.args.failed.now (g.K.Sink.written c.args.out.now))
 
 pub returns-in-Close-clause-stops : goal.returns-in-Close-clause-stops
-returns-in-Close-clause-stops g c = subst (λ (cmd : Command). MayStopAtEach (KeepsState c.args.self.now) (g.F.Folder.told c.args.folder.now) (g.F.Folder.told c.close.new.folder) c.args.moment (request_of cmd)) (sym c.in-Close.is) (c.close.ensures.stops c.args.moment)
+returns-in-Close-clause-stops g c = subst (λ (cmd : Command). MayStopAtEach (HoldsState c.args.self.now) (g.F.Folder.told c.args.folder.now) (g.F.Folder.told c.close.new.folder) c.args.moment (request_of cmd)) (sym c.in-Close.is) (c.close.ensures.stops c.args.moment)
 
 pub returns-in-Close-clause-says : goal.returns-in-Close-clause-says
 returns-in-Close-clause-says g c = subst (λ (cmd : Command). OnOk c.close.result (SaysEvicted c.args.self.now (g.F.Folder.told c.args.folder.now) c.args.moment (request_of cmd) c.args.failed.now c.args.failed.now (g.K.Sink.written c.args.out.now) (g.K.Sink.written c.args.out.now))) (sym c.in-Close.is)
@@ -50,7 +50,7 @@ returns-in-Close-clause-front g c = subst (λ (cmd : Command). SaysPrefix c.args
     (prefix-nothing c.args.self.now (g.F.Folder.told c.args.folder.now) c.args.moment (to_close c.in-Close.handle) tt c.args.failed.now (g.K.Sink.written c.args.out.now))
 
 pub returns-in-Flush-clause-stops : goal.returns-in-Flush-clause-stops
-returns-in-Flush-clause-stops g c = subst (λ (cmd : Command). MayStopAtEach (KeepsState c.args.self.now) (g.F.Folder.told c.args.folder.now) (g.F.Folder.told c.flush.new.folder) c.args.moment (request_of cmd)) (sym c.in-Flush.is) (c.flush.ensures.stops c.args.moment)
+returns-in-Flush-clause-stops g c = subst (λ (cmd : Command). MayStopAtEach (HoldsState c.args.self.now) (g.F.Folder.told c.args.folder.now) (g.F.Folder.told c.flush.new.folder) c.args.moment (request_of cmd)) (sym c.in-Flush.is) (c.flush.ensures.stops c.args.moment)
 
 pub returns-in-Flush-clause-says : goal.returns-in-Flush-clause-says
 returns-in-Flush-clause-says g c = subst (λ (cmd : Command). OnOk c.flush.result (SaysEvicted c.args.self.now (g.F.Folder.told c.args.folder.now) c.args.moment (request_of cmd) c.args.failed.now c.args.failed.now (g.K.Sink.written c.args.out.now) (g.K.Sink.written c.args.out.now))) (sym c.in-Flush.is)
@@ -62,10 +62,10 @@ returns-in-Flush-clause-front g c = subst (λ (cmd : Command). SaysPrefix c.args
     (prefix-nothing c.args.self.now (g.F.Folder.told c.args.folder.now) c.args.moment (to_flush c.in-Flush.handle) tt c.args.failed.now (g.K.Sink.written c.args.out.now))
 
 pub returns-in-Total-clause-does : goal.returns-in-Total-clause-does
-returns-in-Total-clause-does g c = subst (λ (cmd : Command). Does (KeepsState c.args.self.now) (KeepsState c.args.self.now) (g.F.Folder.told c.args.folder.now) (g.F.Folder.told c.args.folder.now) c.args.moment (request_of cmd) c.total.result) (sym c.in-Total.is) (c.total.ensures.does (g.F.Folder.told c.args.folder.now) c.args.moment)
+returns-in-Total-clause-does g c = subst (λ (cmd : Command). Does (HoldsState c.args.self.now) (HoldsState c.args.self.now) (g.F.Folder.told c.args.folder.now) (g.F.Folder.told c.args.folder.now) c.args.moment (request_of cmd) c.total.result) (sym c.in-Total.is) (c.total.ensures.does (g.F.Folder.told c.args.folder.now) c.args.moment)
 
 pub returns-in-Total-clause-stops : goal.returns-in-Total-clause-stops
-returns-in-Total-clause-stops g c = nothing-stops (KeepsState c.args.self.now) (says-kept c.args.self.now) (g.F.Folder.told c.args.folder.now) (g.F.Folder.told c.args.folder.now) c.args.moment (request_of c.args.command.now) refl
+returns-in-Total-clause-stops g c = nothing-stops (HoldsState c.args.self.now) (says-kept c.args.self.now) (g.F.Folder.told c.args.folder.now) (g.F.Folder.told c.args.folder.now) c.args.moment (request_of c.args.command.now) refl
 
 pub returns-in-Total-clause-says : goal.returns-in-Total-clause-says
 returns-in-Total-clause-says g c = subst (λ (cmd : Command). SaysEvicted c.args.self.now (g.F.Folder.told c.args.folder.now) c.args.moment (request_of cmd) c.args.failed.now c.args.failed.now (g.K.Sink.written c.args.out.now) (g.K.Sink.written c.args.out.now)) (sym c.in-Total.is)
@@ -76,10 +76,10 @@ returns-in-Total-clause-front g c = subst (λ (cmd : Command). SaysPrefix c.args
     (prefix-nothing c.args.self.now (g.F.Folder.told c.args.folder.now) c.args.moment to_total tt c.args.failed.now (g.K.Sink.written c.args.out.now))
 
 pub returns-in-Size-clause-does : goal.returns-in-Size-clause-does
-returns-in-Size-clause-does g c = subst (λ (cmd : Command). IfOk c.size.result (λ given. Does (KeepsState c.args.self.now) (KeepsState c.args.self.now) (g.F.Folder.told c.args.folder.now) (g.F.Folder.told c.size.new.folder) c.args.moment (request_of cmd) given)) (sym c.in-Size.is) (c.size.ensures.does c.args.moment)
+returns-in-Size-clause-does g c = subst (λ (cmd : Command). IfOk c.size.result (λ given. Does (HoldsState c.args.self.now) (HoldsState c.args.self.now) (g.F.Folder.told c.args.folder.now) (g.F.Folder.told c.size.new.folder) c.args.moment (request_of cmd) given)) (sym c.in-Size.is) (c.size.ensures.does c.args.moment)
 
 pub returns-in-Size-clause-stops : goal.returns-in-Size-clause-stops
-returns-in-Size-clause-stops g c = nothing-stops (KeepsState c.args.self.now) (says-kept c.args.self.now) (g.F.Folder.told c.args.folder.now) (g.F.Folder.told c.size.new.folder) c.args.moment (request_of c.args.command.now) c.size.ensures.reads.stays
+returns-in-Size-clause-stops g c = nothing-stops (HoldsState c.args.self.now) (says-kept c.args.self.now) (g.F.Folder.told c.args.folder.now) (g.F.Folder.told c.size.new.folder) c.args.moment (request_of c.args.command.now) c.size.ensures.reads.stays
 
 pub returns-in-Size-clause-says : goal.returns-in-Size-clause-says
 returns-in-Size-clause-says g c = subst (λ (cmd : Command). OnOk c.size.result (SaysEvicted c.args.self.now (g.F.Folder.told c.args.folder.now) c.args.moment (request_of cmd) c.args.failed.now c.args.failed.now (g.K.Sink.written c.args.out.now) (g.K.Sink.written c.args.out.now))) (sym c.in-Size.is)
@@ -91,7 +91,7 @@ returns-in-Size-clause-front g c = subst (λ (cmd : Command). SaysPrefix c.args.
     (prefix-nothing c.args.self.now (g.F.Folder.told c.args.folder.now) c.args.moment (to_size c.in-Size.handle c.in-Size.stream) tt c.args.failed.now (g.K.Sink.written c.args.out.now))
 
 pub returns-in-Trim-clause-stops : goal.returns-in-Trim-clause-stops
-returns-in-Trim-clause-stops g c = subst (λ (cmd : Command). MayStopAtEach (KeepsState c.args.self.now) (g.F.Folder.told c.args.folder.now) (g.F.Folder.told c.trim.new.folder) c.args.moment (request_of cmd)) (sym c.in-Trim.is) (c.trim.ensures.stops c.args.moment)
+returns-in-Trim-clause-stops g c = subst (λ (cmd : Command). MayStopAtEach (HoldsState c.args.self.now) (g.F.Folder.told c.args.folder.now) (g.F.Folder.told c.trim.new.folder) c.args.moment (request_of cmd)) (sym c.in-Trim.is) (c.trim.ensures.stops c.args.moment)
 
 pub returns-in-Trim-clause-says : goal.returns-in-Trim-clause-says
 returns-in-Trim-clause-says g c = subst (λ (cmd : Command). OnOk c.trim.result (SaysEvicted c.args.self.now (g.F.Folder.told c.args.folder.now) c.args.moment (request_of cmd) c.args.failed.now c.trim.new.failed (g.K.Sink.written c.args.out.now) (g.K.Sink.written c.trim.new.out))) (sym c.in-Trim.is) (c.trim.ensures.says c.args.moment)
@@ -103,10 +103,10 @@ pub returns-in-Size-clause-is_open : goal.returns-in-Size-clause-is_open
 returns-in-Size-clause-is_open g c = on-ok c.size.result (ForSome (g.F.Folder.told c.size.new.folder).files (IsOpen c.args.self.now.files)) (λ image now. c.requires.is_open image (ap (λ (t : Told). t.files) (sym c.size.ensures.reads.stays) ∙ now))
 
 pub returns-in-Read-clause-does : goal.returns-in-Read-clause-does
-returns-in-Read-clause-does g c = subst (λ (cmd : Command). IfOk c.use_read.result (λ given. Does (KeepsState c.args.self.now) (KeepsState c.args.self.now) (g.F.Folder.told c.args.folder.now) (g.F.Folder.told c.use_read.new.folder) c.args.moment (request_of cmd) given)) (sym c.in-Read.is) c.use_read.ensures.does
+returns-in-Read-clause-does g c = subst (λ (cmd : Command). IfOk c.use_read.result (λ given. Does (HoldsState c.args.self.now) (HoldsState c.args.self.now) (g.F.Folder.told c.args.folder.now) (g.F.Folder.told c.use_read.new.folder) c.args.moment (request_of cmd) given)) (sym c.in-Read.is) c.use_read.ensures.does
 
 pub returns-in-Read-clause-stops : goal.returns-in-Read-clause-stops
-returns-in-Read-clause-stops g c = subst (λ (cmd : Command). MayStopAtEach (KeepsState c.args.self.now) (g.F.Folder.told c.args.folder.now) (g.F.Folder.told c.use_read.new.folder) c.args.moment (request_of cmd)) (sym c.in-Read.is) c.use_read.ensures.stops
+returns-in-Read-clause-stops g c = subst (λ (cmd : Command). MayStopAtEach (HoldsState c.args.self.now) (g.F.Folder.told c.args.folder.now) (g.F.Folder.told c.use_read.new.folder) c.args.moment (request_of cmd)) (sym c.in-Read.is) c.use_read.ensures.stops
 
 pub returns-in-Read-clause-says : goal.returns-in-Read-clause-says
 returns-in-Read-clause-says g c = subst (λ (cmd : Command). OnOk c.use_read.result (SaysEvicted c.args.self.now (g.F.Folder.told c.args.folder.now) c.args.moment (request_of cmd) c.args.failed.now c.args.failed.now (g.K.Sink.written c.args.out.now) (g.K.Sink.written c.args.out.now))) (sym c.in-Read.is)
@@ -118,10 +118,10 @@ returns-in-Read-clause-front g c = subst (λ (cmd : Command). SaysPrefix c.args.
     (prefix-nothing c.args.self.now (g.F.Folder.told c.args.folder.now) c.args.moment (to_read c.in-Read.handle c.in-Read.stream c.in-Read.offset c.in-Read.count) tt c.args.failed.now (g.K.Sink.written c.args.out.now))
 
 pub returns-in-List-clause-does : goal.returns-in-List-clause-does
-returns-in-List-clause-does g c = subst (λ (cmd : Command). IfOk c.list.result (λ given. Does (KeepsState c.args.self.now) (KeepsState c.args.self.now) (g.F.Folder.told c.args.folder.now) (g.F.Folder.told c.list.new.folder) c.args.moment (request_of cmd) given)) (sym c.in-List.is) (c.list.ensures.does c.args.moment)
+returns-in-List-clause-does g c = subst (λ (cmd : Command). IfOk c.list.result (λ given. Does (HoldsState c.args.self.now) (HoldsState c.args.self.now) (g.F.Folder.told c.args.folder.now) (g.F.Folder.told c.list.new.folder) c.args.moment (request_of cmd) given)) (sym c.in-List.is) (c.list.ensures.does c.args.moment)
 
 pub returns-in-List-clause-stops : goal.returns-in-List-clause-stops
-returns-in-List-clause-stops g c = nothing-stops (KeepsState c.args.self.now) (says-kept c.args.self.now) (g.F.Folder.told c.args.folder.now) (g.F.Folder.told c.list.new.folder) c.args.moment (request_of c.args.command.now) c.list.ensures.reads.stays
+returns-in-List-clause-stops g c = nothing-stops (HoldsState c.args.self.now) (says-kept c.args.self.now) (g.F.Folder.told c.args.folder.now) (g.F.Folder.told c.list.new.folder) c.args.moment (request_of c.args.command.now) c.list.ensures.reads.stays
 
 pub returns-in-List-clause-says : goal.returns-in-List-clause-says
 returns-in-List-clause-says g c = subst (λ (cmd : Command). OnOk c.list.result (SaysEvicted c.args.self.now (g.F.Folder.told c.args.folder.now) c.args.moment (request_of cmd) c.args.failed.now c.args.failed.now (g.K.Sink.written c.args.out.now) (g.K.Sink.written c.args.out.now))) (sym c.in-List.is)
@@ -136,7 +136,7 @@ pub returns-in-List-clause-is_open : goal.returns-in-List-clause-is_open
 returns-in-List-clause-is_open g c = on-ok c.list.result (ForSome (g.F.Folder.told c.list.new.folder).files (IsOpen c.args.self.now.files)) (λ image now. c.requires.is_open image (ap (λ (t : Told). t.files) (sym c.list.ensures.reads.stays) ∙ now))
 
 pub returns-in-Write-clause-stops : goal.returns-in-Write-clause-stops
-returns-in-Write-clause-stops g c = subst (λ (cmd : Command). MayStopAtEach (KeepsState c.args.self.now) (g.F.Folder.told c.args.folder.now) (g.F.Folder.told c.write.new.folder) c.args.moment (request_of cmd)) (sym c.in-Write.is) c.write.ensures.stops
+returns-in-Write-clause-stops g c = subst (λ (cmd : Command). MayStopAtEach (HoldsState c.args.self.now) (g.F.Folder.told c.args.folder.now) (g.F.Folder.told c.write.new.folder) c.args.moment (request_of cmd)) (sym c.in-Write.is) c.write.ensures.stops
 
 pub returns-in-Write-clause-says : goal.returns-in-Write-clause-says
 returns-in-Write-clause-says g c = subst (λ (cmd : Command). OnOk c.write.result (SaysEvicted c.args.self.now (g.F.Folder.told c.args.folder.now) c.args.moment (request_of cmd) c.args.failed.now c.write.new.failed (g.K.Sink.written c.args.out.now) (g.K.Sink.written c.write.new.out))) (sym c.in-Write.is) c.write.ensures.says
@@ -145,7 +145,7 @@ pub returns-in-Write-clause-front : goal.returns-in-Write-clause-front
 returns-in-Write-clause-front g c = subst (λ (cmd : Command). SaysPrefix c.args.self.now (g.F.Folder.told c.args.folder.now) c.args.moment (request_of cmd) (g.K.Sink.written c.args.out.now) (g.K.Sink.written c.write.new.out)) (sym c.in-Write.is) c.write.ensures.front
 
 pub returns-in-Doom-clause-stops : goal.returns-in-Doom-clause-stops
-returns-in-Doom-clause-stops g c = subst (λ (cmd : Command). MayStopAtEach (KeepsState c.args.self.now) (g.F.Folder.told c.args.folder.now) (g.F.Folder.told c.doom.new.folder) c.args.moment (request_of cmd)) (sym c.in-Doom.is) (c.doom.ensures.stops c.args.moment)
+returns-in-Doom-clause-stops g c = subst (λ (cmd : Command). MayStopAtEach (HoldsState c.args.self.now) (g.F.Folder.told c.args.folder.now) (g.F.Folder.told c.doom.new.folder) c.args.moment (request_of cmd)) (sym c.in-Doom.is) (c.doom.ensures.stops c.args.moment)
 
 pub returns-in-Doom-clause-says : goal.returns-in-Doom-clause-says
 returns-in-Doom-clause-says g c = subst (λ (cmd : Command). OnOk c.doom.result (SaysEvicted c.args.self.now (g.F.Folder.told c.args.folder.now) c.args.moment (request_of cmd) c.args.failed.now c.args.failed.now (g.K.Sink.written c.args.out.now) (g.K.Sink.written c.args.out.now))) (sym c.in-Doom.is)
@@ -157,7 +157,7 @@ returns-in-Doom-clause-front g c = subst (λ (cmd : Command). SaysPrefix c.args.
     (prefix-nothing c.args.self.now (g.F.Folder.told c.args.folder.now) c.args.moment (to_doom c.in-Doom.handle) tt c.args.failed.now (g.K.Sink.written c.args.out.now))
 
 pub returns-in-DoomKey-clause-stops : goal.returns-in-DoomKey-clause-stops
-returns-in-DoomKey-clause-stops g c = subst (λ (cmd : Command). MayStopAtEach (KeepsState c.args.self.now) (g.F.Folder.told c.args.folder.now) (g.F.Folder.told c.doom_key.new.folder) c.args.moment (request_of cmd)) (sym c.in-DoomKey.is) (c.doom_key.ensures.stops c.args.moment)
+returns-in-DoomKey-clause-stops g c = subst (λ (cmd : Command). MayStopAtEach (HoldsState c.args.self.now) (g.F.Folder.told c.args.folder.now) (g.F.Folder.told c.doom_key.new.folder) c.args.moment (request_of cmd)) (sym c.in-DoomKey.is) (c.doom_key.ensures.stops c.args.moment)
 
 pub returns-in-DoomKey-clause-says : goal.returns-in-DoomKey-clause-says
 returns-in-DoomKey-clause-says g c = subst (λ (cmd : Command). OnOk c.doom_key.result (SaysEvicted c.args.self.now (g.F.Folder.told c.args.folder.now) c.args.moment (request_of cmd) c.args.failed.now c.args.failed.now (g.K.Sink.written c.args.out.now) (g.K.Sink.written c.args.out.now))) (sym c.in-DoomKey.is)

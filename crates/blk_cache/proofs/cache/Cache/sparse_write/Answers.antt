@@ -7,7 +7,7 @@ use Rattle.blk_model.specs.Request.{to_sparse_write}
 use Rattle.blk_disk.specs.Open.{IsOpen}
 use Rattle.law_state.specs.Commands.{Does, MayStopAtEach}
 use Rattle.law_state.proofs.Stopping.{nothing-stops, refusals-done}
-use Rattle.blk_cache.specs.CacheKeeping.{KeepsState}
+use Rattle.blk_cache.specs.CacheKeeping.{HoldsState}
 use Rattle.blk_cache.specs.CommandClauses.{KeepsAny}
 use Rattle.blk_cache.specs.Stepping.{SaysEvicted, SaysPrefix}
 use Rattle.blk_cache.proofs.Refusing.{says-kept}
@@ -20,7 +20,7 @@ use Rattle.blk_cache.proofs.cache.Cache.sparse_write.Goals as goal
 
 pub returns-in_err-asked-clause-stops : goal.returns-in_err-asked-clause-stops
 returns-in_err-asked-clause-stops g c =
-    nothing-stops (KeepsState c.args.self.now) (says-kept c.args.self.now) (g.F.Folder.told c.args.folder.now) (g.F.Folder.told c.ask_target.new.folder) c.args.request.now.moment (to_sparse_write c.args.request.now.handle c.args.request.now.offset c.args.request.now.bytes.now) c.in_err-asked.ensures.reads.stays
+    nothing-stops (HoldsState c.args.self.now) (says-kept c.args.self.now) (g.F.Folder.told c.args.folder.now) (g.F.Folder.told c.ask_target.new.folder) c.args.request.now.moment (to_sparse_write c.args.request.now.handle c.args.request.now.offset c.args.request.now.bytes.now) c.in_err-asked.ensures.reads.stays
 
 pub returns-in_err-asked-clause-front : goal.returns-in_err-asked-clause-front
 returns-in_err-asked-clause-front g c = front-before c.args.request.now.moment (to_sparse_write c.args.request.now.handle c.args.request.now.offset c.args.request.now.bytes.now) c.args.self.now (g.F.Folder.told c.args.folder.now) c.args.failed.now c.args.failed.now (g.K.Sink.written c.args.out.now) (g.K.Sink.written c.args.out.now)
@@ -29,12 +29,12 @@ returns-in_err-asked-clause-front g c = front-before c.args.request.now.moment (
 
 pub returns-in-Refused-clause-does : goal.returns-in-Refused-clause-does
 returns-in-Refused-clause-does g c =
-    refusals-done (KeepsState c.args.self.now) (g.F.Folder.told c.args.folder.now) (g.F.Folder.told c.ask_target.new.folder) c.args.request.now.moment (to_sparse_write c.args.request.now.handle c.args.request.now.offset c.args.request.now.bytes.now) c.in-Refused.why c.in_ok-asked.ensures.reads.stays
+    refusals-done (HoldsState c.args.self.now) (g.F.Folder.told c.args.folder.now) (g.F.Folder.told c.ask_target.new.folder) c.args.request.now.moment (to_sparse_write c.args.request.now.handle c.args.request.now.offset c.args.request.now.bytes.now) c.in-Refused.why c.in_ok-asked.ensures.reads.stays
     (asked-refused c.args.self.now (g.F.Folder.told c.args.folder.now) (g.F.Folder.told c.ask_target.new.folder) c.in_ok-asked.ensures.reads.stays c.args.request.now.moment c.args.request.now.handle c.args.request.now.offset c.args.request.now.bytes.now c.in_ok-asked.asked c.in_ok-asked.ensures.asked c.in-Refused.why c.in-Refused.is)
 
 pub returns-in-Refused-clause-stops : goal.returns-in-Refused-clause-stops
 returns-in-Refused-clause-stops g c =
-    nothing-stops (KeepsState c.args.self.now) (says-kept c.args.self.now) (g.F.Folder.told c.args.folder.now) (g.F.Folder.told c.ask_target.new.folder) c.args.request.now.moment (to_sparse_write c.args.request.now.handle c.args.request.now.offset c.args.request.now.bytes.now) c.in_ok-asked.ensures.reads.stays
+    nothing-stops (HoldsState c.args.self.now) (says-kept c.args.self.now) (g.F.Folder.told c.args.folder.now) (g.F.Folder.told c.ask_target.new.folder) c.args.request.now.moment (to_sparse_write c.args.request.now.handle c.args.request.now.offset c.args.request.now.bytes.now) c.in_ok-asked.ensures.reads.stays
 
 pub returns-in-Refused-clause-says : goal.returns-in-Refused-clause-says
 returns-in-Refused-clause-says g c =
@@ -51,12 +51,12 @@ returns-in-Refused-clause-is_open g c = subst (λ (t : Told). ForSome t.files (I
 
 pub returns-in-Found-clause-does : goal.returns-in-Found-clause-does
 returns-in-Found-clause-does g c =
-    subst (λ (t : Told). IfOk c.write_target.result (λ answer. Does (KeepsState c.args.self.now) (KeepsState c.write_target.new.self) t (g.F.Folder.told c.write_target.new.folder) c.args.request.now.moment (to_sparse_write c.args.request.now.handle c.args.request.now.offset c.args.request.now.bytes.now) answer)) c.in_ok-asked.ensures.reads.stays
+    subst (λ (t : Told). IfOk c.write_target.result (λ answer. Does (HoldsState c.args.self.now) (HoldsState c.write_target.new.self) t (g.F.Folder.told c.write_target.new.folder) c.args.request.now.moment (to_sparse_write c.args.request.now.handle c.args.request.now.offset c.args.request.now.bytes.now) answer)) c.in_ok-asked.ensures.reads.stays
     (c.write_target.ensures.does (found-named c.args.self.now (g.F.Folder.told c.args.folder.now) (g.F.Folder.told c.ask_target.new.folder) c.in_ok-asked.ensures.reads.stays c.args.request.now.moment c.args.request.now.handle c.args.request.now.offset c.args.request.now.bytes.now c.in_ok-asked.asked c.in_ok-asked.ensures.asked c.in-Found.target c.in-Found.is))
 
 pub returns-in-Found-clause-stops : goal.returns-in-Found-clause-stops
 returns-in-Found-clause-stops g c =
-    subst (λ (t : Told). MayStopAtEach (KeepsState c.args.self.now) t (g.F.Folder.told c.write_target.new.folder) c.args.request.now.moment (to_sparse_write c.args.request.now.handle c.args.request.now.offset c.args.request.now.bytes.now)) c.in_ok-asked.ensures.reads.stays
+    subst (λ (t : Told). MayStopAtEach (HoldsState c.args.self.now) t (g.F.Folder.told c.write_target.new.folder) c.args.request.now.moment (to_sparse_write c.args.request.now.handle c.args.request.now.offset c.args.request.now.bytes.now)) c.in_ok-asked.ensures.reads.stays
     (c.write_target.ensures.stops (found-named c.args.self.now (g.F.Folder.told c.args.folder.now) (g.F.Folder.told c.ask_target.new.folder) c.in_ok-asked.ensures.reads.stays c.args.request.now.moment c.args.request.now.handle c.args.request.now.offset c.args.request.now.bytes.now c.in_ok-asked.asked c.in_ok-asked.ensures.asked c.in-Found.target c.in-Found.is))
 
 pub returns-in-Found-clause-says : goal.returns-in-Found-clause-says

@@ -36,7 +36,9 @@ pub invariant_of-result : goal.invariant_of-result
 invariant_of-result g c = record { stand = none-stand c.in_ok-opened.opened.files c.in_ok-names.names.handles c.in_ok-names.ensures.free; room = c.in_ok-names.ensures.room }
 
 pub returns-clause-keeps : goal.returns-clause-keeps
-returns-clause-keeps g c from there image here = started _ c.in_ok-opened.opened from image c.in_ok-names.ensures.free refl refl refl refl refl (c.in_ok-opened.ensures.opened from there image here)
+returns-clause-keeps g c from there image here =
+    let left = c.in_ok-opened.ensures.opened from there image here in
+    record { holds = started _ c.in_ok-opened.opened from image c.in_ok-names.ensures.free refl refl refl refl refl left; finished = left.finished }
 
 pub returns-clause-free : goal.returns-clause-free
 returns-clause-free g c = all-free c.in_ok-names.names.handles c.in_ok-names.ensures.free

@@ -10,7 +10,7 @@ use Rattle.blk_object.specs.FailedChecks.{IsFailedCheck}
 use Rattle.blk_cache.specs.CacheKeeping.{KeepsState}
 use Rattle.blk_cache.specs.CommandClauses.{FlushesClean, IsRefused}
 use Rattle.blk_cache.specs.Stepping.{IfStepDamaged}
-use Rattle.blk_cache.proofs.Notes.{not-noted, noted-does, noted-ends, noted-steps, open-on, refused-notes, same-files, clean-notes}
+use Rattle.blk_cache.proofs.Notes.{not-noted, noted-does, noted-ends, noted-keeps, noted-steps, open-on, refused-notes, same-files, clean-notes}
 use Rattle.blk_cache.proofs.StepEnds.{any-damaged, by-files, damaged-on, failed-before, failed-behind, kept-behind, open-behind}
 use Rattle.blk_cache.proofs.StepTexts.{any-after, prefix-of-whole, prefix-printed, none-before, whole-printed}
 use Rattle.blk_cache.proofs.cache.Cache.step.Goals as goal
@@ -91,8 +91,8 @@ returns-in_err-reply-clause-untold g c any =
 pub returns-then-failed-clause-kept : goal.returns-then-failed-clause-kept
 returns-then-failed-clause-kept g c image there state k =
     kept-behind c.note.new.self c.reply.new.self (g.F.Folder.told c.note.new.folder) (g.F.Folder.told c.reply.new.folder) c.in_ok-reply.ensures.others c.in_ok-reply.ensures.reads.stays (step state c.args.moment (request_of c.args.command.now)).state
-    (noted-does c.args.self.now c.perform.new.self c.note.new.self (g.F.Folder.told c.args.f.now) (g.F.Folder.told c.perform.new.folder) (g.F.Folder.told c.note.new.folder) c.args.moment (request_of c.args.command.now) (note_number (c.args.self.now.notes + 1)) c.in_ok-answer.ensures.stops c.in_ok-answer.answer c.in_ok-answer.ensures.does
-    (made c.args.self.now.notes c.perform.new.self.notes (g.F.Folder.told c.perform.new.folder) (g.F.Folder.told c.note.new.folder) c.in_ok-answer.ensures.notes c.in_ok-note.ensures.done) c.in_ok-note.ensures.others image there state k).kept
+    (noted-keeps c.args.self.now c.perform.new.self c.note.new.self (g.F.Folder.told c.args.f.now) (g.F.Folder.told c.perform.new.folder) (g.F.Folder.told c.note.new.folder) c.args.moment (request_of c.args.command.now) (note_number (c.args.self.now.notes + 1)) c.in_ok-answer.ensures.stops c.in_ok-answer.answer c.in_ok-answer.ensures.does
+    (made c.args.self.now.notes c.perform.new.self.notes (g.F.Folder.told c.perform.new.folder) (g.F.Folder.told c.note.new.folder) c.in_ok-answer.ensures.notes c.in_ok-note.ensures.done) c.in_ok-note.ensures.others image there state k)
 
 pub returns-then-failed-clause-stepped : goal.returns-then-failed-clause-stepped
 returns-then-failed-clause-stepped g c =
@@ -134,13 +134,13 @@ returns-then-failed-clause-is_open g c =
 
 pub returns-else-failed-clause-answered : goal.returns-else-failed-clause-answered
 returns-else-failed-clause-answered g c image there state k =
-    (c.in_ok-answer.ensures.does image there state k).answered
+    (c.in_ok-answer.ensures.does image there state k.holds).answered
 
 pub returns-else-failed-clause-kept : goal.returns-else-failed-clause-kept
 returns-else-failed-clause-kept g c image there state k =
     kept-behind c.note.new.self c.reply.new.self (g.F.Folder.told c.note.new.folder) (g.F.Folder.told c.reply.new.folder) c.in_ok-reply.ensures.others c.in_ok-reply.ensures.reads.stays (step state c.args.moment (request_of c.args.command.now)).state
-    (noted-does c.args.self.now c.perform.new.self c.note.new.self (g.F.Folder.told c.args.f.now) (g.F.Folder.told c.perform.new.folder) (g.F.Folder.told c.note.new.folder) c.args.moment (request_of c.args.command.now) (note_number (c.args.self.now.notes + 1)) c.in_ok-answer.ensures.stops c.in_ok-answer.answer c.in_ok-answer.ensures.does
-    (made c.args.self.now.notes c.perform.new.self.notes (g.F.Folder.told c.perform.new.folder) (g.F.Folder.told c.note.new.folder) c.in_ok-answer.ensures.notes c.in_ok-note.ensures.done) c.in_ok-note.ensures.others image there state k).kept
+    (noted-keeps c.args.self.now c.perform.new.self c.note.new.self (g.F.Folder.told c.args.f.now) (g.F.Folder.told c.perform.new.folder) (g.F.Folder.told c.note.new.folder) c.args.moment (request_of c.args.command.now) (note_number (c.args.self.now.notes + 1)) c.in_ok-answer.ensures.stops c.in_ok-answer.answer c.in_ok-answer.ensures.does
+    (made c.args.self.now.notes c.perform.new.self.notes (g.F.Folder.told c.perform.new.folder) (g.F.Folder.told c.note.new.folder) c.in_ok-answer.ensures.notes c.in_ok-note.ensures.done) c.in_ok-note.ensures.others image there state k)
 
 pub returns-else-failed-clause-stepped : goal.returns-else-failed-clause-stepped
 returns-else-failed-clause-stepped g c =

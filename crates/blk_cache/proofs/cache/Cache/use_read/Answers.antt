@@ -9,7 +9,7 @@ use Rattle.blk_disk.specs.Open.{IsOpen}
 use Rattle.blk_lru.specs.Damages.{IsTouchDamage}
 use Rattle.law_state.proofs.Stopping.{nothing-stops}
 use Rattle.blk_cache.specs.Asking.{IsAsked, StandsAmong}
-use Rattle.blk_cache.specs.CacheKeeping.{KeepsState}
+use Rattle.blk_cache.specs.CacheKeeping.{HoldsState}
 use Rattle.blk_cache.specs.Reading.{IsCommandReadDamage}
 use Rattle.blk_cache.proofs.ReadSteps.{mid-listed, read-does, read-refuses, read-stops}
 use Rattle.blk_cache.proofs.Refusing.{says-kept}
@@ -20,7 +20,7 @@ use Rattle.blk_cache.proofs.cache.Cache.use_read.Goals as goal
 
 pub returns-in_err-asked-clause-stops : goal.returns-in_err-asked-clause-stops
 returns-in_err-asked-clause-stops g c =
-    nothing-stops (KeepsState c.args.self.now) (says-kept c.args.self.now) (g.F.Folder.told c.args.folder.now) (g.F.Folder.told c.ask_stream.new.folder) c.args.moment (to_read c.args.handle c.args.stream c.args.offset c.args.count) c.in_err-asked.ensures.reads.stays
+    nothing-stops (HoldsState c.args.self.now) (says-kept c.args.self.now) (g.F.Folder.told c.args.folder.now) (g.F.Folder.told c.ask_stream.new.folder) c.args.moment (to_read c.args.handle c.args.stream c.args.offset c.args.count) c.in_err-asked.ensures.reads.stays
 
 pub returns-in_err-asked-clause-is_open : goal.returns-in_err-asked-clause-is_open
 returns-in_err-asked-clause-is_open g c = subst (λ (t : Told). ForSome t.files (IsOpen c.args.self.now.files)) (sym c.in_err-asked.ensures.reads.stays) c.requires.is_open
@@ -37,7 +37,7 @@ returns-in-Refused-clause-does g c =
 
 pub returns-in-Refused-clause-stops : goal.returns-in-Refused-clause-stops
 returns-in-Refused-clause-stops g c =
-    nothing-stops (KeepsState c.args.self.now) (says-kept c.args.self.now) (g.F.Folder.told c.args.folder.now) (g.F.Folder.told c.ask_stream.new.folder) c.args.moment (to_read c.args.handle c.args.stream c.args.offset c.args.count) c.in_ok-asked.ensures.reads.stays
+    nothing-stops (HoldsState c.args.self.now) (says-kept c.args.self.now) (g.F.Folder.told c.args.folder.now) (g.F.Folder.told c.ask_stream.new.folder) c.args.moment (to_read c.args.handle c.args.stream c.args.offset c.args.count) c.in_ok-asked.ensures.reads.stays
 
 pub returns-in-Refused-clause-is_open : goal.returns-in-Refused-clause-is_open
 returns-in-Refused-clause-is_open g c = subst (λ (t : Told). ForSome t.files (IsOpen c.args.self.now.files)) (sym c.in_ok-asked.ensures.reads.stays) c.requires.is_open
@@ -84,7 +84,7 @@ returns-in_ok-use_item-in-Stream-clause-stops g c =
 
 pub returns-in_ok-use_item-in-Stream-clause-does : goal.returns-in_ok-use_item-in-Stream-clause-does
 returns-in_ok-use_item-in-Stream-clause-does g c =
-    subst (λ (n : ℕ). Does (KeepsState c.args.self.now) (KeepsState c.args.self.now) (g.F.Folder.told c.args.folder.now) (g.F.Folder.told c.use_item.new.folder) c.args.moment (to_read c.args.handle c.args.stream c.args.offset c.args.count) (answer.Bytes n)) (sym c.bytes_there.ensures)
+    subst (λ (n : ℕ). Does (HoldsState c.args.self.now) (HoldsState c.args.self.now) (g.F.Folder.told c.args.folder.now) (g.F.Folder.told c.use_item.new.folder) c.args.moment (to_read c.args.handle c.args.stream c.args.offset c.args.count) (answer.Bytes n)) (sym c.bytes_there.ensures)
     (read-does c.args.self.now (g.F.Folder.told c.args.folder.now) (g.F.Folder.told c.ask_stream.new.folder) c.in_ok-asked.ensures.reads.stays c.args.moment c.args.handle c.args.stream c.args.offset c.args.count c.in-Stream.named
     (λ image there state k. subst (IsAsked state k.layout c.args.handle c.args.stream) c.in-Stream.is (c.in_ok-asked.ensures.asked image there state k))
     (g.F.Folder.told c.use_item.new.folder) (Ok c.in_ok-use_item-in-Stream.field-0) c.in_ok-use_item-in-Stream.ensures.uses (λ P p. p) (g.met.F.Folder.are_bytes c.ask_stream.new.folder)

@@ -7,7 +7,7 @@ use Rattle.blk_disk.specs.Open.{IsOpen}
 use Rattle.blk_print.proofs.PresentRanges.{by-files}
 use Rattle.blk_chain.proofs.Heads.{names-parts}
 use Rattle.law_state.proofs.Stopping.{nothing-stops}
-use Rattle.blk_cache.specs.CacheKeeping.{KeepsState}
+use Rattle.blk_cache.specs.CacheKeeping.{HoldsState}
 use Rattle.blk_cache.specs.CommandClauses.{IsRefused}
 use Rattle.blk_cache.specs.SparseAsking.{FindsInside, IsAmongFiles, IsAskedSparse, early_sparse_refusal}
 use Rattle.blk_cache.specs.SparseReading.{to_use_sparse}
@@ -20,7 +20,7 @@ use Rattle.blk_cache.proofs.cache.Cache.use_sparse.Goals as goal
 
 pub returns-in_err-asked-clause-stops : goal.returns-in_err-asked-clause-stops
 returns-in_err-asked-clause-stops g c =
-    nothing-stops (KeepsState c.args.self.now) (says-kept c.args.self.now) (g.F.Folder.told c.args.folder.now) (g.F.Folder.told c.ask_sparse.new.folder) c.args.moment (to_use_sparse c.args.wanted c.args.handle c.args.offset c.args.count) c.in_err-asked.ensures.reads.stays
+    nothing-stops (HoldsState c.args.self.now) (says-kept c.args.self.now) (g.F.Folder.told c.args.folder.now) (g.F.Folder.told c.ask_sparse.new.folder) c.args.moment (to_use_sparse c.args.wanted c.args.handle c.args.offset c.args.count) c.in_err-asked.ensures.reads.stays
 
 pub returns-in_err-asked-clause-is_open : goal.returns-in_err-asked-clause-is_open
 returns-in_err-asked-clause-is_open g c = subst (λ (t : Told). ForSome t.files (IsOpen c.args.self.now.files)) (sym c.in_err-asked.ensures.reads.stays) c.requires.is_open
@@ -32,7 +32,7 @@ returns-in-Refused-clause-does g c =
 
 pub returns-in-Refused-clause-stops : goal.returns-in-Refused-clause-stops
 returns-in-Refused-clause-stops g c =
-    nothing-stops (KeepsState c.args.self.now) (says-kept c.args.self.now) (g.F.Folder.told c.args.folder.now) (g.F.Folder.told c.ask_sparse.new.folder) c.args.moment (to_use_sparse c.args.wanted c.args.handle c.args.offset c.args.count) c.in_ok-asked.ensures.reads.stays
+    nothing-stops (HoldsState c.args.self.now) (says-kept c.args.self.now) (g.F.Folder.told c.args.folder.now) (g.F.Folder.told c.ask_sparse.new.folder) c.args.moment (to_use_sparse c.args.wanted c.args.handle c.args.offset c.args.count) c.in_ok-asked.ensures.reads.stays
 
 pub returns-in-Refused-clause-is_open : goal.returns-in-Refused-clause-is_open
 returns-in-Refused-clause-is_open g c = subst (λ (t : Told). ForSome t.files (IsOpen c.args.self.now.files)) (sym c.in_ok-asked.ensures.reads.stays) c.requires.is_open
@@ -44,7 +44,7 @@ returns-in-Plain-clause-does g c =
 
 pub returns-in-Plain-clause-stops : goal.returns-in-Plain-clause-stops
 returns-in-Plain-clause-stops g c =
-    nothing-stops (KeepsState c.args.self.now) (says-kept c.args.self.now) (g.F.Folder.told c.args.folder.now) (g.F.Folder.told c.ask_sparse.new.folder) c.args.moment (to_use_sparse c.args.wanted c.args.handle c.args.offset c.args.count) c.in_ok-asked.ensures.reads.stays
+    nothing-stops (HoldsState c.args.self.now) (says-kept c.args.self.now) (g.F.Folder.told c.args.folder.now) (g.F.Folder.told c.ask_sparse.new.folder) c.args.moment (to_use_sparse c.args.wanted c.args.handle c.args.offset c.args.count) c.in_ok-asked.ensures.reads.stays
 
 pub returns-in-Plain-clause-is_open : goal.returns-in-Plain-clause-is_open
 returns-in-Plain-clause-is_open g c = subst (λ (t : Told). ForSome t.files (IsOpen c.args.self.now.files)) (sym c.in_ok-asked.ensures.reads.stays) c.requires.is_open

@@ -11,7 +11,7 @@ use Rattle.blk_disk.specs.declared.tables.BlockFiles.{BlockFiles}
 use Rattle.law_state.specs.Commands.{Does, MayStopAtEach}
 use Rattle.law_state.proofs.Stopping.{nothing-stops}
 use Rattle.blk_print.proofs.PresentRanges.{by-files}
-use Rattle.blk_cache.specs.CacheKeeping.{KeepsState}
+use Rattle.blk_cache.specs.CacheKeeping.{HoldsState}
 use Rattle.blk_cache.specs.CommandClauses.{KeepsAny}
 use Rattle.blk_cache.specs.Stepping.{SaysEvicted, SaysPrefix}
 use Rattle.blk_cache.proofs.CreateWhole.{if_ok_weaker}
@@ -23,7 +23,7 @@ use Rattle.blk_cache.proofs.cache.Cache.write_some.Goals as goal
 -- It can't be measured.
 
 pub returns-in_err-rise-clause-stops : goal.returns-in_err-rise-clause-stops
-returns-in_err-rise-clause-stops g c names = nothing-stops (KeepsState c.args.self.now) (says-kept c.args.self.now) (g.F.Folder.told c.args.folder.now) (g.F.Folder.told c.measure_rise.new.folder) c.args.request.now.moment (to_sparse_write c.args.request.now.handle c.args.request.now.offset c.args.request.now.bytes.now) c.in_err-rise.ensures.reads.stays
+returns-in_err-rise-clause-stops g c names = nothing-stops (HoldsState c.args.self.now) (says-kept c.args.self.now) (g.F.Folder.told c.args.folder.now) (g.F.Folder.told c.measure_rise.new.folder) c.args.request.now.moment (to_sparse_write c.args.request.now.handle c.args.request.now.offset c.args.request.now.bytes.now) c.in_err-rise.ensures.reads.stays
 
 pub returns-in_err-rise-clause-front : goal.returns-in_err-rise-clause-front
 returns-in_err-rise-clause-front g c names = front-before c.args.request.now.moment (to_sparse_write c.args.request.now.handle c.args.request.now.offset c.args.request.now.bytes.now) c.args.self.now (g.F.Folder.told c.args.folder.now) c.args.failed.now c.args.failed.now (g.K.Sink.written c.args.out.now) (g.K.Sink.written c.args.out.now)
@@ -39,12 +39,12 @@ returns-in_err-rise-clause-untold g c names any =
 
 pub returns-clause-does : goal.returns-clause-does
 returns-clause-does g c names =
-    subst (λ (t : Told). IfOk c.write_where_room.result (λ answer. Does (KeepsState c.args.self.now) (KeepsState c.write_where_room.new.self) t (g.F.Folder.told c.write_where_room.new.folder) c.args.request.now.moment (to_sparse_write c.args.request.now.handle c.args.request.now.offset c.args.request.now.bytes.now) answer)) c.in_ok-rise.ensures.reads.stays
+    subst (λ (t : Told). IfOk c.write_where_room.result (λ answer. Does (HoldsState c.args.self.now) (HoldsState c.write_where_room.new.self) t (g.F.Folder.told c.write_where_room.new.folder) c.args.request.now.moment (to_sparse_write c.args.request.now.handle c.args.request.now.offset c.args.request.now.bytes.now) answer)) c.in_ok-rise.ensures.reads.stays
     (if_ok_weaker c.write_where_room.result (λ answer. for-kept c.args.self.now c.measure_rise.new.self c.measure_rise.ensures.others (g.F.Folder.told c.measure_rise.new.folder) _) (c.write_where_room.ensures.does (asks-then c.args.self.now c.measure_rise.new.self c.measure_rise.ensures.others (g.F.Folder.told c.args.folder.now) (g.F.Folder.told c.measure_rise.new.folder) c.measure_rise.ensures.reads.stays c.args.request.now.moment c.args.request.now.handle c.args.request.now.offset c.args.request.now.bytes.now c.args.target.now c.in_ok-rise.rise names c.in_ok-rise.ensures.rises)))
 
 pub returns-clause-stops : goal.returns-clause-stops
 returns-clause-stops g c names =
-    subst (λ (t : Told). MayStopAtEach (KeepsState c.args.self.now) t (g.F.Folder.told c.write_where_room.new.folder) c.args.request.now.moment (to_sparse_write c.args.request.now.handle c.args.request.now.offset c.args.request.now.bytes.now)) c.in_ok-rise.ensures.reads.stays
+    subst (λ (t : Told). MayStopAtEach (HoldsState c.args.self.now) t (g.F.Folder.told c.write_where_room.new.folder) c.args.request.now.moment (to_sparse_write c.args.request.now.handle c.args.request.now.offset c.args.request.now.bytes.now)) c.in_ok-rise.ensures.reads.stays
     (for-kept c.args.self.now c.measure_rise.new.self c.measure_rise.ensures.others (g.F.Folder.told c.measure_rise.new.folder) _ (c.write_where_room.ensures.stops (asks-then c.args.self.now c.measure_rise.new.self c.measure_rise.ensures.others (g.F.Folder.told c.args.folder.now) (g.F.Folder.told c.measure_rise.new.folder) c.measure_rise.ensures.reads.stays c.args.request.now.moment c.args.request.now.handle c.args.request.now.offset c.args.request.now.bytes.now c.args.target.now c.in_ok-rise.rise names c.in_ok-rise.ensures.rises)))
 
 pub returns-clause-says : goal.returns-clause-says

@@ -3,7 +3,7 @@ use Rattle.std.specs.Prelude.{IfOk}
 use Rattle.spec_image.specs.Told.{Stays}
 use Rattle.blk_model.specs.Request.{to_sparse_write}
 use Rattle.law_state.specs.Commands.{Does, MayStopAtEach}
-use Rattle.blk_cache.specs.CacheKeeping.{KeepsState}
+use Rattle.blk_cache.specs.CacheKeeping.{HoldsState}
 use Rattle.blk_cache.specs.SparseTargets.{NamesTarget}
 use Rattle.blk_cache.specs.Stepping.{SaysEvicted}
 use Rattle.blk_cache.proofs.CreateWhole.{on-ok}
@@ -16,12 +16,12 @@ use Rattle.blk_cache.proofs.cache.Cache.write_target.Goals as goal
 
 pub returns-then-is_empty-clause-does : goal.returns-then-is_empty-clause-does
 returns-then-is_empty-clause-does g c names =
-    subst (λ (bytes : List ℕ). IfOk c.use_target.result (λ answer. Does (KeepsState c.args.self.now) (KeepsState c.args.self.now) (g.F.Folder.told c.args.folder.now) (g.F.Folder.told c.use_target.new.folder) c.args.request.now.moment (to_sparse_write c.args.request.now.handle c.args.request.now.offset bytes) answer)) (sym (none-long c.args.request.now.bytes.now (let e : length c.args.request.now.bytes.now ≡ 0 = search rules in e)))
+    subst (λ (bytes : List ℕ). IfOk c.use_target.result (λ answer. Does (HoldsState c.args.self.now) (HoldsState c.args.self.now) (g.F.Folder.told c.args.folder.now) (g.F.Folder.told c.use_target.new.folder) c.args.request.now.moment (to_sparse_write c.args.request.now.handle c.args.request.now.offset bytes) answer)) (sym (none-long c.args.request.now.bytes.now (let e : length c.args.request.now.bytes.now ≡ 0 = search rules in e)))
     (c.use_target.ensures.does c.args.request.now.handle c.args.request.now.offset (subst (λ (n : ℕ). NamesTarget c.args.self.now (g.F.Folder.told c.args.folder.now) c.args.request.now.moment c.args.request.now.handle c.args.request.now.offset n c.args.target.now) (ap length (none-long c.args.request.now.bytes.now (let e : length c.args.request.now.bytes.now ≡ 0 = search rules in e))) names))
 
 pub returns-then-is_empty-clause-stops : goal.returns-then-is_empty-clause-stops
 returns-then-is_empty-clause-stops g c names =
-    subst (λ (bytes : List ℕ). MayStopAtEach (KeepsState c.args.self.now) (g.F.Folder.told c.args.folder.now) (g.F.Folder.told c.use_target.new.folder) c.args.request.now.moment (to_sparse_write c.args.request.now.handle c.args.request.now.offset bytes)) (sym (none-long c.args.request.now.bytes.now (let e : length c.args.request.now.bytes.now ≡ 0 = search rules in e)))
+    subst (λ (bytes : List ℕ). MayStopAtEach (HoldsState c.args.self.now) (g.F.Folder.told c.args.folder.now) (g.F.Folder.told c.use_target.new.folder) c.args.request.now.moment (to_sparse_write c.args.request.now.handle c.args.request.now.offset bytes)) (sym (none-long c.args.request.now.bytes.now (let e : length c.args.request.now.bytes.now ≡ 0 = search rules in e)))
     (c.use_target.ensures.stops c.args.request.now.handle c.args.request.now.offset (subst (λ (n : ℕ). NamesTarget c.args.self.now (g.F.Folder.told c.args.folder.now) c.args.request.now.moment c.args.request.now.handle c.args.request.now.offset n c.args.target.now) (ap length (none-long c.args.request.now.bytes.now (let e : length c.args.request.now.bytes.now ≡ 0 = search rules in e))) names))
 
 pub returns-then-is_empty-clause-says : goal.returns-then-is_empty-clause-says

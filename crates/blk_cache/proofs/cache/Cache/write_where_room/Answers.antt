@@ -2,7 +2,7 @@ use Rattle.std.proofs.Common.{rules, ◌≡◌, true, false, refl}
 use Rattle.blk_model.specs.Request.{to_sparse_write}
 use Rattle.blk_model.specs.declared.Refusal.TheVariants as refusal
 use Rattle.law_state.proofs.Stopping.{nothing-stops, refusals-done}
-use Rattle.blk_cache.specs.CacheKeeping.{KeepsState}
+use Rattle.blk_cache.specs.CacheKeeping.{HoldsState}
 use Rattle.blk_cache.proofs.Refusing.{says-kept}
 use Rattle.blk_cache.proofs.SparseWhole.{free-passes, full-refused}
 use Rattle.blk_cache.proofs.WriteWhole.{front-before, refused-says}
@@ -11,10 +11,10 @@ use Rattle.blk_cache.proofs.cache.Cache.write_where_room.Goals as goal
 -- There is no space.
 
 pub returns-then-is_full-clause-does : goal.returns-then-is_full-clause-does
-returns-then-is_full-clause-does g c asks = refusals-done (KeepsState c.args.self.now) (g.F.Folder.told c.args.folder.now) (g.F.Folder.told c.args.folder.now) c.args.request.now.moment (to_sparse_write c.args.request.now.handle c.args.request.now.offset c.args.request.now.bytes.now) refusal.Full refl (full-refused c.args.self.now (g.F.Folder.told c.args.folder.now) c.args.request.now.moment c.args.request.now.handle c.args.request.now.offset c.args.request.now.bytes.now c.args.target.now c.args.rise.now asks c.is_full.result c.is_full.ensures.full (let e : c.is_full.result ≡ true = search rules in e))
+returns-then-is_full-clause-does g c asks = refusals-done (HoldsState c.args.self.now) (g.F.Folder.told c.args.folder.now) (g.F.Folder.told c.args.folder.now) c.args.request.now.moment (to_sparse_write c.args.request.now.handle c.args.request.now.offset c.args.request.now.bytes.now) refusal.Full refl (full-refused c.args.self.now (g.F.Folder.told c.args.folder.now) c.args.request.now.moment c.args.request.now.handle c.args.request.now.offset c.args.request.now.bytes.now c.args.target.now c.args.rise.now asks c.is_full.result c.is_full.ensures.full (let e : c.is_full.result ≡ true = search rules in e))
 
 pub returns-then-is_full-clause-stops : goal.returns-then-is_full-clause-stops
-returns-then-is_full-clause-stops g c asks = nothing-stops (KeepsState c.args.self.now) (says-kept c.args.self.now) (g.F.Folder.told c.args.folder.now) (g.F.Folder.told c.args.folder.now) c.args.request.now.moment (to_sparse_write c.args.request.now.handle c.args.request.now.offset c.args.request.now.bytes.now) refl
+returns-then-is_full-clause-stops g c asks = nothing-stops (HoldsState c.args.self.now) (says-kept c.args.self.now) (g.F.Folder.told c.args.folder.now) (g.F.Folder.told c.args.folder.now) c.args.request.now.moment (to_sparse_write c.args.request.now.handle c.args.request.now.offset c.args.request.now.bytes.now) refl
 
 pub returns-then-is_full-clause-says : goal.returns-then-is_full-clause-says
 returns-then-is_full-clause-says g c asks =

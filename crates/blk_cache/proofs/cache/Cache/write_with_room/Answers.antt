@@ -8,7 +8,7 @@ use Rattle.blk_model.specs.Room.{Group, without}
 use Rattle.blk_model.specs.State.{State}
 use Rattle.blk_script.specs.Reply.{evicted_text}
 use Rattle.blk_evict.specs.RoomPrinting.{PrintsUnlessFailed}
-use Rattle.blk_cache.specs.CacheKeeping.{KeepsState}
+use Rattle.blk_cache.specs.CacheKeeping.{HoldsState}
 use Rattle.blk_cache.specs.Evicting.{IsEvicting}
 use Rattle.blk_cache.specs.Listing.{OnlyRoomChanges}
 use Rattle.blk_cache.specs.SparseWriting.{IsReadyToStore}
@@ -37,13 +37,13 @@ pub returns-clause-does : goal.returns-clause-does
 returns-clause-does g c has =
     if_ok_weaker c.end_sparse_write.result
     (λ given. then-does c.args.request.now.moment (to_sparse_write c.args.request.now.handle c.args.request.now.offset c.args.request.now.bytes.now) c.args.self.now (g.F.Folder.told c.args.folder.now) (goes-on c.args.self.now (g.F.Folder.told c.args.folder.now) c.args.request.now.moment c.args.request.now.handle c.args.request.now.offset c.args.request.now.bytes.now c.args.target.now c.args.rise.now has) (g.F.Folder.told c.evict_for.new.folder) (sparse-groups c.args.self.now (g.F.Folder.told c.args.folder.now) c.args.request.now.moment c.args.request.now.handle c.args.request.now.offset c.args.request.now.bytes.now c.args.target.now c.args.rise.now has (λ (state : State) (groups : List Group). Passes (g.F.Folder.told c.args.folder.now) (g.F.Folder.told c.evict_for.new.folder) (IsEvicting groups state)) c.in_ok-evict_for.ensures.stops)
-    (λ state from. IsReadyToStore c.evict_for.new.self state c.args.request.now.moment c.args.request.now.handle c.args.request.now.offset c.args.request.now.bytes.now c.args.target.now c.args.rise.now.bytes c.args.rise.now.items from) (sparse-ready c.args.self.now (g.F.Folder.told c.args.folder.now) c.args.request.now.moment c.args.request.now.handle c.args.request.now.offset c.args.request.now.bytes.now c.args.target.now c.args.rise.now has (g.F.Folder.told c.evict_for.new.folder) c.evict_for.new.self c.requires.some c.requires.few c.kept_bytes-bytes.ensures.few (sparse-groups c.args.self.now (g.F.Folder.told c.args.folder.now) c.args.request.now.moment c.args.request.now.handle c.args.request.now.offset c.args.request.now.bytes.now c.args.target.now c.args.rise.now has (λ (state : State) (groups : List Group). ForSome (g.F.Folder.told c.evict_for.new.folder).files (KeepsState c.evict_for.new.self (without groups state))) c.in_ok-evict_for.ensures.evicted)) (g.F.Folder.told c.end_sparse_write.new.folder) c.end_sparse_write.new.self given)
+    (λ state from. IsReadyToStore c.evict_for.new.self state c.args.request.now.moment c.args.request.now.handle c.args.request.now.offset c.args.request.now.bytes.now c.args.target.now c.args.rise.now.bytes c.args.rise.now.items from) (sparse-ready c.args.self.now (g.F.Folder.told c.args.folder.now) c.args.request.now.moment c.args.request.now.handle c.args.request.now.offset c.args.request.now.bytes.now c.args.target.now c.args.rise.now has (g.F.Folder.told c.evict_for.new.folder) c.evict_for.new.self c.requires.some c.requires.few c.kept_bytes-bytes.ensures.few (sparse-groups c.args.self.now (g.F.Folder.told c.args.folder.now) c.args.request.now.moment c.args.request.now.handle c.args.request.now.offset c.args.request.now.bytes.now c.args.target.now c.args.rise.now has (λ (state : State) (groups : List Group). ForSome (g.F.Folder.told c.evict_for.new.folder).files (HoldsState c.evict_for.new.self (without groups state))) c.in_ok-evict_for.ensures.evicted)) (g.F.Folder.told c.end_sparse_write.new.folder) c.end_sparse_write.new.self given)
     c.end_sparse_write.ensures.does
 
 pub returns-clause-stops : goal.returns-clause-stops
 returns-clause-stops g c has =
     then-stops c.args.request.now.moment (to_sparse_write c.args.request.now.handle c.args.request.now.offset c.args.request.now.bytes.now) c.args.self.now (g.F.Folder.told c.args.folder.now) (goes-on c.args.self.now (g.F.Folder.told c.args.folder.now) c.args.request.now.moment c.args.request.now.handle c.args.request.now.offset c.args.request.now.bytes.now c.args.target.now c.args.rise.now has) (g.F.Folder.told c.evict_for.new.folder) (sparse-groups c.args.self.now (g.F.Folder.told c.args.folder.now) c.args.request.now.moment c.args.request.now.handle c.args.request.now.offset c.args.request.now.bytes.now c.args.target.now c.args.rise.now has (λ (state : State) (groups : List Group). Passes (g.F.Folder.told c.args.folder.now) (g.F.Folder.told c.evict_for.new.folder) (IsEvicting groups state)) c.in_ok-evict_for.ensures.stops)
-    (λ state from. IsReadyToStore c.evict_for.new.self state c.args.request.now.moment c.args.request.now.handle c.args.request.now.offset c.args.request.now.bytes.now c.args.target.now c.args.rise.now.bytes c.args.rise.now.items from) (sparse-ready c.args.self.now (g.F.Folder.told c.args.folder.now) c.args.request.now.moment c.args.request.now.handle c.args.request.now.offset c.args.request.now.bytes.now c.args.target.now c.args.rise.now has (g.F.Folder.told c.evict_for.new.folder) c.evict_for.new.self c.requires.some c.requires.few c.kept_bytes-bytes.ensures.few (sparse-groups c.args.self.now (g.F.Folder.told c.args.folder.now) c.args.request.now.moment c.args.request.now.handle c.args.request.now.offset c.args.request.now.bytes.now c.args.target.now c.args.rise.now has (λ (state : State) (groups : List Group). ForSome (g.F.Folder.told c.evict_for.new.folder).files (KeepsState c.evict_for.new.self (without groups state))) c.in_ok-evict_for.ensures.evicted)) (g.F.Folder.told c.end_sparse_write.new.folder) c.end_sparse_write.ensures.stops
+    (λ state from. IsReadyToStore c.evict_for.new.self state c.args.request.now.moment c.args.request.now.handle c.args.request.now.offset c.args.request.now.bytes.now c.args.target.now c.args.rise.now.bytes c.args.rise.now.items from) (sparse-ready c.args.self.now (g.F.Folder.told c.args.folder.now) c.args.request.now.moment c.args.request.now.handle c.args.request.now.offset c.args.request.now.bytes.now c.args.target.now c.args.rise.now has (g.F.Folder.told c.evict_for.new.folder) c.evict_for.new.self c.requires.some c.requires.few c.kept_bytes-bytes.ensures.few (sparse-groups c.args.self.now (g.F.Folder.told c.args.folder.now) c.args.request.now.moment c.args.request.now.handle c.args.request.now.offset c.args.request.now.bytes.now c.args.target.now c.args.rise.now has (λ (state : State) (groups : List Group). ForSome (g.F.Folder.told c.evict_for.new.folder).files (HoldsState c.evict_for.new.self (without groups state))) c.in_ok-evict_for.ensures.evicted)) (g.F.Folder.told c.end_sparse_write.new.folder) c.end_sparse_write.ensures.stops
 
 pub returns-clause-says : goal.returns-clause-says
 returns-clause-says g c has =
@@ -56,7 +56,7 @@ returns-clause-front g c has = passed-front c.args.request.now.moment (to_sparse
 pub returns-clause-untold : goal.returns-clause-untold
 returns-clause-untold g c has =
     then-untold c.args.request.now.moment (to_sparse_write c.args.request.now.handle c.args.request.now.offset c.args.request.now.bytes.now) c.args.self.now (g.F.Folder.told c.args.folder.now) (goes-on c.args.self.now (g.F.Folder.told c.args.folder.now) c.args.request.now.moment c.args.request.now.handle c.args.request.now.offset c.args.request.now.bytes.now c.args.target.now c.args.rise.now has) (g.F.Folder.told c.evict_for.new.folder) (sparse-groups c.args.self.now (g.F.Folder.told c.args.folder.now) c.args.request.now.moment c.args.request.now.handle c.args.request.now.offset c.args.request.now.bytes.now c.args.target.now c.args.rise.now has (λ (state : State) (groups : List Group). Passes (g.F.Folder.told c.args.folder.now) (g.F.Folder.told c.evict_for.new.folder) (IsEvicting groups state)) c.in_ok-evict_for.ensures.stops)
-    (λ state from. IsReadyToStore c.evict_for.new.self state c.args.request.now.moment c.args.request.now.handle c.args.request.now.offset c.args.request.now.bytes.now c.args.target.now c.args.rise.now.bytes c.args.rise.now.items from) (sparse-ready c.args.self.now (g.F.Folder.told c.args.folder.now) c.args.request.now.moment c.args.request.now.handle c.args.request.now.offset c.args.request.now.bytes.now c.args.target.now c.args.rise.now has (g.F.Folder.told c.evict_for.new.folder) c.evict_for.new.self c.requires.some c.requires.few c.kept_bytes-bytes.ensures.few (sparse-groups c.args.self.now (g.F.Folder.told c.args.folder.now) c.args.request.now.moment c.args.request.now.handle c.args.request.now.offset c.args.request.now.bytes.now c.args.target.now c.args.rise.now has (λ (state : State) (groups : List Group). ForSome (g.F.Folder.told c.evict_for.new.folder).files (KeepsState c.evict_for.new.self (without groups state))) c.in_ok-evict_for.ensures.evicted)) c.end_sparse_write.result
+    (λ state from. IsReadyToStore c.evict_for.new.self state c.args.request.now.moment c.args.request.now.handle c.args.request.now.offset c.args.request.now.bytes.now c.args.target.now c.args.rise.now.bytes c.args.rise.now.items from) (sparse-ready c.args.self.now (g.F.Folder.told c.args.folder.now) c.args.request.now.moment c.args.request.now.handle c.args.request.now.offset c.args.request.now.bytes.now c.args.target.now c.args.rise.now has (g.F.Folder.told c.evict_for.new.folder) c.evict_for.new.self c.requires.some c.requires.few c.kept_bytes-bytes.ensures.few (sparse-groups c.args.self.now (g.F.Folder.told c.args.folder.now) c.args.request.now.moment c.args.request.now.handle c.args.request.now.offset c.args.request.now.bytes.now c.args.target.now c.args.rise.now has (λ (state : State) (groups : List Group). ForSome (g.F.Folder.told c.evict_for.new.folder).files (HoldsState c.evict_for.new.self (without groups state))) c.in_ok-evict_for.ensures.evicted)) c.end_sparse_write.result
     (λ one. c.end_sparse_write.ensures.untold (λ from here. let o = one from here in record { state = o.0; moment = c.args.request.now.moment; ready = o.1 }))
 
 pub returns-clause-quiet : goal.returns-clause-quiet

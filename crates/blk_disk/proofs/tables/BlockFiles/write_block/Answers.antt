@@ -46,7 +46,7 @@ returns-clause-outside g c from there =
     let file = Block (file_selector c.args.addr) in
     let at : ℕ = place c.args.addr + c.args.at in
     let outside = SameOutside (range file at (length c.args.bytes.now)) from in
-    passes_part outside outside (returns-clause-prefix g c) (quiet-words file at c.args.bytes.now) (λ image same. same)
+    passes_part outside outside (returns-clause-prefix g c) (quiet-words file at c.args.bytes.now tt) (λ image same. same)
     (λ image here. let same : from ≡ image = some_inj (sym there ∙ here) in subst (λ (i : Image). Until outside outside i (words file at c.args.bytes.now)) same (words_inside file at c.args.bytes.now from))
 
 pub returns-clause-agrees : goal.returns-clause-agrees

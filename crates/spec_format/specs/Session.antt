@@ -1,0 +1,22 @@
+-- The words of the index that say what session it is.
+use Rattle.std.specs.Prelude.{◌≡◌, List}
+use Rattle.std.specs.Option.{ForSome}
+use Rattle.spec_image.specs.Image.{Index, Image, byte}
+use Rattle.spec_image.specs.Steps.{TrailStep}
+use Rattle.spec_image.specs.Told.{Told, Along, IsQuiet, PassesTo}
+use Rattle.spec_format.specs.Headers.{crash_of, magic_of, this_id_of, version_of}
+
+-- the magic word, the version, the number of the session and the crash word are as before
+pub record KeepsSessionWords (from image : Image) : Type 0 where
+  pub magic : magic_of (byte image Index) ≡ magic_of (byte from Index)
+  pub version : version_of (byte image Index) ≡ version_of (byte from Index)
+  pub id : this_id_of (byte image Index) ≡ this_id_of (byte from Index)
+  pub crash : crash_of (byte image Index) ≡ crash_of (byte from Index)
+
+-- so they are at each of some steps that a command may make
+abbrev pub QuietStepsKeepSessionWords : Type 0
+QuietStepsKeepSessionWords = (steps : List TrailStep) (image : Image) → IsQuiet steps → Along (KeepsSessionWords image) image steps
+
+-- and after a call of a command
+abbrev pub CommandsKeepSessionWords : Type 0
+CommandsKeepSessionWords = (old new : Told) (P Q : Image → Type 0) → PassesTo old new P Q → ForSome old.files (λ from. ForSome new.files (KeepsSessionWords from))
