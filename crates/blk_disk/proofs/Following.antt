@@ -21,7 +21,7 @@ use Rattle.std.specs.Option.{ForSome}
 use Rattle.blk_io.specs.declared.fault.Fault.{Fault}
 use Rattle.blk_io.specs.declared.fault.Fault.TheVariants.{Device, Damaged}
 use Rattle.blk_io.specs.Faults.{IfDamaged, damage_of}
-use Rattle.blk_disk.specs.Loading.{Follows, IsFileNumber, IsHeaderDamage, IsLoadDamage, ReadsAs, IsFileHead, files_left, next_checks, checks_after, checks_from, links_from, next_of}
+use Rattle.blk_disk.specs.Loading.{Follows, IsFileNumber, IsHeaderDamage, IsLoadDamage, AnswersNextHead, IsFileHead, files_left, next_checks, checks_after, checks_from, links_from, next_of}
 use Rattle.spec_format.proofs.Among.{is_among_more}
 use Rattle.spec_format.proofs.Keeping.{last_link}
 use Rattle.spec_image.proofs.FirstChecks.{append_some, append_none}
@@ -155,7 +155,7 @@ module _ (k : Kind) (files new : BlockFiles) (image : Image) (n : ℕ) (head : H
       })
 
 -- a call that failed to read the next file
-pub damaged_if : (A : Type 0) (e : Fault) (told : Option Image) (files : BlockFiles) (kind n : ℕ) → ForSome told (λ image. Follows files image kind (Some n)) → ForSome told (λ image. ReadsAs files image kind n (Err e))
+pub damaged_if : (A : Type 0) (e : Fault) (told : Option Image) (files : BlockFiles) (kind n : ℕ) → ForSome told (λ image. Follows files image kind (Some n)) → ForSome told (λ image. AnswersNextHead files image kind n (Err e))
     → IfDamaged {A = A} (Err e) (λ damage. ForSome told (λ image. first_block_damage image ≡ Some (damage_of damage)))
 damaged_if A Device told files kind n follows reads = tt
 damaged_if A (Damaged d) told files kind n follows reads = λ image there. damaged files image kind n (damage_of d) (follows image there) (reads image there)

@@ -18,7 +18,7 @@ use Rattle.blk_io.specs.declared.fault.Fault.{Fault}
 use Rattle.blk_disk.specs.declared.heads.Head.{Head}
 use Rattle.blk_disk.specs.declared.tables.BlockFiles.{BlockFiles}
 use Rattle.blk_disk.specs.Tables.{all_files}
-use Rattle.blk_disk.specs.Loading.{AreGiven, IsFileHead, AnswersFileHeader, ReadsAs, next_checks, files_left, next_of}
+use Rattle.blk_disk.specs.Loading.{AreGiven, IsFileHead, AnswersFileHeader, AnswersNextHead, next_checks, files_left, next_of}
 
 module _ (image : Image) (file : File) (new : List ℕ) (given : ℕ) (gives : GivesBytes image file 0 (zeros 80) new given) where
   -- how many bytes were given
@@ -93,17 +93,17 @@ module _ (files : BlockFiles) (image : Image) (kind n given : ℕ) (new : List �
   are_given : AreGiven size given
   are_given whole = omega (arith, whole, is, given_is image (Block n) new given gives)
 
-  judged_as : (first : Option checks.Damage) → first ≡ first_of (next_checks files image kind n) → AnswersFileHeader first (content new) size given answer → ReadsAs files image kind n answer
+  judged_as : (first : Option checks.Damage) → first ≡ first_of (next_checks files image kind n) → AnswersFileHeader first (content new) size given answer → AnswersNextHead files image kind n answer
   judged_as None none judges =
       let good = judges are_given in
-      let fits = λ (r : Result Head Fault). ReadsAs files image kind n r in
+      let fits = λ (r : Result Head Fault). AnswersNextHead files image kind n r in
       subst fits (sym good.1) (sym none, same_head (content new) (byte image (Block n)) (window_is image (Block n) new given gives) size (length_of image (Block n)) good.0 is good.2)
   judged_as (Some damage) some judges =
-      let fits = λ (r : Result Head Fault). ReadsAs files image kind n r in
+      let fits = λ (r : Result Head Fault). AnswersNextHead files image kind n r in
       let bad = judges are_given in
       subst fits (sym bad.1) (sym some ∙ ap Some (sym bad.2))
 
-  pub judged : AnswersFileHeader (first_of (file_checks kind (all_files files ++ n ∷ []) (files_left files kind) n (content new) size)) (content new) size given answer → ReadsAs files image kind n answer
+  pub judged : AnswersFileHeader (first_of (file_checks kind (all_files files ++ n ∷ []) (files_left files kind) n (content new) size)) (content new) size given answer → AnswersNextHead files image kind n answer
   judged judges =
       judged_as (first_of (file_checks kind (all_files files ++ n ∷ []) (files_left files kind) n (content new) size))
       (ap first_of (same_checks (content new) (byte image (Block n)) (window_is image (Block n) new given gives) kind (all_files files ++ n ∷ []) (files_left files kind) n size)

@@ -99,10 +99,10 @@ abbrev pub next_checks : BlockFiles → Image → ℕ → ℕ → List (Option c
 next_checks files image kind n = header_checks files kind n (byte image (Block n)) (length_of image (Block n))
 
 -- the answer for the next file of an image: what its header says, where none of its checks fails, or the first that fails
-abbrev pub ReadsAs : BlockFiles → Image → ℕ → ℕ → Result Head Fault → Type 0
-ReadsAs files image kind n (Ok head) = (first_of (next_checks files image kind n) ≡ None) × IsFileHead (byte image (Block n)) (length_of image (Block n)) head
-ReadsAs files image kind n (Err Device) = Unit {0}
-ReadsAs files image kind n (Err (Damaged damage)) = first_of (next_checks files image kind n) ≡ Some (damage_of damage)
+abbrev pub AnswersNextHead : BlockFiles → Image → ℕ → ℕ → Result Head Fault → Type 0
+AnswersNextHead files image kind n (Ok head) = (first_of (next_checks files image kind n) ≡ None) × IsFileHead (byte image (Block n)) (length_of image (Block n)) head
+AnswersNextHead files image kind n (Err Device) = Unit {0}
+AnswersNextHead files image kind n (Err (Damaged damage)) = first_of (next_checks files image kind n) ≡ Some (damage_of damage)
 
 -- the checks of an image's block files of all kinds behind this one
 abbrev pub checks_after : Image → ℕ → List (Option checks.Damage)

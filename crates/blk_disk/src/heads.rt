@@ -12,7 +12,7 @@ ghost use Rattle.spec_format.specs.Headers.{block_fields_length};
 ghost use Rattle.blk_addr.specs.Kind.{kind_number};
 ghost use Rattle.blk_io.specs.Faults.{IfDamaged, IfDevice, IsShortAtStart, damage_of};
 ghost use Rattle.blk_disk.specs.Tables.{all_files, files_of};
-ghost use Rattle.blk_disk.specs.Loading.{HasRoom, IsFresh, IsHeaderDamage, AnswersFileHeader, MayBeNext, ReadsAs, files_left, header_checks, next_of};
+ghost use Rattle.blk_disk.specs.Loading.{HasRoom, IsFresh, IsHeaderDamage, AnswersFileHeader, MayBeNext, AnswersNextHead, files_left, header_checks, next_of};
 
 use crate::tables::{BlockFiles, MOST_FILES};
 use blk_addr::Kind;
@@ -80,7 +80,7 @@ impl BlockFiles {
         ensures number { IfOk result (λ head. MayBeNext (kind_number kind) head.next) }
         ensures fresh { IfOk result (λ head. IsFresh (all_files self.now ++ n ∷ []) head.next) }
         ensures count { IfOk result (λ head. IsTrue (block_files.is_block_count head.blocks)) }
-        ensures read { ForSome (F.told folder.old).files (λ image. ReadsAs self.now image (kind_number kind) n result) }
+        ensures read { ForSome (F.told folder.old).files (λ image. AnswersNextHead self.now image (kind_number kind) n result) }
         ensures cause { IfDamaged result (IsHeaderDamage (F.told folder.old) self.now (kind_number kind) n) }
         ensures reads { ReadsOnly F.told F.faults folder.old folder.new (IfDevice result) }
     {

@@ -114,7 +114,8 @@ without_leads [] state n = to_same false Never (object_at state n)
 without_leads (group ∷ groups) state n =
     subst (Leads false Never (object_at state n)) (sym (map_at (left_of (group ∷ groups)) state.objects n)) (left_leads (group ∷ groups) (object_at state n))
 
-length-without : (groups : List Group) (state : State) → length (without groups state).objects ≡ length state.objects
+-- groups that go leave as many slots
+pub length-without : (groups : List Group) (state : State) → length (without groups state).objects ≡ length state.objects
 unfolding without
 length-without [] state = refl
 length-without (group ∷ groups) state = length-map state.objects (option_and_then (left_of (group ∷ groups)))

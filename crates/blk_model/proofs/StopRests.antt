@@ -130,14 +130,14 @@ picked_before before after closes leads item =
     ] refl
 
 -- an item of a fresh object was nobody's
-fresh_owner : (before : State) (item : Item) (new : Object) → has_item new item ≡ true → IsFresh before new → Owner before item → ⊥
+pub fresh_owner : (before : State) (item : Item) (new : Object) → has_item new item ≡ true → IsFresh before new → Owner before item → ⊥
 fresh_owner before item new has fresh o =
     let has_main = owners-has (main (key_of item)) o.number before.objects (ap (slot_has_item (main (key_of item))) o.here ∙ has_item_main item (Some o.object) o.has) in
     let none : owners (main (key_of item)) before.objects ≡ 0 = ap (λ k. owners (main k) before.objects) (owner_key new item has) ∙ fresh in
     absurd (omega arith)
 
 -- who had an item of an object that was there before is that object
-same_owner : (before : State) (valid : IsValidState before) (item : Item) (n : ℕ) (old : Object) → object_at before n ≡ Some old → old.live ≡ true → key_of item ≡ old.key → (o : Owner before item) → o.number ≡ n
+pub same_owner : (before : State) (valid : IsValidState before) (item : Item) (n : ℕ) (old : Object) → object_at before n ≡ Some old → old.live ≡ true → key_of item ≡ old.key → (o : Owner before item) → o.number ≡ n
 same_owner before valid item n old here live key o =
     let mine : owner before (main (key_of item)) ≡ Some n = owned_at before valid n old (main (key_of item)) here (and_from _ _ live (subst (λ k. bytes_eq (key_of item) k ≡ true) key (bytes_eq_self (key_of item)))) in
     let theirs : owner before (main (key_of item)) ≡ Some o.number = owned_at before valid o.number o.object (main (key_of item)) o.here (has_item_main item (Some o.object) o.has) in

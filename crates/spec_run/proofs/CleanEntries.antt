@@ -23,12 +23,12 @@ use Rattle.blk_model.proofs.Chosen.{Owner, has_owner, owned_at, owner_of, settle
 use Rattle.blk_model.proofs.Doomed.{state_closed}
 use Rattle.blk_model.proofs.Each.{any_has}
 use Rattle.blk_model.proofs.Evicted.{kept_parts, map_at}
-use Rattle.blk_model.proofs.Leads.{IsFresh, Leads, LeadsTo, may_settle, step_leads}
+use Rattle.blk_model.proofs.Leads.{IsFresh, Leads, LeadsTo, length-without, may_settle, step_leads}
 use Rattle.blk_model.proofs.LruList.{uses_after_steps}
 use Rattle.blk_model.proofs.Same.{bytes_eq_self, one_item}
 use Rattle.blk_model.proofs.Owners.{has_item_main}
 use Rattle.blk_model.proofs.Slots.{owners-has}
-use Rattle.blk_model.proofs.StopRests.{owner_key, owner_live}
+use Rattle.blk_model.proofs.StopRests.{fresh_owner, owner_key, owner_live, same_owner}
 use Rattle.blk_model.proofs.Steps.{none_comes}
 use Rattle.blk_model.proofs.Written.{without_names}
 use Rattle.spec_folder.specs.Found.{found}
@@ -43,28 +43,6 @@ use Rattle.spec_run.proofs.SettledEntries.{rests_found, settled_found}
 use Rattle.spec_run.proofs.StepFacts.{true_false}
 use Rattle.spec_run.proofs.ValidStates.{states_are_valid}
 use Rattle.spec_run.proofs.WholeEntries.{contained, counted, owned_is_listed}
-
--- Owners, as the laws of the model have them for themselves.
-
--- groups that go leave as many slots
-length-without : (groups : List Group) (state : State) → length (without groups state).objects ≡ length state.objects
-unfolding without
-length-without [] state = refl
-length-without (group ∷ groups) state = length-map state.objects (option_and_then (left_of (group ∷ groups)))
-
--- an item of a fresh object was nobody's
-fresh_owner : (before : State) (item : Item) (new : Object) → has_item new item ≡ true → IsFresh before new → Owner before item → ⊥
-fresh_owner before item new has fresh o =
-    let has_main = owners-has (main (key_of item)) o.number before.objects (ap (slot_has_item (main (key_of item))) o.here ∙ has_item_main item (Some o.object) o.has) in
-    let none : owners (main (key_of item)) before.objects ≡ 0 = ap (λ k. owners (main k) before.objects) (owner_key new item has) ∙ fresh in
-    absurd (omega arith)
-
--- who had an item of an object that was there before is that object
-same_owner : (before : State) (valid : IsValidState before) (item : Item) (n : ℕ) (old : Object) → object_at before n ≡ Some old → old.live ≡ true → key_of item ≡ old.key → (o : Owner before item) → o.number ≡ n
-same_owner before valid item n old here live key o =
-    let mine : owner before (main (key_of item)) ≡ Some n = owned_at before valid n old (main (key_of item)) here (and_from _ _ live (subst (λ k. bytes_eq (key_of item) k ≡ true) key (bytes_eq_self (key_of item)))) in
-    let theirs : owner before (main (key_of item)) ≡ Some o.number = owned_at before valid o.number o.object (main (key_of item)) o.here (has_item_main item (Some o.object) o.has) in
-    let same : Some o.number ≡ Some n = sym theirs ∙ mine in cc
 
 -- What a command that writes nothing to an object makes of it.
 
