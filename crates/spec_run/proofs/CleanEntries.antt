@@ -4,19 +4,18 @@ use Rattle.std.specs.List.{Contains, filter}
 use Rattle.std.specs.Option.{option_and_then}
 use Rattle.std.specs.Prelude.{unwrap_or}
 use Rattle.std.proofs.lemmas.Bool.{and_from, and_parts, cases_Bool, eq-eqb}
-use Rattle.std.specs.Str.{bytes_eq}
-use Rattle.std.proofs.lemmas.List.{append-nil, length-map}
+use Rattle.std.proofs.lemmas.List.{append-nil}
 use Rattle.spec_image.specs.Image.{Image}
 use Rattle.spec_image.specs.Steps.{TrailStep, Word, SetLength, Delete, Note, after}
 use Rattle.spec_image.specs.Notes.{AtEachPrefix, notes_in}
 use Rattle.blk_model.specs.Effects.{closed, created, doomed, doomed_key, doomed_slot, effect, new_object, number_of, opened, released, released_slot, sparse_used, sparse_written, used, with_name, written}
 use Rattle.blk_model.specs.Holding.{owner, rest, row_in, row_of, settled_row}
-use Rattle.blk_model.specs.Items.{Item, main, part, Row, key_of, same_item}
+use Rattle.blk_model.specs.Items.{Item, main, part, Row, same_item}
 use Rattle.blk_model.specs.ListSteps.{ListStep, out, front, after_step, after_steps, list_after, list_steps}
 use Rattle.blk_model.specs.Refusals.{evicted, names_none, refused, refusals}
 use Rattle.blk_model.specs.Request.{Request, to_create, to_open, to_read, to_write, to_size, to_sparse_write, to_sparse_read, to_sparse_range, to_doom, to_doom_key, to_close, to_flush, to_list, to_trim, to_total}
 use Rattle.blk_model.specs.Room.{Group, is_out, left_of, takes, without}
-use Rattle.blk_model.specs.State.{Object, State, IsValidState, has_item, is_named, named_by, object_at, owners, slot_has_item}
+use Rattle.blk_model.specs.State.{Object, State, IsValidState, has_item, is_named, named_by, object_at}
 use Rattle.blk_model.specs.Step.{outcome, step}
 use Rattle.blk_model.specs.Stops.{is_live, is_live_and_settled, is_safe}
 use Rattle.blk_model.proofs.Chosen.{Owner, has_owner, owned_at, owner_of, settled_chooses}
@@ -25,9 +24,7 @@ use Rattle.blk_model.proofs.Each.{any_has}
 use Rattle.blk_model.proofs.Evicted.{kept_parts, map_at}
 use Rattle.blk_model.proofs.Leads.{IsFresh, Leads, LeadsTo, length-without, may_settle, step_leads}
 use Rattle.blk_model.proofs.LruList.{uses_after_steps}
-use Rattle.blk_model.proofs.Same.{bytes_eq_self, one_item}
-use Rattle.blk_model.proofs.Owners.{has_item_main}
-use Rattle.blk_model.proofs.Slots.{owners-has}
+use Rattle.blk_model.proofs.Same.{one_item}
 use Rattle.blk_model.proofs.StopRests.{fresh_owner, owner_key, owner_live, same_owner}
 use Rattle.blk_model.proofs.Steps.{none_comes}
 use Rattle.blk_model.proofs.Written.{without_names}
