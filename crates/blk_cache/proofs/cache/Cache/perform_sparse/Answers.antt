@@ -3,7 +3,7 @@ use Rattle.std.specs.Prelude.{IfOk, OnOk}
 use Rattle.blk_model.specs.Request.{request_of, to_sparse_range, to_sparse_read}
 use Rattle.blk_model.specs.declared.Command.{Command}
 use Rattle.law_state.specs.Commands.{Does, MayStopAtEach}
-use Rattle.blk_cache.specs.CacheKeeping.{KeepsState}
+use Rattle.blk_cache.specs.CacheKeeping.{HoldsState}
 use Rattle.blk_cache.specs.CommandClauses.{FlushesClean}
 use Rattle.blk_cache.specs.Stepping.{SaysEvicted, SaysPrefix}
 use Rattle.blk_cache.proofs.CreateWhole.{on-ok}
@@ -12,7 +12,7 @@ use Rattle.blk_cache.proofs.StepTexts.{prefix-nothing, says-nothing}
 use Rattle.blk_cache.proofs.cache.Cache.perform_sparse.Goals as goal
 
 pub returns-in-SparseWrite-clause-stops : goal.returns-in-SparseWrite-clause-stops
-returns-in-SparseWrite-clause-stops g c = subst (λ (cmd : Command). MayStopAtEach (KeepsState c.args.self.now) (g.F.Folder.told c.args.folder.now) (g.F.Folder.told c.sparse_write.new.folder) c.args.moment (request_of cmd)) (sym c.in-SparseWrite.is) c.sparse_write.ensures.stops
+returns-in-SparseWrite-clause-stops g c = subst (λ (cmd : Command). MayStopAtEach (HoldsState c.args.self.now) (g.F.Folder.told c.args.folder.now) (g.F.Folder.told c.sparse_write.new.folder) c.args.moment (request_of cmd)) (sym c.in-SparseWrite.is) c.sparse_write.ensures.stops
 
 pub returns-in-SparseWrite-clause-says : goal.returns-in-SparseWrite-clause-says
 returns-in-SparseWrite-clause-says g c = subst (λ (cmd : Command). OnOk c.sparse_write.result (SaysEvicted c.args.self.now (g.F.Folder.told c.args.folder.now) c.args.moment (request_of cmd) c.args.failed.now c.sparse_write.new.failed (g.K.Sink.written c.args.out.now) (g.K.Sink.written c.sparse_write.new.out))) (sym c.in-SparseWrite.is) c.sparse_write.ensures.says
@@ -21,10 +21,10 @@ pub returns-in-SparseWrite-clause-front : goal.returns-in-SparseWrite-clause-fro
 returns-in-SparseWrite-clause-front g c = subst (λ (cmd : Command). SaysPrefix c.args.self.now (g.F.Folder.told c.args.folder.now) c.args.moment (request_of cmd) (g.K.Sink.written c.args.out.now) (g.K.Sink.written c.sparse_write.new.out)) (sym c.in-SparseWrite.is) c.sparse_write.ensures.front
 
 pub returns-in-SparseRead-clause-does : goal.returns-in-SparseRead-clause-does
-returns-in-SparseRead-clause-does g c = subst (λ (cmd : Command). IfOk c.use_sparse.result (λ given. Does (KeepsState c.args.self.now) (KeepsState c.use_sparse.new.self) (g.F.Folder.told c.args.folder.now) (g.F.Folder.told c.use_sparse.new.folder) c.args.moment (request_of cmd) given)) (sym c.in-SparseRead.is) c.use_sparse.ensures.does
+returns-in-SparseRead-clause-does g c = subst (λ (cmd : Command). IfOk c.use_sparse.result (λ given. Does (HoldsState c.args.self.now) (HoldsState c.use_sparse.new.self) (g.F.Folder.told c.args.folder.now) (g.F.Folder.told c.use_sparse.new.folder) c.args.moment (request_of cmd) given)) (sym c.in-SparseRead.is) c.use_sparse.ensures.does
 
 pub returns-in-SparseRead-clause-stops : goal.returns-in-SparseRead-clause-stops
-returns-in-SparseRead-clause-stops g c = subst (λ (cmd : Command). MayStopAtEach (KeepsState c.args.self.now) (g.F.Folder.told c.args.folder.now) (g.F.Folder.told c.use_sparse.new.folder) c.args.moment (request_of cmd)) (sym c.in-SparseRead.is) c.use_sparse.ensures.stops
+returns-in-SparseRead-clause-stops g c = subst (λ (cmd : Command). MayStopAtEach (HoldsState c.args.self.now) (g.F.Folder.told c.args.folder.now) (g.F.Folder.told c.use_sparse.new.folder) c.args.moment (request_of cmd)) (sym c.in-SparseRead.is) c.use_sparse.ensures.stops
 
 pub returns-in-SparseRead-clause-says : goal.returns-in-SparseRead-clause-says
 returns-in-SparseRead-clause-says g c = subst (λ (cmd : Command). OnOk c.use_sparse.result (SaysEvicted c.args.self.now (g.F.Folder.told c.args.folder.now) c.args.moment (request_of cmd) c.args.failed.now c.args.failed.now (g.K.Sink.written c.args.out.now) (g.K.Sink.written c.args.out.now))) (sym c.in-SparseRead.is)
@@ -36,10 +36,10 @@ returns-in-SparseRead-clause-front g c = subst (λ (cmd : Command). SaysPrefix c
     (prefix-nothing c.args.self.now (g.F.Folder.told c.args.folder.now) c.args.moment (to_sparse_read c.in-SparseRead.handle c.in-SparseRead.offset c.in-SparseRead.count) tt c.args.failed.now (g.K.Sink.written c.args.out.now))
 
 pub returns-in-SparseRange-clause-does : goal.returns-in-SparseRange-clause-does
-returns-in-SparseRange-clause-does g c = subst (λ (cmd : Command). IfOk c.use_sparse-in-SparseRange.result (λ given. Does (KeepsState c.args.self.now) (KeepsState c.use_sparse-in-SparseRange.new.self) (g.F.Folder.told c.args.folder.now) (g.F.Folder.told c.use_sparse-in-SparseRange.new.folder) c.args.moment (request_of cmd) given)) (sym c.in-SparseRange.is) c.use_sparse-in-SparseRange.ensures.does
+returns-in-SparseRange-clause-does g c = subst (λ (cmd : Command). IfOk c.use_sparse-in-SparseRange.result (λ given. Does (HoldsState c.args.self.now) (HoldsState c.use_sparse-in-SparseRange.new.self) (g.F.Folder.told c.args.folder.now) (g.F.Folder.told c.use_sparse-in-SparseRange.new.folder) c.args.moment (request_of cmd) given)) (sym c.in-SparseRange.is) c.use_sparse-in-SparseRange.ensures.does
 
 pub returns-in-SparseRange-clause-stops : goal.returns-in-SparseRange-clause-stops
-returns-in-SparseRange-clause-stops g c = subst (λ (cmd : Command). MayStopAtEach (KeepsState c.args.self.now) (g.F.Folder.told c.args.folder.now) (g.F.Folder.told c.use_sparse-in-SparseRange.new.folder) c.args.moment (request_of cmd)) (sym c.in-SparseRange.is) c.use_sparse-in-SparseRange.ensures.stops
+returns-in-SparseRange-clause-stops g c = subst (λ (cmd : Command). MayStopAtEach (HoldsState c.args.self.now) (g.F.Folder.told c.args.folder.now) (g.F.Folder.told c.use_sparse-in-SparseRange.new.folder) c.args.moment (request_of cmd)) (sym c.in-SparseRange.is) c.use_sparse-in-SparseRange.ensures.stops
 
 pub returns-in-SparseRange-clause-says : goal.returns-in-SparseRange-clause-says
 returns-in-SparseRange-clause-says g c = subst (λ (cmd : Command). OnOk c.use_sparse-in-SparseRange.result (SaysEvicted c.args.self.now (g.F.Folder.told c.args.folder.now) c.args.moment (request_of cmd) c.args.failed.now c.args.failed.now (g.K.Sink.written c.args.out.now) (g.K.Sink.written c.args.out.now))) (sym c.in-SparseRange.is)
