@@ -88,14 +88,14 @@ module _ (moment handle : ℕ) (key : List ℕ) where
     refused-says why is image there state k = subst (λ (groups : List Group). PrintsUnlessFailed failed_before failed_before old old (evicted_text groups)) (sym (refused-groups state why (is image there state k))) (none-printed failed_before old)
 
     -- nor does what fails before
-    pub front-before : SaysPrefix cache told moment (to_create handle key) old old
+    pub front-before : SaysPrefix (HoldsState cache) told moment (to_create handle key) old old
     front-before image there state k = record { front = []; rest = evicted_text (step state moment (to_create handle key)).groups; split = refl; written = none-behind old }
 
     module _ (passes : IsNotRefused cache told moment handle key) where
       pub made-says : ForKept (HoldsState cache) told (λ state. PrintsUnlessFailed failed_before failed old new (evicted_text (evicted_for (room state [] (length key) 1)))) → SaysEvicted cache told moment (to_create handle key) failed_before failed old new
       made-says prints image there state k = subst (λ (groups : List Group). PrintsUnlessFailed failed_before failed old new (evicted_text groups)) (sym (groups-made state (passes image there state k))) (prints image there state k)
 
-      pub made-front : ForKept (HoldsState cache) told (λ state. Appends old new (evicted_text (evicted_for (room state [] (length key) 1)))) → SaysPrefix cache told moment (to_create handle key) old new
+      pub made-front : ForKept (HoldsState cache) told (λ state. Appends old new (evicted_text (evicted_for (room state [] (length key) 1)))) → SaysPrefix (HoldsState cache) told moment (to_create handle key) old new
       made-front front image there state k = subst (λ (groups : List Group). Appends old new (evicted_text groups)) (sym (groups-made state (passes image there state k))) (front image there state k)
 
 -- ---- lack of space

@@ -37,7 +37,7 @@ module _ (moment : ℕ) (request : Request) (cache : Cache) (told : Told) (passe
   passed-says failed_before failed old new prints image there state k = subst (λ (groups : List Group). PrintsUnlessFailed failed_before failed old new (evicted_text groups)) (sym (passed-groups moment request state (passes image there state k))) (prints image there state k)
 
   -- or a prefix of it
-  pub passed-front : (old new : Option (List ℕ)) → ForKept (HoldsState cache) told (λ state. Appends old new (evicted_text (evicted moment request state))) → SaysPrefix cache told moment request old new
+  pub passed-front : (old new : Option (List ℕ)) → ForKept (HoldsState cache) told (λ state. Appends old new (evicted_text (evicted moment request state))) → SaysPrefix (HoldsState cache) told moment request old new
   passed-front old new front image there state k = subst (λ (groups : List Group). Appends old new (evicted_text groups)) (sym (passed-groups moment request state (passes image there state k))) (front image there state k)
 
   module _ (mid : Told) (evicting : ForKept (HoldsState cache) told (λ state. Passes told mid (IsEvicting (evicted moment request state) state))) where

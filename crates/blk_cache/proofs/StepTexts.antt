@@ -68,7 +68,7 @@ module _ (cache : Cache) (told : Told) (moment : ℕ) (request : Request) (quiet
   pub says-nothing : SaysEvicted cache told moment request failed failed written written
   says-nothing image there state k = subst (λ (groups : List Group). PrintsUnlessFailed failed failed written written (evicted_text groups)) (sym (no-groups moment request state quiet)) (none-printed failed written)
 
-  pub prefix-nothing : SaysPrefix cache told moment request written written
+  pub prefix-nothing : SaysPrefix (HoldsState cache) told moment request written written
   prefix-nothing image there state k = subst (λ (groups : List Group). Appends written written (evicted_text groups)) (sym (no-groups moment request state quiet)) ((none-printed failed written).front)
 
 -- The whole text.
@@ -118,5 +118,5 @@ module _ (old done : Cache) (told mid now : Told) (moment : ℕ) (request : Requ
 more-behind : (a b : List ℕ) (old new : Option (List ℕ)) → Appends old new a → Appends old new (a ++ b)
 more-behind a b old new front = record { front = front.front; rest = front.rest ++ b; split = ap (λ (l : List ℕ). l ++ b) front.split ∙ append_assoc front.front front.rest b; written = front.written }
 
-pub prefix-of-whole : (cache : Cache) (told : Told) (moment : ℕ) (request : Request) (old new : Option (List ℕ)) → SaysPrefix cache told moment request old new → ForKept (KeepsState cache) told (λ state. Appends old new (outcome_text (step state moment request)))
+pub prefix-of-whole : (cache : Cache) (told : Told) (moment : ℕ) (request : Request) (old new : Option (List ℕ)) → SaysPrefix (HoldsState cache) told moment request old new → ForKept (KeepsState cache) told (λ state. Appends old new (outcome_text (step state moment request)))
 prefix-of-whole cache told moment request old new says image there state k = more-behind (evicted_first (step state moment request)) (reply_text (step state moment request).reply) old new (says image there state k.holds)

@@ -68,5 +68,5 @@ module _ (moment bytes : ℕ) where
       pub trim-says : ForCovered cache parts told (λ state covered. PrintsUnlessFailed failed_before failed old new (evicted_text (evicted_until (is_met (goal.Bytes bytes)) state covered))) → SaysEvicted cache told moment (to_trim bytes) failed_before failed old new
       trim-says prints image there state k = subst (λ (groups : List Group). PrintsUnlessFailed failed_before failed old new (evicted_text groups)) (sym (trim-groups state)) (for-none cache parts told (λ s covered. PrintsUnlessFailed failed_before failed old new (evicted_text (evicted_until (is_met (goal.Bytes bytes)) s covered))) is prints image there state k)
 
-      pub trim-front : ForCovered cache parts told (λ state covered. Appends old new (evicted_text (evicted_until (is_met (goal.Bytes bytes)) state covered))) → SaysPrefix cache told moment (to_trim bytes) old new
+      pub trim-front : ForCovered cache parts told (λ state covered. Appends old new (evicted_text (evicted_until (is_met (goal.Bytes bytes)) state covered))) → SaysPrefix (HoldsState cache) told moment (to_trim bytes) old new
       trim-front front image there state k = subst (λ (groups : List Group). Appends old new (evicted_text groups)) (sym (trim-groups state)) (for-none cache parts told (λ s covered. Appends old new (evicted_text (evicted_until (is_met (goal.Bytes bytes)) s covered))) is front image there state k)

@@ -58,7 +58,7 @@ module _ (moment : ℕ) (request : Request) (cache : Cache) (told : Told) (faile
   refused-says why is image there state k = subst (λ (groups : List Group). PrintsUnlessFailed failed_before failed_before old old (evicted_text groups)) (sym (refused-groups state why (is image there state k))) (none-printed failed_before old)
 
   -- nor does what fails before
-  pub front-before : SaysPrefix cache told moment request old old
+  pub front-before : SaysPrefix (HoldsState cache) told moment request old old
   front-before image there state k = record { front = []; rest = evicted_text (step state moment request).groups; split = refl; written = none-behind old }
 
 -- ---- a request that is refused for lack of space alone, and needs space for so many bytes
@@ -99,7 +99,7 @@ module _ (moment : ℕ) (request : Request) (more : ℕ) where
       pub made-says : ForKept (HoldsState cache) told (λ state. PrintsUnlessFailed failed_before failed old new (evicted_text (evicted_for (room state [] more 0)))) → SaysEvicted cache told moment request failed_before failed old new
       made-says prints image there state k = subst (λ (groups : List Group). PrintsUnlessFailed failed_before failed old new (evicted_text groups)) (sym (groups-made image there state k)) (prints image there state k)
 
-      pub made-front : ForKept (HoldsState cache) told (λ state. Appends old new (evicted_text (evicted_for (room state [] more 0)))) → SaysPrefix cache told moment request old new
+      pub made-front : ForKept (HoldsState cache) told (λ state. Appends old new (evicted_text (evicted_for (room state [] more 0)))) → SaysPrefix (HoldsState cache) told moment request old new
       made-front front image there state k = subst (λ (groups : List Group). Appends old new (evicted_text groups)) (sym (groups-made image there state k)) (front image there state k)
 
     module _ (mid : Told) (evicting : ForKept (HoldsState cache) told (λ state. Passes told mid (IsEvicting (evicted_for (room state [] more 0)) state))) where

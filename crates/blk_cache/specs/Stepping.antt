@@ -1,19 +1,21 @@
 -- The contract of one step of a cache: a command, what it prints, and its completion marker.
 use Rattle.std.specs.Prelude.{ℕ, Bool, List, Result, Ok, Err}
 use Rattle.std.specs.declared.option.Option.{Option}
+use Rattle.spec_image.specs.Image.{Image}
 use Rattle.spec_image.specs.Told.{Told}
 use Rattle.blk_io.specs.Streams.{Appends}
 use Rattle.blk_io.specs.declared.fault.Damage.{Damage}
 use Rattle.blk_io.specs.declared.fault.Fault.{Fault}
 use Rattle.blk_io.specs.declared.fault.Fault.TheVariants as fault
 use Rattle.blk_model.specs.Request.{Request}
+use Rattle.blk_model.specs.State.{State}
 use Rattle.blk_model.specs.Step.{Outcome, step}
 use Rattle.law_state.specs.Commands.{ForKept}
 use Rattle.blk_script.specs.Reply.{evicted_text}
 use Rattle.blk_cache.specs.declared.cache.Cache.{Cache}
 use Rattle.blk_cache.specs.declared.fault.StepFault.{StepFault}
 use Rattle.blk_cache.specs.declared.fault.StepFault.TheVariants as step_fault
-use Rattle.blk_cache.specs.CacheKeeping.{HoldsState, KeepsState}
+use Rattle.blk_cache.specs.CacheKeeping.{HoldsState}
 use Rattle.blk_evict.specs.RoomPrinting.{PrintsUnlessFailed}
 
 -- Printed texts.
@@ -26,13 +28,9 @@ evicted_first outcome = evicted_text outcome.groups
 abbrev pub SaysEvicted : Cache → Told → (moment : ℕ) → Request → (failed_before failed : Bool) → (old new : Option (List ℕ)) → Type 0
 SaysEvicted cache told moment request failed_before failed old new = ForKept (HoldsState cache) told (λ state. PrintsUnlessFailed failed_before failed old new (evicted_first (step state moment request)))
 
--- a prefix of the lines of what the command evicts was printed, for each state that the cache kept before
-abbrev pub SaysPrefix : Cache → Told → (moment : ℕ) → Request → (old new : Option (List ℕ)) → Type 0
-SaysPrefix cache told moment request old new = ForKept (HoldsState cache) told (λ state. Appends old new (evicted_first (step state moment request)))
-
--- so it was for each state that the cache kept before in a finished folder
-abbrev pub SaysKeptPrefix : Cache → Told → (moment : ℕ) → Request → (old new : Option (List ℕ)) → Type 0
-SaysKeptPrefix cache told moment request old new = ForKept (KeepsState cache) told (λ state. Appends old new (evicted_first (step state moment request)))
+-- a prefix of the lines of what the command evicts was printed, for each state that was kept before
+abbrev pub SaysPrefix : (State → Image → Type 0) → Told → (moment : ℕ) → Request → (old new : Option (List ℕ)) → Type 0
+SaysPrefix keeps told moment request old new = ForKept keeps told (λ state. Appends old new (evicted_first (step state moment request)))
 
 -- Answers.
 

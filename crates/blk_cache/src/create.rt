@@ -57,7 +57,7 @@ impl Cache {
 
         // What it evicts is printed, and on any answer a prefix of that.
         ensures says { OnOk result (SaysEvicted self.old (F.told folder.old) moment (to_create handle key.now) failed.old failed.new (K.written out.old) (K.written out.new)) }
-        ensures front { SaysPrefix self.old (F.told folder.old) moment (to_create handle key.now) (K.written out.old) (K.written out.new) }
+        ensures front { SaysPrefix (HoldsState self.old) (F.told folder.old) moment (to_create handle key.now) (K.written out.old) (K.written out.new) }
         ensures fails { FailsWhereItRose failed.old failed.new (K.faults out.old) (K.faults out.new) }
 
         // A refusal that the handles and the key alone decide is given on every folder, and a refusal does nothing.
@@ -107,7 +107,7 @@ impl Cache {
 
         // What it evicts is printed, and on any answer a prefix of that.
         ensures says { WantsRoomAlone self.old (F.told folder.old) moment handle key.now → OnOk result (SaysEvicted self.old (F.told folder.old) moment (to_create handle key.now) failed.old failed.new (K.written out.old) (K.written out.new)) }
-        ensures front { WantsRoomAlone self.old (F.told folder.old) moment handle key.now → SaysPrefix self.old (F.told folder.old) moment (to_create handle key.now) (K.written out.old) (K.written out.new) }
+        ensures front { WantsRoomAlone self.old (F.told folder.old) moment handle key.now → SaysPrefix (HoldsState self.old) (F.told folder.old) moment (to_create handle key.now) (K.written out.old) (K.written out.new) }
         ensures fails { FailsWhereItRose failed.old failed.new (K.faults out.old) (K.faults out.new) }
 
         // A refusal does nothing.
@@ -134,7 +134,7 @@ impl Cache {
         ensures does { result ≡ true → (told : Told) (moment handle : ℕ) → WantsRoomAlone self.now told moment handle key.now → Does (HoldsState self.now) (HoldsState self.now) told told moment (to_create handle key.now) (answer.Refused refusal.Full) }
         ensures says { result ≡ true → (told : Told) (moment handle : ℕ) → WantsRoomAlone self.now told moment handle key.now → (failed : Bool) (written : Option (List ℕ)) → SaysEvicted self.now told moment (to_create handle key.now) failed failed written written }
         ensures stops { (told : Told) (moment handle : ℕ) → MayStopAtEach (HoldsState self.now) told told moment (to_create handle key.now) }
-        ensures front { (told : Told) (moment handle : ℕ) (written : Option (List ℕ)) → SaysPrefix self.now told moment (to_create handle key.now) written written }
+        ensures front { (told : Told) (moment handle : ℕ) (written : Option (List ℕ)) → SaysPrefix (HoldsState self.now) told moment (to_create handle key.now) written written }
 
         // Else it isn't refused.
         ensures passes { result ≡ false → (told : Told) (moment handle : ℕ) → WantsRoomAlone self.now told moment handle key.now → IsNotRefused self.now told moment handle key.now }
@@ -164,7 +164,7 @@ impl Cache {
 
         // What it evicts is printed, and on any answer a prefix of that.
         ensures says { IsNotRefused self.old (F.told folder.old) moment handle key.now → OnOk result (SaysEvicted self.old (F.told folder.old) moment (to_create handle key.now) failed.old failed.new (K.written out.old) (K.written out.new)) }
-        ensures front { IsNotRefused self.old (F.told folder.old) moment handle key.now → SaysPrefix self.old (F.told folder.old) moment (to_create handle key.now) (K.written out.old) (K.written out.new) }
+        ensures front { IsNotRefused self.old (F.told folder.old) moment handle key.now → SaysPrefix (HoldsState self.old) (F.told folder.old) moment (to_create handle key.now) (K.written out.old) (K.written out.new) }
         ensures fails { FailsWhereItRose failed.old failed.new (K.faults out.old) (K.faults out.new) }
 
         // A refusal does nothing: none is left.

@@ -63,7 +63,7 @@ impl Cache {
 
         // What it evicts is printed, and on any answer a prefix of that.
         ensures says { OnOk result (SaysEvicted self.old (F.told folder.old) request.now.moment (sparse_write_of request.now) failed.old failed.new (K.written out.old) (K.written out.new)) }
-        ensures front { SaysPrefix self.old (F.told folder.old) request.now.moment (sparse_write_of request.now) (K.written out.old) (K.written out.new) }
+        ensures front { SaysPrefix (HoldsState self.old) (F.told folder.old) request.now.moment (sparse_write_of request.now) (K.written out.old) (K.written out.new) }
         ensures fails { FailsWhereItRose failed.old failed.new (K.faults out.old) (K.faults out.new) }
 
         // A refusal that the handles and the range alone decide is given on every folder, and a refusal does nothing, but to the buffers for
@@ -120,7 +120,7 @@ impl Cache {
 
         // What it evicts is printed, and on any answer a prefix of that.
         ensures says { NamesTargetFor self.old (F.told folder.old) request.now target.now → OnOk result (SaysEvicted self.old (F.told folder.old) request.now.moment (sparse_write_of request.now) failed.old failed.new (K.written out.old) (K.written out.new)) }
-        ensures front { NamesTargetFor self.old (F.told folder.old) request.now target.now → SaysPrefix self.old (F.told folder.old) request.now.moment (sparse_write_of request.now) (K.written out.old) (K.written out.new) }
+        ensures front { NamesTargetFor self.old (F.told folder.old) request.now target.now → SaysPrefix (HoldsState self.old) (F.told folder.old) request.now.moment (sparse_write_of request.now) (K.written out.old) (K.written out.new) }
         ensures fails { FailsWhereItRose failed.old failed.new (K.faults out.old) (K.faults out.new) }
 
         // A refusal does nothing, but to the buffers for names.
@@ -165,7 +165,7 @@ impl Cache {
 
         // What it evicts is printed, and on any answer a prefix of that.
         ensures says { NamesTargetFor self.old (F.told folder.old) request.now target.now → OnOk result (SaysEvicted self.old (F.told folder.old) request.now.moment (sparse_write_of request.now) failed.old failed.new (K.written out.old) (K.written out.new)) }
-        ensures front { NamesTargetFor self.old (F.told folder.old) request.now target.now → SaysPrefix self.old (F.told folder.old) request.now.moment (sparse_write_of request.now) (K.written out.old) (K.written out.new) }
+        ensures front { NamesTargetFor self.old (F.told folder.old) request.now target.now → SaysPrefix (HoldsState self.old) (F.told folder.old) request.now.moment (sparse_write_of request.now) (K.written out.old) (K.written out.new) }
         ensures fails { FailsWhereItRose failed.old failed.new (K.faults out.old) (K.faults out.new) }
 
         // A refusal does nothing, but to the buffers for names.
@@ -210,7 +210,7 @@ impl Cache {
 
         // What it evicts is printed, and on any answer a prefix of that.
         ensures says { AsksToStoreFor self.old (F.told folder.old) request.now target.now rise.now → OnOk result (SaysEvicted self.old (F.told folder.old) request.now.moment (sparse_write_of request.now) failed.old failed.new (K.written out.old) (K.written out.new)) }
-        ensures front { AsksToStoreFor self.old (F.told folder.old) request.now target.now rise.now → SaysPrefix self.old (F.told folder.old) request.now.moment (sparse_write_of request.now) (K.written out.old) (K.written out.new) }
+        ensures front { AsksToStoreFor self.old (F.told folder.old) request.now target.now rise.now → SaysPrefix (HoldsState self.old) (F.told folder.old) request.now.moment (sparse_write_of request.now) (K.written out.old) (K.written out.new) }
         ensures fails { FailsWhereItRose failed.old failed.new (K.faults out.old) (K.faults out.new) }
 
         // A refusal does nothing, but to the buffers for names.
@@ -256,7 +256,7 @@ impl Cache {
 
         // What it evicts is printed, and on any answer a prefix of that.
         ensures says { HasRoomToStoreFor self.old (F.told folder.old) request.now target.now rise.now → OnOk result (SaysEvicted self.old (F.told folder.old) request.now.moment (sparse_write_of request.now) failed.old failed.new (K.written out.old) (K.written out.new)) }
-        ensures front { HasRoomToStoreFor self.old (F.told folder.old) request.now target.now rise.now → SaysPrefix self.old (F.told folder.old) request.now.moment (sparse_write_of request.now) (K.written out.old) (K.written out.new) }
+        ensures front { HasRoomToStoreFor self.old (F.told folder.old) request.now target.now rise.now → SaysPrefix (HoldsState self.old) (F.told folder.old) request.now.moment (sparse_write_of request.now) (K.written out.old) (K.written out.new) }
         ensures fails { FailsWhereItRose failed.old failed.new (K.faults out.old) (K.faults out.new) }
 
         // A refusal does nothing, but to the buffers for names.

@@ -15,7 +15,7 @@ ghost use Rattle.blk_script.specs.Reply.{outcome_text};
 ghost use Rattle.blk_cache.specs.CacheKeeping.{KeepsState, HoldsState};
 ghost use Rattle.blk_cache.specs.CommandClauses.{FlushesClean, IsOnSparse, IsRefused, KeepsAny, OnlyNotesChange};
 ghost use Rattle.blk_evict.specs.RoomPrinting.{FailsWhereItRose};
-ghost use Rattle.blk_cache.specs.Stepping.{IfDone, IfSink, IfStepDamaged, IfStepDevice, SaysEvicted, SaysPrefix, SaysKeptPrefix};
+ghost use Rattle.blk_cache.specs.Stepping.{IfDone, IfSink, IfStepDamaged, IfStepDevice, SaysEvicted, SaysPrefix};
 
 use crate::cache::Cache;
 use crate::fault::StepFault;
@@ -71,7 +71,7 @@ impl Cache {
         // failed in the reply, after the note.
         ensures printed { OnOk result (ForKept (KeepsState self.old) (F.told f.old) (λ state. K.written out.new ≡ option_map (λ w. w ++ outcome_text (step state moment (request_of command.now))) (K.written out.old))) }
         ensures front { ForKept (KeepsState self.old) (F.told f.old) (λ state. Appends (K.written out.old) (K.written out.new) (outcome_text (step state moment (request_of command.now)))) }
-        ensures unanswered { IfStepDevice result (SaysKeptPrefix self.old (F.told f.old) moment (request_of command.now) (K.written out.old) (K.written out.new) ⊎ ForKept (KeepsState self.old) (F.told f.old) (IsNoted (F.told f.old) (F.told f.new) moment (request_of command.now) (note_number (self.old.notes + 1)))) }
+        ensures unanswered { IfStepDevice result (SaysPrefix (KeepsState self.old) (F.told f.old) moment (request_of command.now) (K.written out.old) (K.written out.new) ⊎ ForKept (KeepsState self.old) (F.told f.old) (IsNoted (F.told f.old) (F.told f.new) moment (request_of command.now) (note_number (self.old.notes + 1)))) }
 
         ensures is_open { IfDone result (ForSome (F.told f.new).files (IsOpen self.new.files)) }
         ensures damaged { IfStepDamaged result (IsFailedCheck self.new.files (F.told f.new)) }
@@ -151,7 +151,7 @@ impl Cache {
         ensures does { IfOk result (λ answer. Does (HoldsState self.old) (HoldsState self.new) (F.told folder.old) (F.told folder.new) moment (request_of command.now) answer) }
         ensures stops { MayStopAtEach (HoldsState self.old) (F.told folder.old) (F.told folder.new) moment (request_of command.now) }
         ensures says { OnOk result (SaysEvicted self.old (F.told folder.old) moment (request_of command.now) failed.old failed.new (K.written out.old) (K.written out.new)) }
-        ensures front { SaysPrefix self.old (F.told folder.old) moment (request_of command.now) (K.written out.old) (K.written out.new) }
+        ensures front { SaysPrefix (HoldsState self.old) (F.told folder.old) moment (request_of command.now) (K.written out.old) (K.written out.new) }
         ensures failed { FailsWhereItRose failed.old failed.new (K.faults out.old) (K.faults out.new) }
         ensures quiet { IfOk result (λ answer. IsRefused answer → Stays (F.told folder.old) (F.told folder.new)) }
         ensures idle { ForKept (HoldsState self.old) (F.told folder.old) (λ state. FlushesClean state (request_of command.now) → Stays (F.told folder.old) (F.told folder.new)) }
@@ -218,7 +218,7 @@ impl Cache {
         ensures does { IfOk result (λ answer. Does (HoldsState self.old) (HoldsState self.new) (F.told folder.old) (F.told folder.new) moment (request_of command.now) answer) }
         ensures stops { MayStopAtEach (HoldsState self.old) (F.told folder.old) (F.told folder.new) moment (request_of command.now) }
         ensures says { OnOk result (SaysEvicted self.old (F.told folder.old) moment (request_of command.now) failed.old failed.new (K.written out.old) (K.written out.new)) }
-        ensures front { SaysPrefix self.old (F.told folder.old) moment (request_of command.now) (K.written out.old) (K.written out.new) }
+        ensures front { SaysPrefix (HoldsState self.old) (F.told folder.old) moment (request_of command.now) (K.written out.old) (K.written out.new) }
         ensures failed { FailsWhereItRose failed.old failed.new (K.faults out.old) (K.faults out.new) }
         ensures quiet { IfOk result (λ answer. IsRefused answer → Stays (F.told folder.old) (F.told folder.new)) }
         ensures idle { ForKept (HoldsState self.old) (F.told folder.old) (λ state. FlushesClean state (request_of command.now) → Stays (F.told folder.old) (F.told folder.new)) }

@@ -37,7 +37,7 @@ impl Cache {
 
         // What it evicts is printed, and on any answer a prefix of that.
         ensures says { (moment : ℕ) → OnOk result (SaysEvicted self.old (F.told folder.old) moment (to_trim bytes) failed.old failed.new (K.written out.old) (K.written out.new)) }
-        ensures front { (moment : ℕ) → SaysPrefix self.old (F.told folder.old) moment (to_trim bytes) (K.written out.old) (K.written out.new) }
+        ensures front { (moment : ℕ) → SaysPrefix (HoldsState self.old) (F.told folder.old) moment (to_trim bytes) (K.written out.old) (K.written out.new) }
         ensures fails { FailsWhereItRose failed.old failed.new (K.faults out.old) (K.faults out.new) }
 
         ensures passes { IfOk result (λ given. IsRefused given → ⊥) }

@@ -71,7 +71,7 @@ impl Cache {
 
         // What it evicts is printed, and on any answer a prefix of that.
         ensures says { OnOk result (SaysEvicted self.old (F.told folder.old) request.now.moment (write_of request.now) failed.old failed.new (K.written out.old) (K.written out.new)) }
-        ensures front { SaysPrefix self.old (F.told folder.old) request.now.moment (write_of request.now) (K.written out.old) (K.written out.new) }
+        ensures front { SaysPrefix (HoldsState self.old) (F.told folder.old) request.now.moment (write_of request.now) (K.written out.old) (K.written out.new) }
         ensures fails { FailsWhereItRose failed.old failed.new (K.faults out.old) (K.faults out.new) }
 
         // A refusal that the handles, the limits, the stream and the length alone decide is given on every folder, and a refusal does nothing.

@@ -35,7 +35,7 @@ quiet-before : (f : File) (place b : ℕ) (steps : List TrailStep) → IsBesideI
 unfolding before_words
 quiet-before f place b [] beside quiet = only_here (is_quiet (Word f place (b ∷ []))) (word-quiet f beside place (b ∷ [])) tt
 quiet-before f place b (Word g at w ∷ steps) beside quiet = elim ((place + 1) % 4 == 0) as (λ t. IsQuiet (if t then Word f place (b ∷ []) ∷ Word g at w ∷ steps else Word f place (b ∷ w) ∷ steps)) [
-  true ↦ only_here (is_quiet (Word f place (b ∷ []))) (word-quiet f beside place (b ∷ [])) quiet
+  | true ↦ only_here (is_quiet (Word f place (b ∷ []))) (word-quiet f beside place (b ∷ [])) quiet
   | false ↦ only_here (is_quiet (Word f place (b ∷ w))) (word-quiet f beside place (b ∷ w)) (only_there (is_quiet (Word g at w)) quiet).1
 ]
 quiet-before f place b (SetLength g n ∷ steps) beside quiet = only_here (is_quiet (Word f place (b ∷ []))) (word-quiet f beside place (b ∷ [])) quiet

@@ -77,7 +77,7 @@ returns-clause-says g c =
 
 pub returns-clause-front : goal.returns-clause-front
 returns-clause-front g c =
-    same-told (g.F.Folder.told c.args.folder.now) (g.F.Folder.told c.refuses_create.new.folder) (λ (t : Told). SaysPrefix c.args.self.now t c.args.moment (to_create c.args.handle c.args.key.now) (g.K.Sink.written c.args.out.now) (g.K.Sink.written c.create_where_room.new.out)) (sym c.in_ok-why.ensures.reads.stays)
+    same-told (g.F.Folder.told c.args.folder.now) (g.F.Folder.told c.refuses_create.new.folder) (λ (t : Told). SaysPrefix (HoldsState c.args.self.now) t c.args.moment (to_create c.args.handle c.args.key.now) (g.K.Sink.written c.args.out.now) (g.K.Sink.written c.create_where_room.new.out)) (sym c.in_ok-why.ensures.reads.stays)
     (c.create_where_room.ensures.front (same-told (g.F.Folder.told c.refuses_create.new.folder) (g.F.Folder.told c.args.folder.now) (λ (t : Told). WantsRoomAlone c.args.self.now t c.args.moment c.args.handle c.args.key.now) c.in_ok-why.ensures.reads.stays (λ image there state k. c.in_ok-why.ensures.refused image there state c.args.moment k ∙ ap (λ (o : Option Refusal). create_refusal o (no_room c.args.moment (to_create c.args.handle c.args.key.now) state)) c.in_default.is)))
 
 pub returns-clause-quiet : goal.returns-clause-quiet

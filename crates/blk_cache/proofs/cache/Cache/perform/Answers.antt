@@ -23,7 +23,7 @@ pub returns-in-Create-clause-says : goal.returns-in-Create-clause-says
 returns-in-Create-clause-says g c = subst (λ (cmd : Command). OnOk c.create.result (SaysEvicted c.args.self.now (g.F.Folder.told c.args.folder.now) c.args.moment (request_of cmd) c.args.failed.now c.create.new.failed (g.K.Sink.written c.args.out.now) (g.K.Sink.written c.create.new.out))) (sym c.in-Create.is) c.create.ensures.says
 
 pub returns-in-Create-clause-front : goal.returns-in-Create-clause-front
-returns-in-Create-clause-front g c = subst (λ (cmd : Command). SaysPrefix c.args.self.now (g.F.Folder.told c.args.folder.now) c.args.moment (request_of cmd) (g.K.Sink.written c.args.out.now) (g.K.Sink.written c.create.new.out)) (sym c.in-Create.is) c.create.ensures.front
+returns-in-Create-clause-front g c = subst (λ (cmd : Command). SaysPrefix (HoldsState c.args.self.now) (g.F.Folder.told c.args.folder.now) c.args.moment (request_of cmd) (g.K.Sink.written c.args.out.now) (g.K.Sink.written c.create.new.out)) (sym c.in-Create.is) c.create.ensures.front
 
 pub returns-in-Open-clause-stops : goal.returns-in-Open-clause-stops
 returns-in-Open-clause-stops g c = subst (λ (cmd : Command). MayStopAtEach (HoldsState c.args.self.now) (g.F.Folder.told c.args.folder.now) (g.F.Folder.told c.open.new.folder) c.args.moment (request_of cmd)) (sym c.in-Open.is) c.open.ensures.stops
@@ -34,7 +34,7 @@ returns-in-Open-clause-says g c = subst (λ (cmd : Command). OnOk c.open.result 
     (says-nothing c.args.self.now (g.F.Folder.told c.args.folder.now) c.args.moment (to_open c.in-Open.handle c.in-Open.key.now) tt c.args.failed.now (g.K.Sink.written c.args.out.now)))
 
 pub returns-in-Open-clause-front : goal.returns-in-Open-clause-front
-returns-in-Open-clause-front g c = subst (λ (cmd : Command). SaysPrefix c.args.self.now (g.F.Folder.told c.args.folder.now) c.args.moment (request_of cmd) (g.K.Sink.written c.args.out.now) (g.K.Sink.written c.args.out.now)) (sym c.in-Open.is)
+returns-in-Open-clause-front g c = subst (λ (cmd : Command). SaysPrefix (HoldsState c.args.self.now) (g.F.Folder.told c.args.folder.now) c.args.moment (request_of cmd) (g.K.Sink.written c.args.out.now) (g.K.Sink.written c.args.out.now)) (sym c.in-Open.is)
     (prefix-nothing c.args.self.now (g.F.Folder.told c.args.folder.now) c.args.moment (to_open c.in-Open.handle c.in-Open.key.now) tt c.args.failed.now (g.K.Sink.written c.args.out.now))
 
 pub returns-in-Close-clause-stops : goal.returns-in-Close-clause-stops
@@ -46,7 +46,7 @@ returns-in-Close-clause-says g c = subst (λ (cmd : Command). OnOk c.close.resul
     (says-nothing c.args.self.now (g.F.Folder.told c.args.folder.now) c.args.moment (to_close c.in-Close.handle) tt c.args.failed.now (g.K.Sink.written c.args.out.now)))
 
 pub returns-in-Close-clause-front : goal.returns-in-Close-clause-front
-returns-in-Close-clause-front g c = subst (λ (cmd : Command). SaysPrefix c.args.self.now (g.F.Folder.told c.args.folder.now) c.args.moment (request_of cmd) (g.K.Sink.written c.args.out.now) (g.K.Sink.written c.args.out.now)) (sym c.in-Close.is)
+returns-in-Close-clause-front g c = subst (λ (cmd : Command). SaysPrefix (HoldsState c.args.self.now) (g.F.Folder.told c.args.folder.now) c.args.moment (request_of cmd) (g.K.Sink.written c.args.out.now) (g.K.Sink.written c.args.out.now)) (sym c.in-Close.is)
     (prefix-nothing c.args.self.now (g.F.Folder.told c.args.folder.now) c.args.moment (to_close c.in-Close.handle) tt c.args.failed.now (g.K.Sink.written c.args.out.now))
 
 pub returns-in-Flush-clause-stops : goal.returns-in-Flush-clause-stops
@@ -58,7 +58,7 @@ returns-in-Flush-clause-says g c = subst (λ (cmd : Command). OnOk c.flush.resul
     (says-nothing c.args.self.now (g.F.Folder.told c.args.folder.now) c.args.moment (to_flush c.in-Flush.handle) tt c.args.failed.now (g.K.Sink.written c.args.out.now)))
 
 pub returns-in-Flush-clause-front : goal.returns-in-Flush-clause-front
-returns-in-Flush-clause-front g c = subst (λ (cmd : Command). SaysPrefix c.args.self.now (g.F.Folder.told c.args.folder.now) c.args.moment (request_of cmd) (g.K.Sink.written c.args.out.now) (g.K.Sink.written c.args.out.now)) (sym c.in-Flush.is)
+returns-in-Flush-clause-front g c = subst (λ (cmd : Command). SaysPrefix (HoldsState c.args.self.now) (g.F.Folder.told c.args.folder.now) c.args.moment (request_of cmd) (g.K.Sink.written c.args.out.now) (g.K.Sink.written c.args.out.now)) (sym c.in-Flush.is)
     (prefix-nothing c.args.self.now (g.F.Folder.told c.args.folder.now) c.args.moment (to_flush c.in-Flush.handle) tt c.args.failed.now (g.K.Sink.written c.args.out.now))
 
 pub returns-in-Total-clause-does : goal.returns-in-Total-clause-does
@@ -72,7 +72,7 @@ returns-in-Total-clause-says g c = subst (λ (cmd : Command). SaysEvicted c.args
     (says-nothing c.args.self.now (g.F.Folder.told c.args.folder.now) c.args.moment to_total tt c.args.failed.now (g.K.Sink.written c.args.out.now))
 
 pub returns-in-Total-clause-front : goal.returns-in-Total-clause-front
-returns-in-Total-clause-front g c = subst (λ (cmd : Command). SaysPrefix c.args.self.now (g.F.Folder.told c.args.folder.now) c.args.moment (request_of cmd) (g.K.Sink.written c.args.out.now) (g.K.Sink.written c.args.out.now)) (sym c.in-Total.is)
+returns-in-Total-clause-front g c = subst (λ (cmd : Command). SaysPrefix (HoldsState c.args.self.now) (g.F.Folder.told c.args.folder.now) c.args.moment (request_of cmd) (g.K.Sink.written c.args.out.now) (g.K.Sink.written c.args.out.now)) (sym c.in-Total.is)
     (prefix-nothing c.args.self.now (g.F.Folder.told c.args.folder.now) c.args.moment to_total tt c.args.failed.now (g.K.Sink.written c.args.out.now))
 
 pub returns-in-Size-clause-does : goal.returns-in-Size-clause-does
@@ -87,7 +87,7 @@ returns-in-Size-clause-says g c = subst (λ (cmd : Command). OnOk c.size.result 
     (says-nothing c.args.self.now (g.F.Folder.told c.args.folder.now) c.args.moment (to_size c.in-Size.handle c.in-Size.stream) tt c.args.failed.now (g.K.Sink.written c.args.out.now)))
 
 pub returns-in-Size-clause-front : goal.returns-in-Size-clause-front
-returns-in-Size-clause-front g c = subst (λ (cmd : Command). SaysPrefix c.args.self.now (g.F.Folder.told c.args.folder.now) c.args.moment (request_of cmd) (g.K.Sink.written c.args.out.now) (g.K.Sink.written c.args.out.now)) (sym c.in-Size.is)
+returns-in-Size-clause-front g c = subst (λ (cmd : Command). SaysPrefix (HoldsState c.args.self.now) (g.F.Folder.told c.args.folder.now) c.args.moment (request_of cmd) (g.K.Sink.written c.args.out.now) (g.K.Sink.written c.args.out.now)) (sym c.in-Size.is)
     (prefix-nothing c.args.self.now (g.F.Folder.told c.args.folder.now) c.args.moment (to_size c.in-Size.handle c.in-Size.stream) tt c.args.failed.now (g.K.Sink.written c.args.out.now))
 
 pub returns-in-Trim-clause-stops : goal.returns-in-Trim-clause-stops
@@ -97,7 +97,7 @@ pub returns-in-Trim-clause-says : goal.returns-in-Trim-clause-says
 returns-in-Trim-clause-says g c = subst (λ (cmd : Command). OnOk c.trim.result (SaysEvicted c.args.self.now (g.F.Folder.told c.args.folder.now) c.args.moment (request_of cmd) c.args.failed.now c.trim.new.failed (g.K.Sink.written c.args.out.now) (g.K.Sink.written c.trim.new.out))) (sym c.in-Trim.is) (c.trim.ensures.says c.args.moment)
 
 pub returns-in-Trim-clause-front : goal.returns-in-Trim-clause-front
-returns-in-Trim-clause-front g c = subst (λ (cmd : Command). SaysPrefix c.args.self.now (g.F.Folder.told c.args.folder.now) c.args.moment (request_of cmd) (g.K.Sink.written c.args.out.now) (g.K.Sink.written c.trim.new.out)) (sym c.in-Trim.is) (c.trim.ensures.front c.args.moment)
+returns-in-Trim-clause-front g c = subst (λ (cmd : Command). SaysPrefix (HoldsState c.args.self.now) (g.F.Folder.told c.args.folder.now) c.args.moment (request_of cmd) (g.K.Sink.written c.args.out.now) (g.K.Sink.written c.trim.new.out)) (sym c.in-Trim.is) (c.trim.ensures.front c.args.moment)
 
 pub returns-in-Size-clause-is_open : goal.returns-in-Size-clause-is_open
 returns-in-Size-clause-is_open g c = on-ok c.size.result (ForSome (g.F.Folder.told c.size.new.folder).files (IsOpen c.args.self.now.files)) (λ image now. c.requires.is_open image (ap (λ (t : Told). t.files) (sym c.size.ensures.reads.stays) ∙ now))
@@ -114,7 +114,7 @@ returns-in-Read-clause-says g c = subst (λ (cmd : Command). OnOk c.use_read.res
     (says-nothing c.args.self.now (g.F.Folder.told c.args.folder.now) c.args.moment (to_read c.in-Read.handle c.in-Read.stream c.in-Read.offset c.in-Read.count) tt c.args.failed.now (g.K.Sink.written c.args.out.now)))
 
 pub returns-in-Read-clause-front : goal.returns-in-Read-clause-front
-returns-in-Read-clause-front g c = subst (λ (cmd : Command). SaysPrefix c.args.self.now (g.F.Folder.told c.args.folder.now) c.args.moment (request_of cmd) (g.K.Sink.written c.args.out.now) (g.K.Sink.written c.args.out.now)) (sym c.in-Read.is)
+returns-in-Read-clause-front g c = subst (λ (cmd : Command). SaysPrefix (HoldsState c.args.self.now) (g.F.Folder.told c.args.folder.now) c.args.moment (request_of cmd) (g.K.Sink.written c.args.out.now) (g.K.Sink.written c.args.out.now)) (sym c.in-Read.is)
     (prefix-nothing c.args.self.now (g.F.Folder.told c.args.folder.now) c.args.moment (to_read c.in-Read.handle c.in-Read.stream c.in-Read.offset c.in-Read.count) tt c.args.failed.now (g.K.Sink.written c.args.out.now))
 
 pub returns-in-List-clause-does : goal.returns-in-List-clause-does
@@ -129,7 +129,7 @@ returns-in-List-clause-says g c = subst (λ (cmd : Command). OnOk c.list.result 
     (says-nothing c.args.self.now (g.F.Folder.told c.args.folder.now) c.args.moment to_list tt c.args.failed.now (g.K.Sink.written c.args.out.now)))
 
 pub returns-in-List-clause-front : goal.returns-in-List-clause-front
-returns-in-List-clause-front g c = subst (λ (cmd : Command). SaysPrefix c.args.self.now (g.F.Folder.told c.args.folder.now) c.args.moment (request_of cmd) (g.K.Sink.written c.args.out.now) (g.K.Sink.written c.args.out.now)) (sym c.in-List.is)
+returns-in-List-clause-front g c = subst (λ (cmd : Command). SaysPrefix (HoldsState c.args.self.now) (g.F.Folder.told c.args.folder.now) c.args.moment (request_of cmd) (g.K.Sink.written c.args.out.now) (g.K.Sink.written c.args.out.now)) (sym c.in-List.is)
     (prefix-nothing c.args.self.now (g.F.Folder.told c.args.folder.now) c.args.moment to_list tt c.args.failed.now (g.K.Sink.written c.args.out.now))
 
 pub returns-in-List-clause-is_open : goal.returns-in-List-clause-is_open
@@ -142,7 +142,7 @@ pub returns-in-Write-clause-says : goal.returns-in-Write-clause-says
 returns-in-Write-clause-says g c = subst (λ (cmd : Command). OnOk c.write.result (SaysEvicted c.args.self.now (g.F.Folder.told c.args.folder.now) c.args.moment (request_of cmd) c.args.failed.now c.write.new.failed (g.K.Sink.written c.args.out.now) (g.K.Sink.written c.write.new.out))) (sym c.in-Write.is) c.write.ensures.says
 
 pub returns-in-Write-clause-front : goal.returns-in-Write-clause-front
-returns-in-Write-clause-front g c = subst (λ (cmd : Command). SaysPrefix c.args.self.now (g.F.Folder.told c.args.folder.now) c.args.moment (request_of cmd) (g.K.Sink.written c.args.out.now) (g.K.Sink.written c.write.new.out)) (sym c.in-Write.is) c.write.ensures.front
+returns-in-Write-clause-front g c = subst (λ (cmd : Command). SaysPrefix (HoldsState c.args.self.now) (g.F.Folder.told c.args.folder.now) c.args.moment (request_of cmd) (g.K.Sink.written c.args.out.now) (g.K.Sink.written c.write.new.out)) (sym c.in-Write.is) c.write.ensures.front
 
 pub returns-in-Doom-clause-stops : goal.returns-in-Doom-clause-stops
 returns-in-Doom-clause-stops g c = subst (λ (cmd : Command). MayStopAtEach (HoldsState c.args.self.now) (g.F.Folder.told c.args.folder.now) (g.F.Folder.told c.doom.new.folder) c.args.moment (request_of cmd)) (sym c.in-Doom.is) (c.doom.ensures.stops c.args.moment)
@@ -153,7 +153,7 @@ returns-in-Doom-clause-says g c = subst (λ (cmd : Command). OnOk c.doom.result 
     (says-nothing c.args.self.now (g.F.Folder.told c.args.folder.now) c.args.moment (to_doom c.in-Doom.handle) tt c.args.failed.now (g.K.Sink.written c.args.out.now)))
 
 pub returns-in-Doom-clause-front : goal.returns-in-Doom-clause-front
-returns-in-Doom-clause-front g c = subst (λ (cmd : Command). SaysPrefix c.args.self.now (g.F.Folder.told c.args.folder.now) c.args.moment (request_of cmd) (g.K.Sink.written c.args.out.now) (g.K.Sink.written c.args.out.now)) (sym c.in-Doom.is)
+returns-in-Doom-clause-front g c = subst (λ (cmd : Command). SaysPrefix (HoldsState c.args.self.now) (g.F.Folder.told c.args.folder.now) c.args.moment (request_of cmd) (g.K.Sink.written c.args.out.now) (g.K.Sink.written c.args.out.now)) (sym c.in-Doom.is)
     (prefix-nothing c.args.self.now (g.F.Folder.told c.args.folder.now) c.args.moment (to_doom c.in-Doom.handle) tt c.args.failed.now (g.K.Sink.written c.args.out.now))
 
 pub returns-in-DoomKey-clause-stops : goal.returns-in-DoomKey-clause-stops
@@ -165,7 +165,7 @@ returns-in-DoomKey-clause-says g c = subst (λ (cmd : Command). OnOk c.doom_key.
     (says-nothing c.args.self.now (g.F.Folder.told c.args.folder.now) c.args.moment (to_doom_key c.in-DoomKey.key.now) tt c.args.failed.now (g.K.Sink.written c.args.out.now)))
 
 pub returns-in-DoomKey-clause-front : goal.returns-in-DoomKey-clause-front
-returns-in-DoomKey-clause-front g c = subst (λ (cmd : Command). SaysPrefix c.args.self.now (g.F.Folder.told c.args.folder.now) c.args.moment (request_of cmd) (g.K.Sink.written c.args.out.now) (g.K.Sink.written c.args.out.now)) (sym c.in-DoomKey.is)
+returns-in-DoomKey-clause-front g c = subst (λ (cmd : Command). SaysPrefix (HoldsState c.args.self.now) (g.F.Folder.told c.args.folder.now) c.args.moment (request_of cmd) (g.K.Sink.written c.args.out.now) (g.K.Sink.written c.args.out.now)) (sym c.in-DoomKey.is)
     (prefix-nothing c.args.self.now (g.F.Folder.told c.args.folder.now) c.args.moment (to_doom_key c.in-DoomKey.key.now) tt c.args.failed.now (g.K.Sink.written c.args.out.now))
 
 -- no other command is a Flush of a clean object

@@ -18,7 +18,7 @@ pub returns-in-SparseWrite-clause-says : goal.returns-in-SparseWrite-clause-says
 returns-in-SparseWrite-clause-says g c = subst (λ (cmd : Command). OnOk c.sparse_write.result (SaysEvicted c.args.self.now (g.F.Folder.told c.args.folder.now) c.args.moment (request_of cmd) c.args.failed.now c.sparse_write.new.failed (g.K.Sink.written c.args.out.now) (g.K.Sink.written c.sparse_write.new.out))) (sym c.in-SparseWrite.is) c.sparse_write.ensures.says
 
 pub returns-in-SparseWrite-clause-front : goal.returns-in-SparseWrite-clause-front
-returns-in-SparseWrite-clause-front g c = subst (λ (cmd : Command). SaysPrefix c.args.self.now (g.F.Folder.told c.args.folder.now) c.args.moment (request_of cmd) (g.K.Sink.written c.args.out.now) (g.K.Sink.written c.sparse_write.new.out)) (sym c.in-SparseWrite.is) c.sparse_write.ensures.front
+returns-in-SparseWrite-clause-front g c = subst (λ (cmd : Command). SaysPrefix (HoldsState c.args.self.now) (g.F.Folder.told c.args.folder.now) c.args.moment (request_of cmd) (g.K.Sink.written c.args.out.now) (g.K.Sink.written c.sparse_write.new.out)) (sym c.in-SparseWrite.is) c.sparse_write.ensures.front
 
 pub returns-in-SparseRead-clause-does : goal.returns-in-SparseRead-clause-does
 returns-in-SparseRead-clause-does g c = subst (λ (cmd : Command). IfOk c.use_sparse.result (λ given. Does (HoldsState c.args.self.now) (HoldsState c.use_sparse.new.self) (g.F.Folder.told c.args.folder.now) (g.F.Folder.told c.use_sparse.new.folder) c.args.moment (request_of cmd) given)) (sym c.in-SparseRead.is) c.use_sparse.ensures.does
@@ -32,7 +32,7 @@ returns-in-SparseRead-clause-says g c = subst (λ (cmd : Command). OnOk c.use_sp
     (says-nothing c.args.self.now (g.F.Folder.told c.args.folder.now) c.args.moment (to_sparse_read c.in-SparseRead.handle c.in-SparseRead.offset c.in-SparseRead.count) tt c.args.failed.now (g.K.Sink.written c.args.out.now)))
 
 pub returns-in-SparseRead-clause-front : goal.returns-in-SparseRead-clause-front
-returns-in-SparseRead-clause-front g c = subst (λ (cmd : Command). SaysPrefix c.args.self.now (g.F.Folder.told c.args.folder.now) c.args.moment (request_of cmd) (g.K.Sink.written c.args.out.now) (g.K.Sink.written c.args.out.now)) (sym c.in-SparseRead.is)
+returns-in-SparseRead-clause-front g c = subst (λ (cmd : Command). SaysPrefix (HoldsState c.args.self.now) (g.F.Folder.told c.args.folder.now) c.args.moment (request_of cmd) (g.K.Sink.written c.args.out.now) (g.K.Sink.written c.args.out.now)) (sym c.in-SparseRead.is)
     (prefix-nothing c.args.self.now (g.F.Folder.told c.args.folder.now) c.args.moment (to_sparse_read c.in-SparseRead.handle c.in-SparseRead.offset c.in-SparseRead.count) tt c.args.failed.now (g.K.Sink.written c.args.out.now))
 
 pub returns-in-SparseRange-clause-does : goal.returns-in-SparseRange-clause-does
@@ -47,7 +47,7 @@ returns-in-SparseRange-clause-says g c = subst (λ (cmd : Command). OnOk c.use_s
     (says-nothing c.args.self.now (g.F.Folder.told c.args.folder.now) c.args.moment (to_sparse_range c.in-SparseRange.handle c.in-SparseRange.offset c.in-SparseRange.count) tt c.args.failed.now (g.K.Sink.written c.args.out.now)))
 
 pub returns-in-SparseRange-clause-front : goal.returns-in-SparseRange-clause-front
-returns-in-SparseRange-clause-front g c = subst (λ (cmd : Command). SaysPrefix c.args.self.now (g.F.Folder.told c.args.folder.now) c.args.moment (request_of cmd) (g.K.Sink.written c.args.out.now) (g.K.Sink.written c.args.out.now)) (sym c.in-SparseRange.is)
+returns-in-SparseRange-clause-front g c = subst (λ (cmd : Command). SaysPrefix (HoldsState c.args.self.now) (g.F.Folder.told c.args.folder.now) c.args.moment (request_of cmd) (g.K.Sink.written c.args.out.now) (g.K.Sink.written c.args.out.now)) (sym c.in-SparseRange.is)
     (prefix-nothing c.args.self.now (g.F.Folder.told c.args.folder.now) c.args.moment (to_sparse_range c.in-SparseRange.handle c.in-SparseRange.offset c.in-SparseRange.count) tt c.args.failed.now (g.K.Sink.written c.args.out.now))
 
 pub returns-in-SparseWrite-clause-idle : goal.returns-in-SparseWrite-clause-idle

@@ -66,7 +66,7 @@ returns-in-Found-clause-says g c =
 
 pub returns-in-Found-clause-front : goal.returns-in-Found-clause-front
 returns-in-Found-clause-front g c =
-    subst (λ (t : Told). SaysPrefix c.args.self.now t c.args.request.now.moment (to_sparse_write c.args.request.now.handle c.args.request.now.offset c.args.request.now.bytes.now) (g.K.Sink.written c.args.out.now) (g.K.Sink.written c.write_target.new.out)) c.in_ok-asked.ensures.reads.stays
+    subst (λ (t : Told). SaysPrefix (HoldsState c.args.self.now) t c.args.request.now.moment (to_sparse_write c.args.request.now.handle c.args.request.now.offset c.args.request.now.bytes.now) (g.K.Sink.written c.args.out.now) (g.K.Sink.written c.write_target.new.out)) c.in_ok-asked.ensures.reads.stays
     (c.write_target.ensures.front (found-named c.args.self.now (g.F.Folder.told c.args.folder.now) (g.F.Folder.told c.ask_target.new.folder) c.in_ok-asked.ensures.reads.stays c.args.request.now.moment c.args.request.now.handle c.args.request.now.offset c.args.request.now.bytes.now c.in_ok-asked.asked c.in_ok-asked.ensures.asked c.in-Found.target c.in-Found.is))
 
 pub returns-in-Found-clause-untold : goal.returns-in-Found-clause-untold

@@ -54,7 +54,7 @@ returns-clause-says g c names =
 
 pub returns-clause-front : goal.returns-clause-front
 returns-clause-front g c names =
-    subst (λ (t : Told). SaysPrefix c.args.self.now t c.args.request.now.moment (to_sparse_write c.args.request.now.handle c.args.request.now.offset c.args.request.now.bytes.now) (g.K.Sink.written c.args.out.now) (g.K.Sink.written c.write_where_room.new.out)) c.in_ok-rise.ensures.reads.stays
+    subst (λ (t : Told). SaysPrefix (HoldsState c.args.self.now) t c.args.request.now.moment (to_sparse_write c.args.request.now.handle c.args.request.now.offset c.args.request.now.bytes.now) (g.K.Sink.written c.args.out.now) (g.K.Sink.written c.write_where_room.new.out)) c.in_ok-rise.ensures.reads.stays
     (for-kept c.args.self.now c.measure_rise.new.self c.measure_rise.ensures.others (g.F.Folder.told c.measure_rise.new.folder) _ (c.write_where_room.ensures.front (asks-then c.args.self.now c.measure_rise.new.self c.measure_rise.ensures.others (g.F.Folder.told c.args.folder.now) (g.F.Folder.told c.measure_rise.new.folder) c.measure_rise.ensures.reads.stays c.args.request.now.moment c.args.request.now.handle c.args.request.now.offset c.args.request.now.bytes.now c.args.target.now c.in_ok-rise.rise names c.in_ok-rise.ensures.rises)))
 
 pub returns-clause-untold : goal.returns-clause-untold
