@@ -62,7 +62,8 @@ module _ (old new last : Cache) (told mid now : Told) (moment : ℕ) (request : 
     -- the magic word is as before
     still-finished : ForKept (KeepsState old) told (λ state. ForSome now.files HasMagic)
     still-finished image there state k i here =
-        let words : KeepsSessionWords image i = commands-words-kept told mid (MayStop state moment request) (MayStop state moment request) (stops image there state k.holds) image there i (sym (same-files mid now number note) ∙ here) in
+        let made : Passes told mid (MayStop state moment request) = stops image there state k.holds in
+        let words : KeepsSessionWords image i = commands-words-kept told mid made.steps made.quiet made.applies image there i (sym (same-files mid now number note) ∙ here) in
         words.magic ∙ k.finished
 
     -- so the state after the command is kept

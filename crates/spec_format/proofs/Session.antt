@@ -24,4 +24,4 @@ quiet-words-kept steps image quiet =
     until_weaker2 (SaysTheSameSession image) (KeepsSessionWords image) (SaysTheSameSession image) (KeepsSessionWords image) steps image (session-words image) (session-words image) (quiet-keeps steps image quiet)
 
 pub commands-words-kept : CommandsKeepSessionWords
-commands-words-kept old new P Q passes from there image here = session-words from image (commands-keep old new P Q passes from there image here)
+commands-words-kept old new steps quiet applies from there image here = session-words from image (commands-keep old new steps quiet applies from there image here)

@@ -3,7 +3,7 @@ use Rattle.std.specs.Prelude.{◌≡◌, List}
 use Rattle.std.specs.Option.{ForSome}
 use Rattle.spec_image.specs.Image.{Index, Image, byte}
 use Rattle.spec_image.specs.Steps.{TrailStep}
-use Rattle.spec_image.specs.Told.{Told, Along, IsQuiet, PassesTo}
+use Rattle.spec_image.specs.Told.{Told, Along, Applies, IsQuiet}
 use Rattle.spec_format.specs.Headers.{crash_of, magic_of, this_id_of, version_of}
 
 -- the magic word, the version, the number of the session and the crash word are as before
@@ -17,6 +17,6 @@ pub record KeepsSessionWords (from image : Image) : Type 0 where
 abbrev pub QuietStepsKeepSessionWords : Type 0
 QuietStepsKeepSessionWords = (steps : List TrailStep) (image : Image) → IsQuiet steps → Along (KeepsSessionWords image) image steps
 
--- and after a call of a command
+-- and after a call that makes such steps
 abbrev pub CommandsKeepSessionWords : Type 0
-CommandsKeepSessionWords = (old new : Told) (P Q : Image → Type 0) → PassesTo old new P Q → ForSome old.files (λ from. ForSome new.files (KeepsSessionWords from))
+CommandsKeepSessionWords = (old new : Told) (steps : List TrailStep) → IsQuiet steps → Applies old new steps → ForSome old.files (λ from. ForSome new.files (KeepsSessionWords from))

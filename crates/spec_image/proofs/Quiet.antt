@@ -50,10 +50,10 @@ pub quiet-keeps : QuietStepsKeepTheSession
 quiet-keeps steps image quiet = steps-session image image steps (same-session image) quiet
 
 pub commands-keep : CommandsKeepTheSession
-commands-keep old new P Q passes from there =
-    told_whole {a = old} {b = new} {s = passes.steps} (SaysTheSameSession from) passes.applies
-    (λ image here. until_last (SaysTheSameSession from) (SaysTheSameSession from) passes.steps image
-    (subst (λ (i : Image). Along (SaysTheSameSession from) i passes.steps) (same image here) (quiet-keeps passes.steps from passes.quiet)))
+commands-keep old new steps quiet applies from there =
+    told_whole {a = old} {b = new} {s = steps} (SaysTheSameSession from) applies
+    (λ image here. until_last (SaysTheSameSession from) (SaysTheSameSession from) steps image
+    (subst (λ (i : Image). Along (SaysTheSameSession from) i steps) (same image here) (quiet-keeps steps from quiet)))
   where
     same : (image : Image) → old.files ≡ Some image → from ≡ image
     same image here = inj (sym there ∙ here) where

@@ -4,7 +4,7 @@ use Rattle.std.specs.List.{All}
 use Rattle.std.specs.Option.{ForSome}
 use Rattle.spec_image.specs.Image.{File, Image, HasRange, with_file}
 use Rattle.spec_image.specs.Steps.{TrailStep, IsTrail, after, words, written_over}
-use Rattle.spec_image.specs.Told.{Told, Trail, Applies, Along, HasNoNote, IsQuiet, PassesTo, SaysTheSameSession}
+use Rattle.spec_image.specs.Told.{Told, Trail, Applies, Along, HasNoNote, IsQuiet, SaysTheSameSession}
 use Rattle.spec_image.specs.Notes.{AreTrue, notes_in}
 use Rattle.spec_image.specs.Footprint.{SameOutside, range, touched_by_all}
 
@@ -36,9 +36,9 @@ StepsOfOneCallAreOne = (old new : Told) (trail : Trail) (steps others : List Tra
 abbrev pub QuietStepsKeepTheSession : Type 0
 QuietStepsKeepTheSession = (steps : List TrailStep) (image : Image) → IsQuiet steps → Along (SaysTheSameSession image) image steps
 
--- so it is after a call of a command
+-- so it is after a call that makes such steps
 abbrev pub CommandsKeepTheSession : Type 0
-CommandsKeepTheSession = (old new : Told) (P Q : Image → Type 0) → PassesTo old new P Q → ForSome old.files (λ from. ForSome new.files (SaysTheSameSession from))
+CommandsKeepTheSession = (old new : Told) (steps : List TrailStep) → IsQuiet steps → Applies old new steps → ForSome old.files (λ from. ForSome new.files (SaysTheSameSession from))
 
 -- steps that a command may make are none of them a note
 abbrev pub QuietStepsHaveNoNote : Type 0
