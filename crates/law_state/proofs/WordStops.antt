@@ -68,7 +68,7 @@ unsettled-uses-stop state moment request number object changed uses item layout 
     (unsettled-left state moment request number object valid is changed (used item uses) unsettled (own-uses base object.key item uses own keeps).1)
     (touches-find (amidst base number changed uses) layout unlinked from image k item listed touched)
 
--- ---- dirty words
+-- ---- dirty flags
 
 pub unsettling-stops : UnsettlingMayStop
 unsettling-stops state moment request number object image valid is finds =

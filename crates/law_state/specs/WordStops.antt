@@ -1,4 +1,4 @@
--- Where each command may crash, at each word of its calls: uses of items, dirty words, removals and groups.
+-- Where each command may crash, at each word of its calls: uses of items, dirty flags, removals and groups.
 use Rattle.std.specs.Prelude.{◌≡◌, ◌⊎◌, ℕ, Bool, List, [], ◌∷◌, ◌++◌, None, Some, filter, false, not, if◌then◌else◌, nat_lt, true}
 use Rattle.spec_image.specs.Image.{Image}
 use Rattle.blk_model.specs.EvictionLaws.{EvictsFirst}
@@ -82,7 +82,7 @@ pub record IsOut (state : State) (layout : Layout) (key : List ℕ) (keep : Item
   pub there : (item : Item) → is_listed state item ≡ true → keep item ≡ true → except (layout.place item) ≡ false
   pub list : HasListAtRest (nodes_of layout (filter keep state.uses)) image
 
--- once an object's main item is out of the list, the durable contents with the object doomed are held, while its record is unlinked and marked or freed
+-- once an object's main item is out of the list, the durable contents with the object doomed are held, while its record is unlinked and made doomed or freed
 abbrev pub OutIsDoomed : Type 0
 OutIsDoomed = (state : State) (layout : Layout) (number : ℕ) (object : Object) (keep : Item → Bool) (image : Image) → IsValidState state → object_at state number ≡ Some object → IsOut state layout object.key keep image → Finds (rest (doomed number state (Some object))) image
 

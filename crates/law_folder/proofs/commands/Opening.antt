@@ -140,7 +140,7 @@ listed-times i (j ∷ items) few =
     (λ (h : same_item i j ≡ false). let c : times i (j ∷ items) ≡ 0 + times i items = t ∙ ap (λ (b : Bool). cond b 1 0 + times i items) h in or_right (same_item i j) (is_in items i) (listed-times i items (omega arith)))
     (cases_Bool (same_item i j))
 
--- the touch of a listed item's node leads from one order to the other, at its second word
+-- the access of a listed item's node leads from one order to the other, at its second word
 module _ (v : View) (m : State) (y : Layout) (r : Represents v m y) (i : Item) (a : IsAround i m.uses) where
   old-nodes : order m y ≡ nodes_of y a.before ++ y.place i ∷ nodes_of y a.suffix
   old-nodes = ap (nodes_of y) a.is ∙ nodes-append y a.before (i ∷ a.suffix)

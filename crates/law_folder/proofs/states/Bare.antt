@@ -1,4 +1,4 @@
--- A bare folder is sound, holds nothing, and stands for the empty state.
+-- An empty cache is consistent, holds nothing, and represents the empty state.
 use Rattle.std.proofs.Common.{◌≡◌, ℕ, ◌+◌, ◌<◌, List, [], refl, ap, sym, ◌∙◌, subst, inl, arith, Bool, true, false, None}
 use Rattle.std.specs.Prelude.{if◌then◌else◌}
 use Rattle.blk_model.specs.Items.{Row}

@@ -72,7 +72,7 @@ with-follow b x long small =
 
 -- ---- cores
 
--- the core of a record but for its check
+-- the fields of a record but for whether its checksum is right or absent
 core-by : (m n : Entry) (b : Bool) (x : ℕ) → entry_checks m ≡ b → open_entry m ≡ record (open_entry n) { next = x } → fields_of m ≡ record (fields_of n) { checks = b }
 core-by m n b x good rest = λ i. record {
   checks = good i;

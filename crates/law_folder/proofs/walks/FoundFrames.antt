@@ -67,7 +67,7 @@ loaded_from-same v u rule w (Some n) record_same = checked_load-same v u rule w 
 load-same : (v u : StoreView) (rule : Rule) (w : ℕ) → SameNamed v u w → load v rule w ≡ load u rule w
 load-same v u rule w same = sym (loaded_from-load v rule w) ∙ loaded_from-same v u rule w (v.node_fields w) same.record_same ∙ ap (loaded_from u rule w) same.node_fields ∙ loaded_from-load u rule w
 
--- whether a node names a child is the same
+-- whether a node names a part is the same
 child_of : Option RecordFields → Bool
 child_of o = option_map_or (λ e. e.checks && (e.flags == child)) o false
 
