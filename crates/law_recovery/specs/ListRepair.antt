@@ -48,8 +48,8 @@ pub record HoldsTheSame (from image : Image) : Type 0 where
   pub kept_same : kept image ≡ kept from
   pub found_same : found image ≡ found from
 
--- the LRU list is repaired: it is idle, with the kept nodes alone, all of which are still kept; nothing else is shown to change, and each record that was
--- sealed is sealed
+-- the LRU list is repaired: it is idle, with the kept nodes alone, all of which are still kept; nothing else is shown to change, and each record that had
+-- its checksum has it
 pub record IsListMended (from image : Image) : Type 0 where
   pub rests : HasListAtRest (map (λ k. k.node) (kept from)) image
   pub store : ShowsTheSame (store_of from) (store_of image)

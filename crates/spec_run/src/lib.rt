@@ -88,8 +88,8 @@ pub fn replies_follow_notes()
     ensures done { AnsweredCommandsAreDone }
 {}
 
-/// What was closed and answered is kept. The last Close of an object leaves its entries clean; and wherever the folder stops,
-/// behind any step, an entry that is clean since an answered command is found with its exact bytes: no later command writes
+/// What was closed and answered is kept. The last Close of an object leaves its entries clean; and wherever the process crashes,
+/// after any step, an entry that is clean since an answered command is found with its exact bytes: no later command writes
 /// to its object, dooms it or evicts it.
 pub fn answered_closes_are_kept()
     ensures closes { ClosesLeaveEntriesClean }
