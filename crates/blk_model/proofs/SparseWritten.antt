@@ -110,7 +110,7 @@ or_turn false b c = ap (λ x. x || c) (sym (or_false b))
     or_false true = refl
     or_false false = refl
 
--- a part is there after a write where it was there before, or is covered
+-- a part is there after a write where it was there before, or is in range
 part_after_at : (ns : List ℕ) (offset : ℕ) (bytes : List ℕ) (parts : List (ℕ × PartValue)) (n : ℕ) → is_some (find nat_cmp n (parts_after ns offset bytes parts)) ≡ (list_any (λ m. n == m) ns || is_some (find nat_cmp n parts))
 unfolding parts_after
 part_after_at [] offset bytes parts n = refl

@@ -14,7 +14,7 @@ use Rattle.spec_folder.specs.Searches.{bucket_of_key, chained_for, IsWholeChain,
 abbrev pub ChainsAreTheLayouts : Type 0
 ChainsAreTheLayouts = (view : View) (state : State) (layout : Layout) → Represents view state layout → (bucket : ℕ) → bucket < table_length → (chain view.store bucket).reached ≡ layout.chains bucket
 
--- where a view represents a state, no chain has more records than there are listed nodes: each record is another one's
+-- where a view represents a state, no chain has more records than there are listed nodes: each record is that of another node
 abbrev pub RepresentedChainsAreShort : Type 0
 RepresentedChainsAreShort = (view : View) (state : State) (layout : Layout) → Represents view state layout → (bucket : ℕ) → bucket < table_length → (length (layout.chains bucket) ≤ length (order state layout)) × (length (layout.chains bucket) ≤ most_nodes)
 

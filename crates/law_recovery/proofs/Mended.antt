@@ -158,7 +158,7 @@ module _ (image : Image) (limits : Bounds) (mended : IsMended image) (valid : Is
 pub mended-folders : MendedFoldersStandFor
 mended-folders image limits mended are = mended-stands image limits mended (found-holding image are)
 
--- ---- soundness
+-- ---- consistency
 
 -- any limits
 some-limits : Bounds

@@ -37,7 +37,7 @@ completed_image image = after (completion_steps image) image
 abbrev pub ended_image : Image → Image
 ended_image image = after (end_steps (completed_image image)) (completed_image image)
 
--- the steps of the repair of the LRU list: the operation in flight is completed, the end of the list is repaired, and each node that isn't kept is taken out
+-- the steps of the repair of the LRU list: the operation in flight is redone, the end of the list is repaired, and each node that isn't kept is taken out
 abbrev pub list_repair_steps : Image → List TrailStep
 list_repair_steps image = completion_steps image ++ (end_steps (completed_image image) ++ removal_steps (dropped_nodes (ended_image image)) (ended_image image))
 

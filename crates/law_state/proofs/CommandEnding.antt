@@ -37,7 +37,7 @@ passed state moment request passes = (ap (λ o. (outcome moment request state o)
 after-left : (state : State) (moment : ℕ) (request : Request) (end : State) → IsValidState state → IsRequest request → (step state moment request).state ≡ end → MayLeave state moment request (rest end)
 after-left state moment request end valid can ends = subst (λ (m : State). MayLeave state moment request (rest m)) ends (rest_after state moment request valid can)
 
--- ---- uses
+-- ---- accesses
 
 used-or-not : (live : Bool) (item : Item) (uses : List Item) → cond live (used item uses) uses ≡ used_all (cond live (item ∷ []) []) uses
 used-or-not true item uses = refl

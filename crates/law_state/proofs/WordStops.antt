@@ -49,7 +49,7 @@ either-stops : (state : State) (moment : ℕ) (request : Request) (one other : L
 either-stops state moment request one other image first second (inl finds) = left-stops state moment request one image first finds
 either-stops state moment request one other image first second (inr finds) = left-stops state moment request other image second finds
 
--- ---- uses
+-- ---- accesses
 
 pub uses-stop : UsesMayStop
 uses-stop state moment request first others item layout unlinked from image valid passes none split k listed touched =

@@ -99,7 +99,7 @@ open-here = refl
 open-writable : IsWritable open_folder
 open-writable = marks-writable opened_folder (nodes 2) 7 opened-writable b_checks (lit< tt)
 
--- ---- it is used
+-- ---- it is accessed
 
 abbrev zz_write : Request
 zz_write = to_write 6 0 0 false (codes "zz")

@@ -91,7 +91,7 @@ pub fn new_parts_are_shown()
     ensures ends { NewPartsEnd }
 {}
 
-/// While a part of a sparse object is made, the folder holds the old durable contents of the folder, and from the second write of its insert on those with the
+/// While a part of a sparse object is made, the folder holds the old durable contents, and from the second write of its insert on those with the
 /// part. Then the folder keeps the state with the part but for the counters, and the part's words are unlinked no longer.
 pub fn new_parts_are_kept()
     ensures inserting { PartInsertsFindEither }

@@ -53,7 +53,7 @@ is_candidate store walked node =
 abbrev pub candidates : View → List ℕ
 candidates view = filter (is_candidate view.store (walk view.list)) (walk view.list)
 
--- When two stocks agree.
+-- When two store views agree.
 
 -- two store views agree on a record's key, where its length is right, on whether its chain reaches it, and on its streams
 pub record SameData (old new : StoreView) (contents : ℕ) (fields : RecordFields) : Type 0 where

@@ -44,7 +44,7 @@ b_is_not_first (inl here) = other_key here.0
 b_is_not_first (inr (inl here)) = none_contained (empty a) here.1
 b_is_not_first (inr (inr none)) = none
 
--- so it isn't so that whatever is found has the old order: the command may use what came later
+-- so it isn't so that whatever is found has the old order: the command may access what came later
 not_all_keep_their_order : ((state : State) (command : Stamped) (rows : List Row) → Leaves state command rows → (one other : Row) → Contains rows one → Contains rows other → Precedes state.uses (item_of one) (item_of other) → Precedes rows one other) → ⊥
 not_all_keep_their_order law =
     b_is_not_first

@@ -287,11 +287,11 @@ EntriesAreFoundWhole = (from image : Image) (opened state : State) (commands : L
     → CrashesIn from image opened state commands steps command → IsValidState state → (row : Row) (item : Item) → Contains (found image) row
     → owner state item ≡ owner state (item_of row) → (IsEvictedAlone state command item → ⊥) → HasItsRow state (found image) item
 
--- a command uses an item: one of its steps on the LRU list brings the item to the front
+-- a command accesses an item: one of its steps on the LRU list brings the item to the front
 abbrev pub IsUsedBy : State → Stamped → Item → Type 0
 IsUsedBy state command item = Contains (list_steps state command.moment command.request) (front item)
 
--- and of two items that are found the one that comes first in the LRU list before the command is found first, unless the command uses the other
+-- and of two items that are found the one that comes first in the LRU list before the command is found first, unless the command accesses the other
 abbrev pub UnusedItemsKeepTheirOrder : Type 0
 UnusedItemsKeepTheirOrder = (from image : Image) (opened state : State) (commands : List Stamped) (steps : List TrailStep) (command : Stamped)
     → CrashesIn from image opened state commands steps command → (one other : Row) → Contains (found image) one → Contains (found image) other

@@ -70,7 +70,7 @@ pub fn settled_entries_are_found()
 {}
 
 /// Wherever a run crashes in a command, an entry is found as it was before that command, or not at all. It is found whole, but for parts that the command
-/// evicts alone, and what the command doesn't use is found in its old order. An entry that stays dirty, or that the command makes, isn't found.
+/// evicts alone, and what the command doesn't access is found in its old order. An entry that stays dirty, or that the command makes, isn't found.
 pub fn entries_are_found_whole_and_in_order()
     ensures before { FoundRowsAreFromBefore }
     ensures lost { UnsavedItemsAreLost }

@@ -24,7 +24,7 @@ use Rattle.law_folder.proofs.examples.OneEntry as one
 use Rattle.law_folder.proofs.examples.DamagedViews.{node, entry, shown, plain_core}
 use Rattle.law_folder.proofs.states.NewFolders.{new_folder, new-is_new, new-bare}
 
--- An idle list of three nodes: the second of them can be removed and touched, and a fourth be inserted.
+-- An idle list of three nodes: the second of them can be removed and accessed, and a fourth be inserted.
 
 next_of : ℕ → ℕ
 next_of w = if w == 3 then 2 else 1

@@ -1,4 +1,4 @@
--- Completions at each of their words: crashed anywhere and begun again they give the same.
+-- Redos at each of their words: crashed anywhere and begun again they give the same.
 use Rattle.std.proofs.Common.{◌≡◌, ℕ, zero, suc, List, [], ◌∷◌, take, refl, sym, ap, ◌∙◌}
 use Rattle.spec_image.specs.Image.{Image}
 use Rattle.spec_image.specs.Steps.{TrailStep, applied, after}

@@ -39,7 +39,7 @@ pub no-record : (image : Image) → (store_of image).entry 0 ≡ None
 unfolding store_of fields_at stands is_address is_initialized
 no-record image = refl
 
--- with no operation in flight nothing is completed
+-- with no operation in flight the redo does nothing
 pub not-counting : (l : ListView) → l.transaction ≡ 0 → counts l ≡ false
 unfolding counts
 not-counting l e = rw e refl

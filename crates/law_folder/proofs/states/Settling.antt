@@ -164,7 +164,7 @@ linked-named : (v : StoreView) (f : ℕ → Option NodeFields) (b w : ℕ) (cs :
 linked-named v f b w [] h = h
 linked-named v f b w (c ∷ cs) h = (h.0, h.1, linked-named v f b (v.chain_next c) cs h.2)
 
--- a stock with another dirty flag at a node
+-- a store view with another dirty flag at a node
 pub shows-dirty : (v : StoreView) (y : Layout) (r : Shows v y) (w0 d : ℕ) (l : Loaded) (n : NodeFields) (owner : Claim → Option ℕ) → y.at w0 ≡ Some l → v.node_fields w0 ≡ Some n
     → Shows (record v { node_fields = put v.node_fields w0 (Some (record n { dirty = d })) }) (changed_at y w0 (record l { dirty = d }) owner)
 shows-dirty v y r w0 d l n owner at node_fields = record {
