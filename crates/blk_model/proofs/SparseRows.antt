@@ -34,7 +34,7 @@ partial_block_is_lost : replies new (to_create 0 (codes "v") ∷ to_sparse_write
 unfolding computing
 partial_block_is_lost = refl
 
--- a write of no byte uses the main item and leaves the object plain
+-- a write of no byte accesses the main item and leaves the object plain
 no_byte_changes_nothing : replies new (to_create 0 (codes "v") ∷ to_sparse_write 0 5 [] ∷ to_sparse_read 0 0 1 ∷ to_list ∷ [])
     ≡ ok ∷ wrote 0 ∷ refuses refusal.NotSparse ∷ ([], showed (main_row (codes "v") plain ([], [], []) ∷ [])) ∷ []
 unfolding computing

@@ -138,7 +138,7 @@ key_among : (item : Item) (key : List ℕ) (ns : List ℕ) → list_any (same_it
 key_among (main k) key ns is = absurd (contrary (no_main_among k key ns) is)
 key_among (part k n) key ns is = same_bytes k key (and_parts (bytes_eq k key) _ (sym (among_parts k key n ns) ∙ is)).0
 
--- an object that gets parts, and is used with them
+-- an object that gets parts, and is accessed with them
 state_used_new : (state : State) (valid : IsValidState state) (number : ℕ) (object : Object) → object_at state number ≡ Some object → is_named state number ≡ true → object.live ≡ true → (new : Object) → IsObject new → (ns : List ℕ) →
     ((item : Item) → has_item new item ≡ (has_item object item || list_any (same_item item) (map (part object.key) ns))) → IsValidState (used_sparse object ns (with_slot number (Some new) state))
 state_used_new state valid number object here held live new is_object ns has_new =
