@@ -218,7 +218,7 @@ fronts_dooms P to_list state = tt
 fronts_dooms P (to_trim bytes) state = tt
 fronts_dooms P to_total state = tt
 
--- What a command uses stays, or nobody has it.
+-- What a command accesses stays, or nobody has it.
 
 loose_prefix : (stays : Item → Bool) (first others : List Group) → AllByRecursion (IsLoose stays) (first ++ others) → AllByRecursion (IsLoose stays) first
 loose_prefix stays [] others all = tt

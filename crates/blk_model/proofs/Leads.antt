@@ -22,7 +22,7 @@ use Rattle.blk_model.proofs.Written.{without_names}
 use Rattle.blk_model.proofs.Steps.{none_comes, room_for_is_loose}
 
 -- an object keeps its key and does not come to life; what it has while it is clean it had before.
--- Where settles is false no dirty object becomes clean, and where it is true no clean one becomes dirty.
+-- Where `settles` is false no dirty object becomes clean, and where it is true no clean one becomes dirty.
 pub record LeadsTo (settles : Bool) (old new : Object) : Type 0 where
   pub key : new.key ≡ old.key
   pub live : new.live ≡ true → old.live ≡ true

@@ -35,7 +35,7 @@ empty bytes count = open_state [] (record { max_bytes = bytes; max_items = count
 abbrev pub new : State
 new = empty 83886080 65536
 
--- an empty cache of 1000 bytes: the low-water mark is 938, and a stream has at most 125 bytes
+-- an empty cache of 1000 bytes: the low watermark is 938, and a stream has at most 125 bytes
 abbrev pub small : State
 small = empty 1000 65536
 
@@ -117,13 +117,13 @@ made key a b c = to_create 0 key ∷ to_write 0 0 0 false (fill a) ∷ to_write 
 abbrev four : List Request
 four = made (codes "a") 39 0 0 ++ made (codes "b") 100 100 99 ++ made (codes "c") 100 100 99 ++ made (codes "d") 100 100 99
 
--- the last used are evicted, until no more than the low-water mark is left
+-- the least recently used are evicted, until no more than the low watermark is left
 last_used_are_evicted : replies (after_all small four) (to_total ∷ to_create 0 (codes "e") ∷ to_write 0 0 0 false (fill 60) ∷ to_total ∷ [])
     ≡ totals 4 940 ∷ ok ∷ (whole (codes "a") [] ∷ whole (codes "b") [] ∷ [], answered (answer.Wrote 60)) ∷ totals 3 661 ∷ []
 unfolding computing
 last_used_are_evicted = refl
 
--- an object with a handle stays, though it was used last of all
+-- an object with a handle stays, though it is the least recently used
 open_object_stays : replies (after_all small (to_create 9 (codes "a") ∷ to_write 9 0 0 false (fill 39) ∷ made (codes "b") 100 100 99 ++ made (codes "c") 100 100 99 ++ made (codes "d") 100 100 99)) (to_create 0 (codes "e") ∷ to_write 0 0 0 false (fill 60) ∷ to_total ∷ [])
     ≡ ok ∷ (whole (codes "b") [] ∷ [], answered (answer.Wrote 60)) ∷ totals 4 701 ∷ []
 unfolding computing

@@ -24,7 +24,7 @@ settled_is object valid = record {
   parts = valid.parts;
 }
 
--- what is doomed was held before
+-- what holds of an object that is doomed or dirty holds where the object, made clean, is doomed
 settled_held : (live settled : Bool) (P : Type 0) → ((live && settled ≡ false) → P) → (live && true ≡ false) → P
 settled_held true settled P was loose = absurd (contrary loose refl)
 settled_held false settled P was loose = was refl

@@ -34,7 +34,7 @@ partial_block_is_lost : replies new (to_create 0 (codes "v") ∷ to_sparse_write
 unfolding computing
 partial_block_is_lost = refl
 
--- a write of no byte uses the main item and leaves the object plain
+-- a write of no byte accesses the main item and leaves the object plain
 no_byte_changes_nothing : replies new (to_create 0 (codes "v") ∷ to_sparse_write 0 5 [] ∷ to_sparse_read 0 0 1 ∷ to_list ∷ [])
     ≡ ok ∷ wrote 0 ∷ refuses refusal.NotSparse ∷ ([], showed (main_row (codes "v") plain ([], [], []) ∷ [])) ∷ []
 unfolding computing
@@ -58,7 +58,7 @@ key_like_a_part : replies (after_all new (to_create 0 (codes "v") ∷ to_sparse_
 unfolding computing
 key_like_a_part = refl
 
--- a part may be evicted alone while its parent is open, and what it covered is absent then
+-- a part may be evicted alone while its parent is open, and its bytes are absent then
 part_goes_alone : replies (after_all new two_parts) (to_trim 8500 ∷ to_sparse_read 0 1048576 1 ∷ to_sparse_read 0 0 1 ∷ to_trim 0 ∷ to_total ∷ [])
     ≡ (single (codes "v") 1 ∷ [], answered (answer.Trimmed 1)) ∷ gives [] ∷ gives (codes "x") ∷ (single (codes "v") 0 ∷ [], answered (answer.Trimmed 1)) ∷ totals 1 8257 ∷ []
 unfolding computing

@@ -110,7 +110,7 @@ or_turn false b c = ap (λ x. x || c) (sym (or_false b))
     or_false true = refl
     or_false false = refl
 
--- a part is there after a write where it was there before, or is covered
+-- a part is there after a write where it was there before, or is in range
 part_after_at : (ns : List ℕ) (offset : ℕ) (bytes : List ℕ) (parts : List (ℕ × PartValue)) (n : ℕ) → is_some (find nat_cmp n (parts_after ns offset bytes parts)) ≡ (list_any (λ m. n == m) ns || is_some (find nat_cmp n parts))
 unfolding parts_after
 part_after_at [] offset bytes parts n = refl
@@ -138,7 +138,7 @@ key_among : (item : Item) (key : List ℕ) (ns : List ℕ) → list_any (same_it
 key_among (main k) key ns is = absurd (contrary (no_main_among k key ns) is)
 key_among (part k n) key ns is = same_bytes k key (and_parts (bytes_eq k key) _ (sym (among_parts k key n ns) ∙ is)).0
 
--- an object that gets parts, and is used with them
+-- an object that gets parts, and is accessed with them
 state_used_new : (state : State) (valid : IsValidState state) (number : ℕ) (object : Object) → object_at state number ≡ Some object → is_named state number ≡ true → object.live ≡ true → (new : Object) → IsObject new → (ns : List ℕ) →
     ((item : Item) → has_item new item ≡ (has_item object item || list_any (same_item item) (map (part object.key) ns))) → IsValidState (used_sparse object ns (with_slot number (Some new) state))
 state_used_new state valid number object here held live new is_object ns has_new =

@@ -1,4 +1,4 @@
--- States that stay valid while items are used and handles are bound.
+-- States that stay valid while items are accessed and handles are bound.
 use Rattle.std.proofs.Common.{◌≡◌, ℕ, Bool, true, false, ◌&&◌, cond, List, [], Some, None, Option, IfSome, IsSome, is_some, is_none, refl, ap, sym, ◌∙◌, subst, arith, set, length, length-set}
 use Rattle.std.specs.List.{list_any}
 use Rattle.std.specs.Option.{unwrap_or}
@@ -31,7 +31,7 @@ times_or_one : (b : Bool) (n m : ℕ) → n ≡ m → (b ≡ true → m ≡ 1) �
 times_or_one true n m e one = sym (one refl)
 times_or_one false n m e one = e
 
--- items with owners may be used
+-- items with owners may be accessed
 pub state_used_all : (state : State) (valid : IsValidState state) (items : List Item) → ((item : Item) → list_any (same_item item) items ≡ true → owners item state.objects ≡ 1) → IsValidState (record state { uses = used_all items state.uses })
 state_used_all state valid items owned =
     state_uses state valid (used_all items state.uses) (λ item. times-used_all item items state.uses ∙ times_or_one (list_any (same_item item) items) _ _ (valid.listed item) (owned item))
@@ -81,7 +81,7 @@ has_main object live = and_from _ _ live (bytes_eq_self object.key)
 pub main_owner : (state : State) (valid : IsValidState state) (n : ℕ) (object : Object) → object_at state n ≡ Some object → object.live ≡ true → owners (main object.key) state.objects ≡ 1
 main_owner state valid n object here live = one_owner state valid (main object.key) n (ap (slot_has_item (main object.key)) here ∙ has_main object live)
 
--- a read, and each other use of the object that a handle names
+-- a read, and each other access of the object that a handle names
 pub state_used_main : (state : State) (valid : IsValidState state) (handle : ℕ) → names_none state handle ≡ false → IsValidState (used_main (object_of state handle) state)
 state_used_main state valid handle bound =
     let named = named_object state valid handle bound in

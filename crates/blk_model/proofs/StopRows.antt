@@ -38,7 +38,7 @@ three = after_all new (made a ++ made b ++ made c)
 abbrev held : State → Request → ℕ → Bool → List Item
 held state request j with_turned = map item_of (pick state (step state 100 request).state with_turned (list_after state 100 request j))
 
--- touching an item: the old order before it moves, the new one after
+-- accessing an item: the old order before it moves, the new one after
 touched : length (list_steps three 100 (to_open 0 b)) ∷ [] ≡ 1 ∷ []
 unfolding computing
 touched = refl
@@ -52,7 +52,7 @@ touched_held = refl
 abbrev changed : State
 changed = after_all three (to_open 5 a ∷ to_write 5 0 0 false (codes "x") ∷ [])
 
--- closing it makes no list step: it is absent until it is turned, and then there
+-- closing it makes no list step: it is absent until the Close commits, and then there
 closed_steps : length (list_steps changed 100 (to_close 5)) ≡ 0
 unfolding computing
 closed_steps = refl

@@ -39,7 +39,7 @@ same_item-sym i j =
       ] refl
     ] refl
 
--- the item that is used occurs once, each other as often as before
+-- the item that is accessed occurs once, each other as often as before
 pub times-used : (i j : Item) (items : List Item) → times i (used j items) ≡ cond (same_item i j) 1 (times i items)
 times-used i j items =
     let rest = times-filter (λ other. not (same_item j other)) i items in
@@ -47,7 +47,7 @@ times-used i j items =
     split ∙ ap (λ n. cond (same_item i j) 1 0 + n) (rest ∙ ap (λ b. cond (not b) (times i items) 0) (same_item-sym j i))
     ∙ elim (same_item i j) as (λ b. cond b 1 0 + cond (not b) (times i items) 0 ≡ cond b 1 (times i items)) [ true ↦ omega arith | false ↦ omega arith ]
 
--- so with several that are used
+-- so with several that are accessed
 pub times-used_all : (i : Item) (more items : List Item) → times i (used_all more items) ≡ cond (list_any (same_item i) more) 1 (times i items)
 times-used_all i [] items = refl
 times-used_all i (j ∷ more) items =

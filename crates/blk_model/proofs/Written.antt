@@ -69,7 +69,7 @@ written_has : (object : Object) (stream offset : ℕ) (cut : Bool) (bytes : List
 written_has object stream offset cut bytes (main key) = refl
 written_has object stream offset cut bytes (part key n) = refl
 
--- the use of a main item, by an object that is the same but for its streams
+-- the access of a main item, by an object that is the same but for its streams
 used_after : (state : State) (valid : IsValidState state) (number : ℕ) (object new : Object) → object_at state number ≡ Some new → new.key ≡ object.key → new.live ≡ object.live → IsValidState (used_main object state)
 used_after state valid number object new here key live =
     elim (object.live) as (λ b. object.live ≡ b → IsValidState (record state { uses = cond b (used (main object.key) state.uses) state.uses })) [

@@ -4,7 +4,7 @@ use Rattle.blk_model.specs.Sizes.{most_bytes, most_items}
 use Rattle.blk_model.specs.declared.bounds.Limits.{Limits}
 use Rattle.blk_model.specs.State.{Bounds}
 
--- a cache may be told to keep from 1 to the most bytes, and from 1 to the most items
+-- a cache may have a limit of 1 to the most bytes, and one of 1 to the most items
 abbrev pub AreAllowed : ℕ → ℕ → Type 0
 AreAllowed max_bytes max_items = (1 ≤ max_bytes) × (max_bytes ≤ most_bytes) × (1 ≤ max_items) × (max_items ≤ most_items)
 

@@ -107,13 +107,13 @@ sparse_after moment object offset (byte ∷ bytes) = record object {
 abbrev pub used_sparse : Object → List ℕ → State → State
 used_sparse object ns state = record state { uses = used_all (main object.key ∷ map (part object.key) ns) state.uses }
 
--- after SparseWrite: the bytes are written, and the main item and the covered parts come to the front
+-- after SparseWrite: the bytes are written, and the main item and the parts in range come to the front
 unfoldable pub sparse_written : ℕ → ℕ → ℕ → List ℕ → State → State
 sparse_written moment handle offset bytes state =
     let object = object_of state handle in
     used_sparse object (covered_parts offset (length bytes)) (with_slot (number_of state handle) (Some (sparse_after moment object offset bytes)) state)
 
--- after SparseRead and SparseRange: the main item and the covered parts that there are come to the front
+-- after SparseRead and SparseRange: the main item and the parts in range that there are come to the front
 unfoldable pub sparse_used : ℕ → ℕ → ℕ → State → State
 sparse_used handle offset count state =
     let object = object_of state handle in

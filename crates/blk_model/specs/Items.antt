@@ -1,4 +1,4 @@
--- What a cache keeps: items, rows and holdings.
+-- What a cache keeps: items, rows and snapshots.
 use Rattle.std.specs.Prelude.{◌≡◌, ℕ, ◌+◌, ◌*◌, ◌<◌, ◌≤◌, Bool, true, false, ◌&&◌, ◌==◌, List, [], length, map, Option, IfSome, All, IsTrue, slice_index_or, count_by}
 use Rattle.std.specs.Str.{bytes_eq}
 use Rattle.blk_model.specs.Sizes.{byte_values, longest_key, part_size, part_block_size, part_blocks, part_count, signatures}

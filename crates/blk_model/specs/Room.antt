@@ -64,12 +64,12 @@ items state = count_of state.objects
 abbrev pub low : State → ℕ
 low state = state.limits.max_bytes - state.limits.max_bytes / free_share
 
--- whether an item is pinned, where these parts are covered
+-- whether an item is pinned, where these parts are in range
 abbrev pub is_pinned : State → List Item → Item → Bool
 is_pinned state covered (main key) = option_map_or (is_named state) (live_with state key) false
 is_pinned state covered (part key n) = list_any (same_item (part key n)) covered
 
--- what is pinned of the object with a number: all of a doomed object, a main item with a handle, and the covered parts
+-- what is pinned of the object with a number: all of a doomed object, a main item with a handle, and the parts in range
 unfoldable pub pinned_of : State → List Item → ℕ → Object → Option Object
 pinned_of state covered number object =
     if not object.live || is_named state number

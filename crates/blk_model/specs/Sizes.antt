@@ -65,10 +65,10 @@ parts_index_charge = 8256
 abbrev pub blocks_index_charge : ℕ
 blocks_index_charge = 192
 
--- a cache keeps at most this many bytes, whatever it is told
+-- a cache keeps at most this many bytes, whatever limit it is given
 abbrev pub most_bytes : ℕ
 most_bytes = 1099511627776
 
--- a cache keeps at most this many items, whatever it is told
+-- a cache keeps at most this many items, whatever limit it is given
 abbrev pub most_items : ℕ
 most_items = 131072

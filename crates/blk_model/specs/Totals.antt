@@ -1,4 +1,4 @@
--- The totals, told by the rows that are listed.
+-- The totals, as sums over the rows that are listed.
 use Rattle.std.specs.Prelude.{◌≡◌, ℕ, ◌+◌, Bool, false, not, if◌then◌else◌, List, length, sum_by, count_by, Option, Some, None}
 use Rattle.std.specs.Option.{option_map_or}
 use Rattle.blk_model.specs.Items.{main, Row, main_row, part_row, signature_of}

@@ -2,11 +2,11 @@
 ghost use Rattle.std.specs.Prelude.{◌≤◌};
 ghost use Rattle.blk_model.specs.Sizes.{most_bytes, most_items};
 
-/// The greatest number of bytes that a cache may be told to keep.
+/// The greatest number of bytes to which a cache may be limited.
 pub const MOST_BYTES: u64 = 1099511627776;
 /// The most bytes of a stream, whatever a cache keeps.
 pub const MOST_STREAM: u32 = 2147483647;
-/// The greatest number of items that a cache may be told to keep.
+/// The greatest number of items to which a cache may be limited.
 pub const MOST_ITEMS: u32 = 131072;
 
 /// How many bytes and items a cache keeps at most: from 1 to `MOST_BYTES`, and from 1 to `MOST_ITEMS`.

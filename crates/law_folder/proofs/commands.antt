@@ -1,4 +1,4 @@
--- The changes of commands: creating, opening, touching, removing, dooming.
+-- The changes of commands: creating, opening, accessing, removing, dooming.
 pub mod Created
 pub mod Creating
 pub mod DoomWrites

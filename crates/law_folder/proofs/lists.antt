@@ -1,4 +1,4 @@
--- The LRU list: its walk, what operations leave at each write and at each word, and completing.
+-- The LRU list: its walk, what operations leave at each write and at each word, and the redo.
 pub mod Adding
 pub mod AtRest
 pub mod ListCompletions

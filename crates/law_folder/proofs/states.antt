@@ -1,4 +1,4 @@
--- What represents a state, and what stands for one: layouts, dirty words, counters and seals.
+-- Views and images that represent a state: layouts, dirty flags, counters and checksums.
 pub mod Bare
 pub mod Central
 pub mod Changing

@@ -1,4 +1,4 @@
--- Single writes: sealed updates of nodes and records, and words of the index.
+-- Single writes: updates of nodes and records under a checksum 0, and words of the index.
 pub mod Counting
 pub mod IndexWords
 pub mod NodeRecords

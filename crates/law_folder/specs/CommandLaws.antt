@@ -1,4 +1,4 @@
--- The laws of the changes that commands make: objects in the midst of a change, removals, the dirty word, Open and Create.
+-- The laws of the changes that commands make: objects in the midst of a change, removals, the dirty flag, Open and Create.
 use Rattle.std.specs.Prelude.{◌≡◌, ◌⊎◌, ℕ, ◌<◌, not, ◌&&◌, ◌==◌, if◌then◌else◌, nat_lt, List, [], length, map, take, Bool, true, false}
 use Rattle.std.specs.List.{filter, filter_map}
 use Rattle.std.specs.declared.option.Option.{Option}
@@ -61,7 +61,7 @@ LessIsRepresented = (except : ℕ → Bool) (view : View) (state : State) (objec
     → HasLess state objects keep layout at chains owners → HoldsExcept except view.store state (record layout { chains = chains }) → ((node : ℕ) (loaded : Loaded) → at node ≡ Some loaded → except node ≡ false) → IsAtRest view.list (nodes_of layout (filter keep state.uses))
     → Represents view (without_items state objects keep) (placed_less layout at chains owners)
 
--- The dirty word.
+-- The dirty flag.
 
 -- the object of a number is live, and its main item's node has this record
 pub record IsPlacedAsLive (state : State) (layout : Layout) (number : ℕ) (object : Object) (loaded : Loaded) : Type 0 where

@@ -1,4 +1,4 @@
--- The laws of items that are used and of items that are new, whatever store shows the same.
+-- The laws of items that are accessed and of items that are new, whatever store shows the same.
 use Rattle.std.specs.Prelude.{◌≡◌, ℕ, List, map, take, true, nat_lt, if◌then◌else◌}
 use Rattle.std.specs.declared.option.Option.{Option}
 use Rattle.blk_model.specs.Items.{Item}

@@ -17,7 +17,7 @@ use Rattle.spec_folder.specs.Chains.{file_and_block, most_records, is_of_bucket,
 abbrev pub WalksAreTheLists : Type 0
 WalksAreTheLists = (list : ListView) (nodes : List ℕ) → IsList list nodes → walk list ≡ nodes
 
--- the nodes of a walk are different, and each is there with a right or absent seal
+-- the nodes of a walk are different, and each is there with a right or absent checksum
 abbrev pub WalksAreDistinct : Type 0
 WalksAreDistinct = (list : ListView) → Distinct (walk list) × ((node : ℕ) → is_among (walk list) node ≡ true → list.checks node ≡ true)
 

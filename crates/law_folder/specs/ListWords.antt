@@ -26,15 +26,15 @@ WritesAreMade = (image : Image) (writes : List ListWrite) → IsWritable image �
 abbrev pub WritesCanGoOn : Type 0
 WritesCanGoOn = (image : Image) (writes : List ListWrite) → IsWritable image → Along IsWritable image (steps_of_writes writes image)
 
--- after some writes into the LRU list each node that they write is sealed
+-- after some writes into the LRU list each node that they write has its checksum
 abbrev pub WritesSealTheirNodes : Type 0
 WritesSealTheirNodes = (image : Image) (writes : List ListWrite) → IsWritable image → CanBeMade image writes → AreNodesSealed writes (after (steps_of_writes writes image) image)
 
--- after some writes into the LRU list each node that was sealed is sealed
+-- after some writes into the LRU list each node that had its checksum has it
 abbrev pub WritesKeepSeals : Type 0
 WritesKeepSeals = (image : Image) (writes : List ListWrite) → IsWritable image → CanBeMade image writes → KeepsSealed image (after (steps_of_writes writes image) image)
 
--- the sealed update of a node seals it, and keeps the seals of other nodes
+-- the update of a node under a checksum 0 gives it its checksum, and keeps the checksums of other nodes
 abbrev pub NodeUpdatesKeepSeals : Type 0
 NodeUpdatesKeepSeals = (image : Image) (node : ℕ) (changes : List (ℕ × ℕ)) → IsWritable image → (list_of image).checks node ≡ true → AreChanges (seal_place node) changes → All (λ change. change.0 + 4 ≤ seal_place node) changes
     → IsSealed (after (sealed_steps image node changes) image) node × KeepsSealed image (after (sealed_steps image node changes) image)
@@ -94,16 +94,16 @@ TouchesEndAtRest = (image : Image) (node moment : ℕ) (prefix suffix : List ℕ
 abbrev pub TouchesSetTheTimes : Type 0
 TouchesSetTheTimes = (image : Image) (node moment : ℕ) (prefix suffix : List ℕ) → IsWritable image → HasListAtRest (prefix ++ node ∷ suffix) image → moment < 2 ^ 64 → AreTimes node moment (after (steps_of_touch node moment image) image)
 
--- an access ends with the node sealed, and each node that its writes into the LRU list are of
+-- an access ends with the checksums of the node and of each node that its writes into the LRU list are of
 abbrev pub TouchesSealTheirNodes : Type 0
 TouchesSealTheirNodes = (image : Image) (node moment : ℕ) (prefix suffix : List ℕ) → IsWritable image → HasListAtRest (prefix ++ node ∷ suffix) image
     → AreNodesSealed (touch_writes node (list_of image)) (after (steps_of_touch node moment image) image) × IsSealed (after (steps_of_touch node moment image) image) node
 
--- after an access each node that was sealed is sealed
+-- after an access each node that had its checksum has it
 abbrev pub TouchesKeepSeals : Type 0
 TouchesKeepSeals = (image : Image) (node moment : ℕ) (prefix suffix : List ℕ) → IsWritable image → HasListAtRest (prefix ++ node ∷ suffix) image → KeepsSealed image (after (steps_of_touch node moment image) image)
 
--- Completions, on every list.
+-- Redos, on every list.
 
 -- the writes of a redo can be made on the image
 abbrev pub CompletionsCanBeMade : Type 0

@@ -8,7 +8,7 @@ use Rattle.spec_format.specs.Sealed.{AreChanges, IsMidUpdate, seal_place}
 use Rattle.spec_folder.specs.ShownChanges.{OnlyListChanges, OnlyNodeFieldsChange}
 use Rattle.spec_format.specs.Records.{node_next_place, node_prev_place, node_contents_place, node_dirty_place}
 
--- a node is there, its seal is right or absent, and the image is one of bytes
+-- a node is there, its checksum is right or absent, and the image is one of bytes
 pub record IsNode (image : Image) (w : ℕ) : Type 0 where
   pub good : (list_of image).checks w ≡ true
   pub bytes : AreBytes image

@@ -9,7 +9,7 @@ use Rattle.spec_folder.specs.View.{RecordFields, fields_of, store_of}
 use Rattle.spec_format.specs.Sealed.{AreChanges, IsMidUpdate, seal_place, record_at}
 use Rattle.spec_folder.specs.ShownChanges.{OnlyChainNextChanges, OnlyRecordFieldsChange}
 
--- a record is there, its seal is right or absent, and the image is one of bytes
+-- a record is there, its checksum is right or absent, and the image is one of bytes
 pub record IsRecord (image : Image) (w : ℕ) (fields : RecordFields) : Type 0 where
   pub here : (store_of image).entry w ≡ Some fields
   pub good : fields.checks ≡ true
@@ -20,7 +20,7 @@ abbrev pub ChainNextsAreWritten : Type 0
 ChainNextsAreWritten = (from image : Image) (w x : ℕ) (fields : RecordFields) → IsRecord from w fields → x < 2 ^ 32 → (moment : IsMidUpdate from w ((entry_next_place, x) ∷ []) image)
     → OnlyChainNextChanges w from image × ((store_of image).chain_next w ≡ (if moment.made == 0 then (store_of from).chain_next w else x))
 
--- the fields of an entry record of these bytes, once it is sealed
+-- the fields of an entry record of these bytes, once it has its checksum
 abbrev pub sealed_fields : List ℕ → RecordFields
 sealed_fields bytes = record (fields_of (entry_in (content bytes) 0)) { checks = true }
 

@@ -14,7 +14,7 @@ use Rattle.spec_folder.specs.Searches.{bucket_of_key, chained_for, IsWholeChain,
 abbrev pub ChainsAreTheLayouts : Type 0
 ChainsAreTheLayouts = (view : View) (state : State) (layout : Layout) → Represents view state layout → (bucket : ℕ) → bucket < table_length → (chain view.store bucket).reached ≡ layout.chains bucket
 
--- where a view represents a state, no chain has more records than there are listed nodes: each record is another one's
+-- where a view represents a state, no chain has more records than there are listed nodes: each record is that of another node
 abbrev pub RepresentedChainsAreShort : Type 0
 RepresentedChainsAreShort = (view : View) (state : State) (layout : Layout) → Represents view state layout → (bucket : ℕ) → bucket < table_length → (length (layout.chains bucket) ≤ length (order state layout)) × (length (layout.chains bucket) ≤ most_nodes)
 
@@ -28,12 +28,12 @@ pub record IsSearchable (view : View) (key : List ℕ) : Type 0 where
 abbrev pub RepresentedChainsCanBeSearched : Type 0
 RepresentedChainsCanBeSearched = (view : View) (state : State) (layout : Layout) → Represents view state layout → (key : List ℕ) → IsSearchable view key
 
--- where a view represents a state, a record in a key's chain that has the key and is no child is that of the live object with the key, and so is the node that
+-- where a view represents a state, a record in a key's chain that has the key and is no part is that of the live object with the key, and so is the node that
 -- it names
 abbrev pub FoundRecordsAreLive : Type 0
 FoundRecordsAreLive = (view : View) (state : State) (layout : Layout) → Represents view state layout → (key : List ℕ) (entry : ℕ) → is_among (chained_for view.store key) entry ≡ true → (found : HasKey view.store key false entry)
     → IsOfLive state layout key entry found.fields.rankings_node
 
--- where a view represents a state, and no record in a key's chain has the key and is no child, no live object has the key
+-- where a view represents a state, and no record in a key's chain has the key and is no part, no live object has the key
 abbrev pub NoneFoundIsMissing : Type 0
 NoneFoundIsMissing = (view : View) (state : State) (layout : Layout) → Represents view state layout → IsValidState state → (key : List ℕ) → NoneHasKey view.store (chained_for view.store key) key false → live_with state key ≡ None

@@ -1,4 +1,4 @@
--- The laws of folders that have a state: maps, counters, lengths and seals beside what is shown.
+-- The laws of folders that have a state: maps, counters, lengths and checksums beside what is shown.
 use Rattle.std.specs.Prelude.{◌≡◌, ℕ, List, true}
 use Rattle.spec_image.specs.Image.{Image}
 use Rattle.spec_image.specs.Steps.{after}

@@ -244,7 +244,7 @@ pub fn new_items_are_placed()
     ensures { NewItemsArePlaced }
 {}
 
-/// Where a view represents a state, the hash chain of any key can be searched: a record with the key that is no child is that of the live object with the key,
+/// Where a view represents a state, the hash chain of any key can be searched: a record with the key that is no part is that of the live object with the key,
 /// and where there is none no live object has it. Each chain is the layout's, and has no more records than there are listed nodes.
 pub fn chains_are_searched()
     ensures chains { ChainsAreTheLayouts }

@@ -1,11 +1,11 @@
 // The laws of the LRU list in bytes.
 //
-// Each write into the list is a sealed update of a node or one word of the index; a folder may crash at each word of an operation.
+// Each write into the list is an update of a node under a checksum 0, or one word of the index; the process may crash at each word of an operation.
 ghost use Rattle.law_folder.specs.ListWords.{WritesAreMadeInTurn, WritesAreMade, WritesCanGoOn, WritesSealTheirNodes, WritesKeepSeals, NodeUpdatesKeepSeals, InsertsCanBeMade, InsertsCommitAtTheSecondWord, InsertsEndAtRest, RemovalsCanBeMade, RemovalsCommitAtTheSecondWord, RemovalsEndAtRest};
 ghost use Rattle.law_folder.specs.ListWords.{TouchesCanBeMade, TouchesAreMadeInTurn, TouchesCanGoOn, TouchesCommitAtTheSecondWord, TouchesEndAtRest, TouchesSetTheTimes, TouchesSealTheirNodes, TouchesKeepSeals, CompletionsCanBeMade, CompletionsKeepTheOutcome, CompletionsAreDone, CompletionsMayBeStopped};
 
 /// At each word of some writes into the LRU list a prefix of the writes is made, and nothing else is shown to change. In the end all are made, each node that
-/// they write is sealed, each that was sealed is so still, and more can be written.
+/// they write has its checksum, each that had its checksum has it still, and more can be written.
 pub fn writes_are_made_in_turn()
     ensures at_each_word { WritesAreMadeInTurn }
     ensures ends { WritesAreMade }
@@ -32,7 +32,7 @@ pub fn removals_at_each_word()
 {}
 
 /// An access of a node of the LRU list commits at its second word: the redo after a crash gives the old order before that word, and the node in front from it
-/// on. In the end the list is idle, the node has the moment as both its times, and it is sealed, as each node is that was.
+/// on. In the end the list is idle, the node has the moment as both its times, and it has its checksum, as each node has that had it.
 pub fn touches_at_each_word()
     ensures can { TouchesCanBeMade }
     ensures at_each_word { TouchesAreMadeInTurn }

@@ -63,7 +63,7 @@ use Rattle.law_recovery.proofs.SoundFolders.{sound-mended, mended-none}
 whole-mended : IsMended whole_folder
 whole-mended = sound-mended whole_folder whole-is_sound (its-version (byte whole_folder Index) 1 3 whole-counts)
 
--- a folder of the first version is consistent, and its version is to be raised
+-- a folder of the first version is consistent, and its version is to be upgraded
 first-is_not_mended : IsMended first_folder → ⊥
 first-is_not_mended mended =
     let c : true ≡ false = ap (λ (v : ℕ). v == first_version) (sym first-version ∙ its-version (byte first_folder Index) (length (kept first_folder)) (sum_by charge_of (kept first_folder)) mended.counters) in cc

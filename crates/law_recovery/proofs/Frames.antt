@@ -33,7 +33,7 @@ apart-claim xs (y ∷ ys) c none there =
     (λ (e : same_claim c y ≡ false). apart-claim xs ys c parts.1 (rw e at there))
     (cases_Bool (same_claim c y))
 
--- what is after in used blocks of which none occurs twice is not in front
+-- in two lists of used blocks that together have none twice, what is in the second isn't in the first
 once-claim : (xs ys : List Claim) (c : Claim) → repeats (xs ++ ys) ≡ false → has_claim ys c ≡ true → has_claim xs c ≡ false
 unfolding repeats has_claim
 once-claim [] ys c once there = refl

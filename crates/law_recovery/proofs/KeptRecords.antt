@@ -1,4 +1,4 @@
--- What is kept can be written: its nodes and its records check.
+-- What is kept can be written: its nodes and its records have right or absent checksums.
 use Rattle.std.proofs.Common.{◌≡◌, ℕ, List, [], ◌∷◌, Bool, true, false, Option, Some, None, Ok, refl, ap, sym, ◌∙◌, subst, ⊎_elim}
 use Rattle.std.specs.Prelude.{if◌then◌else◌, ◌==◌, ◌||◌, map}
 use Rattle.std.specs.List.{filter_map, cons_option}
@@ -52,7 +52,7 @@ checks-front : (node : ℕ) (list : ListView) → (put_front node list).checks �
 unfolding put_front
 checks-front node list = checks_stay (putting_in_front node list.head) list
 
--- completing changes no check
+-- the redo leaves which nodes have a right or absent checksum
 pub checks-completed : (list : ListView) → (completed_list list).checks ≡ list.checks
 unfolding completed_list operated
 checks-completed list = go (counts list) (list.operation == insert) (list.operation == remove) where

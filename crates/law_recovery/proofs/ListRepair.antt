@@ -144,7 +144,7 @@ pub made-along : (image : Image) (writes : List ListWrite) → IsWritable image 
 made-along image writes ready can =
     until_both (IsPartly image writes) IsWritable (IsPartly image writes) IsWritable (steps_of_writes writes image) image (writes_show writes image ready can).along (writes-go_on image writes ready)
 
--- writes after which completing leaves nodes that keep the same, after each prefix of them
+-- writes after which the redo leaves nodes that keep the same, after each prefix of them
 pub writes-hold : (from image : Image) (writes : List ListWrite) → IsWellFormed from → IsWellFormed image → IsWritable image → ShowsTheSame (store_of from) (store_of image) → CanBeMade image writes
     → ((count : ℕ) → kept_among (store_of from) held_rule (walk (completed_list (after_writes (take count writes) (list_of image)))) ≡ kept from) → Along (HoldsTheSame from) image (steps_of_writes writes image)
 writes-hold from image writes well_from well ready same can keeps =
@@ -273,7 +273,7 @@ end-can image = by_nodes (walk (list_of image)) (walked-is (list_of image).check
 pub holds-trans : (a b c : Image) → HoldsTheSame a b → HoldsTheSame b c → HoldsTheSame a c
 holds-trans a b c p q = record { well_formed = q.well_formed; writable = q.writable; kept_same = q.kept_same ∙ p.kept_same; found_same = q.found_same ∙ p.found_same }
 
--- completing
+-- the redo
 completion-holds : (image : Image) → IsWellFormed image → IsWritable image → Along (HoldsTheSame image) image (completion_steps image)
 unfolding kept
 completion-holds image well ready =

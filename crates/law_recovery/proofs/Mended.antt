@@ -1,4 +1,4 @@
--- A repaired folder stands for what it holds, opened, and is sound.
+-- A repaired folder represents what it holds, opened, and is consistent.
 use Rattle.std.proofs.Common.{◌≡◌, ⊎_elim, ℕ, ◌<◌, true, false, List, [], ◌∷◌, ◌++◌, Option, Some, None, refl, sym, ap, ap₂, ◌∙◌, subst}
 use Rattle.std.specs.Prelude.{length, map, is_some}
 use Rattle.std.specs.Option.{option_map}
@@ -62,7 +62,7 @@ pub append-none : {A : Type 0} (xs : List A) → xs ++ [] ≡ xs
 append-none [] = refl
 append-none {A} (x ∷ xs) = ap (λ (ys : List A). x ∷ ys) (append-none xs)
 
--- what is repaired of files, seals and counters is in order
+-- what is repaired of files, checksums and counters is in order
 mended-in_order : (image : Image) → IsMended image → IsInOrder image (kept image) []
 mended-in_order image mended = record {
   only_linked = mended.only.only_linked;
@@ -158,7 +158,7 @@ module _ (image : Image) (limits : Bounds) (mended : IsMended image) (valid : Is
 pub mended-folders : MendedFoldersStandFor
 mended-folders image limits mended are = mended-stands image limits mended (found-holding image are)
 
--- ---- soundness
+-- ---- consistency
 
 -- any limits
 some-limits : Bounds

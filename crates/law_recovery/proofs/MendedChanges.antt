@@ -272,7 +272,7 @@ hidden-change from image at mended aligned inside hidden unchecked same =
 pub version-change : VersionsMayChange
 version-change from image mended is = same-view from image mended (formed-kept from image (versions-raised from image is) mended.well_formed) (others-hidden from image 4 refl (omega arith) refl is.outside)
 
--- ---- seals
+-- ---- checksums
 
 chain_next-small : (image : Image) (w : ℕ) → AreBytes image → (store_of image).chain_next w < 2 ^ 32
 unfolding store_of follow_at entry_in
@@ -281,7 +281,7 @@ chain_next-small image w bytes = go (stands_as image blocks_256 w) where
   go true = word-fits (byte image (Block (file_selector w))) (bytes (Block (file_selector w))) (place w + 4)
   go false = omega arith
 
--- at a word of a seal a change is not made yet
+-- a moment of an update without changes is one of an update whose change isn't made yet
 sealing-mid : (from image : Image) (w : ℕ) (change : ℕ × ℕ) → IsMidUpdate from w [] image → IsMidUpdate from w (change ∷ []) image
 sealing-mid from image w change mid = record {
   made = 0;

@@ -1,4 +1,4 @@
--- What leaves repaired files and seals as they are.
+-- What leaves repaired files and checksums as they are.
 use Rattle.std.proofs.Common.{◌%◌, ◌<◌, ◌⊎◌, arith, ⊎_elim, Some, false, ◌≡◌, ℕ, ◌+◌, ◌≤◌, Bool, true, List, [], ◌∷◌, length, Option, refl, ap, sym, ◌∙◌, subst}
 use Rattle.std.specs.Prelude.{nat_le, nat_lt, ◌&&◌, is_some}
 use Rattle.std.specs.Option.{unwrap_or}

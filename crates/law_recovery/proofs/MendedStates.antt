@@ -21,7 +21,7 @@ use Rattle.law_recovery.proofs.FoundHolding.{found-holding}
 use Rattle.law_recovery.proofs.Mended.{allocated-here, append-none, listed-same}
 use Rattle.law_recovery.proofs.MendedLinks.{mended-represents, rows-are}
 
--- the first of some that passes a test is sealed, as all are
+-- the first of some that passes a test has its checksum, as all have
 first-sealed : (image : Image) (test : Loaded → Bool) (ks : List Loaded) (k : Loaded) → AllByRecursion (AreSealed image) ks → first_that test ks ≡ Some k → AreSealed image k
 first-sealed image test [] k all is = cc
 first-sealed image test (x ∷ xs) k all is = go (test x) refl (first-sealed image test xs k all.1) is where

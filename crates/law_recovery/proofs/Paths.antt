@@ -211,8 +211,8 @@ pub path-suffix : (v : StoreView) (b w : ℕ) (prefix : List ℕ) (c : ℕ) (old
 path-suffix v b w [] c old path = (path.1, path.2)
 path-suffix v b w (x ∷ prefix) c old path = path-suffix v b (v.chain_next x) prefix c old path.2
 
--- a path that ends at the word 0 is a whole chain
--- the word after a path: the link of its last record, or the word it begins with
+-- The word after a path is the link of its last record, or the word it begins with.
+-- A path after which it is 0 is a whole chain.
 abbrev pub end_of : StoreView → ℕ → List ℕ → ℕ
 end_of v w [] = w
 end_of v w (x ∷ xs) = end_of v (v.chain_next x) xs

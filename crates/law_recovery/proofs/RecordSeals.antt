@@ -1,4 +1,4 @@
--- Records that are sealed stay so, by one update after another.
+-- Records that have their checksums keep them, through one update after another.
 use Rattle.std.proofs.Common.{None, Some, inl, ◌≢◌, ◌%◌, All, Option, ◌≡◌, ◌⊎◌, ⊎_elim, ℕ, ◌+◌, ◌*◌, ◌<◌, ◌≤◌, Bool, true, false, List, [], ◌∷◌, refl, ap, ap₂, sym, ◌∙◌, subst, arith}
 use Rattle.std.specs.Prelude.{◌==◌, ◌&&◌, nat_le, nat_lt}
 use Rattle.std.proofs.lemmas.Bool.{eq-eqb, eqb-true, and_left, and_right}
@@ -50,7 +50,7 @@ use Rattle.law_folder.proofs.updates.StillShown.{standing-parts}
 use Rattle.law_folder.proofs.lists.WriteSteps.{first_can, one_write, rest_can, writable-after}
 use Rattle.law_recovery.specs.RecordSeals.{GrowthLeavesSeals, UnlinkedFilesLeaveSeals, ExternalFilesLeaveSeals, RecordsAreBehindHeaders, IndexWordsAreBehindHeaders, IsSealedAt, KeepsRecordsSealed, SealsAreMade, SealsStand}
 
--- ---- one seal
+-- ---- one checksum
 
 seal-made : (from image : Image) (w : ℕ) (changes : List (ℕ × ℕ)) → AreChanges (seal_place w) changes → IsUpdated from w changes image → IsSealedAt image w
 seal-made from image w changes are done = eq-eqb _ _ (updated_seal from image w changes are done)
@@ -185,7 +185,7 @@ writes-keep (write ∷ writes) from ready can =
 
 -- ---- growth and files that go
 
--- a record whose bytes are the same stays sealed
+-- a record whose bytes are the same keeps its checksum
 pub same-sealed : (from image : Image) (w : ℕ) → ((i : ℕ) → place w ≤ i → i < place w + record_size w → byte image (Block (file_selector w)) i ≡ byte from (Block (file_selector w)) i) → IsSealedAt from w → IsSealedAt image w
 unfolding record_at
 same-sealed from image w same was =

@@ -128,7 +128,7 @@ module _ (from : Image) (w x : ℕ) (fields : RecordFields) (here : (store_of fr
       } in
       (by-law new full).1
 
--- the update of a record's next leaves what was sealed
+-- after the update of a record's next each record that had its checksum has it
 pub record-sealed_next : (from : Image) (w x : ℕ) (fields : RecordFields) → (store_of from).entry w ≡ Some fields → fields.checks ≡ true → IsWritable from → KeepsRecordsSealed from (after (sealed_steps from w ((4, x) ∷ [])) from)
 record-sealed_next from w x fields here good ready =
     let kind = shown-kind from w fields here in

@@ -59,7 +59,7 @@ shown-same v u rule nodes same = kept_among-same v u rule nodes (each nodes) whe
   each [] = tt
   each (w ∷ ws) = (same-node_fields v u same w, each ws)
 
--- the same is held where what completing leaves keeps the same
+-- the same is held where what the redo leaves keeps the same
 pub holds-from : (from image : Image) → IsWellFormed from → IsWellFormed image → IsWritable image → ShowsTheSame (store_of from) (store_of image) → kept_among (store_of from) held_rule (completed_walk image) ≡ kept from → HoldsTheSame from image
 unfolding found kept
 holds-from from image well_from well ready same is =

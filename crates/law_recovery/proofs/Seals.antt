@@ -1,4 +1,4 @@
--- What is kept is sealed, one record after the other.
+-- What is kept gets its checksums, one record after the other.
 use Rattle.std.proofs.Common.{◌≡◌, ℕ, ◌+◌, true, List, [], ◌∷◌, take, refl, ap, ap₂, sym, ◌∙◌, subst, arith}
 use Rattle.std.specs.Prelude.{◌==◌, map}
 use Rattle.std.specs.List.{AllByRecursion}
@@ -24,7 +24,7 @@ use Rattle.law_recovery.specs.ChainRepair.{is_kept_record, IsStandingRecord}
 use Rattle.law_recovery.specs.MendedParts.{KeptAreSealed}
 use Rattle.law_recovery.proofs.KeptRecords.{kept-nodes-check, kept-records-check}
 
--- an entry record is sealed where it is so in its bytes
+-- an entry record has its checksum exactly where its bytes have
 entry-sealed_bytes : (image : Image) (w : ℕ) → AreBytes image → kind_of w ≡ blocks_256 → entry_is_sealed (entry_at image w) ≡ is_sealed 92 (record_at image w)
 unfolding entry_is_sealed entry_in entry_body record_at
 entry-sealed_bytes image w bytes kind =

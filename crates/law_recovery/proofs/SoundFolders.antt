@@ -1,4 +1,4 @@
--- A sound folder needs no repair.
+-- A consistent folder whose index has the version that is made now needs no repair.
 use Rattle.std.proofs.Common.{inl, inr, ◌≡◌, ◌≢◌, ◌⊎◌, ◌^◌, length, ⊎_elim, ℕ, zero, suc, ◌+◌, ◌<◌, ◌≤◌, Bool, true, false, not, List, [], ◌∷◌, ◌++◌, Option, Some, None, Ok, Err, refl, ap, sym, ◌∙◌, subst, arith}
 use Rattle.std.specs.Prelude.{◌==◌, ◌&&◌, map, is_some}
 use Rattle.std.specs.Option.{option_map_or}

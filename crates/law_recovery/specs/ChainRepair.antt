@@ -34,7 +34,7 @@ kept_records image bucket = filter (is_kept_record (kept image)) (chain (store_o
 abbrev pub bucket_steps : ℕ → ℕ → Image → List TrailStep
 bucket_steps bucket w image = if (store_of image).table bucket == w then [] else word_step Index (place_of_bucket bucket) w
 
--- the steps that set the next of a record by a sealed update, none where it is this word already
+-- the steps that set the next of a record by an update under a checksum 0, none where it is this word already
 abbrev pub next_steps : ℕ → ℕ → Image → List TrailStep
 next_steps record_word w image = if (store_of image).chain_next record_word == w then [] else sealed_steps image record_word ((entry_next_place, w) ∷ [])
 
@@ -43,7 +43,7 @@ abbrev pub next_words_steps : List ℕ → Image → List TrailStep
 next_words_steps [] image = []
 next_words_steps (w ∷ words) image = next_steps w (first_or 0 words) image ++ next_words_steps words (after (next_steps w (first_or 0 words) image) image)
 
--- the steps that make a bucket the chain of some records, from the front
+-- the steps that make a bucket the chain of some records, in their order
 abbrev pub chain_steps : ℕ → List ℕ → Image → List TrailStep
 chain_steps bucket words image = bucket_steps bucket (first_or 0 words) image ++ next_words_steps words (after (bucket_steps bucket (first_or 0 words) image) image)
 
@@ -61,7 +61,7 @@ pub record KeepsAllWalked (image : Image) : Type 0 where
   pub idle : (list_of image).transaction ≡ 0
   pub all_kept : kept_nodes (store_of image) held_rule (walked image) ≡ walked image
 
--- the chains are repaired: each is whole, with the kept records of its bucket; the list is as before, and each record that was sealed is sealed
+-- the chains are repaired: each is whole, with the kept records of its bucket; the list is as before, and each record that had its checksum has it
 pub record AreChainsMended (from image : Image) : Type 0 where
   pub list : list_of image ≡ list_of from
   pub seals : KeepsRecordsSealed from image
@@ -73,7 +73,7 @@ ChainsAreRepaired = (image : Image) → IsWellFormed image → IsWritable image 
 
 -- The buckets, one after the other.
 
--- the chains of the buckets below one are those of their kept records, and the others are as they were; the list is as it was, what was sealed is sealed, and
+-- the chains of the buckets below one are those of their kept records, and the others are as they were; the list is as it was, right checksums stay right, and
 -- each kept node loads as it did
 pub record HasChainsUpTo (from : Image) (bucket : ℕ) (image : Image) : Type 0 where
   pub holds : HoldsTheSame from image
@@ -112,16 +112,16 @@ WholeChainsStay = (from image : Image) → ShowsTheSame (store_of from) (store_o
 
 -- What is kept can be written.
 
--- a record of a kind is there, and its seal is right or absent
+-- a record of a kind is there, and its checksum is right or absent
 pub record IsStandingRecord (kind : ℕ) (image : Image) (w : ℕ) : Type 0 where
   pub stands : stands_in image w ≡ true
   pub kind_is : kind_of w ≡ kind
   pub checks : RecordChecks w image
 
--- the node of each kept record is there, and its seal is right or absent
+-- the node of each kept record is there, and its checksum is right or absent
 abbrev pub KeptNodesCheck : Type 0
 KeptNodesCheck = (image : Image) → IsWritable image → (node : ℕ) → is_among (map (λ k. k.node) (kept image)) node ≡ true → IsStandingRecord rankings image node
 
--- the record of each kept node is there, and its seal is right or absent
+-- the record of each kept node is there, and its checksum is right or absent
 abbrev pub KeptRecordsCheck : Type 0
 KeptRecordsCheck = (image : Image) → IsWritable image → (w : ℕ) → is_kept_record (kept image) w ≡ true → IsStandingRecord blocks_256 image w

@@ -18,8 +18,8 @@ link_repair_steps image = list_repair_steps image ++ chain_repair_steps (after (
 abbrev pub MendedChainsAreMendedLinks : Type 0
 MendedChainsAreMendedLinks = (image between last : Image) → HoldsTheSame image between → IsListMended image between → HoldsTheSame between last → AreChainsMended between last → HasMendedLinks last
 
--- the repair of a well-formed folder's links keeps the recovered contents at each of its words; in the end the links are repaired, and each record that was
--- sealed is sealed
+-- the repair of a well-formed folder's links keeps the recovered contents at each of its words; in the end the links are repaired, and each record that had
+-- its checksum has it
 abbrev pub LinksAreRepaired : Type 0
 LinksAreRepaired = (image : Image) → IsWellFormed image → IsWritable image → Along (HoldsTheSame image) image (link_repair_steps image) × HasMendedLinks (after (link_repair_steps image) image) × KeepsRecordsSealed image (after (link_repair_steps image) image)
 

@@ -37,7 +37,7 @@ completed_image image = after (completion_steps image) image
 abbrev pub ended_image : Image → Image
 ended_image image = after (end_steps (completed_image image)) (completed_image image)
 
--- the steps of the repair of the LRU list: the operation in flight is completed, the end of the list is repaired, and each node that isn't kept is taken out
+-- the steps of the repair of the LRU list: the operation in flight is redone, the end of the list is repaired, and each node that isn't kept is taken out
 abbrev pub list_repair_steps : Image → List TrailStep
 list_repair_steps image = completion_steps image ++ (end_steps (completed_image image) ++ removal_steps (dropped_nodes (ended_image image)) (ended_image image))
 
@@ -48,8 +48,8 @@ pub record HoldsTheSame (from image : Image) : Type 0 where
   pub kept_same : kept image ≡ kept from
   pub found_same : found image ≡ found from
 
--- the LRU list is repaired: it is idle, with the kept nodes alone, all of which are still kept; nothing else is shown to change, and each record that was
--- sealed is sealed
+-- the LRU list is repaired: it is idle, with the kept nodes alone, all of which are still kept; nothing else is shown to change, and each record that had
+-- its checksum has it
 pub record IsListMended (from image : Image) : Type 0 where
   pub rests : HasListAtRest (map (λ k. k.node) (kept from)) image
   pub store : ShowsTheSame (store_of from) (store_of image)

@@ -1,4 +1,4 @@
--- Folders in which nothing is left to repair: they stand for what they hold, opened.
+-- Folders in which nothing is left to repair: they represent what they hold, opened.
 use Rattle.std.specs.Prelude.{◌≡◌, ℕ, true, length, is_some}
 use Rattle.std.specs.List.{AllByRecursion, flat_map, sum_by}
 use Rattle.spec_image.specs.Image.{Index, Image, AreBytes, byte}
@@ -25,7 +25,7 @@ pub record HasOnlyKeptFiles (image : Image) : Type 0 where
   pub only_linked : OnlyLinked image
   pub only_claimed : OnlyClaimed image (claims_of_loaded (kept image))
 
--- the nodes of what is kept and their records are sealed: the seal of each is the hash of the bytes before it
+-- the nodes of what is kept and their records have their checksums: each has the hash of the bytes before it
 abbrev pub AreKeptSealed : Image → Type 0
 AreKeptSealed image = AllByRecursion (AreSealed image) (kept image)
 
@@ -33,7 +33,7 @@ AreKeptSealed image = AllByRecursion (AreSealed image) (kept image)
 abbrev pub HasMendedCounters : Image → Type 0
 HasMendedCounters image = count_of (byte image Index) ≡ counting (length (kept image)) (sum_by charge_of (kept image))
 
--- nothing is left to repair: links, maps, counters, files and seals are those of what is kept
+-- nothing is left to repair: links, maps, counters, files and checksums are those of what is kept
 pub record IsMended (image : Image) : Type 0 where
   pub links : HasMendedLinks image
   pub files : HasMendedFiles image

@@ -1,4 +1,4 @@
--- What leaves repaired links repaired, with the same kept: changes of what isn't kept, growth, and seals.
+-- What leaves repaired links repaired, with the same kept: changes of what isn't kept, growth, and checksums.
 use Rattle.std.specs.Prelude.{◌≡◌, ◌<◌, ◌%◌, ℕ, Bool, true, false, [], map, None}
 use Rattle.spec_image.specs.Image.{Index, Block, External}
 use Rattle.spec_image.specs.Footprint.{SameOutside, one_word, whole}
@@ -45,7 +45,7 @@ pub record IsMidRepair (from image : Image) : Type 0 where
 abbrev pub LinksAreMidRepair : Type 0
 LinksAreMidRepair = (from image : Image) → HoldsTheSame from image → IsMidRepair from image
 
--- while maps, counters, files and seals are repaired after the links, the folder is well formed, with the same kept records and recovered contents
+-- while maps, counters, files and checksums are repaired after the links, the folder is well formed, with the same kept records and recovered contents
 abbrev pub MendedLinksAreMidRepair : Type 0
 MendedLinksAreMidRepair = (from image : Image) → KeepsMendedLinks from image → IsMidRepair from image
 
@@ -80,12 +80,12 @@ HiddenWordsMayChange = (from image : Image) (at : ℕ) → HasMendedLinks from �
 abbrev pub VersionsMayChange : Type 0
 VersionsMayChange = (from image : Image) → HasMendedLinks from → IsIndexWord version_place index_version from image → KeepsMendedLinks from image
 
--- Seals of what is kept.
+-- Checksums of what is kept.
 
--- at each word at which a kept node is sealed, repaired links stay repaired
+-- at each word at which a kept node gets its checksum, repaired links stay repaired
 abbrev pub KeptNodesMayBeSealed : Type 0
 KeptNodesMayBeSealed = (from image : Image) (node : ℕ) → HasMendedLinks from → IsWritable from → is_among (map (λ k. k.node) (kept from)) node ≡ true → IsMidUpdate from node [] image → KeepsMendedLinks from image
 
--- at each word at which a kept record is sealed, repaired links stay repaired
+-- at each word at which a kept record gets its checksum, repaired links stay repaired
 abbrev pub KeptRecordsMayBeSealed : Type 0
 KeptRecordsMayBeSealed = (from image : Image) (w : ℕ) → HasMendedLinks from → IsWritable from → is_kept_record (kept from) w ≡ true → IsMidUpdate from w [] image → KeepsMendedLinks from image

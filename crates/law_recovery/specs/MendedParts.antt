@@ -51,11 +51,11 @@ UnlinkedFilesLeaveTheOthers = (from : Image) (n : ℕ) → linked_as from n ≡ 
 abbrev pub ExternalFilesLeaveTheBlocks : Type 0
 ExternalFilesLeaveTheBlocks = (from image : Image) (n : ℕ) → SameOutside (whole (External n)) from image → KeepsMendedLinks from image → (HasMendedFiles from → HasMendedFiles image) × (OnlyLinked from → OnlyLinked image)
 
--- a change of neither a header nor the length of a file, as of seals and of words of the index, leaves all files repaired
+-- a change of neither a header nor the length of a file, as of checksums and of words of the index, leaves all files repaired
 abbrev pub MendedFilesStand : Type 0
 MendedFilesStand = (footprint : Footprint) (from image : Image) → IsBehindHeaders footprint → SameOutside footprint from image → HasMendedLinks from → KeepsMendedLinks from image → (HasMendedFiles from → HasMendedFiles image) × (HasOnlyKeptFiles from → HasOnlyKeptFiles image)
 
--- the write of a word of the index leaves what is kept sealed
+-- the write of a word of the index leaves the checksums of what is kept
 abbrev pub IndexWordsLeaveSeals : Type 0
 IndexWordsLeaveSeals = (from image : Image) (at : ℕ) → SameOutside (one_word Index at) from image → KeepsMendedLinks from image → AreKeptSealed from → AreKeptSealed image
 
@@ -63,6 +63,6 @@ IndexWordsLeaveSeals = (from image : Image) (at : ℕ) → SameOutside (one_word
 abbrev pub OtherWordsLeaveCounters : Type 0
 OtherWordsLeaveCounters = (from image : Image) (at : ℕ) → at % 4 ≡ 0 → is_among counted_places at ≡ false → SameOutside (one_word Index at) from image → KeepsMendedLinks from image → HasMendedCounters from → HasMendedCounters image
 
--- the nodes of what is kept and their records are sealed where each address of them has the hash as its seal
+-- the nodes of what is kept and their records have their checksums where the bytes at each of their addresses have
 abbrev pub KeptAreSealed : Type 0
 KeptAreSealed = (image : Image) → IsWritable image → ((node : ℕ) → is_among (map (λ k. k.node) (kept image)) node ≡ true → IsSealedAt image node) → ((w : ℕ) → is_kept_record (kept image) w ≡ true → IsSealedAt image w) → AreKeptSealed image

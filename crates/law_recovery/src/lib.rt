@@ -69,7 +69,7 @@ pub fn kept_records_check()
 {}
 
 /// The repair of a well-formed folder's links, of its LRU list and then of its hash chains, keeps the recovered contents at each of its words. In the end the
-/// links are repaired, and each record that was sealed is sealed; a folder whose links are repaired needs no step.
+/// links are repaired, and each record that had its checksum has it; a folder whose links are repaired needs no step.
 pub fn links_are_repaired()
     ensures at_each_word { LinksAreRepaired }
     ensures mended { MendedChainsAreMendedLinks }
@@ -108,13 +108,13 @@ pub fn mended_links_stay_outside()
     ensures version { VersionsMayChange }
 {}
 
-/// Repaired links stay repaired at each word at which a kept node or its record is sealed.
+/// Repaired links stay repaired at each word at which a kept node or its record gets its checksum.
 pub fn kept_records_may_be_sealed()
     ensures nodes { KeptNodesMayBeSealed }
     ensures records { KeptRecordsMayBeSealed }
 {}
 
-/// The growth of block files, the deletion of one that isn't linked and a change of an external file leave each record sealed that was. No record and no word
+/// The growth of block files, the deletion of one that isn't linked and a change of an external file leave all checksums that were right. No record and no word
 /// of the index lies in a header of a block file.
 pub fn seals_are_left()
     ensures growth { GrowthLeavesSeals }
@@ -142,8 +142,8 @@ pub fn mended_parts_stand()
     ensures counters { OtherWordsLeaveCounters }
 {}
 
-/// A sealed update of a record without changes leaves it sealed, and each other record that was; all that is kept is sealed once each of its nodes and records
-/// has its hash as its checksum.
+/// An update of a record without changes gives it its checksum, and leaves those of other records. All that is kept has its checksums once each of its nodes
+/// and records has its hash as its checksum.
 pub fn kept_records_are_sealed()
     ensures made { SealsAreMade }
     ensures stand { SealsStand }

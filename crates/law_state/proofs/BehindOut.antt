@@ -33,7 +33,7 @@ pub record IsBehind (chains : ℕ → List ℕ) (bucket previous contents : ℕ)
 abbrev pub shortened : Image → ℕ → Image
 shortened from previous = rewritten from previous ((4, 0) ∷ [])
 
--- the record after another is out of its chain, and the one before it is sealed
+-- the record after another is out of its chain, and the one before it has its checksum
 pub record IsOutBehind (chains : ℕ → List ℕ) (previous contents : ℕ) (from : Image) : Type 0 where
   pub unlinking : (layout : Layout) → IsUnlinking (record layout { chains = chains }) (chains_but chains contents) from (shortened from previous)
   pub leaves : LeavesFiles from (shortened from previous)

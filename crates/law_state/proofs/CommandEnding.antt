@@ -33,11 +33,11 @@ pub passed : PassedRequestsTakeEffect
 unfolding step outcome
 passed state moment request passes = (ap (λ o. (outcome moment request state o).state) passes, ap (λ o. (outcome moment request state o).reply) passes)
 
--- the durable contents in the state after a request may be left, however that state is told
+-- the durable contents of the state that a request ends with may be left by a crash in it
 after-left : (state : State) (moment : ℕ) (request : Request) (end : State) → IsValidState state → IsRequest request → (step state moment request).state ≡ end → MayLeave state moment request (rest end)
 after-left state moment request end valid can ends = subst (λ (m : State). MayLeave state moment request (rest m)) ends (rest_after state moment request valid can)
 
--- ---- uses
+-- ---- accesses
 
 used-or-not : (live : Bool) (item : Item) (uses : List Item) → cond live (used item uses) uses ≡ used_all (cond live (item ∷ []) []) uses
 used-or-not true item uses = refl

@@ -1,4 +1,4 @@
--- The dirty word of an object, at each word and in the end.
+-- The dirty flag of an object, at each word and in the end.
 use Rattle.std.proofs.Common.{◌≡◌, ◌≢◌, ◌⊎◌, inl, inr, ℕ, ◌<◌, List, [], ◌∷◌, ◌++◌, length, refl, ap, sym, ◌∙◌, subst, Bool, true, false, Option, Some, None, ⊎_elim}
 use Rattle.std.specs.Prelude.{◌==◌, ◌&&◌, not, IfSome}
 use Rattle.std.specs.List.{filter_map, sum_by, cons_option}
@@ -80,7 +80,7 @@ module _ (state : State) (layout : Layout) (unlinked : List ℕ) (from image : I
       second true b e = e
       second false b e = absurd (let z : false ≡ true = e in cc)
 
-  -- nodes and records are sealed where the node is
+  -- nodes and records have their checksums where the node has its own
   pub seals : IsSealed image node → AllAreSealed image (dirtied layout node l mark)
   seals done x other at = ⊎_elim
       (λ (e : (node == x) ≡ true).
@@ -166,7 +166,7 @@ dead-same state number o other here live n = ⊎_elim
     (λ (e : n ≢ number). ap is_dead (set-else state number n (Some other) e))
     (cases_eq n number)
 
--- the sum of the costs is the same with another dirty word
+-- the sum of the costs is the same with another dirty flag
 pub charges-same : (at : ℕ → Option Loaded) (node mark : ℕ) (l : Loaded) → at node ≡ Some l → (nodes : List ℕ) → sum_by charge_of (filter_map (put at node (Some (record l { dirty = mark }))) nodes) ≡ sum_by charge_of (filter_map at nodes)
 charges-same at node mark l here [] = refl
 charges-same at node mark l here (x ∷ nodes) = ⊎_elim

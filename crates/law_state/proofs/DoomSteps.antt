@@ -23,7 +23,7 @@ loads-unlisted from between node other loaded done loads = records-outside (λ c
 abbrev pub with_doomed : Image → Loaded → Image
 with_doomed from loaded = rewritten from loaded.contents ((20, 2) ∷ [])
 
--- its record is that of a doomed object, sealed, and nothing else has changed
+-- its record is that of a doomed object, with its checksum, and nothing else has changed
 pub record IsDoomedRecord (from : Image) (node : ℕ) (loaded : Loaded) : Type 0 where
   pub outside : SameOutside (record_range loaded.contents) from (with_doomed from loaded)
   pub only : ChangesOnly (has_claim (claims_of loaded.contents)) from (with_doomed from loaded)

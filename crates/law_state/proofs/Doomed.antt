@@ -173,7 +173,7 @@ module _ (state : State) (layout : Layout) (unlinked : List ℕ) (number : ℕ) 
   represents-now : Represents (view_of image) after now
   represents-now = doomed-is-represented (λ n. n == node) (view_of image) state layout k.represents.holds.lies k.valid number object l layout.at (chains_without layout l.contents) layout.owner doomed-now u.holds (λ n other is e. sym (eqb-true n node e)) u.loads at-rest
 
-  -- seals and files
+  -- checksums and files
   abbrev writes : List ListWrite
   writes = writes_of remove node (list_of from)
 

@@ -1,4 +1,4 @@
--- The dirty word of a doomed object.
+-- The dirty flag of a doomed object.
 use Rattle.std.proofs.Common.{◌≡◌, ℕ, List, ◌++◌, length, refl, ap, sym, ◌∙◌, Some}
 use Rattle.std.specs.Prelude.{◌==◌}
 use Rattle.std.proofs.lemmas.List.Sorted.{IsPermutation-refl}

@@ -45,7 +45,7 @@ standing-loaded image layout node l loads = load-then (store_of image) (rule_of 
 pub standing-at : (image : Image) (state : State) (layout : Layout) → Represents (view_of image) state layout → (node : ℕ) (l : Loaded) → layout.at node ≡ Some l → AreStanding image l
 standing-at image state layout r node l here = standing-loaded image layout node l (r.holds.shows.each node l here)
 
--- seals outside a change
+-- checksums outside a change
 pub sealed-same : (touched : Claim → Bool) (from image : Image) → AgreeBut touched from image → (l : Loaded) → AreStanding from l → IsClear touched l.node → IsClear touched l.contents → AreSealed from l → AreSealed image l
 sealed-same touched from image agree l st node contents s = record {
   node = ap (λ (n : Node). node_is_sealed n) (node-same touched from image agree l.node st.node node) ∙ s.node;

@@ -276,7 +276,7 @@ module _ (state : State) (layout : Layout) (unlinked : List ℕ) (keep : Item �
       rw none refl)
       (cases_Bool (has_claim (claims_of_all (words_at layout.at gone_ones)) c))
 
-  -- what (goes state layout keep k.numbers k.represents.holds.lies k.owners) stands, and no two of its blocks and external numbers are one
+  -- the words of what goes and the unlinked ones are valid, and no two of their blocks and external numbers are one
   pub gone-stand : AllByRecursion (λ v. stands_in from v ≡ true) (words_at layout.at gone_ones ++ unlinked)
   gone-stand = first-of (λ v. stands_in from v ≡ true) (words_at layout.at gone_ones ++ unlinked) (words_at layout.at stay_ones ++ words_at layout.at dead_ones)
       (all-to (λ v. stands_in from v ≡ true) _ (All-permutation (λ v. stands_in from v ≡ true) _ _ all-words (all-from (λ v. stands_in from v ≡ true) _ (arranged-stand state layout k.numbers unlinked from before))))

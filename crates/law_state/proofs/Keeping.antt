@@ -1,4 +1,4 @@
--- What a folder keeps is found, stood for, and sound where nothing is doomed or dirty.
+-- The state that a folder keeps: its durable contents are recovered, it is represented, and the folder is consistent where nothing is doomed or dirty.
 use Rattle.std.proofs.Common.{◌≡◌, ℕ, List, [], ◌∷◌, ◌++◌, map, refl, ap, sym, ◌∙◌, subst, true, false, Option, Some, None}
 use Rattle.std.specs.Prelude.{◌&&◌, ◌==◌, is_some, if◌then◌else◌, IfSome}
 use Rattle.std.specs.Option.{option_and_then, IsSomeAnd}

@@ -1,4 +1,4 @@
--- Changes that leave the files as they are, told by what they touch.
+-- Changes that leave the files as they are, by what they touch.
 use Rattle.std.proofs.Common.{◌≡◌, ◌∙◌, false}
 use Rattle.spec_image.specs.Image.{File, Image, Block}
 use Rattle.spec_image.specs.Footprint.{Footprint, SameOutside}

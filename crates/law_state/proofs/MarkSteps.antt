@@ -1,5 +1,5 @@
--- Where a folder can be written, the dirty word of a node that checks can: at each word of its sealed update, and in the end. So the laws on dirty words speak
--- of something.
+-- Where a folder can be written, the dirty flag of a node can, if the node's checksum is right or absent: at each word of its update, and in the end. So
+-- the laws on dirty flags speak of something.
 use Rattle.std.proofs.Common.{◌≡◌, inl, inr, ⊎_elim, ℕ, ◌+◌, ◌<◌, ◌≤◌, ◌^◌, [], ◌∷◌, All, refl, ap, sym, ◌∙◌, arith, Bool, Some, true}
 use Rattle.std.specs.Prelude.{if◌then◌else◌, ◌==◌, ◌&&◌}
 use Rattle.std.proofs.lemmas.List.Elements.{All-cons, All-nil}
@@ -20,7 +20,7 @@ use Rattle.law_folder.proofs.updates.Nodes.{dirty-written, good-stands, none-or-
 use Rattle.law_folder.proofs.updates.Sealing.{node-updates}
 use Rattle.law_state.specs.RecordLaws.{IsMarked, IsMarking}
 
--- the folder once the dirty word of a node is this
+-- the folder once the dirty flag of a node is this
 abbrev pub marked_at : Image → ℕ → ℕ → Image
 marked_at from node mark = after (sealed_steps from node ((28, mark) ∷ [])) from
 
@@ -67,7 +67,7 @@ module _ (from : Image) (node mark : ℕ) (ready : IsWritable from) (good : (lis
   whole : (moment : IsMidUpdate from node ((28, mark) ∷ []) (marked_at from node mark)) × (moment.made ≡ 1)
   whole = whole_update from (marked_at from node mark) node ((28, mark) ∷ []) (updated node from ((28, mark) ∷ []) here.fits) (until_last (IsMidUpdate from node ((28, mark) ∷ [])) (IsMidUpdate from node ((28, mark) ∷ [])) (sealed_steps from node ((28, mark) ∷ [])) from each).outside
 
-  -- and in the end it is marked
+  -- in the end the node has the flag
   pub marks-done : IsMarked from node mark (marked_at from node mark)
   marks-done = record {
     marking = mid-marking (marked_at from node mark) whole.0;

@@ -176,7 +176,7 @@ pub table-leaves : (b : ℕ) (from image : Image) → SameOutside (one_word Inde
 table-leaves b from image same formed = leaves-files (one_word Index (place_of_bucket b)) from image (record { bytes = λ n i small. refl }) (λ file. refl) same
     (record { crash = table-word b 32 from image (lit≤ tt) same; id = table-word b 20 from image (lit≤ tt) same }) formed
 
--- and seals hold
+-- the checksums stay
 pub table-seals : (b : ℕ) (from image : Image) (l : Loaded) → SameOutside (one_word Index (place_of_bucket b)) from image → AreSealed from l → AreSealed image l
 table-seals b from image l same s = record {
   node = ap (λ (f : ℕ → ℕ). node_is_sealed (node_in f (place l.node))) (bytes l.node) ∙ s.node;
@@ -254,7 +254,7 @@ module _ (state : State) (layout : Layout) (unlinked key : List ℕ) (l : Loaded
   can-make : CanBeMade from writes
   can-make = inserts-can from l.node (walked from) (can-insert state layout (words_of l ++ unlinked) key l from k n)
 
-  -- the new entry's seals
+  -- the new entry's checksums
   new-sealed : AreSealed image l
   new-sealed = table-seals (bucket_at between l.contents) between image l linked.outside (load-then (store_of from) (record { state = entry_normal; clean = false; chained = false }) l.node l n.entry.loads (λ nf e f.
       let stands : stands_as from blocks_256 l.contents ≡ true = subst (λ (c : ℕ). stands_as from blocks_256 c ≡ true) (sym f.facts.contents_is) (core-standing from nf.contents e f.entry) in
@@ -273,7 +273,7 @@ module _ (state : State) (layout : Layout) (unlinked key : List ℕ) (l : Loaded
       table-seals (bucket_at between l.contents) between image other linked.outside (sealed-still from between writes l.node outside can-make.nodes n.good state layout k.represents inserted.sealed node other was (k.sealed node other was)))
       (cases_Bool (l.node == node))
 
-  -- the dirty objects are marked, the new one too
+  -- the dirty flag of each dirty object is the number of the session, that of the new one too
   marked : AreMarkedBy (this_id_of (byte from Index)) (created handle key state) now
   unfolding created
   marked number object is live unsettled = ⊎_elim

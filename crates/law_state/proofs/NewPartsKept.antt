@@ -212,7 +212,7 @@ module _ (state : State) (objects : List (Option Object)) (layout : Layout) (unl
       (cases_Bool (p == node)))
       (cases_Bool (l.node == node))
 
-  -- the dirty word of what lies at an old node is as it was
+  -- the dirty flag of what lies at an old node is as it was
   dirty-same : (node : ℕ) → (l.node == node) ≡ false → IfSome (layout.at node) (λ loaded. loaded.dirty ≡ this_id_of (byte from Index)) → IfSome (now.at node) (λ loaded. loaded.dirty ≡ this_id_of (byte from Index))
   dirty-same node apart dirty = ⊎_elim
       (λ (e : (p == node) ≡ true).

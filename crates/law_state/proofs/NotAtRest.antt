@@ -170,7 +170,7 @@ module _ (m : State) (valid : IsValidState m) (number : ℕ) (o : Object) (here 
 pub unsettled-rest : UnsettledObjectsAreNotAtRest
 unsettled-rest state number object one other uses items valid here alive is_one is_other keeps_one keeps_other = rests-same state valid number object here alive one other uses items is_one is_other keeps_one keeps_other
 
--- ---- uses of the object's items
+-- ---- accesses of the object's items
 
 its-out : (key : List ℕ) (item : Item) → key_of item ≡ key → is_of_another key item ≡ false
 its-out key item is = ap not ((bytes_eq-Decides key (key_of item)).1 (sym is))

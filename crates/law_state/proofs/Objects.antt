@@ -143,7 +143,7 @@ module _ (state : State) (layout : Layout) (unlinked left : List ℕ) (from : Im
   pub single : repeats (all_claims now) ≡ false
   single = repeats-tail (claims_of_all left) (all_claims now) once-now
 
--- what stays sealed
+-- which checksums stay
 seals-after : (state : State) (layout : Layout) (unlinked : List ℕ) (from image : Image) (k : KeepsUncounted state layout unlinked from) (touched : Claim → Bool) (only : ChangesOnly touched from image) (node : ℕ) (now : Loaded) (owner : Claim → Option ℕ) → IsFreeBut node touched layout → AreSealed image now → AllAreSealed image (changed_at layout node now owner)
 seals-after state layout unlinked from image k touched only node now owner apart done x other at = ⊎_elim
     (λ (e : (node == x) ≡ true).
@@ -157,7 +157,7 @@ seals-after state layout unlinked from image k touched only node now owner apart
 
 -- ---- an item
 
--- the marks are as before where the dirty word is
+-- a dirty flag that is this number stays so where the changed record keeps its own
 mark-still : (layout : Layout) (node id p : ℕ) (was now : Loaded) (owner : Claim → Option ℕ) → layout.at node ≡ Some was → now.dirty ≡ was.dirty → IfSome (layout.at p) (λ loaded. loaded.dirty ≡ id) → IfSome ((changed_at layout node now owner).at p) (λ loaded. loaded.dirty ≡ id)
 mark-still layout node id p was now owner here dirty mark = ⊎_elim
     (λ (e : (node == p) ≡ true).

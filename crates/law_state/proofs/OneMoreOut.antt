@@ -240,7 +240,7 @@ module _ (state : State) (layout : Layout) (keep : Item → Bool) (chains : ℕ 
       let kept = here-stays in
       let z : ◌≡◌ {A = Option ℕ} (Some node) None = rw (mine, kept) at none in cc)
 
-  -- seals
+  -- checksums
   sealed : (n : ℕ) (l : Loaded) → layout.at n ≡ Some l → is_among more n ≡ false → AreSealed image l
   sealed n l is kept =
       let p = smaller n kept in

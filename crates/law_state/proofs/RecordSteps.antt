@@ -1,5 +1,5 @@
--- Where a folder can be written, the fields of a record that checks can: it is sealed then, its fields are the written ones, and nothing else changes. So the
--- laws on records that change speak of something.
+-- Where a folder can be written, the fields of a record with a right or absent checksum can: it has its checksum then, its fields are the written ones, and
+-- nothing else changes. So the laws on records that change speak of something.
 use Rattle.std.proofs.Common.{◌≡◌, ◌≢◌, inl, inr, ℕ, ◌+◌, ◌<◌, ◌≤◌, List, [], ◌∷◌, All, length, take, refl, ap, sym, ◌∙◌, subst, arith, lit<, Bool, Some, true}
 use Rattle.std.specs.Prelude.{◌^◌, ◌%◌, ◌==◌, ◌&&◌, if◌then◌else◌, nat_le}
 use Rattle.std.proofs.lemmas.Bool.{and_parts, eq-eqb, leb-true}
@@ -37,7 +37,7 @@ use Rattle.law_state.specs.Arranging.{LeavesFiles}
 use Rattle.law_state.specs.Changes.{ChangesOnly}
 use Rattle.law_state.proofs.AtNodes.{updates-change}
 
--- after an update the record has its right seal
+-- after an update the record has its right checksum
 updated-sealed : (from image : Image) (w : ℕ) (changes : List (ℕ × ℕ)) → AreBytes image → kind_of w ≡ blocks_256 → AreChanges (seal_place w) changes → IsUpdated from w changes image → entry_is_sealed (entry_at image w) ≡ true
 unfolding entry_is_sealed entry_body entry_in record_at
 updated-sealed from image w changes bytes kind are done =

@@ -1,5 +1,5 @@
--- Where a rest doesn't go on a crash in it may be none of the whole command: a cache of 16 bytes is full, and a Write of one byte to `a` evicts `c` and then
--- `b`, for the low-water mark; but once `c` is out the byte fits.
+-- A crash outcome of the rest of a command that is none of the whole command: a cache of 16 bytes is full, and a Write of one byte to `a` evicts `c` and then
+-- `b`, for the low watermark; but once `c` is out the byte fits, so the rest of the Write evicts nothing.
 use Rattle.std.proofs.Common.{◌≡◌, ℕ, zero, suc, ◌+◌, ◌*◌, ◌≤◌, Bool, true, false, List, [], ◌∷◌, refl, ap, arith, codes, length, get_or, sym, ◌∙◌}
 use Rattle.blk_model.specs.Items.{Row, IsBytes, item_of, key_of}
 use Rattle.blk_model.specs.State.{State, IsValidState}

@@ -48,7 +48,7 @@ stop-evicted state moment request first others image valid evicts finds = record
 pub kept-stop : KeptStatesMayStop
 kept-stop state layout unlinked image k moment request = stop-before state moment request image k.valid (k.sound, kept-held state layout unlinked image k)
 
--- where the index is finished the old text holds
+-- where the index is initialized, what is held is recovered
 pub held-found : HeldIsFound
 unfolding found
 held-found rows image finds magic = let well = formed-of image finds.0 magic in (well, rw (well_formed-finished image well) finds.1)

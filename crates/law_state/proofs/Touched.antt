@@ -1,4 +1,4 @@
--- Once an item is touched, the state with it in front is kept.
+-- Once an item is accessed, the state with it in front is kept.
 use Rattle.std.proofs.Common.{◌≡◌, ℕ, ◌+◌, List, [], ◌∷◌, ◌++◌, length, sym, ◌∙◌, ap, ap₂, subst, true, ◌<◌, arith, append_assoc, length-append}
 use Rattle.std.specs.Prelude.{Option}
 use Rattle.std.specs.List.{flat_map, filter_map, sum_by}

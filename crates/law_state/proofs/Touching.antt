@@ -1,4 +1,4 @@
--- What is found at each word of a touch.
+-- What is found at each word of an access.
 use Rattle.std.proofs.Common.{◌≡◌, ℕ, List, map, refl, sym, ◌∙◌, ap, subst}
 use Rattle.std.specs.Prelude.{take}
 use Rattle.spec_image.specs.Image.{Image}
@@ -22,7 +22,7 @@ pub held-kept : (image : Image) → held image ≡ map row_of_loaded (kept_by he
 unfolding kept
 held-kept image = refl
 
--- at a moment of a touch the image shows its writes so far
+-- at a moment of an access the image shows its writes so far
 shows : (from image : Image) (node : ℕ) (touched : IsTouched from node (touch_writes node (list_of from)) image) → ◌≡◌ {A = View} (view_of image) (record { list = after_writes (take touched.made (touch_writes node (list_of from))) (list_of from); store = store_of image })
 shows from image node touched = λ i. let v : View = record { list = touched.shown.list i; store = store_of image } in v
 

@@ -49,7 +49,7 @@ either-stops : (state : State) (moment : ℕ) (request : Request) (one other : L
 either-stops state moment request one other image first second (inl finds) = left-stops state moment request one image first finds
 either-stops state moment request one other image first second (inr finds) = left-stops state moment request other image second finds
 
--- ---- uses
+-- ---- accesses
 
 pub uses-stop : UsesMayStop
 uses-stop state moment request first others item layout unlinked from image valid passes none split k listed touched =
@@ -68,7 +68,7 @@ unsettled-uses-stop state moment request number object changed uses item layout 
     (unsettled-left state moment request number object valid is changed (used item uses) unsettled (own-uses base object.key item uses own keeps).1)
     (touches-find (amidst base number changed uses) layout unlinked from image k item listed touched)
 
--- ---- dirty words
+-- ---- dirty flags
 
 pub unsettling-stops : UnsettlingMayStop
 unsettling-stops state moment request number object image valid is finds =

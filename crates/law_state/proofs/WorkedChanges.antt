@@ -99,7 +99,7 @@ open-here = refl
 open-writable : IsWritable open_folder
 open-writable = marks-writable opened_folder (nodes 2) 7 opened-writable b_checks (lit< tt)
 
--- ---- it is used
+-- ---- it is accessed
 
 abbrev zz_write : Request
 zz_write = to_write 6 0 0 false (codes "zz")
@@ -137,7 +137,7 @@ unfolding store_of fields_at
 worked-entry = rw ((standing-at worked_folder worked worked_layout worked-represents (nodes 2) the_plain refl).record_)
     (ap (λ (f : ℕ → ℕ). Some (fields_of (entry_in f (place (records 2))))) (same-bytes (Block (file_selector (records 2)))) ∙ ap (λ (e : RecordFields). Some e) short-fields)
 
--- neither the Open nor the dirty word changes it
+-- neither the Open nor the dirty flag changes it
 open-entry : (store_of open_folder).entry (records 2) ≡ Some b_fields
 open-entry = sym (b_is_marked.marking.only.rest.store.entry (records 2) (λ claim has. refl)) ∙ sym (touched_b.touched.shown.store.store.entry (records 2) (λ claim has. refl)) ∙ worked-entry
 
@@ -373,7 +373,7 @@ link_changes = next-links open_folder linked_folder (records 2) link-shown.0
 left : LeavesFiles open_folder open_folder
 left = record { headers = record { headers = λ n i small. refl; lengths = λ n. refl; files = λ file. refl }; session = record { crash = refl; id = refl }; well_formed = headers-kept open_folder }
 
--- and all is sealed
+-- all nodes and records have their checksums
 link_leaves : (node : ℕ) (loaded : Loaded) → unsettled_layout.at node ≡ Some loaded → AreSealed linked_folder loaded
 link_leaves node loaded here = links.next-sealed open_state unsettled_layout [] open_folder open_folder linked_folder (nodes 2) open_b open-keeps left open-here
     (next-outside open_folder (records 2) b_fields open-writable open-entry refl (records 3) (lit< tt)) (next-sealed open_folder (records 2) b_fields open-writable open-entry refl (records 3) (lit< tt)) node loaded here (open-keeps.sealed node loaded here)

@@ -135,7 +135,7 @@ doomed_write_ends : Keeps (step worked 100 (to_write 5 0 0 true [])).state dead_
 doomed_write_ends = doomed-writes-next worked 100 5 0 0 true [] 2 doomed_object (unfold computing in refl) (unfold computing in refl) (unfold computing in refl) refl dead_layout (0xA0010005 ∷ []) dead_folder
     (subst (λ (m : State). Keeps m dead_layout (0xA0010005 ∷ []) dead_folder) doomed-write-is (counted dead.cut dead_layout (emptied_folder 2) worked worked_layout (0xA0010005 ∷ []) dead.cut_is_kept (updates-leave worked_folder (emptied_folder 2) (records 3) (emptied-outside 2 emptied-are.1) ∙ worked-keeps.counters) (lit< tt)))
 
--- ---- SparseWrite: the bytes that are there are written again, and the part is used
+-- ---- SparseWrite: the bytes that are there are written again, and the part is accessed
 
 abbrev used_folder : Image
 used_folder = after (steps_of_touch (nodes 1) 71 dirty_folder) dirty_folder

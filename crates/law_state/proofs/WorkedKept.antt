@@ -199,7 +199,7 @@ worked-owned = record {
   };
 }
 
--- ---- files, counters and seals
+-- ---- files, counters and checksums
 
 worked-only : OnlyLinked worked_folder
 unfolding worked_folder short_folder
@@ -279,7 +279,7 @@ worked-counted : (n : ℕ) → is_some (linked_as worked_folder n) ≡ true → 
 worked-counted n is = let c = short-counters n (below n is) in
     record { num_entries = ap allocations_of (same-bytes (Block n)) ∙ c.0; empty = worked-empty n (below n is); updating = ap updating_of (same-bytes (Block n)) ∙ c.1 }
 
--- what is sealed in the short folder is sealed
+-- what has its checksum in the short folder has it in the worked one
 seals-same : (loaded : Loaded) → AreSealed short_folder loaded → AreSealed worked_folder loaded
 seals-same loaded sealed = record {
   node = ap (λ (f : ℕ → ℕ). node_is_sealed (node_in f (place loaded.node))) (same-bytes (Block (file_selector loaded.node))) ∙ sealed.node;

@@ -83,7 +83,7 @@ b-placed : IsPlacedAsLive opened worked_layout 0 plain_object the_plain
 unfolding computing
 b-placed = record { here = refl; live = refl; at = refl }
 
--- and the state with it dirty is kept: its dirty word is the number of the session
+-- and the state with it dirty is kept: its dirty flag is the number of the session
 abbrev pub unsettled : State
 unsettled = marked opened 0 plain_object false
 

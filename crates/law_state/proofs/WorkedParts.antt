@@ -309,7 +309,7 @@ insert-leaves = leaves-files (touch_range insert_writes (nodes 1)) bare_folder l
 insert-can : CanBeMade bare_folder insert_writes
 insert-can = inserts-can bare_folder (nodes 1) (walked bare_folder) can-be-inserted
 
--- the seals of the part hold after its removal and after its insert
+-- the part has its checksums after its removal and after its insert
 abbrev removal_writes : List ListWrite
 removal_writes = writes_of remove (nodes 1) (list_of dirty_folder)
 

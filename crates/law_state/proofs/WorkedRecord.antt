@@ -172,7 +172,7 @@ module _ (state : ℕ) (become : sealed_fields (with_words (emptied_words state)
   pub emptied-writable : IsWritable (emptied_folder state)
   emptied-writable = rewritten-writable worked_folder (records 3) doomed_fields worked-writable doomed-entry refl (emptied_words state) (are-changes (records 3) its-kind state) (before-seal (records 3) its-kind state)
 
-  -- node and record are sealed
+  -- node and record have their checksums
   in-nodes : (i : ℕ) → (record_range (records 3)).bytes (Block (file_selector (nodes 3))) i ≡ false
   unfolding file_selector
   in-nodes i = refl

@@ -75,9 +75,9 @@ index-long = length-with_words index_words (zeros index_length) ∙ length-zeros
 pub worked-writable : IsWritable worked_folder
 worked-writable = record { bytes = λ file i. subst (λ (f : ℕ → ℕ). f i < 256) (sym (same-bytes file)) (short-small file i); has_header = subst (λ (n : ℕ). header_length ≤ n) (sym index-long) (lit≤ tt) }
 
--- ---- a touch
+-- ---- an access
 
--- `b` is touched, and then in front
+-- `b` is accessed, and then in front
 pub touched_b : IsTouchDone worked_folder (nodes 2) (after (steps_of_touch (nodes 2) 70 worked_folder) worked_folder)
 touched_b = touch-done worked_folder (nodes 2) 70 (nodes 1 ∷ nodes 0 ∷ []) [] worked-writable (record { whole = worked-keeps.entries.represents.list; idle = worked-keeps.entries.represents.idle })
 

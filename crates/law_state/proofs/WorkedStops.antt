@@ -43,12 +43,12 @@ use Rattle.law_state.proofs.WorkedRemovals.{b-unlisted, part-unlisted, touched_b
 use Rattle.law_state.proofs.WorkedState.{chain_of, nodes, plain_object, records, the_plain, worked, worked_layout}
 use Rattle.spec_format.proofs.Finished.{headers-kept}
 
--- ---- uses
+-- ---- accesses
 
 open_stops : MayStop worked 100 (to_open 6 (codes "b")) opened_folder
 open_stops = opens-stop worked worked_layout [] worked_folder opened_folder worked-keeps.entries 100 6 (codes "b") (unfold computing in refl) touched_b.touched
 
--- `b` is read, and so touched again
+-- `b` is read, and so accessed again
 abbrev read_folder : Image
 read_folder = after (steps_of_touch (nodes 2) 71 opened_folder) opened_folder
 

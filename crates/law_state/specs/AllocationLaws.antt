@@ -1,4 +1,4 @@
--- Blocks that are freed and allocated, as blk_alloc tells it: it is what the laws on unlinked blocks ask.
+-- Blocks that are freed and allocated, in the terms of blk_alloc: it is what the laws on unlinked blocks ask.
 use Rattle.std.specs.Prelude.{◌≡◌, ◌≢◌, ◌≤◌, ℕ, List, [], ◌∷◌, true, false, not, ◌==◌, filter, is_some}
 use Rattle.spec_image.specs.Footprint.{Footprint, SameOutside}
 use Rattle.spec_image.specs.Image.{File, Index, Block, Image, byte, length_of}
@@ -28,7 +28,7 @@ pub record AreFreed (from : Image) (w : ℕ) (image : Image) : Type 0 where
   pub elsewhere : (n : ℕ) → n ≢ file_selector w → KeepsFile from image n
   pub stays : StaysWhole from image
 
--- the freeing of blocks, as `AreFreed` tells it, removes their allocation
+-- the freeing of blocks, as `AreFreed` says it, removes their allocation
 abbrev pub FreedBlocksAreRemoved : Type 0
 FreedBlocksAreRemoved = (from image : Image) (w : ℕ) → AreFreed from w image → RemovesAllocation from w image
 
@@ -51,6 +51,6 @@ pub record AreAllocated (from : Image) (w : ℕ) (image : Image) : Type 0 where
   pub elsewhere : (n : ℕ) → n ≢ file_selector w → is_some (linked_as from n) ≡ true → KeepsFile from image n
   pub stays : StaysWhole from image
 
--- the allocation of blocks, as `AreAllocated` tells it, adds their allocation
+-- the allocation of blocks, as `AreAllocated` says it, adds their allocation
 abbrev pub AllocatedBlocksAreAdded : Type 0
 AllocatedBlocksAreAdded = (from image : Image) (w : ℕ) → HasSoundHeaders from → AreAllocated from w image → AddsAllocation from w image

@@ -17,7 +17,7 @@ use Rattle.law_state.specs.Keeping.{IsMapped, KeepsUncounted}
 
 -- How calls are composed.
 
--- no check of a header fails but perhaps that of the magic word, and these rows are held: where the index is finished they are the recovered contents
+-- no check of a header fails but perhaps that of the magic word, and these rows are held: where the index is initialized they are the recovered contents
 abbrev pub Finds : List Row → Image → Type 0
 Finds rows image = HasSoundHeaders image × (held image ≡ rows)
 
@@ -25,7 +25,7 @@ Finds rows image = HasSoundHeaders image × (held image ≡ rows)
 abbrev pub FindsFinished : List Row → Image → Type 0
 FindsFinished rows image = IsWellFormed image × (found image ≡ rows)
 
--- what is held is recovered where the magic word of a finished index is there
+-- what is held is recovered where the magic word of an initialized index is there
 abbrev pub HeldIsFound : Type 0
 HeldIsFound = (rows : List Row) (image : Image) → Finds rows image → magic_of (byte image Index) ≡ index_magic → FindsFinished rows image
 

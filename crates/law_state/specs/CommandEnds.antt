@@ -40,7 +40,7 @@ PartsGoAlone = (state : State) (number : ℕ) (object : Object) (n : ℕ) → Is
 abbrev pub MarkedStatesAreValid : Type 0
 MarkedStatesAreValid = (state : State) (number : ℕ) (object : Object) (settled : Bool) → IsValidState state → object_at state number ≡ Some object → object.live ≡ true → (settled ≡ false → is_named state number ≡ true) → IsValidState (marked state number object settled)
 
--- Uses: Open, Read and the two sparse reads.
+-- Accesses: Open, Read and the two sparse reads.
 
 -- a request does nothing but access items
 abbrev pub OnlyUses : Request → Type 0

@@ -20,16 +20,16 @@ pub record MayStop (state : State) (moment : ℕ) (request : Request) (image : I
   pub sound : HasSoundHeaders image
   pub left : StopOutcome state moment request (step state moment request).state (held image)
 
--- a request may crash here, and the index is finished: the folder is well formed, and its recovered contents are a crash outcome of the request
+-- a request may crash here, and the index is initialized: the folder is well formed, and its recovered contents are a crash outcome of the request
 pub record MayStopFinished (state : State) (moment : ℕ) (request : Request) (image : Image) : Type 0 where
   pub well_formed : IsWellFormed image
   pub left : StopOutcome state moment request (step state moment request).state (found image)
 
--- where a request may crash and the magic word of a finished index is there, a crash outcome of it is recovered
+-- where a request may crash and the magic word of an initialized index is there, a crash outcome of it is recovered
 abbrev pub FinishedFoldersMayStop : Type 0
 FinishedFoldersMayStop = (state : State) (moment : ℕ) (request : Request) (image : Image) → MayStop state moment request image → magic_of (byte image Index) ≡ index_magic → MayStopFinished state moment request image
 
--- so it is at each of some steps that a command may make, where the index is finished before the first
+-- so it is at each of some steps that a command may make, where the index is initialized before the first
 abbrev pub FinishedFoldersMayStopAlong : Type 0
 FinishedFoldersMayStopAlong =
     (state : State) (moment : ℕ) (request : Request) (image : Image) (steps : List TrailStep) → IsQuiet steps → magic_of (byte image Index) ≡ index_magic

@@ -22,8 +22,8 @@ use Rattle.law_state.specs.Keeping.{KeepsUncounted}
 use Rattle.law_state.specs.PartlyOut.{KeepsPartlyOut}
 use Rattle.law_state.specs.WholeRemovals.{layout_doomed_whole}
 
--- all items of an object with a handle are out; the words of its main item are the first unlinked ones, and its node loads as that of a doomed object and is
--- sealed
+-- all items of an object with a handle are out; the words of its main item are the first unlinked ones, its node loads as that of a doomed object, and node
+-- and record have their checksums
 pub record IsHeldOut (state : State) (layout : Layout) (number : ℕ) (object : Object) (loaded : Loaded) (chains : ℕ → List ℕ) (unlinked : List ℕ) (image : Image) : Type 0 where
   pub placed : IsPlacedAsLive state layout number object loaded
   pub named : is_named state number ≡ true

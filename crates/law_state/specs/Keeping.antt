@@ -61,9 +61,9 @@ pub record AreUnlinked (image : Image) (layout : Layout) (unlinked : List ℕ) :
   pub free : (claim : Claim) → has_claim (claims_of_all unlinked) claim ≡ true → layout.owner claim ≡ None
   pub single : repeats (claims_of_all unlinked) ≡ false
 
--- Seals, counters and the words of the session.
+-- Checksums, counters and the words of the session.
 
--- each node of a layout and its record are sealed
+-- each node of a layout and its record have their checksums
 abbrev pub AllAreSealed : Image → Layout → Type 0
 AllAreSealed image layout = (node : ℕ) (loaded : Loaded) → layout.at node ≡ Some loaded → AreSealed image loaded
 
@@ -71,11 +71,11 @@ AllAreSealed image layout = (node : ℕ) (loaded : Loaded) → layout.at node �
 abbrev pub CountsItems : Image → State → Layout → Type 0
 CountsItems image state layout = count_of (byte image Index) ≡ counting (length state.uses) (sum_by charge_of (loaded_at layout (order state layout)))
 
--- the dirty word of each live object that is dirty is this number
+-- the dirty flag of each live object that is dirty is this number
 abbrev pub AreMarkedBy : ℕ → State → Layout → Type 0
 AreMarkedBy id state layout = (number : ℕ) (object : Object) → object_at state number ≡ Some object → object.live ≡ true → object.settled ≡ false → IfSome (layout.at (layout.place (main object.key))) (λ loaded. loaded.dirty ≡ id)
 
--- a session is open: the crash word is 1, and its number, which isn't 0, marks what is dirty
+-- a session is open: the crash word is 1, and its number, which isn't 0, is the dirty flag of what is dirty
 pub record IsInSession (image : Image) (state : State) (layout : Layout) : Type 0 where
   pub crash : crash_of (byte image Index) ≡ 1
   pub id : this_id_of (byte image Index) ≢ 0
@@ -100,7 +100,7 @@ pub record KeepsUncounted (state : State) (layout : Layout) (unlinked : List ℕ
   pub files : AreFiles image (words_in_use unlinked (all_loaded state layout numbers))
   -- the unlinked words are nobody's
   pub unlinked_words : AreUnlinked image layout unlinked
-  -- nodes and records are sealed
+  -- nodes and records have their checksums
   pub sealed : AllAreSealed image layout
   -- the session is open
   pub session : IsInSession image state layout

@@ -20,15 +20,15 @@ use Rattle.law_state.specs.Keeping.{IsInSession, KeepsUncounted, Keeps}
 abbrev pub KeptStatesAreHeld : Type 0
 KeptStatesAreHeld = (state : State) (layout : Layout) (unlinked : List ℕ) (image : Image) → KeepsUncounted state layout unlinked image → held image ≡ rest state
 
--- the magic word of a finished index is there
+-- the magic word of an initialized index is there
 abbrev pub HasMagic : Image → Type 0
 HasMagic image = magic_of (byte image Index) ≡ index_magic
 
--- and they are recovered where the index is finished
+-- the durable contents of the state that a folder keeps are recovered where the index is initialized
 abbrev pub KeptStatesAreFound : Type 0
 KeptStatesAreFound = (state : State) (layout : Layout) (unlinked : List ℕ) (image : Image) → KeepsUncounted state layout unlinked image → HasMagic image → found image ≡ rest state
 
--- a folder that keeps a state with nothing unlinked represents it, where the index is finished
+-- a folder that keeps a state with nothing unlinked represents it, where the index is initialized
 abbrev pub KeptStatesAreStoodFor : Type 0
 KeptStatesAreStoodFor = (state : State) (layout : Layout) (image : Image) → Keeps state layout [] image → HasMagic image → StandsFor image state
 
@@ -36,7 +36,7 @@ KeptStatesAreStoodFor = (state : State) (layout : Layout) (image : Image) → Ke
 abbrev pub AllAreAtRest : State → Type 0
 AllAreAtRest state = (number : ℕ) → IfSome (object_at state number) (λ object. (object.live && object.settled) ≡ true)
 
--- a finished folder that keeps a state with nothing unlinked, in which each object is live and clean, is consistent
+-- an initialized folder that keeps a state with nothing unlinked, in which each object is live and clean, is consistent
 abbrev pub KeptStatesAreSound : Type 0
 KeptStatesAreSound = (state : State) (layout : Layout) (image : Image) → Keeps state layout [] image → HasMagic image → AllAreAtRest state → IsSound image
 

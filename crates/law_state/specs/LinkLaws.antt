@@ -37,7 +37,7 @@ TableWordsChangeLinks = (from image : Image) (bucket w word : ℕ) → store_of 
 abbrev pub TableWordsLeaveFiles : Type 0
 TableWordsLeaveFiles = (from image : Image) (bucket : ℕ) → SameOutside (one_word Index (place_of_bucket bucket)) from image → KeepsHeaders from image → LeavesFiles from image
 
--- the write of a word of the table leaves all seals
+-- the write of a word of the table leaves all checksums
 abbrev pub TableWordsLeaveSeals : Type 0
 TableWordsLeaveSeals = (from image : Image) (bucket : ℕ) (loaded : Loaded) → SameOutside (one_word Index (place_of_bucket bucket)) from image → AreSealed from loaded → AreSealed image loaded
 
@@ -47,7 +47,7 @@ TableWordsLeaveSeals = (from image : Image) (bucket : ℕ) (loaded : Loaded) →
 abbrev pub ChainNextsChangeLinks : Type 0
 ChainNextsChangeLinks = (from image : Image) (w : ℕ) → OnlyChainNextChanges w from image → OnlyLinksChange w (store_of from) (store_of image)
 
--- the update of a record's chain link leaves all seals of a layout where the record is sealed after it, also after calls that left the files
+-- the update of a record's chain link leaves all checksums of a layout where the record has a right one after it, also after calls that left the files
 abbrev pub ChainNextsLeaveSeals : Type 0
 ChainNextsLeaveSeals = (state : State) (layout : Layout) (unlinked : List ℕ) (from between image : Image) (node : ℕ) (was : Loaded) → KeepsUncounted state layout unlinked from → LeavesFiles from between → layout.at node ≡ Some was → SameOutside (record_range was.contents) between image
     → entry_is_sealed (entry_at image was.contents) ≡ true → (other : ℕ) (loaded : Loaded) → layout.at other ≡ Some loaded → AreSealed between loaded → AreSealed image loaded

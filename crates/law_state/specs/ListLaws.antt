@@ -11,7 +11,7 @@ use Rattle.spec_folder.specs.ListSteps.{IsTouched, KeepsSealed}
 use Rattle.spec_folder.specs.View.{list_of}
 use Rattle.law_state.specs.Keeping.{Keeps, KeepsUncounted}
 
--- an access of a node is done: the node is in front of the list, and each node that was sealed is sealed
+-- an access of a node is done: the node is in front of the list, and each node that had its checksum has it
 pub record IsTouchDone (from : Image) (node : ℕ) (image : Image) : Type 0 where
   pub touched : IsTouched from node (touch_writes node (list_of from)) image
   pub moved : (prefix suffix : List ℕ) → HasListAtRest (prefix ++ node ∷ suffix) from → HasListAtRest (node ∷ prefix ++ suffix) image

@@ -26,8 +26,8 @@ use Rattle.spec_folder.specs.View.{list_of, store_of}
 use Rattle.law_state.specs.Changes.{Finds}
 use Rattle.law_state.specs.Keeping.{KeepsUncounted}
 
--- an entry is written: it loads as a new object of a key that no live object has, its record goes in front of its chain, it is sealed and dirty by the number
--- of the session, and the list has space for it
+-- an entry is written: it loads as a new object of a key that no live object has, its record goes in front of its chain, it has its checksums, its dirty flag
+-- is the number of the session, and the list has space for it
 pub record IsNewEntryOf (state : State) (layout : Layout) (key : List ℕ) (loaded : Loaded) (image : Image) : Type 0 where
   pub entry : IsNewEntry (store_of image) layout key loaded
   pub prefix : IsFrontOfChain (store_of image) layout loaded
@@ -37,7 +37,7 @@ pub record IsNewEntryOf (state : State) (layout : Layout) (key : List ℕ) (load
   pub few : length (order state layout) < most_nodes
   pub missing : owner state (main key) ≡ None
 
--- an insert of a node is done: the node is in front of the list, and each node that was sealed is sealed
+-- an insert of a node is done: the node is in front of the list, and each node that had its checksum has it
 pub record IsInsertDone (from : Image) (node : ℕ) (image : Image) : Type 0 where
   pub partly : IsPartly from (writes_of insert node (list_of from)) image
   pub inserted : CanBeInserted (list_of from) (walked from) node → HasListAtRest (node ∷ walked from) image

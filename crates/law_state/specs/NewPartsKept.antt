@@ -53,7 +53,7 @@ pub record KeepsUnsettled (state : State) (objects : List (Option Object)) : Typ
 abbrev pub PartValuesKeepUnsettled : Type 0
 PartValuesKeepUnsettled = (state : State) (number : ℕ) (object : Object) (n : ℕ) (value : PartValue) → object_at state number ≡ Some object → KeepsUnsettled state (slice_set state.objects number (Some (with_value object n value)))
 
--- a part is made: its record is in front of its chain, its parent has its bit and the words that it had, both are sealed, and nothing else has changed
+-- a part is made: its record is in front of its chain, its parent has its bit and the words that it had, both have their checksums, and nothing else changed
 pub record IsPartMade (state : State) (layout : Layout) (key : List ℕ) (n : ℕ) (was seen loaded : Loaded) (from image : Image) : Type 0 where
   pub leaves : LeavesFiles from image
   pub list : HasListAtRest (loaded.node ∷ order state layout) image

@@ -61,7 +61,7 @@ owner_after layout node now claim = if has_claim (all_claims now) claim then Som
 abbrev pub layout_after : Layout → ℕ → Loaded → Layout
 layout_after layout node now = changed_at layout node now (owner_after layout node now)
 
--- another record fits at an item's node: it has the key, the address and the dirty word of the old one, and the item's row, dirty flag and parent in the
+-- another record fits at an item's node: it has the key, the address and the dirty flag of the old one, and the item's row, dirty flag and parent in the
 -- changed state
 pub record IsItemNow (state other : State) (layout : Layout) (item : Item) (was now : Loaded) : Type 0 where
   pub key : now.key ≡ was.key

@@ -49,12 +49,12 @@ DoomedReadsEnd = (state : State) (moment handle stream offset count number : ℕ
 
 -- Close.
 
--- a Close of the last handle of a live object may crash while the object's dirty word becomes 0
+-- a Close of the last handle of a live object may crash while the object's dirty flag becomes 0
 abbrev pub ClosesMayStop : Type 0
 ClosesMayStop = (state : State) (layout : Layout) (unlinked : List ℕ) (from image : Image) (moment handle number : ℕ) (object : Object) (loaded : Loaded) → KeepsUncounted state layout unlinked from → IsRequest (to_close handle) → IsLastHandle state handle number object
     → layout.at (layout.place (main object.key)) ≡ Some loaded → IsMarking from (layout.place (main object.key)) 0 image → MayStop state moment (to_close handle) image
 
--- the state after a Close of the last handle of a live object is kept once the object's dirty word is 0
+-- the state after a Close of the last handle of a live object is kept once the object's dirty flag is 0
 abbrev pub ClosesEndByMark : Type 0
 ClosesEndByMark = (state : State) (layout : Layout) (unlinked : List ℕ) (from image : Image) (moment handle number : ℕ) (object : Object) (loaded : Loaded) → Keeps state layout unlinked from → IsRequest (to_close handle) → IsLastHandle state handle number object
     → layout.at (layout.place (main object.key)) ≡ Some loaded → IsMarked from (layout.place (main object.key)) 0 image → Keeps (step state moment (to_close handle)).state (dirtied layout (layout.place (main object.key)) loaded 0) unlinked image
@@ -69,19 +69,19 @@ ClosesOfDoomedUnlink =
 
 -- Flush.
 
--- a Flush may crash while the dirty word of its object becomes 0
+-- a Flush may crash while the dirty flag of its object becomes 0
 abbrev pub FlushesMayStop : Type 0
 FlushesMayStop = (state : State) (layout : Layout) (unlinked : List ℕ) (from image : Image) (moment handle number : ℕ) (object : Object) (loaded : Loaded) → KeepsUncounted state layout unlinked from → IsRequest (to_flush handle) → IsOpened state handle number object
     → layout.at (layout.place (main object.key)) ≡ Some loaded → IsMarking from (layout.place (main object.key)) 0 image → MayStop state moment (to_flush handle) image
 
--- the state after a Flush is kept once the dirty word of its object is 0
+-- the state after a Flush is kept once the dirty flag of its object is 0
 abbrev pub FlushesEndByMark : Type 0
 FlushesEndByMark = (state : State) (layout : Layout) (unlinked : List ℕ) (from image : Image) (moment handle number : ℕ) (object : Object) (loaded : Loaded) → Keeps state layout unlinked from → IsOpened state handle number object
     → layout.at (layout.place (main object.key)) ≡ Some loaded → IsMarked from (layout.place (main object.key)) 0 image → Keeps (step state moment (to_flush handle)).state (dirtied layout (layout.place (main object.key)) loaded 0) unlinked image
 
 -- An object becomes dirty.
 
--- while the dirty word of the object that a request makes dirty becomes a mark that isn't 0, the request may crash
+-- while the dirty flag of the object that a request makes dirty becomes a word that isn't 0, the request may crash
 abbrev pub UnsettlingMarksMayStop : Type 0
 UnsettlingMarksMayStop = (state : State) (layout : Layout) (unlinked : List ℕ) (from image : Image) (moment : ℕ) (request : Request) (number mark : ℕ) (object : Object) (loaded : Loaded) → IsValidState state → Unsettles state moment request number object
     → KeepsUncounted (with_room state moment request) layout unlinked from → is_named (with_room state moment request) number ≡ true → layout.at (layout.place (main object.key)) ≡ Some loaded → (mark == 0) ≡ false

@@ -26,7 +26,7 @@ use Rattle.law_state.specs.Changes.{Finds}
 use Rattle.law_state.specs.GoneLaws.{owner_without}
 use Rattle.law_state.specs.Keeping.{KeepsUncounted}
 
--- a removal of a node is done: it is out of the list, and each node that was sealed is sealed
+-- a removal of a node is done: it is out of the list, and each node that had its checksum has it
 pub record IsRemovalDone (from : Image) (node : ℕ) (image : Image) : Type 0 where
   pub partly : IsPartly from (writes_of remove node (list_of from)) image
   pub removed : (prefix suffix : List ℕ) → HasListAtRest (prefix ++ node ∷ suffix) from → HasListAtRest (prefix ++ suffix) image

@@ -1,4 +1,4 @@
--- A use of an item, and an Open, at each word.
+-- An access of an item, and an Open, at each word.
 use Rattle.std.specs.Prelude.{◌≡◌, ℕ, List, None, true, nat_lt, if◌then◌else◌}
 use Rattle.spec_image.specs.Image.{Image}
 use Rattle.blk_model.specs.Effects.{used}

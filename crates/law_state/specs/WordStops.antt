@@ -1,4 +1,4 @@
--- Where each command may crash, at each word of its calls: uses of items, dirty words, removals and groups.
+-- Where each command may crash, at each word of its calls: accesses of items, dirty flags, removals and groups.
 use Rattle.std.specs.Prelude.{◌≡◌, ◌⊎◌, ℕ, Bool, List, [], ◌∷◌, ◌++◌, None, Some, filter, false, not, if◌then◌else◌, nat_lt, true}
 use Rattle.spec_image.specs.Image.{Image}
 use Rattle.blk_model.specs.EvictionLaws.{EvictsFirst}
@@ -24,7 +24,7 @@ use Rattle.law_state.specs.Commands.{MayStop}
 use Rattle.law_state.specs.CommandStates.{IsDoomOf, IsLastHandle, IsOpened, IsUnsettled, KeepsOtherKeys, Unsettles, amidst, in_order, with_room}
 use Rattle.law_state.specs.Keeping.{KeepsUncounted}
 
--- Uses.
+-- Accesses.
 
 -- an image is at a word of the access of an item's node
 abbrev pub IsMidUse : Layout → Item → Image → Image → Type 0
@@ -42,7 +42,7 @@ UnsettledUsesMayStop = (state : State) (moment : ℕ) (request : Request) (numbe
     → IsUnsettled changed object.key → KeepsOtherKeys (with_room state moment request) object.key uses → key_of item ≡ object.key → KeepsUncounted (amidst (with_room state moment request) number changed uses) layout unlinked from
     → is_listed (amidst (with_room state moment request) number changed uses) item ≡ true → IsMidUse layout item from image → MayStop state moment request image
 
--- Dirty words.
+-- Dirty flags.
 
 -- a request may crash while it makes its object dirty: with the object clean or dirty, the durable contents are held
 abbrev pub UnsettlingMayStop : Type 0
@@ -82,7 +82,7 @@ pub record IsOut (state : State) (layout : Layout) (key : List ℕ) (keep : Item
   pub there : (item : Item) → is_listed state item ≡ true → keep item ≡ true → except (layout.place item) ≡ false
   pub list : HasListAtRest (nodes_of layout (filter keep state.uses)) image
 
--- once an object's main item is out of the list, the durable contents with the object doomed are held, while its record is unlinked and marked or freed
+-- once an object's main item is out of the list, the durable contents with the object doomed are held, while its record is unlinked and made doomed or freed
 abbrev pub OutIsDoomed : Type 0
 OutIsDoomed = (state : State) (layout : Layout) (number : ℕ) (object : Object) (keep : Item → Bool) (image : Image) → IsValidState state → object_at state number ≡ Some object → IsOut state layout object.key keep image → Finds (rest (doomed number state (Some object))) image
 

@@ -34,7 +34,7 @@ pub fn touches_keep_states()
 {}
 
 /// While the dirty flag of a main item's node changes, recovery gives the durable contents with the object as it was, or as it is afterwards; then the folder
-/// keeps the state in which it is clean where the flag is 0, and dirty where it is the number of the session. A sealed update of a record changes its blocks
+/// keeps the state in which it is clean where the flag is 0, and dirty where it is the number of the session. An update of a record changes its blocks
 /// alone, and leaves the counters.
 pub fn objects_are_marked()
     ensures blocks { RecordUpdatesChangeOnly }
@@ -91,7 +91,7 @@ pub fn new_parts_are_shown()
     ensures ends { NewPartsEnd }
 {}
 
-/// While a part of a sparse object is made, the folder holds the old durable contents of the folder, and from the second write of its insert on those with the
+/// While a part of a sparse object is made, the folder holds the old durable contents, and from the second write of its insert on those with the
 /// part. Then the folder keeps the state with the part but for the counters, and the part's words are unlinked no longer.
 pub fn new_parts_are_kept()
     ensures inserting { PartInsertsFindEither }
@@ -152,7 +152,7 @@ pub fn doomed_objects_are_kept()
 {}
 
 /// The write of a word of the table, or of a record's chain link, changes nothing that is shown but links of chains. That of the table leaves checksums,
-/// headers, lengths and the session as they are; that of a link leaves the checksums where its record is sealed after it.
+/// headers, lengths and the session as they are; that of a link leaves the checksums where its record has a right one after it.
 pub fn links_leave_the_rest()
     ensures table_links { TableWordsChangeLinks }
     ensures table_files { TableWordsLeaveFiles }
@@ -181,7 +181,7 @@ pub fn states_change_in_one_object()
     ensures changed { ObjectsChangeTheirMainItem }
 {}
 
-/// The allocation of blocks, as `AreAllocated` tells it, adds one allocation; the freeing of blocks, as `AreFreed` tells it, removes it.
+/// The allocation of blocks, as `AreAllocated` says it, adds one allocation; the freeing of blocks, as `AreFreed` says it, removes it.
 pub fn allocations_come_and_go()
     ensures added { AllocatedBlocksAreAdded }
     ensures removed { FreedBlocksAreRemoved }

@@ -166,7 +166,7 @@ pub fn commands_keep_the_next_state()
 {}
 
 /// A Read, a Close of a last handle and a Flush may crash at each word of their one call; once that is done the state after them is kept, and so is that after
-/// an Open. A request may also crash while the dirty flag of the object that it makes dirty becomes its mark.
+/// an Open. A request may also crash while the dirty flag of the object that it makes dirty changes.
 pub fn commands_of_one_call()
     ensures opens_end { OpensEndByTouch }
     ensures reads_stop { ReadsMayStop }

@@ -80,12 +80,12 @@ verdicts store rule kept (node ∷ nodes) =
     let given = verdict store rule kept node in
     (node, given) ∷ verdicts store rule (with_verdict kept given) nodes
 
--- whether a node names a record with the child flag, whose seal is right or absent
+-- whether a node names a record with a part's flag, whose checksum is right or absent
 abbrev pub is_child : StoreView → ℕ → Bool
 is_child store node =
     option_map_or (λ node_fields. option_map_or (λ fields. fields.checks && (fields.flags == child)) (store.entry node_fields.contents) false) (store.node_fields node) false
 
--- the nodes in the order of the two passes: first those whose record is not a child, then the children
+-- the nodes in the order of the two passes: first those whose record isn't a part, then those of parts
 abbrev pub tried : StoreView → List ℕ → List ℕ
 tried store nodes = filter (λ node. not (is_child store node)) nodes ++ filter (is_child store) nodes
 
@@ -130,7 +130,7 @@ is_kept store rule nodes node = is_some (kept_as store rule nodes node)
 abbrev pub kept_nodes : StoreView → Rule → List ℕ → List ℕ
 kept_nodes store rule nodes = filter (is_kept store rule nodes) nodes
 
--- The whole audit.
+-- The whole consistency check.
 
 -- the records that are kept of a view's walked nodes, in the order of the walk
 abbrev pub kept_by : Rule → View → List Loaded

@@ -23,11 +23,11 @@ bucket_of_hash hash = hash % table_length
 abbrev pub bucket_at : Image → ℕ → ℕ
 bucket_at image w = bucket_of_hash (entry_at image w).hash
 
--- a word names a record of a bucket, whose seal is right or absent
+-- a word names a record of a bucket, whose checksum is right or absent
 abbrev pub is_of_bucket : StoreView → ℕ → ℕ → Bool
 is_of_bucket store bucket w = option_map_or (λ fields. fields.checks && (bucket_of_hash fields.hash == bucket)) (store.entry w) false
 
--- a record is reached in the chain of a bucket where its first block was not met before, its seal is right or absent, and it is of the bucket
+-- a record is reached in the chain of a bucket where its first block was not met before, its checksum is right or absent, and it is of the bucket
 abbrev pub is_reached : StoreView → ℕ → List ℕ → ℕ → Bool
 is_reached store bucket met w = not (is_among met (file_and_block w)) && is_of_bucket store bucket w
 

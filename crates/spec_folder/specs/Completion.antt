@@ -14,16 +14,16 @@ remove = 2
 abbrev pub move : ℕ
 move = 3
 
--- the head is 0 or names a node that is there and whose seal is right or absent
+-- the head is 0 or names a node that is there and whose checksum is right or absent
 abbrev pub head_counts : ListView → Bool
 head_counts list = (list.head == 0) || list.checks list.head
 
--- a node's next is 0, or its next and its prev name nodes that are there and whose seals are right or absent
+-- a node's next is 0, or its next and its prev name nodes that are there and whose checksums are right or absent
 abbrev pub links_count : ListView → ℕ → Bool
 links_count list node = (list.next node == 0) || (list.checks (list.next node) && list.checks (list.prev node))
 
 -- the redo has something to do: the transaction names a node that is there, the operation is 1, 2 or 3, the head (for 1 and 3) is 0 or names a node that is
--- there, and (for 2 and 3), unless the node's next is 0, its next and its prev name nodes that are there; each of these nodes has a right or absent seal
+-- there, and (for 2 and 3), unless the node's next is 0, its next and its prev name nodes that are there; each of these nodes has a right or absent checksum
 unfoldable pub counts : ListView → Bool
 counts list =
     not (list.transaction == 0) && list.checks list.transaction

@@ -18,7 +18,7 @@ pub data Role : Type 0 where
   IsParent : ParentIndex → Role
   IsPart : Name → PartIndex → Role
 
--- the longest key of a record; a child's key is a name
+-- the longest key of a record; a part's key is a name
 abbrev pub longest_key_with : RecordFields → ℕ
 longest_key_with fields = if fields.flags == child then longest_name else longest_key
 
@@ -68,7 +68,7 @@ parent_role fields streams =
     if not (length (stream 1 streams) == 0) then None else
     option_and_then (λ index. if index.key_len == fields.key_len then Some (IsParent index) else None) (read_parent_index (stream 2 streams))
 
--- the role of a record with a child's flag: a name as its key, nothing in stream 0, at most the size of a part in stream 1, and in stream 2 an index with the
+-- the role of a record with a part's flag: a name as its key, nothing in stream 0, at most the size of a part in stream 1, and in stream 2 an index with the
 -- name's signature and key length, whose present bytes lie inside the data; None where it is otherwise
 unfoldable pub part_role : List ℕ → List (List ℕ) → Option Role
 part_role key streams =

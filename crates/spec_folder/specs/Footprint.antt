@@ -92,7 +92,7 @@ abbrev pub IsOnlyRecord : ℕ → Layout → Type 0
 IsOnlyRecord w layout = (claim : Claim) (node : ℕ) (loaded : Loaded) → has_claim (claims_of w) claim ≡ true → layout.owner claim ≡ Some node
     → layout.at node ≡ Some loaded → loaded.contents ≡ w
 
--- a node has the same links in both lists, and its seal is right or absent in both or in neither
+-- a node has the same links in both lists, and its checksum is right or absent in both or in neither
 pub record SameNodeLinks (node : ℕ) (old new : ListView) : Type 0 where
   pub checks : old.checks node ≡ new.checks node
   pub next : old.next node ≡ new.next node

@@ -56,7 +56,7 @@ rule_of layout node = unchained_rule (layout.state node)
 abbrev pub settled_with : State → List ℕ → Option Bool
 settled_with state key = option_map (λ object. object.settled) (model.owner_object state (main key))
 
--- the dirty word of a main item is 0 exactly where its object is clean, and that of a part is 0
+-- the dirty flag of a main item is 0 exactly where its object is clean, and that of a part is 0
 abbrev pub HasDirtyMark : State → Item → Loaded → Type 0
 HasDirtyMark state (main key) loaded = IfSome (model.owner_object state (main key)) (λ object. (loaded.dirty == 0) ≡ object.settled)
 HasDirtyMark state (part key n) loaded = loaded.dirty ≡ 0

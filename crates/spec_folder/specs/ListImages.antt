@@ -17,7 +17,7 @@ pub record IsWritable (image : Image) : Type 0 where
   pub bytes : AreBytes image
   pub has_header : header_length ≤ length_of image Index
 
--- writes into the LRU list can be made on an image: the nodes that are written are there with a right or absent seal, and the words are below 2 ^ 32
+-- writes into the LRU list can be made on an image: the nodes that are written are there with a right or absent checksum, and the words are below 2 ^ 32
 pub record CanBeMade (image : Image) (writes : List ListWrite) : Type 0 where
   pub nodes : AreOf (λ node. (list_of image).checks node ≡ true) writes
   pub words : AllWriteWords writes

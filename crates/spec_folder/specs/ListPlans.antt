@@ -4,7 +4,7 @@ use Rattle.spec_folder.specs.ListView.{ListView, ListWrite, Next, Head, Tail, Tr
 use Rattle.spec_folder.specs.Completion.{insert, remove, move, counts, taking_out, putting_in_front, take_out, completed_list}
 use Rattle.spec_folder.specs.Walk.{walk}
 
--- what the operation in flight writes; a move turns into an insert once its node is out
+-- what the operation in flight writes; a move becomes an insert once its node is out
 unfoldable pub operation_writes : ListView → List ListWrite
 operation_writes list =
     let node = list.transaction in

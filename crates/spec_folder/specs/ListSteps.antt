@@ -12,7 +12,7 @@ use Rattle.spec_folder.specs.View.{node_at}
 use Rattle.spec_folder.specs.ShownChanges.{OnlyListChanges}
 use Rattle.spec_format.specs.Headers.{heads_place, tails_place, transaction_place, operation_place}
 
--- the steps of a write: one word of the index, or the sealed update of the next or the prev of a node
+-- the steps of a write: one word of the index, or the update of the next or the prev of a node under a checksum 0
 unfoldable pub write_steps : ListWrite → Image → List TrailStep
 write_steps (Next node word) image = sealed_steps image node ((node_next_place, word) ∷ [])
 write_steps (Prev node word) image = sealed_steps image node ((node_prev_place, word) ∷ [])
@@ -59,19 +59,19 @@ AreOf P (Tail word ∷ writes) = AreOf P writes
 AreOf P (Transaction word ∷ writes) = AreOf P writes
 AreOf P (Operation word ∷ writes) = AreOf P writes
 
--- a node has the hash as its seal
+-- a node has the hash as its checksum
 abbrev pub IsSealed : Image → ℕ → Type 0
 IsSealed image node = node_is_sealed (node_at image node) ≡ true
 
--- each rankings node that was sealed is sealed in the new image
+-- each rankings node that had its checksum has it in the new image
 abbrev pub KeepsSealed : Image → Image → Type 0
 KeepsSealed from image = (node : ℕ) → kind_of node ≡ rankings → IsSealed from node → IsSealed image node
 
--- each node whose next or prev is written is sealed
+-- each node whose next or prev is written has its checksum
 abbrev pub AreNodesSealed : List ListWrite → Image → Type 0
 AreNodesSealed writes image = AreOf (IsSealed image) writes
 
--- each node whose next or prev is written is sealed, and so is each rankings node that was sealed before
+-- each node whose next or prev is written has its checksum, and so has each rankings node that had it before
 pub record Seals (from : Image) (writes : List ListWrite) (image : Image) : Type 0 where
   pub sealed : AreNodesSealed writes image
   pub keeps : KeepsSealed from image

@@ -3,7 +3,7 @@ use Rattle.std.specs.Prelude.{◌≡◌, ℕ, ◌≤◌, ◌<◌, Bool, true, fa
 use Rattle.blk_model.specs.Sizes.{most_items}
 use Rattle.spec_format.specs.BlockFiles.{is_among}
 
--- the LRU list as an image has it; `checks` says whether a word names a node that is there and whose seal is right or absent
+-- the LRU list as an image has it; `checks` says whether a word names a node that is there and whose checksum is right or absent
 pub record ListView : Type 0 where
   pub head : ℕ
   pub tail : ℕ
@@ -30,7 +30,7 @@ pub data ListWrite : Type 0 where
   Transaction : ℕ → ListWrite
   Operation : ℕ → ListWrite
 
--- the list after a write; a node whose links are written has a right seal as before, since it is sealed again
+-- the list after a write; a node whose links are written has a right checksum as before, since it gets a new one
 abbrev pub with_write : ListView → ListWrite → ListView
 with_write list (Next node word) = record list { next = put list.next node word }
 with_write list (Prev node word) = record list { prev = put list.prev node word }
@@ -59,7 +59,7 @@ abbrev pub Distinct : List ℕ → Type 0
 Distinct [] = Unit {0}
 Distinct (word ∷ words) = (is_among words word ≡ false) × Distinct words
 
--- a node whose seal is right or absent, with these words as prev and next
+-- a node whose checksum is right or absent, with these words as prev and next
 pub record Joined (checks : ℕ → Bool) (next prev : ℕ → ℕ) (before node following : ℕ) : Type 0 where
   pub good : checks node ≡ true
   pub next_is : next node ≡ following
@@ -84,7 +84,7 @@ pub record IsAtRest (list : ListView) (nodes : List ℕ) : Type 0 where
   pub whole : IsList list nodes
   pub idle : list.transaction ≡ 0
 
--- a node whose seal is right or absent and that isn't in an idle list, which has space for one more
+-- a node whose checksum is right or absent and that isn't in an idle list, which has space for one more
 pub record CanBeInserted (list : ListView) (nodes : List ℕ) (node : ℕ) : Type 0 where
   pub rest : IsAtRest list nodes
   pub lacks : is_among nodes node ≡ false

@@ -28,7 +28,7 @@ held_rule = record { state = records.entry_normal; clean = true; chained = true 
 abbrev pub listed_rule : Rule
 listed_rule = record { state = records.entry_normal; clean = false; chained = true }
 
--- the rule for a record of this state by itself, with the dirty word and the chain left out
+-- the rule for a record of this state by itself, with the dirty flag and the chain left out
 abbrev pub unchained_rule : ℕ → Rule
 unchained_rule state = record { state = state; clean = false; chained = false }
 
@@ -42,7 +42,7 @@ pub record Loaded : Type 0 where
   pub streams : List (List ℕ)
   pub others : List ℕ
 
--- the key of a record whose seal is right or absent, or the first of the reasons 3 to 10 that holds of it
+-- the key of a record whose checksum is right or absent, or the first of the reasons 3 to 10 that holds of it
 unfoldable pub load_key : StoreView → Rule → ℕ → ℕ → ℕ → RecordFields → Result (List ℕ) Reason
 load_key store rule node contents dirty fields = do
   _ ← demand (fields.state == rule.state) reason.State

@@ -1,4 +1,4 @@
--- Records that are searched for by a key and the child flag, in the chain of the key's bucket.
+-- Records that are searched for by a key and the flag of a part, in the chain of the key's bucket.
 use Rattle.std.specs.Prelude.{◌≡◌, ℕ, List, Bool, true, ◌==◌}
 use Rattle.std.specs.declared.option.Option.TheVariants.{Some}
 use Rattle.blk_model.specs.State.{State, live_with}
@@ -24,7 +24,7 @@ chained_for store key = (chain store (bucket_of_key key)).reached
 abbrev pub IsWholeChain : StoreView → ℕ → Type 0
 IsWholeChain store bucket = IsChain store bucket (chain store bucket).reached
 
--- the record of a word has this key, with the hash of the key as its hash, and this child flag
+-- the record of a word has this key, with the hash of the key as its hash; it has the flag of a part exactly where `is_child` is true
 pub record HasKey (store : StoreView) (name : List ℕ) (is_child : Bool) (w : ℕ) : Type 0 where
   pub fields : RecordFields
   pub here : store.entry w ≡ Some fields
@@ -32,11 +32,11 @@ pub record HasKey (store : StoreView) (name : List ℕ) (is_child : Bool) (w : �
   pub key : stored_key store w fields ≡ Some name
   pub flag : (fields.flags == child) ≡ is_child
 
--- none of these words names a record with this key and child flag
+-- none of these words names a record with this key that has the flag of a part exactly where `is_child` is true
 abbrev pub NoneHasKey : StoreView → List ℕ → List ℕ → Bool → Type 0
 NoneHasKey store words key is_child = (w : ℕ) → is_among words w ≡ true → HasKey store key is_child w → ⊥
 
--- a word names a record whose seal is right or absent and that has a key, whose length and place are right
+-- a word names a record whose checksum is right or absent and that has a key, whose length and place are right
 pub record HasCheckedKey (store : StoreView) (w : ℕ) : Type 0 where
   pub fields : RecordFields
   pub here : store.entry w ≡ Some fields

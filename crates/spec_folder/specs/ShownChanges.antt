@@ -27,7 +27,7 @@ pub record OnlyListChanges (writes : List ListWrite) (from image : Image) : Type
   pub list : list_of image ≡ after_writes writes (list_of from)
   pub store : ShowsTheSame (store_of from) (store_of image)
 
--- two images show the same but for the contents and dirty words of one node
+-- two images show the same but for the contents and dirty flags of one node
 pub record OnlyNodeFieldsChange (w : ℕ) (from image : Image) : Type 0 where
   pub list : list_of image ≡ list_of from
   pub node_fields : (u : ℕ) → u ≢ w → (store_of from).node_fields u ≡ (store_of image).node_fields u

@@ -42,7 +42,7 @@ pub record AreOwned (image : Image) (claims : List Claim) : Type 0 where
   pub maps : MapsAre image claims
   pub only_claimed : OnlyClaimed image claims
 
--- Files, counters and seals.
+-- Files, counters and checksums.
 
 -- the block files that are there are the linked ones
 abbrev pub OnlyLinked : Image → Type 0
@@ -62,7 +62,7 @@ pub record CountersAgree (image : Image) (words : List ℕ) (n : ℕ) : Type 0 w
   pub empty : EmptyAgrees image n
   pub updating : updating_of (byte image (Block n)) ≡ 0
 
--- a node and its record are sealed: the self hash of each is the hash of the bytes before it
+-- a node and its record have their checksums: the self hash of each is the hash of the bytes before it
 pub record AreSealed (image : Image) (loaded : Loaded) : Type 0 where
   pub node : node_is_sealed (node_at image loaded.node) ≡ true
   pub entry : entry_is_sealed (entry_at image loaded.contents) ≡ true
@@ -72,7 +72,7 @@ pub record IsIndexCounted (image : Image) (listed : List Loaded) : Type 0 where
   pub tail : (view_of image).list.tail ≡ last_or 0 (map (λ loaded. loaded.node) listed)
   pub counts : CountsAs (length listed) (sum_by charge_of listed) (count_of (byte image Index))
 
--- files, counters, seals and the words of the index agree with what is listed, and with what is kept beside the list
+-- files, counters, checksums and the words of the index agree with what is listed, and with what is kept beside the list
 pub record IsInOrder (image : Image) (listed doomed : List Loaded) : Type 0 where
   pub only_linked : OnlyLinked image
   pub long_enough : AreLongEnough image
@@ -80,7 +80,7 @@ pub record IsInOrder (image : Image) (listed doomed : List Loaded) : Type 0 wher
   pub index : IsIndexCounted image listed
   pub sealed : AllByRecursion (AreSealed image) (listed ++ doomed)
 
--- the folder is consistent: recovery has nothing to do, but that it raises the version of an older index
+-- the folder is consistent: recovery has nothing to do, but that it upgrades an older index
 pub record IsSound (image : Image) : Type 0 where
   pub well_formed : IsWellFormed image
   pub transaction : (view_of image).list.transaction ≡ 0

@@ -39,7 +39,7 @@ pub record AreDoomed (view : View) (state : State) (numbered : List (ℕ × Load
   pub all : (number : ℕ) (object : Object) → object_at state number ≡ Some object → object.live ≡ false
       → is_among (map (λ doomed. doomed.0) numbered) number ≡ true
 
--- what a view shows of a valid state: what is listed, dirty or not, is its items in their order, each with the dirty word of its item, nothing is
+-- what a view shows of a valid state: what is listed, dirty or not, is its items in their order, each with the dirty flag of its item, nothing is
 -- dropped, and no operation is in flight
 pub record ShowsState (view : View) (state : State) : Type 0 where
   pub valid : IsValidState state

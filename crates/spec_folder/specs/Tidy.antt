@@ -1,4 +1,4 @@
--- Files, counters and seals in order, told by a layout, and what leaves files as they are.
+-- Files, counters and checksums in order, by a layout, and what leaves files as they are.
 use Rattle.std.specs.Prelude.{◌≡◌, ℕ, ◌<◌, List, ◌++◌, length, map, is_some, true, false}
 use Rattle.std.specs.List.{filter_map, flat_map, sum_by}
 use Rattle.std.specs.declared.option.Option.TheVariants.{Some}
@@ -24,7 +24,7 @@ loaded_at layout nodes = filter_map layout.at nodes
 abbrev pub doomed_nodes : Layout → List ℕ → List ℕ
 doomed_nodes layout numbers = map layout.place_of_doomed numbers
 
--- files, counters and seals are in order for what lies at the nodes of a layout
+-- files, counters and checksums are in order for what lies at the nodes of a layout
 pub record IsTidy (image : Image) (state : State) (layout : Layout) (numbers : List ℕ) : Type 0 where
   pub only_linked : OnlyLinked image
   pub long_enough : AreLongEnough image
@@ -34,7 +34,7 @@ pub record IsTidy (image : Image) (state : State) (layout : Layout) (numbers : L
   pub sealed : (node : ℕ) (loaded : Loaded) → layout.at node ≡ Some loaded → AreSealed image loaded
 
 -- an image has a state by a layout, in which these are the numbers of the doomed objects: it is well formed and represents the state, its maps and
--- external files are exact, and its files, counters and seals are in order
+-- external files are exact, and its files, counters and checksums are in order
 pub record HasState (state : State) (layout : Layout) (numbers : List ℕ) (image : Image) : Type 0 where
   pub valid : IsValidState state
   pub well_formed : IsWellFormed image
@@ -49,7 +49,7 @@ pub record IsBehindHeaders (footprint : Footprint) : Type 0 where
   pub bytes : (n i : ℕ) → i < header_size → footprint.bytes (Block n) i ≡ false
   pub sizes : (file : File) → footprint.sizes file ≡ false
 
--- files are as they were: the same are linked, with the same marks and counters, and as long, and the same external files are there
+-- files are as they were: the same are linked, with the same blocks marked, the same counters, and as long, and the same external files are there
 pub record FilesStand (from image : Image) : Type 0 where
   pub links : (n : ℕ) → linked_as image n ≡ linked_as from n
   pub marks : (n b : ℕ) → b < most_blocks → is_block_marked image n b ≡ is_block_marked from n b

@@ -1,5 +1,5 @@
 -- What an image shows, cut into the pieces that change apart from one another: the links of the LRU list, what the nodes name,
--- the table and the links of the chains, the records without link and seal, and stored data by its address words.
+-- the table and the links of the chains, the records without link and checksum, and stored data by its address words.
 use Rattle.std.specs.Prelude.{ℕ, ◌+◌, List, [], Bool, not, ◌&&◌, ◌==◌, if◌then◌else◌, slice_index}
 use Rattle.std.specs.declared.option.Option.{Option}
 use Rattle.std.specs.declared.option.Option.TheVariants.{None, Some}
@@ -30,7 +30,7 @@ entry_at image w = entry_in (block_bytes image w) (place w)
 
 -- The LRU list.
 
--- a word names a node that is there and whose seal is right or absent
+-- a word names a node that is there and whose checksum is right or absent
 unfoldable pub checks_at : Image → ℕ → Bool
 checks_at image w = stands_as image rankings w && node_checks (node_at image w)
 
@@ -65,7 +65,7 @@ pub record NodeFields : Type 0 where
 unfoldable pub node_fields_at : Image → ℕ → Option NodeFields
 node_fields_at image w = if stands_as image rankings w then Some (record { contents = (node_at image w).contents; dirty = (node_at image w).dirty }) else None
 
--- a record without its link and its seal: whether the seal is right or absent, and the fields
+-- a record without its link and its checksum: whether the checksum is right or absent, and the fields
 pub record RecordFields : Type 0 where
   pub checks : Bool
   pub hash : ℕ
@@ -77,7 +77,7 @@ pub record RecordFields : Type 0 where
   pub data_addr : List ℕ
   pub flags : ℕ
 
--- the fields of a record, and whether its seal is right or absent
+-- the fields of a record, and whether its checksum is right or absent
 abbrev pub fields_of : Entry → RecordFields
 fields_of e = record {
   checks = entry_checks e;

@@ -3,8 +3,8 @@ use Rattle.std.specs.Prelude.{ℕ, zero, suc, Bool, not, ◌&&◌, ◌==◌, if�
 use Rattle.spec_format.specs.BlockFiles.{is_among}
 use Rattle.spec_folder.specs.ListView.{ListView, most_nodes}
 
--- the nodes from a word on, at most so many, where some were met and one is the node before; a node is walked where it is there and checks,
--- was not met, and its prev is the node before it; the walk ends after a node whose next is itself, and before one that isn't walked
+-- the nodes from a word on, at most so many, where some were met and one is the node before; a node is walked where it is there, its checksum
+-- is right or absent, it was not met, and its prev is the node before it; the walk ends after a node whose next is itself, and before one that isn't walked
 unfoldable pub walk_from : (checks : ℕ → Bool) (next prev : ℕ → ℕ) (most : ℕ) (met : List ℕ) (before word : ℕ) → List ℕ
 walk_from checks next prev zero met before word = []
 walk_from checks next prev (suc most) met before word =

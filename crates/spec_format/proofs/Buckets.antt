@@ -1,4 +1,4 @@
--- The words of the table lie behind those that say what session it is.
+-- The words of the table lie after those that say what session it is.
 use Rattle.std.proofs.Common.{◌≡◌, ℕ, ◌+◌, ◌*◌, ◌&&◌, ◌||◌, true, arith}
 use Rattle.std.specs.Prelude.{nat_le}
 use Rattle.std.proofs.lemmas.Bool.Decides.{nat_tests}

@@ -8,7 +8,7 @@ use Rattle.spec_format.specs.Headers.{CountsAs, count_of, counting, is_index_ver
 first_words : List (ℕ × ℕ)
 first_words = (4, 0x20000) ∷ (8, 3) ∷ (12, 661) ∷ (48, 7) ∷ (52, 7) ∷ (268, 3) ∷ []
 
--- the words of that header once its version is raised
+-- the words of that header once its version is upgraded
 raised_words : List (ℕ × ℕ)
 raised_words = (4, 0x30000) ∷ (8, 3) ∷ (12, 0) ∷ (48, 661) ∷ (52, 0) ∷ (268, 3) ∷ []
 
@@ -43,7 +43,7 @@ large_is : count_of (header_of large_words) ≡ counting 3 6442450942
 unfolding count_of header_of large_words with_word spliced zeros
 large_is = refl
 
--- the words that aren't read begin behind the sum
+-- the words that aren't read begin after the sum
 pad_is : pad_of (header_of large_words) 0 ≡ 5
 unfolding header_of large_words with_word spliced zeros
 pad_is = refl

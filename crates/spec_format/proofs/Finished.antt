@@ -21,7 +21,7 @@ pub sound-of : (image : Image) → IsWellFormed image → HasSoundHeaders image
 unfolding head_checks
 sound-of image well = (passed Index 0 _ (magic_of (byte image Index) == index_magic) _ well).1
 
--- and the magic word of a finished index
+-- a well-formed folder has the magic word of an initialized index
 pub magic-of : (image : Image) → IsWellFormed image → magic_of (byte image Index) ≡ index_magic
 unfolding head_checks
 magic-of image well = eqb-true _ _ (passed Index 0 _ (magic_of (byte image Index) == index_magic) _ well).0

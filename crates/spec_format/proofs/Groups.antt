@@ -9,7 +9,7 @@ use Rattle.std.proofs.lemmas.Bool.{cases_eq}
 use Rattle.std.proofs.lemmas.Bool.Decides.{nat_tests}
 use Rattle.spec_format.specs.Maps.{are_free, has_run, longest_run, groups_with}
 
--- whether so many blocks side by side are free, where block i + j is told by i and j
+-- whether so many blocks side by side are free, where `P i j` says whether block i + j is marked
 abbrev run_with : (ℕ → ℕ → Bool) → ℕ → Bool
 run_with P count = list_any (λ i. list_all (λ j. not (P i j)) (range_with_len 0 count)) (range_with_len 0 (4 - count + 1))
 

@@ -61,7 +61,7 @@ along_checked image kind (suc left) k met m small among none =
     by_test true there none rest = absurd (clash there)
     by_test false there none rest = rest there none
 
--- a linked file of a folder whose block files are undamaged has its header, and a number of blocks that is allowed
+-- a linked file of a folder in which no check of a block file fails has its header, and a number of blocks that is allowed
 pub linked_checked : (image : Image) (kind m : ℕ) → first_block_damage image ≡ None → is_block_kind kind ≡ true → is_among (linked image kind) m ≡ true → HasHead image m
 unfolding linked checks_of_kind
 linked_checked image kind m undamaged block_kind among =

@@ -10,7 +10,7 @@ use Rattle.spec_image.proofs.Splices.{length-spliced, spliced-is}
 use Rattle.spec_image.proofs.Words.{range-is, word-beside}
 use Rattle.spec_format.specs.Sealed.{placed}
 
--- the front of bytes that are written, and what lies from a place on
+-- a prefix of bytes that are written over, and what lies from a place on
 take-spliced : (n i : ℕ) (new old : List ℕ) → take n (spliced i new old) ≡ spliced i new (take n old)
 unfolding spliced
 take-spliced zero i new [] = refl
@@ -58,7 +58,7 @@ record-after file i n (w ∷ ws) image fits =
     record-after file i n ws (applied (Word file (i + w.0) (word_bytes w.1)) image) (omega (arith, length-after_write image file file (i + w.0) (word_bytes w.1)))
     ∙ ap (with_words ws) (record-step image file i n w.0 w.1 fits)
 
--- the front of a record with words over it
+-- a prefix of a record with words over it
 pub take-with_word : (n p v : ℕ) (bytes : List ℕ) → take n (with_word p v bytes) ≡ with_word p v (take n bytes)
 unfolding with_word
 take-with_word n p v bytes = take-spliced n p (word_bytes v) bytes

@@ -1,4 +1,4 @@
--- A record that is read from bytes checks where its bytes check.
+-- The checksum of a record that is read from bytes is right or absent exactly where that of its bytes is.
 use Rattle.std.proofs.Common.{◌≡◌, ℕ, ◌<◌, ◌≤◌, List, length, ap, ◌∙◌}
 use Rattle.std.specs.Prelude.{◌||◌, ◌==◌}
 use Rattle.spec_image.specs.Bytes.{content, word_at}

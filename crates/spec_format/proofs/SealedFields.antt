@@ -1,4 +1,4 @@
--- The fields of a record at each moment of a sealed update: each has its old or its new word.
+-- The fields of a record at each moment of an update under a checksum 0: each has its old or its new word.
 use Rattle.std.proofs.Common.{◌≡◌, ◌≢◌, ◌⊎◌, inl, inr, ℕ, zero, suc, ◌+◌, ◌^◌, ◌%◌, ◌<◌, ◌≤◌, List, [], ◌∷◌, length, take, get_or, get_or-take, All, refl, sym, ◌∙◌, ap, arith, ⊎_elim}
 use Rattle.std.proofs.lemmas.Bool.{cases_lt}
 use Rattle.std.proofs.lemmas.List.{length-take}
@@ -29,7 +29,7 @@ pub record_word : (image : Image) (w q : ℕ) → q + 4 ≤ record_size w → wo
 unfolding record_at
 record_word image w q inside = word-range (record_size w) (place w) q (byte image (Block (file_selector w))) inside
 
--- a word of the front of some bytes
+-- a word of a prefix of some bytes
 word-take : (s q : ℕ) (bytes : List ℕ) → q + 4 ≤ s → word_at (content (take s bytes)) q ≡ word_at (content bytes) q
 word-take s q bytes inside =
     same-word_at (content (take s bytes)) (content bytes) q (get_or-take s bytes q 0 (omega arith)) (get_or-take s bytes (q + 1) 0 (omega arith)) (get_or-take s bytes (q + 2) 0 (omega arith)) (get_or-take s bytes (q + 3) 0 (omega arith))
@@ -122,12 +122,12 @@ pub one_change_others : (from image : Image) (w p v q : ℕ) → AreChanges (sea
     → word_at (content (record_at image w)) q ≡ word_at (content (record_at from w)) q
 one_change_others from image w p v q are moment aligned before apart = field_stays from image w ((p, v) ∷ []) are moment q aligned before (All-cons (λ c. c.0 ≢ q) (p, v) [] apart (All-nil (λ c. c.0 ≢ q)))
 
--- the seal of a sealed record is the hash of the bytes before it
+-- the checksum that `sealed` gives a record is the hash of the bytes before it
 sealed_seal : (s : ℕ) (bytes : List ℕ) → s + 4 ≤ length bytes → word_at (content (sealed s bytes)) s ≡ seal_of s (sealed s bytes)
 sealed_seal s bytes enough = word-there s (seal_of s bytes) bytes (hash-fits (take s bytes)) enough ∙ ap hash (sym (take-before_word s (seal_of s bytes) bytes))
 
 module _ (from image : Image) (w : ℕ) (changes : List (ℕ × ℕ)) (are : AreChanges (seal_place w) changes) (done : IsUpdated from w changes image) where
-  -- after an update the seal is the hash
+  -- after an update the checksum is the hash
   pub updated_seal : word_at (content (record_at image w)) (seal_place w) ≡ seal_of (seal_place w) (record_at image w)
   updated_seal =
       let all : List ℕ = with_words changes (record_at from w) in

@@ -1,4 +1,4 @@
--- A sealed record at each moment of its update.
+-- A record with a checksum at each moment of its update.
 use Rattle.std.proofs.Common.{◌≡◌, ℕ, ◌+◌, ◌%◌, ◌<◌, ◌≤◌, Bool, true, false, if◌then◌else◌, List, [], ◌∷◌, ◌++◌, length, take, drop, All, take-append-drop, refl, sym, ◌∙◌, ap, subst, arith, append_assoc, append-nil, length-append, inr, ◌*◌, ⊎_elim}
 use Rattle.std.specs.Prelude.{◌==◌}
 use Rattle.std.proofs.lemmas.Bool.{cases_lt, eqb-true}
@@ -22,7 +22,7 @@ use Rattle.spec_format.proofs.Bodies.{AreBelow256, range-word}
 use Rattle.spec_format.proofs.Words.{AreFields-of}
 use Rattle.spec_format.proofs.RecordBytes.{record-step, record-after, take-with_word, take-with_words, take-before_word, with_words-append, same-sealed}
 
--- the seal is the last word of a record, and at an aligned place
+-- the checksum is the last word of a record, and at an aligned place
 pub seal_last : (kind : ℕ) → seal_by_kind kind + 4 ≡ size_by_kind kind
 unfolding seal_by_kind size_by_kind
 seal_last kind = by_test (kind == 1)
@@ -79,7 +79,7 @@ module _ (w : ℕ) where
   moment_before from changes checks = record { made = 0; within = omega arith; fields = refl; checks = checks; outside = outside-refl (record_range w) from }
 
   module _ (from : Image) (changes : List (ℕ × ℕ)) where
-    -- these changes are made, and the seal is 0
+    -- these changes are made, and the checksum is 0
     record Unsealed (done : List (ℕ × ℕ)) (image : Image) : Type 0 where
       pub fits : Fits image
       pub front : take (seal_place w) (record_at image w) ≡ with_words done (take (seal_place w) (record_at from w))
@@ -96,7 +96,7 @@ module _ (w : ℕ) where
       outside = state.outside;
     }
 
-    -- the seal becomes 0
+    -- the checksum becomes 0
     unsealed_first : Fits from → Unsealed [] (applied (step_of (seal_place w) 0) from)
     unsealed_first fits = record {
       fits = fits-step from (seal_place w) 0 fits;
@@ -116,7 +116,7 @@ module _ (w : ℕ) where
       outside = outside-step from image c.0 c.1 (omega arith) state.outside;
     }
 
-    -- the seal becomes the hash of the changed record
+    -- the checksum becomes the hash of the changed record
     moment_last : (image : Image) → Unsealed changes image → IsMidUpdate from w changes (applied (step_of (seal_place w) (new_seal from w changes)) image)
     unfolding new_seal
     moment_last image state =
@@ -181,7 +181,7 @@ whole_update from image w changes done outside =
       refl,
     )
 
--- A record is sealed.
+-- A record gets its checksum.
 
 -- a word that bytes have, written again, leaves them
 same-written : (s : ℕ) (bytes : List ℕ) → AreBelow256 (content bytes) → s + 4 ≤ length bytes → with_word s (word_at (content bytes) s) bytes ≡ bytes
@@ -232,7 +232,7 @@ module _ (w : ℕ) (from : Image) (fits : Fits w from) where
       by_test true = moment_before w from [] good
       by_test false = (moment_before w from [] good, moment_sealed)
 
-  -- and the record is sealed afterwards
+  -- the record has its checksum afterwards
   pub sealed_after : AreBytes from → IsUpdated from w [] (after (seal_steps from w) from)
   unfolding seal_steps word_step step_of seal_step
   sealed_after bytes = by_test (is_sealed (seal_place w) (record_at from w)) refl

@@ -1,4 +1,4 @@
--- Records whose seal is 0 or the hash check.
+-- Records whose checksum is right or absent.
 use Rattle.std.proofs.Common.{◌≡◌, ℕ, ◌+◌, ◌<◌, ◌≤◌, ◌^◌, List, [], ◌∷◌, length, take, true, refl, ap, ap₂, ◌∙◌, arith}
 use Rattle.std.specs.Prelude.{◌||◌, ◌==◌}
 use Rattle.spec_image.specs.Bytes.{content, word_at}
@@ -14,7 +14,7 @@ unfolding hash mixed
 hash-fits [] = omega arith
 hash-fits (b ∷ bytes) = omega arith
 
--- a record whose seal is 0 checks
+-- a record without a checksum passes `checks`
 pub zero-checks : (place : ℕ) (bytes : List ℕ) → word_at (content bytes) place ≡ 0 → checks place bytes ≡ true
 zero-checks place bytes zero = rw zero refl
 
@@ -24,7 +24,7 @@ unsealed-checks place old new is enough = zero-checks place new (ap (λ (l : Lis
 either-true : (n : ℕ) → ((n == 0) || (n == n)) ≡ true
 either-true n = grind arith
 
--- a record with its seal checks
+-- a record with its checksum passes `checks`
 pub sealed-checks : (place : ℕ) (old new : List ℕ) → new ≡ with_word place (seal_of place old) old → place + 4 ≤ length old → checks place new ≡ true
 sealed-checks place old new is enough =
     let there : word_at (content new) place ≡ seal_of place old = ap (λ (l : List ℕ). word_at (content l) place) is ∙ word-there place (seal_of place old) old (hash-fits (take place old)) enough in

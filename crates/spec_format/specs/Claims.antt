@@ -8,7 +8,7 @@ pub data Claim : Type 0 where
   BlockOf : ℕ → ℕ → Claim
   ExternalOf : ℕ → Claim
 
--- whether two claims are of the same block, or of the same external number
+-- whether two used ones are the same block, or the same external number
 abbrev pub same_claim : Claim → Claim → Bool
 same_claim (BlockOf file b) (BlockOf other c) = (file == other) && (b == c)
 same_claim (ExternalOf m) (ExternalOf n) = m == n

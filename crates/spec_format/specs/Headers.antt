@@ -34,7 +34,7 @@ block_magic = 0xC104CAC3
 abbrev pub block_version : ℕ
 block_version = 0x20000
 
--- the version of the index that folders had first; it is raised at the next opening
+-- the version of the index that folders had first; the next opening upgrades it
 abbrev pub first_version : ℕ
 first_version = 0x20000
 
@@ -106,7 +106,7 @@ num_bytes64_of f = long_at f num_bytes64_place
 abbrev pub last_file_of : (ℕ → ℕ) → ℕ
 last_file_of f = word_at f 16
 
--- the number of the session, raised at each opening
+-- the number of the session, which rises at each opening
 abbrev pub this_id_of : (ℕ → ℕ) → ℕ
 this_id_of f = word_at f 20
 
@@ -314,7 +314,7 @@ field_checks f length =
     ∷ check_word Index f 36 (experiment_of f == 0)
     ∷ []
 
--- the checks of a finished index's header and length, in their order: the magic word, and then the others
+-- the checks of an initialized index's header and length, in their order: the magic word, and then the others
 unfoldable pub head_checks : (ℕ → ℕ) → ℕ → List (Option Damage)
 head_checks f length = check_word Index f magic_place (magic_of f == index_magic) ∷ field_checks f length
 

@@ -1,4 +1,4 @@
--- The two sealed records, the rankings node and the entry record: each field by its place, and the seal.
+-- The two records with a checksum, the rankings node and the entry record: each field by its place, and the checksum.
 use Rattle.std.specs.Prelude.{ℕ, ◌+◌, ◌/◌, ◌%◌, ◌^◌, List, ◌++◌, Bool, ◌||◌, ◌==◌, map, take}
 use Rattle.std.specs.List.{concat}
 use Rattle.spec_image.specs.Bytes.{content, word_at, long_at, words_at, word_bytes}
@@ -8,7 +8,7 @@ use Rattle.spec_format.specs.Hash.{hash}
 abbrev pub node_size : ℕ
 node_size = 36
 
--- the place of the seal in a node
+-- the place of the checksum in a node
 abbrev pub node_seal_place : ℕ
 node_seal_place = 32
 
@@ -16,7 +16,7 @@ node_seal_place = 32
 abbrev pub entry_size : ℕ
 entry_size = 96
 
--- the place of the seal in an entry record
+-- the place of the checksum in an entry record
 abbrev pub entry_seal_place : ℕ
 entry_seal_place = 92
 
@@ -40,11 +40,11 @@ node_dirty_place = 28
 abbrev pub entry_next_place : ℕ
 entry_next_place = 4
 
--- the hash of a record's bytes before the place of its seal
+-- the hash of a record's bytes before the place of its checksum
 abbrev pub seal_of : ℕ → List ℕ → ℕ
 seal_of place bytes = hash (take place bytes)
 
--- the bytes of a record have no checksum or a right one: the word at the place of the seal is 0, or the hash of the bytes before it
+-- the bytes of a record have no checksum or a right one: the word at the place of the checksum is 0, or the hash of the bytes before it
 abbrev pub checks : ℕ → List ℕ → Bool
 checks place bytes = (word_at (content bytes) place == 0) || (word_at (content bytes) place == seal_of place bytes)
 
@@ -78,26 +78,26 @@ node_in f i = record {
   self_hash = word_at f (i + node_seal_place);
 }
 
--- the bytes of a node before its seal
+-- the bytes of a node before its checksum
 unfoldable pub node_body : Node → List ℕ
 node_body n =
     long_bytes n.last_used ++ long_bytes n.last_modified
     ++ word_bytes n.next ++ word_bytes n.prev
     ++ word_bytes n.contents ++ word_bytes n.dirty
 
--- the hash of a node's bytes before its seal: the seal that it should have
+-- the hash of a node's bytes before its checksum: the checksum that it should have
 abbrev pub node_seal : Node → ℕ
 node_seal n = hash (node_body (record n { self_hash = 0 }))
 
--- whether a node's seal is the hash of the bytes before it
+-- whether a node's checksum is the hash of the bytes before it
 unfoldable pub node_is_sealed : Node → Bool
 node_is_sealed n = n.self_hash == node_seal n
 
--- whether a node's seal is 0 or the hash of the bytes before it
+-- whether a node's checksum is 0 or the hash of the bytes before it
 unfoldable pub node_checks : Node → Bool
 node_checks n = (n.self_hash == 0) || node_is_sealed n
 
--- the node with the hash of its other bytes as its seal
+-- the node with the hash of its other bytes as its checksum
 abbrev pub sealed_node : Node → Node
 sealed_node n = record n { self_hash = node_seal n }
 
@@ -137,7 +137,7 @@ entry_in f i = record {
   self_hash = word_at f (i + 92);
 }
 
--- the bytes of an entry record before its seal
+-- the bytes of an entry record before its checksum
 unfoldable pub entry_body : Entry → List ℕ
 entry_body e =
     word_bytes e.hash ++ word_bytes e.next ++ word_bytes e.rankings_node
@@ -146,19 +146,19 @@ entry_body e =
     ++ bytes_of_words e.data_size ++ bytes_of_words e.data_addr
     ++ word_bytes e.flags ++ bytes_of_words e.pad
 
--- the hash of an entry record's bytes before its seal: the seal that it should have
+-- the hash of an entry record's bytes before its checksum: the checksum that it should have
 abbrev pub entry_seal : Entry → ℕ
 entry_seal e = hash (entry_body (record e { self_hash = 0 }))
 
--- whether an entry record's seal is the hash of the bytes before it
+-- whether an entry record's checksum is the hash of the bytes before it
 unfoldable pub entry_is_sealed : Entry → Bool
 entry_is_sealed e = e.self_hash == entry_seal e
 
--- whether an entry record's seal is 0 or the hash of the bytes before it
+-- whether an entry record's checksum is 0 or the hash of the bytes before it
 unfoldable pub entry_checks : Entry → Bool
 entry_checks e = (e.self_hash == 0) || entry_is_sealed e
 
--- the entry record with the hash of its other bytes as its seal
+-- the entry record with the hash of its other bytes as its checksum
 abbrev pub sealed_entry : Entry → Entry
 sealed_entry e = record e { self_hash = entry_seal e }
 
@@ -170,7 +170,7 @@ entry_normal = 0
 abbrev pub entry_doomed : ℕ
 entry_doomed = 2
 
--- the flags of an entry that is neither parent nor child
+-- the flags of an entry that is neither a parent nor a part
 abbrev pub plain : ℕ
 plain = 0
 
@@ -178,6 +178,6 @@ plain = 0
 abbrev pub parent : ℕ
 parent = 1
 
--- the flags of a child
+-- the flags of a part
 abbrev pub child : ℕ
 child = 2

@@ -53,7 +53,7 @@ is_index_head f =
     (sparse_magic_of f == index_magic) && nat_lt (long_at f 0) signatures && list_all (λ v. v == 0) (words_at f 24 10)
     && nat_le 1 (parent_key_len_of f) && nat_le (parent_key_len_of f) longest_key
 
--- the word that stands for -1
+-- the word that represents -1
 abbrev pub minus_one : ℕ
 minus_one = 2 ^ 32 - 1
 

@@ -38,7 +38,7 @@ pub fn commands_keep_session_words()
     ensures after { CommandsKeepSessionWords }
 {}
 
-/// Once a record is the updated one, and all else is as before, the image is one of its sealed update, with all changes made.
+/// Once a record is the updated one, and all else is as before, the image is one of its update under a checksum 0, with all changes made.
 pub fn whole_updates_are_made()
     ensures { WholeUpdatesAreMade }
 {}

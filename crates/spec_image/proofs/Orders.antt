@@ -3,7 +3,7 @@ use Rattle.std.proofs.Common.{◌≡◌, ℕ, ◌<◌, ◌⊎◌, inl, inr, ⊎_
 use Rattle.spec_image.specs.Image.{File, Index, Block, External}
 use Rattle.spec_image.specs.Order.{IsBefore, file_rank, file_number}
 
--- the kind_of and the number make the name
+-- the rank and the number make the name
 pub same_name : (a b : File) → file_rank a ≡ file_rank b → file_number a ≡ file_number b → a ≡ b
 same_name Index Index k n = refl
 same_name Index (Block m) k n = absurd (omega arith)

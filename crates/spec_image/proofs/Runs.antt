@@ -234,7 +234,7 @@ same_rest (x ∷ xs) s t e = same_rest xs s t (tail e)
     tail : {a b : List TrailStep} → x ∷ a ≡ x ∷ b → a ≡ b
     tail e = cc
 
--- a write trace tells the steps
+-- the write traces before and after a call determine the steps that it applied
 pub same_steps : StepsOfOneCallAreOne
 same_steps a b trail s t told one other =
     let first : Some (longer s trail) ≡ Some (longer t trail) = ap (option_map (longer s)) (sym told) ∙ sym one.trail ∙ other.trail ∙ ap (option_map (longer t)) told in

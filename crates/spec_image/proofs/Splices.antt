@@ -113,7 +113,7 @@ spliced-is (suc i) new (x ∷ old) fits =
     let e : suc i + length new ≡ suc (i + length new) = omega arith in
     ap (λ (l : List ℕ). x ∷ l) (spliced-is i new old (omega arith)) ∙ ap (λ (k : ℕ). x ∷ (take i old ++ (new ++ drop k (x ∷ old)))) (sym e)
 
--- bytes that were moved into the front of a buffer
+-- bytes that were written over a prefix of a buffer
 pub prefix_spliced : (n : ℕ) (new old : List ℕ) → length new ≡ n → n ≤ length old → (take n (spliced 0 new old) ≡ new) × (drop n (spliced 0 new old) ≡ drop n old)
 prefix_spliced n new old size fits =
     let behind : 0 + length new ≡ n = omega arith in

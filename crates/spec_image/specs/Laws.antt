@@ -27,7 +27,7 @@ WordsStayInside = (file : File) (place : ℕ) (bytes : List ℕ) (image : Image)
 abbrev pub StepsStayInside : Type 0
 StepsStayInside = (steps : List TrailStep) (image : Image) → Along (SameOutside (touched_by_all steps) image) image steps
 
--- where the write trace is told before a call, the steps that the call applied are determined: two lists of them are equal
+-- where the write trace is observable before a call, the steps that the call applied are determined: two lists of them are equal
 abbrev pub StepsOfOneCallAreOne : Type 0
 StepsOfOneCallAreOne = (old new : Told) (trail : Trail) (steps others : List TrailStep) → old.trail ≡ Some trail → Applies old new steps
     → Applies old new others → steps ≡ others

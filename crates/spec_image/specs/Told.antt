@@ -1,4 +1,4 @@
--- What a folder tells, and what its calls do to that.
+-- The observable state of a folder, and what its calls do to it.
 use Rattle.std.specs.Prelude.{◌≡◌, ℕ, zero, suc, ◌+◌, ◌-◌, ◌^◌, ◌<◌, ◌≤◌, ◌&&◌, ◌||◌, Bool, true, false, nat_le, nat_lt, min, List, [], ◌∷◌, ◌++◌, length, take, drop, Option, None}
 use Rattle.std.specs.Option.{option_map, ForSome}
 use Rattle.spec_image.specs.Bytes.{range_at}
@@ -15,11 +15,11 @@ pub record Told : Type 0 where
   pub files : Option Image
   pub trail : Option Trail
 
--- the told image is the one that the told write trace leaves, where both are told
+-- the observed image is the one that the observed write trace leaves, where both are observable
 abbrev pub AgreesWithTrail : Told → Type 0
 AgreesWithTrail told = ForSome told.files (λ image. ForSome told.trail (λ trail. image ≡ after trail.steps trail.start))
 
--- the told image, if any, has bytes: each number in it is below 256
+-- the observed image, if any, has bytes: each number in it is below 256
 abbrev pub TellsBytes : Told → Type 0
 TellsBytes told = ForSome told.files AreBytes
 
@@ -27,7 +27,7 @@ TellsBytes told = ForSome told.files AreBytes
 abbrev pub longer : List TrailStep → Trail → Trail
 longer steps trail = record { start = trail.start; steps = trail.steps ++ steps }
 
--- these steps were made: the files, where told, are those after them, and the write trace, where told, has them at its end
+-- these steps were made: the files, where observable, are those after them, and the write trace, where observable, has them at its end
 pub record Applies (old new : Told) (steps : List TrailStep) : Type 0 where
   pub files : new.files ≡ option_map (after steps) old.files
   pub trail : new.trail ≡ option_map (longer steps) old.trail
@@ -43,7 +43,7 @@ pub record AppliesPrefix (old new : Told) (steps : List TrailStep) : Type 0 wher
   pub split : steps ≡ made ++ left
   pub applies : Applies old new made
 
--- a prefix of the steps that a function gives for the image was made, where the image is told; an opaque image stays opaque
+-- a prefix of the steps that a function gives for the image was made, where the image is observable; an opaque image stays opaque
 pub record MakesPartOf (old new : Told) (steps_on : Image → List TrailStep) : Type 0 where
   pub made : ForSome old.files (λ from. AppliesPrefix old new (steps_on from))
   pub silent : old.files ≡ None → new.files ≡ None
@@ -137,7 +137,7 @@ pub record ReadsOnly {S : Type 0} (told : S → Told) (faults : S → ℕ) (old 
   pub later : faults old ≤ faults new
   pub failed : if_failed (Rises (faults old) (faults new))
 
--- a call that may write leaves this, whatever it wrote: a folder whose files aren't told still tells none, the count of its failed calls never falls,
+-- a call that may write leaves this, whatever it wrote: a folder whose files are opaque keeps them so, the count of its failed calls never falls,
 -- and where the call's answer is that the folder failed, which `if_failed` asks, that count rose
 pub record MayWrite {S : Type 0} (told : S → Told) (faults : S → ℕ) (old new : S) (if_failed : Type 0 → Type 0) : Type 0 where
   pub silent : (told old).files ≡ None → (told new).files ≡ None

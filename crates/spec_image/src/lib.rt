@@ -25,7 +25,7 @@ pub fn steps_stay_inside()
     ensures { StepsStayInside }
 {}
 
-/// Where the write trace is told before a call, two lists of steps that the call applied are equal, so two clauses of one contract speak of the same steps.
+/// Where the write trace is observable before a call, two lists of steps that it applied are equal, so two clauses of one contract speak of the same steps.
 pub fn steps_of_one_call_are_one()
     ensures { StepsOfOneCallAreOne }
 {}

@@ -322,7 +322,7 @@ front_with (Note number ∷ steps) (suc m) few = front_more (Note number) steps 
 
 -- Laws.
 
--- a run that broke off behind so many notes, and an entry that is clean behind the first of its commands
+-- a run that broke off after so many notes, and an entry that is clean after the first of its commands
 module _ (from : Image) (opened : State) (all : List Stamped) (steps : List TrailStep) (k : ℕ) (item : Item) (row : Row) (each : AtEachPrefix (IsStopped from opened all) from steps) (some : 1 ≤ k) (few : k ≤ notes_in steps)
     (entry : IsCleanEntry (state_at opened all k) item row) (let_be : LetBe (state_at opened all k) (commands_since all k (notes_in steps)) item) where
   is_open : (first behind : List TrailStep) → steps ≡ first ++ behind → 1 ≤ notes_in first → has_opened first ≡ true

@@ -60,7 +60,7 @@ finished image well_formed = (finished_whole image well_formed).finished
 
 -- The folder after some steps.
 
--- at rest: the folder was opened and these commands are done
+-- between two commands the folder was opened, and these commands are done
 pub stopped_at_rest : (from : Image) (opened : State) (commands done more : List Stamped) (steps : List TrailStep) (image : Image) → commands ≡ done ++ more
     → has_opened steps ≡ true → notes_in steps ≡ length done → StandsFor image (state_after opened done)
     → IsStopped from opened commands steps image
@@ -210,7 +210,7 @@ stays from opened done more old new before =
       few = omega (arith, count, all);
     }
 
--- a command that was done in part, at each of whose words the folder is finished
+-- a command that was done in part, at each of whose words the index is initialized
 finished_part : (from : Image) (opened : State) (done : List Stamped) (old mid new : Told) (c : Stamped) → old.files ≡ Some from → Progress from opened done old mid
     → Passes mid new (MayStop (state_after opened done) c.moment c.request) → PassesAny mid new (MayStopFinished (state_after opened done) c.moment c.request)
 finished_part from opened done old mid new c there before made = record {

@@ -31,7 +31,7 @@ b_was_first : pair.uses ≡ main b ∷ main a ∷ []
 unfolding computing
 b_was_first = refl
 
--- a crash behind the list step leaves `a` first
+-- a crash after the list step leaves `a` first
 a_is_first : Leaves pair opening (empty a ∷ empty b ∷ [])
 unfolding computing
 a_is_first = record { step_count = 1; within = omega arith; with_turned = false; picked_rows = refl }
@@ -44,14 +44,14 @@ b_is_not_first (inl here) = other_key here.0
 b_is_not_first (inr (inl here)) = none_contained (empty a) here.1
 b_is_not_first (inr (inr none)) = none
 
--- so it isn't so that whatever is found has the old order: the command may use what came later
+-- so it isn't so that whatever is found has the old order: the command may access what came later
 not_all_keep_their_order : ((state : State) (command : Stamped) (rows : List Row) → Leaves state command rows → (one other : Row) → Contains rows one → Contains rows other → Precedes state.uses (item_of one) (item_of other) → Precedes rows one other) → ⊥
 not_all_keep_their_order law =
     b_is_not_first
     (law pair opening (empty a ∷ empty b ∷ []) a_is_first (empty b) (empty a) (1, omega arith, refl) (0, omega arith, refl)
     (subst (λ (uses : List Item). Precedes uses (main b) (main a)) (sym b_was_first) (inl (refl, (0, omega arith, refl)))))
 
--- A closed sparse object with two parts, the first behind its main item in the LRU list, and a Trim of all.
+-- A closed sparse object with two parts, the first after its main item in the LRU list, and a Trim of all.
 
 abbrev two_parts : State
 two_parts = after_all new (to_create 0 c ∷ to_sparse_write 0 0 (codes "x") ∷ to_sparse_write 0 1048576 (codes "y") ∷ to_close 0 ∷ [])

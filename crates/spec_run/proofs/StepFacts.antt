@@ -1,4 +1,4 @@
--- Steps without a note, marks, and the last of some steps.
+-- Steps without a note, steps that open the session, and the last of some steps.
 use Rattle.std.proofs.Common.{ℕ, ◌≡◌, Bool, true, false, ◌||◌, List, [], ◌∷◌, ◌++◌, refl, sym, ◌∙◌, ap, arith}
 use Rattle.std.proofs.lemmas.List.Folds.{list_any-append}
 use Rattle.spec_image.specs.Image.{Image}
@@ -68,7 +68,7 @@ not_complete made (SetLength f n) marked quiet complete = complete
 not_complete made (Delete f) marked quiet complete = complete
 not_complete made (Note n) marked quiet complete = quiet
 
--- nor where it isn't the mark
+-- a step that is no note completes nothing where the opening hasn't ended after it
 pub not_marked : (made : List TrailStep) (x : TrailStep) → has_opened (made ++ x ∷ []) ≡ false → HasNoNote (x ∷ []) → Completes made x → ⊥
 not_marked made (Word f at bs) none quiet complete =
     true_false (opened-append made (Word f at bs ∷ []) ∙ ap (λ b. has_opened made || b) (ap (λ b. b || false) complete.1) ∙ or_true (has_opened made)) none

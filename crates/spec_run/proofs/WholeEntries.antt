@@ -176,7 +176,7 @@ fronts_fine a b (item ∷ list) items (inl none) =
 fronts_fine a b (item ∷ list) items (inr some) =
     ((λ same. still_used b item items some), fronts_fine a b list (used item items) (inr (still_used b item items some)))
 
--- What a command uses it doesn't evict.
+-- What a command accesses it doesn't evict.
 
 -- an item goes alone, or with its main item
 stays_in : (b : Item) (groups : List Group) → IsNotAlone b groups → is_out groups (main (key_of b)) ≡ false → is_out groups b ≡ false
@@ -237,7 +237,7 @@ used_key_of_all a key ns among =
 nobody_has : {P : Type 0} (o : Option ℕ) (n : ℕ) → o ≡ Some n → is_some o ≡ false → P
 nobody_has o n is none = true_false (ap is_some is) none
 
--- where a command uses an item of an object, the others are in the list before it does
+-- where a command accesses an item of an object, the others are in the list before it does
 kept_where_used : (state : State) (valid : IsValidState state) (moment : ℕ) (request : Request) (a b : Item) (n : ℕ) → refused moment request state ≡ None → owner state a ≡ Some n → key_of a ≡ key_of b → 1 ≤ times b state.uses
     → IsNotAlone b (evicted moment request state) → list_any (same_item a) (uses_of request state) ≡ true → 1 ≤ times b (after_steps (map out (evicted moment request state) ++ dooms request state) state.uses)
 unfolding dooms uses_of evicted refusals

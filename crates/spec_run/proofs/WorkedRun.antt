@@ -67,7 +67,7 @@ state = one.state true
 from_formed : IsWellFormed from
 from_formed = formed-kept whole_folder from (others-unchecked whole_folder from 20 refl refl (outside_write Index 20 (word_bytes 7) whole_folder)) whole-is_well_formed
 
--- what a folder tells after some steps
+-- the observable state of a folder after some steps
 abbrev told_after : List TrailStep → Told
 told_after steps = record { files = Some (after steps from); trail = Some (record { start = from; steps = steps }) }
 
@@ -108,7 +108,7 @@ total_noted = record {
   stands = λ image is. subst (λ (i : Image). StandsFor i (step state 60 to_total).state) (some_inj is) (subst (λ (s : State). StandsFor (opened whole_folder 7) s) (sym total_stays) marked_stands);
 }
 
--- the whole run: the mark, the note of the command, and the crash word back at 0
+-- the whole run: the step that opens the session, the note of the command, and the crash word back at 0
 pub worked_run : IsWholeRun from state (total ∷ []) (told_after []) (told_after (open_mark ∷ Note 1 ∷ close_mark ∷ []))
 unfolding state_after
 worked_run =

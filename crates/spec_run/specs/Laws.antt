@@ -287,11 +287,11 @@ EntriesAreFoundWhole = (from image : Image) (opened state : State) (commands : L
     → CrashesIn from image opened state commands steps command → IsValidState state → (row : Row) (item : Item) → Contains (found image) row
     → owner state item ≡ owner state (item_of row) → (IsEvictedAlone state command item → ⊥) → HasItsRow state (found image) item
 
--- a command uses an item: one of its steps on the LRU list brings the item to the front
+-- a command accesses an item: one of its steps on the LRU list brings the item to the front
 abbrev pub IsUsedBy : State → Stamped → Item → Type 0
 IsUsedBy state command item = Contains (list_steps state command.moment command.request) (front item)
 
--- and of two items that are found the one that comes first in the LRU list before the command is found first, unless the command uses the other
+-- and of two items that are found the one that comes first in the LRU list before the command is found first, unless the command accesses the other
 abbrev pub UnusedItemsKeepTheirOrder : Type 0
 UnusedItemsKeepTheirOrder = (from image : Image) (opened state : State) (commands : List Stamped) (steps : List TrailStep) (command : Stamped)
     → CrashesIn from image opened state commands steps command → (one other : Row) → Contains (found image) one → Contains (found image) other
@@ -318,7 +318,7 @@ abbrev pub AnsweredCommandsAreNoted : Type 0
 AnsweredCommandsAreNoted = (turns before : List Turn) (state : State) (noted : ℕ) (written printed : List ℕ) (command : Stamped) → PrintsNoMore turns state noted (Some written) (Some (written ++ printed))
     → IsReplyOut turns state printed before command → length (commands_of before) + 1 ≤ noted
 
--- where a run breaks off behind an answered command, what is recovered is what a crash in a later command leaves, or the durable contents behind all commands
+-- where a run breaks off after an answered command, what is recovered is what a crash in a later command leaves, or the durable contents after all commands
 abbrev pub AnsweredCommandsAreDone : Type 0
 AnsweredCommandsAreDone = (from : Image) (turns before : List Turn) (opened : State) (more : List Stamped) (steps : List TrailStep) (image : Image) (written printed : List ℕ) (command : Stamped)
     → PrintsNoMore turns opened (notes_in steps) (Some written) (Some (written ++ printed)) → IsReplyOut turns opened printed before command
@@ -364,7 +364,7 @@ ClosesLeaveEntriesClean = (state : State) (moment handle number : ℕ) (item : I
 abbrev pub commands_since : List Stamped → (done noted : ℕ) → List Stamped
 commands_since commands done noted = take (noted + 1 - done) (drop done commands)
 
--- an entry is clean behind the first `done` commands of a run, and each later command lets it be, the one in progress among them where `noted` are noted
+-- an entry is clean after the first `done` commands of a run, and each later command lets it be, the one in progress among them where `noted` are noted
 pub record IsCleanSince (opened : State) (commands : List Stamped) (done noted : ℕ) (item : Item) (row : Row) : Type 0 where
   pub entry : IsCleanEntry (state_at opened commands done) item row
   pub later : LetBe (state_at opened commands done) (commands_since commands done noted) item

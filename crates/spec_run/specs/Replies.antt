@@ -23,7 +23,7 @@ IsEvictedNext state [] front = front ≡ []
 IsEvictedNext state (turn ∷ turns) front = Begins front turn.text × Begins front (evictions_of state turn.command)
 
 -- where a run broke off with so many commands noted, no more was printed than this: the texts of the first iterations, each of whose commands is noted, and
--- eviction lines of the iteration behind them
+-- eviction lines of the iteration after them
 pub record PrintsNoMore (turns : List Turn) (state : State) (noted : ℕ) (old new : Option (List ℕ)) : Type 0 where
   pub shown : List Turn
   pub behind : List Turn

@@ -70,7 +70,7 @@ pub fn settled_entries_are_found()
 {}
 
 /// Wherever a run crashes in a command, an entry is found as it was before that command, or not at all. It is found whole, but for parts that the command
-/// evicts alone, and what the command doesn't use is found in its old order. An entry that stays dirty, or that the command makes, isn't found.
+/// evicts alone, and what the command doesn't access is found in its old order. An entry that stays dirty, or that the command makes, isn't found.
 pub fn entries_are_found_whole_and_in_order()
     ensures before { FoundRowsAreFromBefore }
     ensures lost { UnsavedItemsAreLost }
@@ -88,8 +88,8 @@ pub fn replies_follow_notes()
     ensures done { AnsweredCommandsAreDone }
 {}
 
-/// What was closed and answered is kept. The last Close of an object leaves its entries clean; and wherever the folder stops,
-/// behind any step, an entry that is clean since an answered command is found with its exact bytes: no later command writes
+/// What was closed and answered is kept. The last Close of an object leaves its entries clean; and wherever the process crashes,
+/// after any step, an entry that is clean since an answered command is found with its exact bytes: no later command writes
 /// to its object, dooms it or evicts it.
 pub fn answered_closes_are_kept()
     ensures closes { ClosesLeaveEntriesClean }

@@ -1,4 +1,4 @@
--- What words that name records say: one first block has one record, and a record that is shown to check does so in its bytes.
+-- What words that name records say: one first block has one record, and a record that is shown with a right or absent checksum has it in its bytes.
 use Rattle.std.proofs.Common.{◌≡◌, ℕ, ◌+◌, ◌*◌, true, false, List, take, Option, Some, None, refl, sym, ◌∙◌, ap, ap₂, subst, arith}
 use Rattle.std.specs.Prelude.{◌==◌, ◌&&◌, nat_le, if◌then◌else◌}
 use Rattle.std.specs.Option.{option_map, option_map_or}
@@ -70,7 +70,7 @@ module _ (image : Image) (u w : ℕ) (one other : RecordFields) (first : (store_
       let key : List ℕ → Option (List ℕ) = (λ short. if nat_le one.key_len 927 then (if one.long_key == 0 then Some short else None) else option_map (take one.key_len) ((store_of image).stored (one.key_len + 1) one.long_key)) in
       subst (λ (c : RecordFields). stored_key (store_of image) u one ≡ stored_key (store_of image) w c) same-fields (ap key (same-key_place one.key_len))
 
--- a word of a bucket names a record that checks
+-- a word of a bucket names a record with a right or absent checksum
 pub record IsShownOf (store : StoreView) (bucket w : ℕ) : Type 0 where
   pub fields : RecordFields
   pub here : store.entry w ≡ Some fields
@@ -83,7 +83,7 @@ shown-of store bucket w holds = by (store.entry w) refl holds where
   by None e h = cc
   by (Some fields) e h = let p = and_parts fields.checks (bucket_of_hash fields.hash == bucket) h in record { fields = fields; here = e; good = p.0; in_bucket = eqb-true (bucket_of_hash fields.hash) bucket p.1 }
 
--- a record that is shown to check does so in its bytes
+-- a record that is shown with a right or absent checksum has it in its bytes
 pub record_checks : (image : Image) (w : ℕ) → AreBytes image → kind_of w ≡ blocks_256 → entry_checks (entry_at image w) ≡ true → RecordChecks w image
 unfolding entry_in record_at
 record_checks image w bytes kind good =

@@ -41,7 +41,7 @@ main-of l key e = go l.role refl where
   go (IsParent index) h = (ap key-of (rw h at e), ap is_part_role h)
   go (IsPart name index) h = let bad : false ≡ true = ap is-main (rw h at e) in absurd (cc)
 
--- a record without the child flag is a main item's
+-- a record without the flag of a part is a main item's
 item-main : (l : Loaded) → is_part l ≡ false → item_of (row_of_loaded l) ≡ main l.key
 item-main l e = go l.role refl where
   go : (r : Role) → l.role ≡ r → item_of (row_of_loaded l) ≡ main l.key

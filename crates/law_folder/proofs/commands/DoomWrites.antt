@@ -38,7 +38,7 @@ module _ (l : ListView) (y : Layout) (items : List Item) (i : Item) (a : IsAroun
   split : IsAtRest l (nodes_of y a.before ++ y.place i ∷ nodes_of y a.suffix)
   split = subst (IsAtRest l) old-nodes rest
 
-  -- the nodes that are walked once what is in flight is completed
+  -- the nodes that are walked after the redo of what is in flight
   pub removal-walks : (k : ℕ) → walk (completed_list (after_writes (take k (writes_of remove (y.place i) l)) l)) ≡ nodes_of y (if nat_lt k 2 then items else filter (λ other. not (same_item i other)) items)
   removal-walks k = removals-turn (y.place i) l (nodes_of y a.before) (nodes_of y a.suffix) split k ∙ choose (nat_lt k 2) where
     choose : (b : Bool) → (if b then nodes_of y a.before ++ y.place i ∷ nodes_of y a.suffix else nodes_of y a.before ++ nodes_of y a.suffix) ≡ nodes_of y (if b then items else filter (λ other. not (same_item i other)) items)

@@ -36,7 +36,7 @@ gone-doomed touched v u m y r number o l owner at same free others = represents-
     (λ x is. cc)
     (lies-aside m y r.holds.lies number o at.here at.dead None None owner tt (λ x is. cc) (λ x c is h. cc) others (λ x is. cc))
 
--- another dirty word is such a change
+-- another dirty flag is such a change
 module _ (m : State) (y : Layout) (r : IsLayoutOf m y) (number : ℕ) (o : Object) (l : Loaded) (at : IsPlacedAsDoomed m y number o l) (d : ℕ) where
   q : IsDoomedAt m y number o
   q = r.doomed_objects number o at.here at.dead

@@ -71,7 +71,7 @@ module _ (m : State) (y : Layout) (uses : List Item) (names : List (Option ℕ))
     parent (main key) l x = x
     parent (part key n) l x = record { name = x.name; index = x.index; role = x.role; of_key = x.of_key; listed = same (main key) ∙ x.listed; parent = x.parent; at_parent = x.at_parent; of = x.of }
 
--- ---- an item used
+-- ---- an item accessed
 
 -- a list around an item that it has once
 pub record IsAround (i : Item) (items : List Item) : Type 0 where
@@ -117,7 +117,7 @@ in-append (i ∷ a) b j = rw (in-append a b j) (assoc (same_item j i) (is_in a j
   assoc true b c = refl
   assoc false b c = refl
 
--- the use of a listed item leaves the same items
+-- the access of a listed item leaves the same items
 pub used-same : (i : Item) (items : List Item) → IsAround i items → SameItems (used i items) items
 used-same i items a j =
     let left : is_in (used i items) j ≡ (same_item j i || (is_in a.before j || is_in a.suffix j)) = ap (λ (xs : List Item). same_item j i || is_in xs j) a.rest ∙ ap (λ (b : Bool). same_item j i || b) (in-append a.before a.suffix j) in
@@ -140,7 +140,7 @@ listed-times i (j ∷ items) few =
     (λ (h : same_item i j ≡ false). let c : times i (j ∷ items) ≡ 0 + times i items = t ∙ ap (λ (b : Bool). cond b 1 0 + times i items) h in or_right (same_item i j) (is_in items i) (listed-times i items (omega arith)))
     (cases_Bool (same_item i j))
 
--- the touch of a listed item's node leads from one order to the other, at its second word
+-- the access of a listed item's node leads from one order to the other, at its second word
 module _ (v : View) (m : State) (y : Layout) (r : Represents v m y) (i : Item) (a : IsAround i m.uses) where
   old-nodes : order m y ≡ nodes_of y a.before ++ y.place i ∷ nodes_of y a.suffix
   old-nodes = ap (nodes_of y) a.is ∙ nodes-append y a.before (i ∷ a.suffix)
@@ -151,7 +151,7 @@ module _ (v : View) (m : State) (y : Layout) (r : Represents v m y) (i : Item) (
   split-list : IsList v.list (nodes_of y a.before ++ y.place i ∷ nodes_of y a.suffix)
   split-list = subst (λ (xs : List ℕ). IsList v.list xs) old-nodes r.list
 
-  -- the nodes that are walked once what is in flight is completed
+  -- the nodes that are walked after the redo of what is in flight
   pub touch-walks : (k : ℕ) → walk (completed_list (after_writes (take k (touch_writes (y.place i) v.list)) v.list)) ≡ nodes_of y (if nat_lt k 2 then m.uses else used i m.uses)
   touch-walks k = touch_turns (y.place i) v.list (nodes_of y a.before) (nodes_of y a.suffix) split-list r.idle k ∙ choose (nat_lt k 2) where
     choose : (b : Bool) → (if b then nodes_of y a.before ++ y.place i ∷ nodes_of y a.suffix else y.place i ∷ nodes_of y a.before ++ nodes_of y a.suffix) ≡ nodes_of y (if b then m.uses else used i m.uses)

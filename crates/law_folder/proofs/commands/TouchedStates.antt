@@ -1,4 +1,4 @@
--- A touch of any listed item leaves the state with the item in front.
+-- An access of any listed item leaves the state with the item in front.
 use Rattle.std.proofs.Common.{◌≡◌, ℕ, List, ◌∷◌, ◌++◌, refl, sym, ◌∙◌, ap, subst, true}
 use Rattle.spec_image.specs.Image.{Image}
 use Rattle.spec_image.specs.Steps.{after}

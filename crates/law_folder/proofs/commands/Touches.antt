@@ -1,4 +1,4 @@
--- A touch of any listed item.
+-- An access of any listed item.
 use Rattle.std.proofs.Common.{◌≡◌, ℕ, ◌+◌, ◌≤◌, List, [], ◌∷◌, map, take, refl, ap, sym, ◌∙◌, subst, Bool, true, false, arith, cond, ⊎_elim}
 use Rattle.std.specs.Prelude.{◌||◌, if◌then◌else◌, nat_lt}
 use Rattle.std.proofs.lemmas.Bool.{cases_Bool}

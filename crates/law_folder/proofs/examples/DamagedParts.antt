@@ -88,7 +88,7 @@ no_candidates : candidates dirty_parent ≡ []
 unfolding dirty_parent is_candidate name_at is_parent_at is_key_length stored_key stored_stream stored_streams role_of parent_role read_parent_index read_name split_last child_name digits words_at block_count entry_blocks walk walk_from
 no_candidates = refl
 
--- a record that doesn't check is no child: its node is a candidate, whatever the flags are, and is dropped for its seal
+-- a record whose checksum is wrong is no part: its node is a candidate, whatever the flags are, and is dropped for its checksum
 unsealed : ℕ → View
 unsealed flags = shown 0x90000000 0xA0010000 ((0x90000000, node 0x90000000 0x90000000 0xA0010000) ∷ []) ((0xA0010000, record { chain_next = 0; fields = record (plain_core 0x90000000) { checks = false; flags = flags } }) ∷ [])
 

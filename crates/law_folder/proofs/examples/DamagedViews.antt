@@ -24,7 +24,7 @@ abbrev pub at_word : {A : Type 0} → List (ℕ × A) → ℕ → Option A
 at_word [] w = None
 at_word (given ∷ others) w = if given.0 == w then Some given.1 else at_word others w
 
--- a node by its next, prev, contents and dirty word
+-- a node by its next, prev, contents and dirty flag
 pub record Row : Type 0 where
   pub next : ℕ
   pub prev : ℕ
@@ -61,7 +61,7 @@ entry chain_next w = record { chain_next = chain_next; fields = plain_core w }
 abbrev field : {A : Type 0} → (A → ℕ) → List (ℕ × A) → ℕ → ℕ
 field part given w = option_map_or part (at_word given w) 0
 
--- a view of nodes that check and of records, all of whose keys are `a`, in the chain of the bucket of `a`; data of five bytes is stored at 0xA0010008
+-- a view of nodes whose checksums are right or absent, and of records with the key `a`, in the chain of its bucket; five bytes of data are at 0xA0010008
 abbrev pub shown : ℕ → ℕ → List (ℕ × Row) → List (ℕ × Linked) → View
 shown head first nodes entries = record {
   list = record {
@@ -265,7 +265,7 @@ strangers_dropped = refl
 
 -- One record for each reason.
 
--- what is dropped where the one record is this, at this address and with this dirty word
+-- what is dropped where the one record is this, at this address and with this dirty flag
 dropped_for : ℕ → ℕ → RecordFields → List (ℕ × Reason)
 dropped_for contents dirty fields =
     dropped_nodes (shown 0x90000000 contents ((0x90000000, record { next = 0x90000000; prev = 0x90000000; contents = contents; dirty = dirty }) ∷ []) ((contents, record { chain_next = 0; fields = fields }) ∷ []))
@@ -322,7 +322,7 @@ for_streams : (dropped_for 0xA0010000 0 (record good { data_size = 6 ∷ 0 ∷ 0
 unfolding dropped_for good dropped_among verdicts load load_record load_key admit is_key_length stored_key stored_stream stored_streams block_count entry_blocks walk walk_from chain_from hash mixed of_bytes of_one
 for_streams = (refl, refl, refl)
 
--- a parent with no index, and a child whose key is no name
+-- a parent with no index, and a part whose key is no name
 for_sparse : (dropped_for 0xA0010000 0 (record good { flags = 1 }) ≡ (0x90000000, reason.Sparse) ∷ []) × (dropped_for 0xA0010000 0 (record good { flags = 2 }) ≡ (0x90000000, reason.Sparse) ∷ [])
 unfolding dropped_for good dropped_among verdicts load load_record load_key admit is_key_length stored_key stored_stream stored_streams role_of parent_role part_role read_parent_index read_name split_last block_count entry_blocks walk walk_from chain_from hash mixed of_bytes of_one
 for_sparse = (refl, refl)

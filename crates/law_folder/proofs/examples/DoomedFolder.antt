@@ -1,5 +1,5 @@
 -- A folder of one doomed object, computed from its bytes: the whole folder after its entry `a` is out of the list and the chain, with a record of state 2. It
--- stands for the state of that object.
+-- represents the state of that object.
 use Rattle.std.proofs.Common.{◌≡◌, ℕ, zero, suc, ◌+◌, ◌/◌, ◌%◌, ◌<◌, ◌≤◌, List, [], ◌∷◌, inl, refl, ap, sym, ◌∙◌, subst, arith, lit≤, true, false, Option, Some, None, Ok}
 use Rattle.std.specs.Prelude.{◌==◌, is_some, unwrap_or}
 use Rattle.std.specs.Int.{bit_at}
@@ -42,11 +42,11 @@ use Rattle.law_folder.proofs.examples.ExampleFolders as folders
 use Rattle.law_folder.proofs.claims.ByteChanges.{same-links}
 use Rattle.law_folder.proofs.examples.ExampleDoomed.{doomed_object, doomed_state, doomed_layout, doomed-is_represented, doomed-is_valid}
 
--- the words that are other than in the whole folder: the node's next is 0, and it is sealed again
+-- the words that are other than in the whole folder: the node's next is 0, and its checksum is new
 abbrev node_words : List (ℕ × ℕ)
 node_words = (8208, 0) ∷ (8224, 0xED1A3109) ∷ []
 
--- in the record the state is 2, and it is sealed again
+-- the words of the record that are other: the state is 2, and the checksum is new
 abbrev record_words : List (ℕ × ℕ)
 record_words = (8212, 2) ∷ (8284, 0xC1C0878B) ∷ []
 
@@ -149,7 +149,7 @@ folder-is_allocated = record {
   all zero o is dead = refl
   all (suc number) o is dead = absurd (cc)
 
--- ---- files, counters and seals
+-- ---- files, counters and checksums
 
 folder-only : OnlyLinked doomed_folder
 unfolding doomed_folder whole_folder

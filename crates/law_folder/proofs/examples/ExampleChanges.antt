@@ -1,4 +1,4 @@
--- The laws on changes of what is represented, each at the state of one object: its stream is written anew, its dirty word, and blocks that are nobody's.
+-- The laws on changes of what is represented, each at the state of one object: its stream is written anew, its dirty flag, and blocks that are nobody's.
 use Rattle.std.proofs.Common.{◌≡◌, ⊎_elim, ℕ, zero, suc, List, [], ◌∷◌, refl, ap, sym, ◌∙◌, subst, arith, ◌<◌, Bool, true, false, Option, Some, None, Ok}
 use Rattle.std.specs.Prelude.{if◌then◌else◌, ◌==◌, ◌&&◌, codes, map}
 use Rattle.std.specs.Str.{bytes_eq}
@@ -223,7 +223,7 @@ block-is_free claim w owned = go claim (subst (λ (cs : List Claim). has_claim c
 pub more-is_represented : Represents with_more (state true) (layout 0)
 more-is_represented = represents-outside new_block (view 0) with_more (state true) (layout 0) same-but_more block-is_free (represented 0)
 
--- The dirty word of the node becomes 5.
+-- The dirty flag of the node becomes 5.
 
 same-but_dirt : SameBut (has_claim (claims_of node)) (view 0) (view 5)
 same-but_dirt = record {
@@ -238,7 +238,7 @@ same-but_dirt = record {
   table = λ b. refl;
 }
 
--- with the dirty word 5 the object is dirty
+-- with the dirty flag 5 the object is dirty
 pub dirtied-is_represented : Represents (view 5) (marked (state true) 0 (object true) false) (dirtied (layout 0) node (loaded 0) 5)
 dirtied-is_represented =
     written-settles (view 0) (view 5) (state true) (layout 0) (represented 0) (state_is_valid true) 0 (object true) (loaded 0) (lies 0) 5 same-but_dirt
@@ -250,6 +250,6 @@ pub turned-is_picked : (rest (state true) ≡ pick (state true) (turned (state t
     × (rest (turned (state true) 0 (object true) false (state true).names) ≡ pick (state true) (turned (state true) 0 (object true) false (state true).names) false (state true).uses)
 turned-is_picked = (before-turning (state true) (state_is_valid true) 0 (object true) false (state true).names refl refl, after-turning (state true) (state_is_valid true) 0 (object true) false (state true).names refl refl)
 
--- the object is dirty also in the view in which the dirty word alone is another
+-- the object is dirty also in the view in which the dirty flag alone is another
 pub marked-is_represented : Represents (record (view 0) { store = record (view 0).store { node_fields = put (view 0).store.node_fields node (Some (record { contents = contents; dirty = 5 })) } }) (marked (state true) 0 (object true) false) (dirtied (layout 0) node (loaded 0) 5)
 marked-is_represented = dirty-settles (view 0) (state true) (layout 0) (represented 0) (state_is_valid true) 0 (object true) (loaded 0) (lies 0) (record { contents = contents; dirty = 0 }) 5 refl

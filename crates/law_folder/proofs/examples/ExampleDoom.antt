@@ -54,7 +54,7 @@ second_node = 0x90000001
 abbrev second_contents : ℕ
 second_contents = 0xA0010002
 
--- a record of the key with no streams and this dirty word
+-- a record of the key with no streams and this dirty flag
 abbrev second : ℕ → Loaded
 second dirty = record { node = second_node; contents = second_contents; dirty = dirty; key = key; role = IsPlain; streams = [] ∷ [] ∷ [] ∷ []; others = 0 ∷ 0 ∷ 0 ∷ 0 ∷ 0 ∷ [] }
 

@@ -40,7 +40,7 @@ doomed_state settled = record (one.state settled) { objects = Some (doomed_objec
 abbrev pub doomed_layout : ℕ → Layout
 doomed_layout dirty = record (one.layout dirty) { place = λ item. 0; place_of_doomed = λ number. one.node; state = λ w. entry_doomed; chains = λ b. [] }
 
--- the view, in which the node has this dirty word and data is stored at block 2 of data_1, or isn't
+-- the view, in which the node has this dirty flag and data is stored at block 2 of data_1, or isn't
 abbrev doomed_view : ℕ → Option (List ℕ) → View
 doomed_view dirty bytes = record {
   list = record one.list { head = 0; tail = 0 };
@@ -147,7 +147,7 @@ more-is_outside dirty bytes = record {
 pub doomed-stays : Represents (doomed_view 0 (Some (codes "yyy"))) (doomed_state true) (doomed_layout 0)
 doomed-stays = represents-outside new_block (doomed_view 0 None) (doomed_view 0 (Some (codes "yyy"))) (doomed_state true) (doomed_layout 0) (more-is_outside 0 (Some (codes "yyy"))) block-is_free (doomed-is_represented 0)
 
--- ---- it is written to: first its dirty word becomes 5
+-- ---- it is written to: first its dirty flag becomes 5
 
 here-doomed : (dirty : ℕ) → IsPlacedAsDoomed (doomed_state (dirty == 0)) (doomed_layout dirty) 0 (doomed_object (dirty == 0)) (one.loaded dirty)
 here-doomed dirty = record { here = refl; dead = refl; at = refl }
@@ -165,12 +165,12 @@ dirt-is_inside = record {
   table = λ b. refl;
 }
 
--- with the dirty word 5 the doomed object is dirty
+-- with the dirty flag 5 the doomed object is dirty
 pub doomed-is_dirtied : Represents (doomed_view 5 None) (marked (doomed_state true) 0 (doomed_object true) false) (dirtied (doomed_layout 0) one.node (one.loaded 0) 5)
 doomed-is_dirtied = written-doomed-settles (doomed_view 0 None) (doomed_view 5 None) (doomed_state true) (doomed_layout 0) (doomed-is_represented 0) 0 (doomed_object true) (one.loaded 0) (here-doomed 0) 5 dirt-is_inside
     (λ node_fields is. let s : ◌≡◌ {A = NodeFields} (record { contents = one.contents; dirty = 0 }) node_fields = cc in ap (λ (n : NodeFields). Some (record n { dirty = 5 })) s)
 
--- the doomed object is dirty also in the view in which the dirty word alone is another
+-- the doomed object is dirty also in the view in which the dirty flag alone is another
 pub doomed-is_marked : Represents (record (doomed_view 0 None) { store = record (doomed_view 0 None).store { node_fields = put (doomed_view 0 None).store.node_fields one.node (Some (record { contents = one.contents; dirty = 5 })) } })
     (marked (doomed_state true) 0 (doomed_object true) false) (dirtied (doomed_layout 0) one.node (one.loaded 0) 5)
 doomed-is_marked = doomed-settles (doomed_view 0 None) (doomed_state true) (doomed_layout 0) (doomed-is_represented 0) 0 (doomed_object true) (one.loaded 0) (here-doomed 0) (record { contents = one.contents; dirty = 0 }) 5 refl

@@ -88,7 +88,7 @@ whole-is_allocated = record {
   doomed = record { each = tt; once = tt; all = λ number o is dead. absurd (one.no-doomed true number o is dead); records = λ number among. absurd (let z : false ≡ true = among in cc) };
 }
 
--- ---- files, counters and seals
+-- ---- files, counters and checksums
 
 pub whole-only : OnlyLinked whole_folder
 unfolding whole_folder

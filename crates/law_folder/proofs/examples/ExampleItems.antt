@@ -53,11 +53,11 @@ use Rattle.law_folder.proofs.commands.Created.{creates-moments, creates-end, cre
 
 -- What is kept of the one entry.
 
--- a node passes where its dirty word is 0
+-- a node passes where its dirty flag is 0
 abbrev pub is_clean : Loaded → Bool
 is_clean l = l.dirty == 0
 
--- the test on dirty words agrees with the rule for what recovery keeps
+-- the test on dirty flags agrees with the rule for what recovery keeps
 pub goes-with : GoesWith (layout 0) (main (codes "a") ∷ []) held_rule is_clean
 goes-with = record {
   clean = λ item l h at passes. passes;

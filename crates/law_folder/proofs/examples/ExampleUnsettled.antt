@@ -93,7 +93,7 @@ family-is_represented = record {
   idle = refl;
 }
 
--- the parent's dirty word becomes 5
+-- the parent's dirty flag becomes 5
 abbrev dirty_view : View
 dirty_view = record family_view { store = record family_stock { node_fields = put family_stock.node_fields parent_node (Some (record { contents = 0xA0010000; dirty = 5 })) } }
 

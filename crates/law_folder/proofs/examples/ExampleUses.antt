@@ -1,4 +1,4 @@
--- The laws of items that are used and that are new, of what is found, of costs, growth and order, each at an example that meets its premises.
+-- The laws of items that are accessed and that are new, of what is found, of costs, growth and order, each at an example that meets its premises.
 use Rattle.std.proofs.Common.{◌≡◌, ℕ, zero, suc, ◌+◌, ◌<◌, ◌≤◌, ◌⊎◌, inr, List, [], ◌∷◌, ◌++◌, length, map, take, refl, ap, sym, ◌∙◌, subst, arith, lit<, Bool, true, false, Some, None}
 use Rattle.std.specs.Prelude.{codes, ◌&&◌, ◌==◌, nat_le, nat_lt}
 use Rattle.std.proofs.lemmas.Bool.Decides.{nat_tests}

@@ -122,7 +122,7 @@ insert-seals = writes-seal pair (writes_of insert another (list_of pair)) (pair-
 pub insert-keeps_seals : KeepsSealed pair (after (operation_steps insert another pair) pair)
 insert-keeps_seals = writes-keep pair (writes_of insert another (list_of pair)) (pair-writable []) insert-can
 
--- the dirty word of the tail's node is written
+-- the dirty flag of the tail's node is written
 last-kind : kind_of last ≡ 1
 unfolding kind_of
 last-kind = refl
@@ -189,7 +189,7 @@ head-turns = touches-turn_words pair first 70 [] (last ∷ []) (pair-writable []
 abbrev in_flight : Image
 in_flight = pair_folder ((328, 0x90000000) ∷ (332, 2) ∷ [])
 
--- a completion writes this: two sealed updates of three words each, the second write one word of the index, and the last one too
+-- a redo writes this: its first and its third write are updates of three words each, its second and its fourth are one word of the index each
 pub completion-writes : completion_writes (list_of in_flight) ≡ Next first first ∷ Tail first ∷ Next last 0 ∷ Transaction 0 ∷ []
 unfolding completion_writes operation_writes counts list_of checks_at next_at prev_at pair_folder zeros with_word spliced next_file_in max_entries_in linked files_along kind_among stands stands_as_blocks is_address is_initialized names_external names_blocks kind_of reserved_bits block_count file_selector first_block external_number block_size block_place place byte_size node_in node_checks
 completion-writes = refl

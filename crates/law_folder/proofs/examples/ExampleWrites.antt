@@ -97,7 +97,7 @@ updated w changes fits checks before =
 one : (s d x : ℕ) → d + 4 ≤ s → All (λ (c : ℕ × ℕ). c.0 + 4 ≤ s) ((d, x) ∷ [])
 one s d x inside = All-cons (λ (c : ℕ × ℕ). c.0 + 4 ≤ s) (d, x) [] inside (All-nil (λ (c : ℕ × ℕ). c.0 + 4 ≤ s))
 
--- a word of the node: a time, its next, its prev, its contents or its dirty word
+-- a word of the node: a time, its next, its prev, its contents or its dirty flag
 pub node_is_updated : (d x : ℕ) → d + 4 ≤ 32 → IsMidUpdate small node ((d, x) ∷ []) (after (sealed_steps small node ((d, x) ∷ [])) small)
 node_is_updated d x inside = updated node ((d, x) ∷ []) node_fits node_checked (one (seal_place node) d x (omega (arith, inside, node_seal)))
 

@@ -1,4 +1,4 @@
--- The whole folder as it was before its version was raised: the sum stands at its old place, and what stands at the new one is nothing to it. It is sound, and
+-- The whole folder before its version was upgraded: the sum is at its old place, and what is at the new one isn't read. The folder is consistent, and
 -- holds the same.
 use Rattle.std.proofs.Common.{◌≡◌, inr, ℕ, ◌+◌, ◌*◌, ◌≤◌, List, [], ◌∷◌, refl, sym, ◌∙◌, ap, subst, lit≤, arith, Option, Some, true, false}
 use Rattle.std.specs.Prelude.{is_some}

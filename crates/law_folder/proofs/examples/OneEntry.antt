@@ -42,7 +42,7 @@ contents = 0xA0010000
 abbrev pub bucket : ℕ
 bucket = 0xA782
 
--- what the node names, with this dirty word
+-- what the node names, with this dirty flag
 abbrev pub loaded : ℕ → Loaded
 loaded dirty = record { node = node; contents = contents; dirty = dirty; key = codes "a"; role = IsPlain; streams = codes "zz" ∷ [] ∷ [] ∷ []; others = 0 ∷ 0xA0010001 ∷ 0 ∷ 0 ∷ 0 ∷ [] }
 

@@ -24,7 +24,7 @@ use Rattle.law_folder.proofs.examples.OneEntry as one
 use Rattle.law_folder.proofs.examples.DamagedViews.{node, entry, shown, plain_core}
 use Rattle.law_folder.proofs.states.NewFolders.{new_folder, new-is_new, new-bare}
 
--- An idle list of three nodes: the second of them can be removed and touched, and a fourth be inserted.
+-- An idle list of three nodes: the second of them can be removed and accessed, and a fourth be inserted.
 
 next_of : ℕ → ℕ
 next_of w = if w == 3 then 2 else 1
@@ -74,7 +74,7 @@ pub both_are_keyed : (load_key pair.store held_rule 0x90000000 0xA0010000 0 firs
 unfolding load_key is_key_length stored_key block_count entry_blocks chain_from hash mixed of_bytes of_one
 both_are_keyed = (refl, refl)
 
--- A new folder is bare.
+-- A new folder is an empty cache.
 
 pub new_is_bare : HasNoEntries (new_folder 50)
 new_is_bare = new-bare 50 (new_folder 50) (new-is_new 50)

@@ -1,5 +1,5 @@
--- A whole folder, computed from its bytes, with one closed entry `a` whose stream 0 is `zz`: counters, maps and seals are in order, and it represents the state
--- of that entry.
+-- A whole folder, computed from its bytes, with one closed entry `a` whose stream 0 is `zz`. Counters, maps and checksums are in order, and it represents the
+-- state of that entry.
 use Rattle.std.proofs.Common.{◌≡◌, ◌≢◌, ◌⊎◌, inl, inr, ⊎_elim, ℕ, zero, suc, ◌+◌, ◌*◌, ◌<◌, ◌≤◌, List, [], ◌∷◌, ◌++◌, refl, ap, sym, ◌∙◌, subst, arith, lit≤, Some, None, true, false, Ok}
 use Rattle.std.specs.Prelude.{if◌then◌else◌, ◌==◌, nat_lt}
 use Rattle.std.proofs.lemmas.Bool.Decides.{nat_tests}
@@ -34,7 +34,7 @@ use Rattle.law_folder.proofs.states.Standing.{found-at_rest}
 abbrev pub whole_index : List ℕ
 whole_index = with_words (new_index_words 50 ++ (8, 1) ∷ (48, 3) ∷ (268, 1) ∷ (288, 0x90000000) ∷ (308, 0x90000000) ∷ (171896, 0xA0010000) ∷ []) (zeros index_length)
 
--- data_0 has 1024 nodes, of which node 0 is marked: one group has three free, and 255 have four; the node is sealed
+-- data_0 has 1024 nodes, of which node 0 is marked: one group has three free, and 255 have four; the node has its checksum
 abbrev pub whole_nodes : List ℕ
 whole_nodes = with_words (new_file_words 0 ++ (16, 1) ∷ (20, 1024) ∷ (32, 1) ∷ (36, 255) ∷ (80, 1) ∷ (8208, 0x90000000) ∷ (8212, 0x90000000) ∷ (8216, 0xA0010000) ∷ (8224, 0xfe7f2cf2) ∷ []) (zeros 45056)
 

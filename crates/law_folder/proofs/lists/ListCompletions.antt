@@ -1,4 +1,4 @@
--- At each write of an operation, completing gives the old list or the new one.
+-- At each write of an operation, the redo gives the old list or the new one.
 use Rattle.std.proofs.Common.{◌≡◌, ℕ, zero, suc, ◌<◌, Bool, true, false, ◌&&◌, ◌||◌, cond, eqb, ltb, List, [], ◌∷◌, ◌++◌, length, take, refl, sym, ap, ◌∙◌, subst, arith, length-append}
 use Rattle.std.proofs.lemmas.Bool.{cond_above, cond_both, eq-eqb, eqb-true, or_parts, or_right}
 use Rattle.spec_folder.specs.ListView.{ListWrite, Transaction, Operation, ListView, with_write, after_writes, first_or, last_or, Segment, IsList}

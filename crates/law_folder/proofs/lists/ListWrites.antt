@@ -1,4 +1,4 @@
--- Each write of a completion keeps what completing gives.
+-- Each write of a redo keeps what the redo gives.
 use Rattle.std.proofs.Common.{if◌then◌else◌, ◌≡◌, ℕ, Bool, true, false, not, ◌&&◌, ◌||◌, eqb, List, [], ◌∷◌, ◌++◌, refl, sym, ap, ◌∙◌, subst, arith, ◌⊎◌, inl, inr}
 use Rattle.std.proofs.lemmas.Bool.Decides.{nat_tests}
 use Rattle.std.proofs.lemmas.Bool.{eq-eqb, and_parts, or_right}
@@ -357,7 +357,7 @@ pending_keeps l e = go (counting l e) (counting l e).known
         (finish (taking_out n (l.next n) (l.prev n) ++ Operation 1 ∷ putting_in_front n T.head) l (rested (put_front n T)) (move_keeps n l three refl c.not_zero c.good head_good links)
         (ap rested (after_writes-append (taking_out n (l.next n) (l.prev n)) (Operation 1 ∷ putting_in_front n T.head) l) ∙ rested_front n T (eqb T.head n) (eqb T.head 0) refl refl))
 
--- no write changes which nodes check
+-- no write changes which nodes have a right or absent checksum
 pub checks_stay : (ws : List ListWrite) (l : ListView) → (after_writes ws l).checks ≡ l.checks
 checks_stay [] l = refl
 checks_stay (Next w x ∷ ws) l = checks_stay ws (with_write l (Next w x))
@@ -381,7 +381,7 @@ outcome_not : (l : ListView) → counts l ≡ false → completed_but_operation 
 unfolding completed_but_operation completed_list
 outcome_not l e = rw e
 
--- each write of completing keeps what it gives
+-- each write of a redo keeps what the redo gives
 pub completion_keeps : (l : ListView) → AtEachWrite (λ u. completed_but_operation u ≡ completed_but_operation l) (completion_writes l) l
 unfolding completion_writes
 completion_keeps l = go (eqb l.transaction 0) (counts l) refl

@@ -103,7 +103,7 @@ pub last-append : (d : ℕ) (xs ys : List ℕ) → last_or d (xs ++ ys) ≡ last
 last-append d [] ys = refl
 last-append d (x ∷ xs) ys = last-append x xs ys
 
--- a node that checks isn't the word 0
+-- a node whose checksum is right or absent isn't the word 0
 pub not_zero : (l : ListView) (w : ℕ) → l.checks 0 ≡ false → l.checks w ≡ true → eqb w 0 ≡ false
 not_zero l w z g = ne_eqb w 0 (λ e. grind (arith, ap l.checks e))
 

@@ -1,4 +1,4 @@
--- A walk is of different nodes, each of which checks.
+-- A walk is of different nodes, each with a right or absent checksum.
 use Rattle.std.proofs.Common.{◌≡◌, ℕ, zero, suc, List, [], ◌∷◌, refl, sym, ◌∙◌, subst, Bool, true, false, ⊎_elim}
 use Rattle.std.specs.Prelude.{not, ◌&&◌, ◌||◌, ◌==◌, if◌then◌else◌}
 use Rattle.std.proofs.lemmas.Bool.{cases_Bool, eq-eqb, or_left}
@@ -57,7 +57,7 @@ module _ (checks : ℕ → Bool) (next prev : ℕ → ℕ) where
   check-first true c d e = refl
   check-first false c d e = cc
 
-  -- and each checks
+  -- each walked node has a right or absent checksum
   walked-checks : (most : ℕ) (met : List ℕ) (before word w : ℕ) → is_among (walk_from checks next prev most met before word) w ≡ true → checks w ≡ true
   unfolding walk_from
   walked-checks zero met before word w among = absurd (let c : false ≡ true = among in cc)

@@ -1,4 +1,4 @@
--- Completions at each of their words: crashed anywhere and begun again they give the same.
+-- Redos at each of their words: crashed anywhere and begun again they give the same.
 use Rattle.std.proofs.Common.{◌≡◌, ℕ, zero, suc, List, [], ◌∷◌, take, refl, sym, ap, ◌∙◌}
 use Rattle.spec_image.specs.Image.{Image}
 use Rattle.spec_image.specs.Steps.{TrailStep, applied, after}
@@ -23,7 +23,7 @@ use Rattle.law_folder.proofs.lists.WriteWords.{completion_can}
 pub completions-can : CompletionsCanBeMade
 completions-can image = completion_can image
 
--- a prefix of the writes of a completion keeps what it gives
+-- a prefix of the writes of a redo keeps what it gives
 pub partly-alike : (from image : Image) → IsPartly from (completion_writes (list_of from)) image → CompletesAlike from image
 partly-alike from image part =
     let list : ListView = list_of from in
@@ -43,7 +43,7 @@ walk_rested list = refl
 pub idle_is : (list : ListView) → list.transaction ≡ 0 → record list { operation = 0 } ≡ rested list
 idle_is list e = λ i. record { head = list.head; tail = list.tail; transaction = e i; operation = 0; checks = list.checks; next = list.next; prev = list.prev }
 
--- where the writes of a completion are made it is done
+-- where the writes of a redo are made it is done
 pub made-completed : (from image : Image) → OnlyListChanges (completion_writes (list_of from)) from image → IsCompleted from image
 made-completed from image shown =
     let list : ListView = list_of from in
@@ -67,7 +67,7 @@ prefix_holds P zero (x ∷ steps) image all = all.0
 prefix_holds P (suc count) [] image all = all
 prefix_holds P (suc count) (x ∷ steps) image all = prefix_holds P count steps (applied x image) all.1
 
--- where completing gives the same it leaves the same nodes
+-- where the redo gives the same it leaves the same nodes
 alike-walk : (from image : Image) → CompletesAlike from image → completed_walk image ≡ completed_walk from
 alike-walk from image alike = walk_outcome (list_of image) ∙ ap walk alike ∙ sym (walk_outcome (list_of from))
 

@@ -80,7 +80,7 @@ pub removals-rest : RemovalsEndAtRest
 removals-rest image node prefix suffix ready rest =
     rests_after image ready (writes_of remove node (list_of image)) (prefix ++ suffix) (removals-can image node prefix suffix rest) (removals-end node (list_of image) prefix suffix rest)
 
--- A touch: its writes, and then the times of the node.
+-- An access: its writes, and then the times of the node.
 
 pub each : (P : ℕ × ℕ → Type 0) (w x y z : ℕ × ℕ) → P w → P x → P y → P z → All P (w ∷ x ∷ y ∷ z ∷ [])
 each P w x y z p q r s = All-cons P w (x ∷ y ∷ z ∷ []) p (All-cons P x (y ∷ z ∷ []) q (All-cons P y (z ∷ []) r (All-cons P z [] s (All-nil P))))
@@ -184,7 +184,7 @@ module _ (from : Image) (ready : IsWritable from) (node moment : ℕ) (good : (l
       let i : Image = after (steps_of_writes ws from) from in
       subst (IsUpdated i node (times_of moment)) (sym (after-append (steps_of_writes ws from) (sealed_steps i node (times_of moment)) from)) (updated node i (times_of moment) still_good.fits)
 
-  -- the times, at which completing gives the new list
+  -- the times, at which the redo gives the new list
   later_along : (before later : List ℕ) → CommitsAtTwo (list_of from) ws before later → Along (CompletesTo later) between times
   later_along before later turn =
       let R : Image → Type 0 = λ image. (list_of image ≡ after_writes ws (list_of from)) × IsTouched from node ws image in
@@ -231,7 +231,7 @@ times_set from image node moment kind small done =
       modified = ap₂ (λ (a b : ℕ). a + 4294967296 * b) w8 (ap (word_at f) (sym twelve) ∙ w12) ∙ both;
     }
 
--- a touch commits with its second write, and where it has no writes the lists are one
+-- an access commits with its second write, and where it has no writes the lists are one
 module _ (from : Image) (ready : IsWritable from) (node moment : ℕ) (good : (list_of from).checks node ≡ true) (before later : List ℕ) where
   turns_none : CanBeMade from [] → CommitsAtTwo (list_of from) [] before later → CommitsAt 2 (CompletesTo before) (CompletesTo later) from (touch_steps node moment [] from)
   turns_none can turn =
@@ -269,7 +269,7 @@ module _ (from : Image) (ready : IsWritable from) (node moment : ℕ) (good : (l
 pub moves-can : (image : Image) (node : ℕ) (prefix suffix : List ℕ) → HasListAtRest (prefix ++ node ∷ suffix) image → CanBeMade image (writes_of move node (list_of image))
 moves-can image node prefix suffix rest = operation_can move node image (omega arith) (move_counts node (list_of image) prefix suffix rest.whole rest.idle)
 
--- and so can what a touch writes
+-- and so can what an access writes
 pub touches-can : TouchesCanBeMade
 touches-can image node prefix suffix rest = go ((list_of image).head == node)
   where

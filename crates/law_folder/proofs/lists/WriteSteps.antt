@@ -86,7 +86,7 @@ nothing_made writes image = record { made = 0; within = omega arith; shown = sub
     take_none [] = refl
     take_none (w ∷ ws) = refl
 
--- a node that is there and checks
+-- a node that is there and whose checksum is right or absent
 pub record IsGood (image : Image) (w : ℕ) : Type 0 where
   pub small : w < 2 ^ 32
   pub kind : kind_of w ≡ rankings
@@ -182,7 +182,7 @@ one_write (Tail x) from ready can = let r = index_word 308 x Tail from ready can
 one_write (Transaction x) from ready can = let r = index_word 328 x Transaction from ready can.words.0 (omega arith) refl refl transactions-written refl in record { along = r.0; ends = r.1 }
 one_write (Operation x) from ready can = let r = index_word 332 x Operation from ready can.words.0 (omega arith) refl refl operations-written refl in record { along = r.0; ends = r.1 }
 
--- the front of a first write is a prefix of all
+-- a prefix of the first write is a prefix of all
 front_of : (made : ℕ) (write : ListWrite) (writes : List ListWrite) → made ≤ 1 → take made (write ∷ []) ≡ take made (write ∷ writes)
 front_of zero write writes low = refl
 front_of (suc zero) write writes low = ap (λ (ws : List ListWrite). write ∷ ws) (sym (take_none writes))
@@ -218,7 +218,7 @@ later_part from between write writes first shown image part =
       headers = headers-next from between image first.headers part.headers;
     }
 
--- the nodes check as before
+-- the same nodes as before have a right or absent checksum
 pub still_check : (writes : List ListWrite) (from between : Image) → OnlyListChanges writes from between → (list_of between).checks ≡ (list_of from).checks
 still_check writes from between shown = ap (λ (l : ListView). l.checks) shown.list ∙ checks_stay writes (list_of from)
 

@@ -1,4 +1,4 @@
--- The nodes and the words that an operation writes: its nodes check, and its words are below 2 ^ 32.
+-- The nodes and the words that an operation writes: its nodes have a right or absent checksum, and its words are below 2 ^ 32.
 use Rattle.std.proofs.Common.{◌≡◌, ⊎_elim, ℕ, ◌^◌, ◌<◌, Bool, true, false, List, [], ◌∷◌, ◌++◌, if◌then◌else◌, refl, sym, ap, subst, arith}
 use Rattle.std.specs.Prelude.{◌==◌, ◌&&◌, ◌||◌}
 use Rattle.std.proofs.lemmas.Bool.{and_parts}
@@ -153,7 +153,7 @@ operation_can code node image fits does =
     let all : Each (Good P) (writes_of code node (list_of image)) = (fits, (checked-small image node (counting list does).good, pending)) in
     record { nodes = each_nodes P (writes_of code node (list_of image)) all; words = each_words P (writes_of code node (list_of image)) all }
 
--- and so can what a completion writes
+-- and so can what a redo writes
 pub completion_can : (image : Image) → CanBeMade image (completion_writes (list_of image))
 completion_can image = go (list.transaction == 0) refl (counts list) refl
   where

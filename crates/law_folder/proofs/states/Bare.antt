@@ -1,4 +1,4 @@
--- A bare folder is sound, holds nothing, and stands for the empty state.
+-- An empty cache is consistent, holds nothing, and represents the empty state.
 use Rattle.std.proofs.Common.{◌≡◌, ℕ, ◌+◌, ◌<◌, List, [], refl, ap, sym, ◌∙◌, subst, inl, arith, Bool, true, false, None}
 use Rattle.std.specs.Prelude.{if◌then◌else◌}
 use Rattle.blk_model.specs.Items.{Row}
@@ -39,7 +39,7 @@ pub no-record : (image : Image) → (store_of image).entry 0 ≡ None
 unfolding store_of fields_at stands is_address is_initialized
 no-record image = refl
 
--- with no operation in flight nothing is completed
+-- with no operation in flight the redo does nothing
 pub not-counting : (l : ListView) → l.transaction ≡ 0 → counts l ≡ false
 unfolding counts
 not-counting l e = rw e refl

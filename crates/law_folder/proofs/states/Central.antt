@@ -1,4 +1,4 @@
--- What represents a state stands for it.
+-- A view that represents a state drops nothing and lists the state's rows, and recovery keeps the durable contents.
 use Rattle.std.proofs.Common.{◌≡◌, ℕ, zero, suc, ◌+◌, ◌<◌, ◌≤◌, List, [], ◌∷◌, map, refl, ap, sym, ◌∙◌, Bool, true, false, arith, Option, Some, None}
 use Rattle.std.specs.Prelude.{◌==◌}
 use Rattle.std.specs.Option.{option_map}
@@ -28,7 +28,7 @@ use Rattle.law_folder.proofs.claims.Owner.{IsOwned, owned, same_owner, live, res
 use Rattle.blk_model.specs.Holding as model
 
 module _ (m : State) (y : Layout) (lay : (i : Item) → is_listed m i ≡ true → IsPlacedAt m y i) (valid : IsValidState m) where
-  -- the dirty words are the test on clean objects, on items where no part is without its main item
+  -- the dirty flags are the test on clean objects, on items where no part is without its main item
   pub settled-on : (items : List Item) → ((i : Item) → is_in items i ≡ true → is_listed m i ≡ true)
       → IsTest m y items (λ number. is_live_and_settled (object_at m number))
   unfolding model.row_of
@@ -129,7 +129,7 @@ module _ (v : View) (m : State) (y : Layout) (r : Represents v m y) where
   pub rows-kept : IsValidState m → map row_of_loaded (kept_by listed_rule v) ≡ model.rows m
   rows-kept valid = rw walk-order (all-rows v.store m y r.holds valid r.list.distinct)
 
-  -- with no operation in flight, completing leaves the walk
+  -- with no operation in flight, the redo leaves the walk
   pub idle-walk : walk (completed_list v.list) ≡ order m y
   idle-walk = walk-idle v.list r.idle ∙ walk-order
 

@@ -23,7 +23,7 @@ stays true false false = refl
 stays false s true = refl
 stays false s false = refl
 
--- and of one that is live and turns from s to b
+-- the tests of an object that is live and in transition from s to b, where true is clean
 before-turn : (s b : Bool) → s ≡ ((s && (b || false)) || ((s && not b) && differ s b))
 before-turn true true = refl
 before-turn true false = refl

@@ -1,4 +1,4 @@
--- The dirty word of a main item makes its object clean or dirty.
+-- The dirty flag of a main item makes its object clean or dirty.
 use Rattle.std.proofs.Common.{refl}
 use Rattle.std.specs.Prelude.{◌==◌}
 use Rattle.blk_model.specs.Items.{main}

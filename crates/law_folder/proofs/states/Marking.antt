@@ -1,4 +1,4 @@
--- The dirty word of a node, from the footprint of its write.
+-- The dirty flag of a node, from the footprint of its write.
 use Rattle.std.proofs.Common.{◌≡◌, ℕ, List, [], ◌∷◌, ◌++◌, refl, ap, sym, ◌∙◌, subst, Bool, true, false, Option, Some, Ok, ⊎_elim}
 use Rattle.std.specs.Prelude.{not, ◌&&◌, ◌||◌, ◌==◌, slice_index}
 use Rattle.std.specs.Option.{option_map_or}
@@ -36,7 +36,7 @@ repeats-apart (x ∷ xs) ys c e h =
     (λ (s : same_claim c x ≡ false). let t : (same_claim c x || has_claim xs c) ≡ true = sym (claim-head x xs c) ∙ h in repeats-apart xs ys c p.1 (rw s at t))
     (cases_Bool (same_claim c x))
 
--- a node with another dirty word, its record untouched
+-- a node with another dirty flag, its record untouched
 load-marked : (touched : Claim → Bool) (v u : StoreView) (same : SameStore touched v u) (rule : Rule) (w d : ℕ) (l : Loaded) → rule.clean ≡ false → rule.chained ≡ false
     → ((n : NodeFields) → v.node_fields w ≡ Some n → u.node_fields w ≡ Some (record n { dirty = d })) → IsClear touched l.contents → ((i : ℕ) → IsClear touched (slice_index l.others i))
     → load v rule w ≡ Ok l → load u rule w ≡ Ok (record l { dirty = d })
@@ -69,7 +69,7 @@ load-marked touched v u same rule w d l any free is contents others ok = load-th
       };
     }))
 
--- the dirty word of a node of a layout, from the footprint of its write
+-- the dirty flag of a node of a layout, from the footprint of its write
 module _ (v u : View) (m : State) (y : Layout) (r : Represents v m y) (w0 : ℕ) (l : Loaded) (at : y.at w0 ≡ Some l) (d : ℕ) (same : SameBut (has_claim (claims_of w0)) v u)
     (node_fields : (n : NodeFields) → v.store.node_fields w0 ≡ Some n → u.store.node_fields w0 ≡ Some (record n { dirty = d })) where
   loads : load v.store (rule_of y w0) w0 ≡ Ok l

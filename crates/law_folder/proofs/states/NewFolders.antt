@@ -1,4 +1,4 @@
--- A new folder is bare.
+-- A new folder is an empty cache.
 use Rattle.std.proofs.Common.{◌≡◌, ◌⊎◌, inl, inr, ⊎_elim, ℕ, zero, suc, ◌+◌, ◌*◌, ◌/◌, ◌%◌, ◌^◌, ◌<◌, ◌≤◌, List, [], ◌∷◌, length, Option, None, Some, refl, sym, ◌∙◌, ap, subst, arith, lit≤, lit<}
 use Rattle.std.specs.Prelude.{if◌then◌else◌, nat_lt, unwrap_or, is_some, ◌==◌}
 use Rattle.std.proofs.lemmas.Bool.{cases_lt, lt-ltb, le-ltb, ltb-true}

@@ -1,4 +1,4 @@
--- The dirty word of a main item's node makes its object clean or dirty.
+-- The dirty flag of a main item's node makes its object clean or dirty.
 use Rattle.std.proofs.Common.{◌≡◌, ℕ, ◌<◌, List, [], ◌∷◌, refl, ap, sym, ◌∙◌, subst, Bool, true, false, arith, set, get_or, get_or-set_same, get_or-set_other, ◌≢◌, Option, Some, None, Ok, ⊎_elim}
 use Rattle.std.specs.Prelude.{not, ◌==◌, length}
 use Rattle.std.specs.Option.{option_and_then, option_map}
@@ -101,7 +101,7 @@ module _ (m : State) (valid : IsValidState m) (number : ℕ) (o : Object) (b : B
   main-owned = let few = valid.once (main o.key) in let all = valid.listed (main o.key) in
       first_with_found (main o.key) 0 number m.objects (ap (slot_has_item (main o.key)) here ∙ and_from o.live (bytes_eq o.key o.key) live (bytes_eq_self o.key)) (omega arith) ∙ ap Some (omega arith)
 
-  -- the layout with the other dirty word
+  -- the layout with the other dirty flag
   module _ (y : Layout) (r : IsLayoutOf m y) (l : Loaded) (at : y.at (y.place (main o.key)) ≡ Some l) (d : ℕ) (mark : (d == 0) ≡ b) where
     pub settle-change : IsChange m (set m.objects number (Some (record o { settled = b }))) y (main o.key) l (record l { dirty = d }) y.owner
     unfolding all_claims record_claims
@@ -130,7 +130,7 @@ module _ (m : State) (valid : IsValidState m) (number : ℕ) (o : Object) (b : B
 
 -- ---- what is shown
 
--- a node with another dirty word loads so
+-- a node with another dirty flag loads so
 pub load-named : (v : StoreView) (f : ℕ → Option NodeFields) (rule : Rule) (w d : ℕ) (l : Loaded) → rule.clean ≡ false → rule.chained ≡ false → ((n : NodeFields) → v.node_fields w ≡ Some n → n.dirty ≡ l.dirty → f w ≡ Some (record n { dirty = d }))
     → load v rule w ≡ Ok l → load (record v { node_fields = f }) rule w ≡ Ok (record l { dirty = d })
 unfolding stored_key stored_streams stored_stream
@@ -164,7 +164,7 @@ linked-named : (v : StoreView) (f : ℕ → Option NodeFields) (b w : ℕ) (cs :
 linked-named v f b w [] h = h
 linked-named v f b w (c ∷ cs) h = (h.0, h.1, linked-named v f b (v.chain_next c) cs h.2)
 
--- a stock with another dirty word at a node
+-- a store view with another dirty flag at a node
 pub shows-dirty : (v : StoreView) (y : Layout) (r : Shows v y) (w0 d : ℕ) (l : Loaded) (n : NodeFields) (owner : Claim → Option ℕ) → y.at w0 ≡ Some l → v.node_fields w0 ≡ Some n
     → Shows (record v { node_fields = put v.node_fields w0 (Some (record n { dirty = d })) }) (changed_at y w0 (record l { dirty = d }) owner)
 shows-dirty v y r w0 d l n owner at node_fields = record {

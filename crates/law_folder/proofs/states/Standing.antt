@@ -1,4 +1,4 @@
--- What represents a state, with its maps exact, stands for it.
+-- An image represents a state (`StandsFor`) where its view does (`Represents`), its maps are exact, and its files are in order.
 use Rattle.std.proofs.Common.{◌≡◌, ℕ, ◌<◌, arith, List, [], ◌∷◌, ◌++◌, length, map, refl, ap, sym, ◌∙◌, subst, Bool, true, false, Option, Some, None, Ok, ⊎_elim, ◌⊎◌, inl, inr}
 use Rattle.std.specs.Prelude.{◌||◌, ◌==◌, is_some, if◌then◌else◌}
 use Rattle.std.specs.Option.{option_and_then, option_map, IsSomeAnd}
@@ -138,7 +138,7 @@ module _ (image : Image) (m : State) (y : Layout) (r : Represents (view_of image
   exactly : (c : Claim) → has_claim (claims_at y (order m y ++ (map y.place_of_doomed numbers))) c ≡ is_some (y.owner c)
   exactly = claimed-exactly y lies.own lies.single m (map y.place_of_doomed numbers) a.exact
 
-  -- marks
+  -- dirty flags
   mark-of : (i : Item) (l : Loaded) → is_listed m i ≡ true → y.at (y.place i) ≡ Some l → HasDirtyMark m (item_of (row_of_loaded l)) l
   mark-of i l there here =
       let q : IsPlacedAt m y i = lies.laid i there in

@@ -1,4 +1,4 @@
--- The durable contents of a state are recovered from what stands for it.
+-- The durable contents of a state are recovered from an image that represents it.
 use Rattle.std.proofs.Common.{◌≡◌, ℕ, List, [], ◌∷◌, ◌++◌, map, refl, ap, sym, ◌∙◌, subst, Bool, true, false, cond, Option, Some, None, Ok, Err, Result, ⊎_elim}
 use Rattle.std.specs.Prelude.{not, ◌||◌, ◌==◌, if◌then◌else◌, is_some, IfSome}
 use Rattle.std.specs.Option.{option_map_or, option_and_then}

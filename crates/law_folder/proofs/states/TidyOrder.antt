@@ -1,4 +1,4 @@
--- Files, counters and seals that are in order by a layout are so for what is listed and doomed.
+-- Files, counters and checksums that are in order by a layout are so for what is listed and doomed.
 use Rattle.std.proofs.Common.{◌≡◌, ℕ, List, [], ◌∷◌, ◌++◌, length, map, refl, sym, ◌∙◌, ap, subst, true, Option, Some, None}
 use Rattle.std.specs.Prelude.{◌==◌}
 use Rattle.std.specs.List.{cons_option, flat_map, sum_by, AllByRecursion}

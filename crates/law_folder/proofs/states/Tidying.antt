@@ -1,4 +1,4 @@
--- A touch leaves files, counters and seals in order.
+-- An access leaves files, counters and checksums in order.
 use Rattle.std.proofs.Common.{◌≡◌, ◌≢◌, ℕ, ◌+◌, ◌%◌, ◌^◌, ◌<◌, List, [], ◌∷◌, ◌++◌, length, refl, sym, ◌∙◌, ap, subst, Bool, true, false, arith, Option, Some, None, append_assoc, length-append}
 use Rattle.std.specs.Prelude.{◌&&◌, nat_le, nat_lt, is_some, if◌then◌else◌}
 use Rattle.std.specs.List.{flat_map, sum_by, count_by}
@@ -48,7 +48,7 @@ use Rattle.law_folder.proofs.updates.Nodes.{good-stands}
 record_apart : (w n i : ℕ) → file_selector w ≢ n → (record_range w).bytes (Block n) i ≡ false
 record_apart w n i apart = and_left (same_file (Block (file_selector w)) (Block n)) _ (other_file (file_selector w) n (λ e. apart (sym e)))
 
--- what a touch may change
+-- what an access may change
 abbrev pub touch_range : List ListWrite → ℕ → Footprint
 touch_range writes node = either (touched_by_writes writes) (record_range node)
 

@@ -36,7 +36,7 @@ use Rattle.law_folder.proofs.states.Central.{walk-idle}
 use Rattle.law_folder.proofs.states.Midst.{midst-rest}
 use Rattle.blk_model.specs.Holding as model
 
--- the dirty word of what loads is the node's
+-- the dirty flag of what loads is the node's
 dirty-of : (v : StoreView) (a : Rule) (w : ℕ) (k : Loaded) (n : NodeFields) → load v a w ≡ Ok k → v.node_fields w ≡ Some n → k.dirty ≡ n.dirty
 dirty-of v a w k n ok is = load-then v a w k ok (λ x e f. f.facts.dirty_is ∙ ap (λ (z : NodeFields). z.dirty) (let p : v.node_fields w ≡ Some x = f.node in let q : v.node_fields w ≡ Some n = is in let s : x ≡ n = cc in s))
 
@@ -115,7 +115,7 @@ module _ (touched : Claim → Bool) (v u : View) (m : State) (y : Layout) (r : R
   above : IsPlacedAt m y (main o.key)
   above = lies.laid (main o.key) there
 
-  -- the dirty word of the main item is not 0
+  -- the dirty flag of the main item is not 0
   dirty-above : (above.loaded.dirty == 0) ≡ false
   dirty-above =
       let found : model.owner_object m (main o.key) ≡ Some o = rw (main-owned m valid number o true here o-live) here in

@@ -74,7 +74,7 @@ module _ (from image : Image) (at : ℕ) (same : SameOutside (one_word Index at)
   pub word-still : (p : ℕ) → (p + 4 ≤ at) ⊎ (at + 4 ≤ p) → word image Index p ≡ word from Index p
   word-still p apart = same_word_outside (one_word Index at) from image Index p same (λ k low high. apart-word at k (⊎_elim (λ (x : p + 4 ≤ at). inl (omega arith)) (λ (x : at + 4 ≤ p). inr (omega arith)) apart))
 
-  -- a word of the header leaves the stock
+  -- a word of the header leaves the store view
   stock-still : at + 4 ≤ 368 → ShowsTheSame (store_of from) (store_of image)
   unfolding store_of
   stock-still before =

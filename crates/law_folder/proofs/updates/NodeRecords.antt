@@ -1,4 +1,4 @@
--- A node that checks, as a record of bytes.
+-- A node whose checksum is right or absent, as a record of bytes.
 use Rattle.std.proofs.Common.{◌≡◌, ◌≢◌, ◌%◌, ℕ, ◌+◌, ◌≤◌, ◌<◌, true, List, [], ◌∷◌, take, ap, sym, ◌∙◌, subst, arith}
 use Rattle.std.specs.Prelude.{◌==◌, ◌||◌}
 use Rattle.std.proofs.lemmas.List.{take_at}
@@ -37,7 +37,7 @@ checks_bytes image w bytes kind =
     ap (λ (body : List ℕ). (word_at f (p + 32) == 0) || (word_at f (p + 32) == hash body)) (node_body-in p f (bytes (Block (file_selector w))) ∙ sym (front_is f p) ∙ ap (take 32) (sym (record_is image w kind)))
     ∙ ap (λ (x : ℕ). (x == 0) || (x == hash (take 32 (record_at image w)))) (sym (record_word image w 32 size))
 
--- a node of the list that checks, checks as a record
+-- where the checksum of a node of the list is right or absent, so is that of its record
 pub record_checks : (image : Image) (w : ℕ) → AreBytes image → kind_of w ≡ rankings → (list_of image).checks w ≡ true → RecordChecks w image
 unfolding list_of checks_at
 record_checks image w bytes kind good =

@@ -195,7 +195,7 @@ module _ (from image : Image) (w : ℕ) (node : IsNode from w) (changes : List (
     table = λ b. table-still from image w standing begins moment.outside b;
   }
 
-  -- the stock, where the node says the same
+  -- the store view, where the node says the same
   stock-for : names_of (node_at image w) ≡ names_of (node_at from w) → ShowsTheSame (store_of from) (store_of image)
   unfolding store_of
   stock-for here =

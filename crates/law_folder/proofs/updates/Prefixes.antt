@@ -1,4 +1,4 @@
--- Records that agree before their seals, and what their checks read.
+-- Records that agree before their checksums, and what the tests of these read.
 use Rattle.std.proofs.Common.{◌≡◌, ◌⊎◌, inl, inr, ⊎_elim, ℕ, zero, suc, ◌+◌, ◌-◌, ◌*◌, ◌%◌, ◌<◌, ◌≤◌, List, [], ◌∷◌, length, take, get_or-take, refl, ap, ap₂, sym, ◌∙◌, subst, arith}
 use Rattle.std.specs.Prelude.{◌==◌, ◌||◌}
 use Rattle.std.proofs.lemmas.Bool.{cases_lt}
@@ -12,7 +12,7 @@ use Rattle.spec_format.specs.Records.{Node, Entry, node_in, node_body, node_chec
 use Rattle.spec_format.proofs.Bodies.{node_body-in, entry_body-in}
 use Rattle.law_folder.proofs.claims.BlockBytes.{part_of}
 
--- a node and an entry record but for the seal
+-- a node and an entry record but for the checksum
 abbrev pub open_node : Node → Node
 open_node n = record n { self_hash = 0 }
 
@@ -137,7 +137,7 @@ pub small-words : (ws : List (ℕ × ℕ)) (bytes : List ℕ) → AreSmall bytes
 small-words [] bytes small = small
 small-words (w ∷ ws) bytes small = small-words ws (with_word w.0 w.1 bytes) (small-word w.0 w.1 bytes small)
 
--- a record whose bytes before the seal are small checks where its bytes do
+-- a record whose bytes before the checksum are small has a right or absent checksum where its bytes have
 same-prefix : (s : ℕ) (bytes : List ℕ) → SameFrom 0 s (content (take s bytes)) (content bytes)
 same-prefix s bytes k low high = get_or-take s bytes k 0 (omega arith)
 
@@ -168,7 +168,7 @@ entry_checks-prefix bytes small enough =
     let body : entry_body (entry_in (content bytes) 0) ≡ take 92 bytes = sym (ap entry_body same) ∙ entry_body-in 0 (content (take 92 bytes)) small ∙ prefix-range 92 bytes enough in
     ap (λ (l : List ℕ). (word_at (content bytes) 92 == 0) || (word_at (content bytes) 92 == hash l)) body
 
--- whether a record checks lies in its seal and in the rest of it
+-- whether a record's checksum is right or absent depends on the checksum and on the rest of the record
 pub node_checks-by : (m n : Node) → m.self_hash ≡ n.self_hash → open_node m ≡ open_node n → node_checks m ≡ node_checks n
 unfolding node_checks node_is_sealed
 node_checks-by m n seal rest = λ i. (seal i == 0) || (seal i == hash (node_body (rest i)))

@@ -70,9 +70,9 @@ with-follow b x long small =
       self_hash = 0;
     }
 
--- ---- cores
+-- ---- fields
 
--- the core of a record but for its check
+-- two records that differ in their checksums and links have the same fields, but for whether the checksum is right or absent
 core-by : (m n : Entry) (b : Bool) (x : ℕ) → entry_checks m ≡ b → open_entry m ≡ record (open_entry n) { next = x } → fields_of m ≡ record (fields_of n) { checks = b }
 core-by m n b x good rest = λ i. record {
   checks = good i;
@@ -164,7 +164,7 @@ module _ (from image : Image) (w : ℕ) (own_fields : RecordFields) (is : IsReco
       (was.0 ∙ sym now.0, was.1 ∙ sym now.1))
       (cases_Bool (stands_as from blocks_256 u))
 
-  -- the core of each record, where that of this one is as before
+  -- the fields of each record, where those of this one are as before
   cores : fields_of (entry_at image w) ≡ fields_of (entry_at from w) → (u : ℕ) → fields_at from u ≡ fields_at image u
   cores here u = ⊎_elim
       (λ (e : file_and_block u ≡ file_and_block w). ⊎_elim

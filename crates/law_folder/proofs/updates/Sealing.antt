@@ -1,4 +1,4 @@
--- Nodes that are sealed: each that is written into the list is in the end, and the others stay so.
+-- Checksums of nodes: each node that is written into the list has its own in the end, and the others keep theirs.
 use Rattle.std.proofs.Common.{◌≡◌, ◌⊎◌, ℕ, ◌+◌, ◌*◌, ◌%◌, ◌/◌, ◌^◌, ◌≤◌, ◌<◌, Bool, true, false, List, [], ◌∷◌, ◌++◌, All, take, refl, ap, ap₂, sym, ◌∙◌, subst, arith}
 use Rattle.std.specs.Prelude.{◌==◌, ◌&&◌, nat_le, nat_lt}
 use Rattle.std.proofs.lemmas.Bool.{eq-eqb, eqb-true, and_left, and_right}
@@ -30,7 +30,7 @@ use Rattle.law_folder.proofs.updates.NodeRecords.{front_is, one_change, record_i
 use Rattle.law_folder.proofs.lists.WordTurns.{each, still_checks, times_are, touches-can}
 use Rattle.law_folder.proofs.lists.WriteSteps.{good-node, checked-kind, first_can, one_write, rest_can, writable-after, writable-sealed, writable-writes}
 
--- a node is sealed where the word of its seal is the hash of its bytes before it
+-- a node has its checksum where the word of the checksum is the hash of the node's bytes before it
 pub sealed_bytes : (image : Image) (w : ℕ) → AreBytes image → kind_of w ≡ rankings → node_is_sealed (node_at image w) ≡ (word_at (content (record_at image w)) 32 == hash (take 32 (record_at image w)))
 unfolding node_is_sealed node_body node_in
 sealed_bytes image w bytes kind =
@@ -46,12 +46,12 @@ updated_is_sealed from image w changes bytes kind are done =
     let seal : word_at (content (record_at image w)) 32 ≡ seal_of 32 (record_at image w) = subst (λ (s : ℕ). word_at (content (record_at image w)) s ≡ seal_of s (record_at image w)) (node_seal w kind) (updated_seal from image w changes are done) in
     sealed_bytes image w bytes kind ∙ eq-eqb _ _ seal
 
--- nodes with the same bytes are sealed alike
+-- a node with the same bytes as one that has its checksum has it too
 pub same_record : (a b : Image) (u w : ℕ) → AreBytes a → AreBytes b → kind_of u ≡ rankings → kind_of w ≡ rankings → record_at b u ≡ record_at a w → IsSealed a w → IsSealed b u
 same_record a b u w bytes_a bytes_b kind_u kind_w same is =
     sealed_bytes b u bytes_b kind_u ∙ ap (λ (l : List ℕ). word_at (content l) 32 == hash (take 32 l)) same ∙ sym (sealed_bytes a w bytes_a kind_w) ∙ is
 
--- a node whose bytes aren't touched stays sealed
+-- a node whose bytes aren't touched keeps its checksum
 stays_sealed : (F : Footprint) (from image : Image) (u : ℕ) → AreBytes from → AreBytes image → kind_of u ≡ rankings → SameOutside F from image
     → ((i : ℕ) → place u ≤ i → i < place u + record_size u → F.bytes (Block (file_selector u)) i ≡ false) → IsSealed from u → IsSealed image u
 unfolding record_at
@@ -71,7 +71,7 @@ node_at_place w kind = rw kind refl
 pub range_apart : (p q n i : ℕ) → (q + n ≤ p) ⊎ (p + n ≤ q) → p ≤ i → i < p + n → (nat_le q i && nat_lt i (q + n)) ≡ false
 range_apart p q n i apart low high = grind (arith, nat_tests)
 
--- the update of a node leaves each other one sealed
+-- the update of a node leaves the checksums of the others
 module _ (from image : Image) (w u : ℕ) (changes : List (ℕ × ℕ)) (bytes_from : AreBytes from) (bytes_image : AreBytes image) (kind_w : kind_of w ≡ rankings) (kind_u : kind_of u ≡ rankings)
     (are : AreChanges (seal_place w) changes) (done : IsUpdated from w changes image) (outside : SameOutside (record_range w) from image) (is : IsSealed from u) where
   at_one_place : file_selector u ≡ file_selector w → place u ≡ place w → IsSealed image u
@@ -108,7 +108,7 @@ module _ (from image : Image) (w u : ℕ) (changes : List (ℕ × ℕ)) (bytes_f
 
 -- Writes.
 
--- after an update a node is sealed, and so are those that were
+-- after an update a node has its checksum, and so has each that had it
 pub record Reseals (from : Image) (w : ℕ) (image : Image) : Type 0 where
   pub sealed : IsSealed image w
   pub keeps : KeepsSealed from image
@@ -149,7 +149,7 @@ write_seals (Tail x) from ready can bytes = record { sealed = tt; keeps = word_k
 write_seals (Transaction x) from ready can bytes = record { sealed = tt; keeps = word_keeps from 328 x ready.bytes bytes }
 write_seals (Operation x) from ready can bytes = record { sealed = tt; keeps = word_keeps from 332 x ready.bytes bytes }
 
--- nodes that were sealed by writes stay so
+-- nodes that got their checksums by writes keep them
 still_sealed : (checked : Image) (writes : List ListWrite) (between image : Image) → AreOf (λ n. (list_of checked).checks n ≡ true) writes → AreNodesSealed writes between → KeepsSealed between image → AreNodesSealed writes image
 still_sealed checked [] between image good sealed keeps = tt
 still_sealed checked (Next w x ∷ writes) between image good sealed keeps = (keeps w (checked-kind checked w good.0) sealed.0, still_sealed checked writes between image good.1 sealed.1 keeps)
@@ -204,7 +204,7 @@ touch_seals image node moment ready good ws can =
     subst (λ (last : Image). Seals image ws last × IsSealed last node) (sym (after-append (steps_of_writes ws image) (sealed_steps i node (times_of moment)) image))
     (record { sealed = still_sealed image ws i last can.nodes first.sealed times.keeps; keeps = λ u kind sealed. times.keeps u kind (first.keeps u kind sealed) }, times.sealed)
 
--- a touch
+-- an access
 touch_made : (image : Image) (node moment : ℕ) (prefix suffix : List ℕ) → IsWritable image → IsAtRest (list_of image) (prefix ++ node ∷ suffix)
     → Seals image (touch_writes node (list_of image)) (after (steps_of_touch node moment image) image) × IsSealed (after (steps_of_touch node moment image) image) node
 touch_made image node moment prefix suffix ready rest =

@@ -1,4 +1,4 @@
--- The record of an update at one of its moments: it checks, and its bytes before the seal have a prefix of the changes.
+-- The record of an update at one of its moments: its checksum is right or absent, and its bytes before the checksum have a prefix of the changes.
 use Rattle.std.proofs.Common.{◌≡◌, ℕ, ◌+◌, ◌≤◌, true, List, length, take, refl, sym, ◌∙◌, ap, subst, arith}
 use Rattle.spec_image.specs.Bytes.{content, word_at}
 use Rattle.spec_image.specs.Image.{Block, Image, AreBytes, byte}
@@ -11,7 +11,7 @@ use Rattle.spec_format.proofs.SealedRecords.{length-record, seal_aligned, seal_l
 use Rattle.spec_format.proofs.SealedFields.{record_word}
 use Rattle.law_folder.proofs.updates.Prefixes.{SameWords, AreSmall, open_node, open_entry, same-node, same-entry, small-take, small-range, small-words, prefix-words, node_checks-prefix, entry_checks-prefix, node_checks-by, entry_checks-by}
 
--- the seals of the two kinds of records
+-- the places of the checksums of the two kinds of records
 pub node-seal : (w : ℕ) → kind_of w ≡ rankings → seal_place w ≡ 32
 unfolding seal_by_kind
 node-seal w kind = rw kind refl
@@ -64,7 +64,7 @@ module _ (from image : Image) (w : ℕ) (changes : List (ℕ × ℕ)) (bytes : A
       entry-here image w kind
       ∙ same-entry (content (record_at image w)) 0 (content made_bytes) 0 (subst (λ (s : ℕ). SameWords s (content (record_at image w)) 0 (content made_bytes) 0) (entry-seal w kind) words-made)
 
-  -- the seal itself
+  -- the checksum itself
   seal-word : (s : ℕ) → seal_place w ≡ s → word_at (byte image (Block (file_selector w))) (place w + s) ≡ word_at (content (record_at image w)) s
   seal-word s is = sym (record_word image w s (omega (arith, is, seal_last (kind_of w))))
 

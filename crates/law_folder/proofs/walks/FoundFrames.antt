@@ -67,7 +67,7 @@ loaded_from-same v u rule w (Some n) record_same = checked_load-same v u rule w 
 load-same : (v u : StoreView) (rule : Rule) (w : ℕ) → SameNamed v u w → load v rule w ≡ load u rule w
 load-same v u rule w same = sym (loaded_from-load v rule w) ∙ loaded_from-same v u rule w (v.node_fields w) same.record_same ∙ ap (loaded_from u rule w) same.node_fields ∙ loaded_from-load u rule w
 
--- whether a node names a child is the same
+-- whether a node names a part is the same
 child_of : Option RecordFields → Bool
 child_of o = option_map_or (λ e. e.checks && (e.flags == child)) o false
 
@@ -121,7 +121,7 @@ tried-same v u words h =
     (filter-same (λ w. not (is_child v w)) (λ w. not (is_child u w)) words (All-to (SameNamed v u) (λ w. not (is_child v w) ≡ not (is_child u w)) (λ w s. ap not (is_child-same v u w s)) words h))
     (filter-same (is_child v) (is_child u) words (All-to (SameNamed v u) (λ w. is_child v w ≡ is_child u w) (is_child-same v u) words h))
 
--- where two stocks agree on what the nodes of a walk name, they keep the same
+-- where two store views agree on what the nodes of a walk name, they keep the same
 pub kept_among-same : (v u : StoreView) (rule : Rule) (words : List ℕ) → AllByRecursion (SameNamed v u) words → kept_among v rule words ≡ kept_among u rule words
 unfolding kept_among
 kept_among-same v u rule words h =

@@ -65,7 +65,7 @@ parent_is false (Some index) test role e = under (test index) e where
   under true e = (index, cc)
   under false e = cc
 
--- a record with the child flag is loaded as a part
+-- a record with the flag of a part is loaded as a part
 role-child : (e : RecordFields) (key : List ℕ) (streams : List (List ℕ)) (role : Role) → (e.flags == child) ≡ true → role_of e key streams ≡ Some role → (name : Name) × (index : PartIndex) × (role ≡ IsPart name index) × (read_name key ≡ Some name)
 unfolding role_of part_role
 role-child e key streams role flag is =

@@ -40,7 +40,7 @@ verdict_on-filter keep (g ∷ given) w e =
     rw (k, other) (verdict_on-filter keep given w e))
     (cases_Bool (keep g.0))
 
--- leaving out and choosing the children can be done in either order
+-- leaving out and choosing the parts can be done in either order
 filter-filter : (p q : ℕ → Bool) (xs : List ℕ) → filter p (filter q xs) ≡ filter q (filter p xs)
 filter-filter p q [] = refl
 filter-filter p q (x ∷ xs) =

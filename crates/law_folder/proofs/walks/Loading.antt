@@ -75,6 +75,6 @@ load-one v a b w l k ok also = load-then v a w l ok (λ n e f. load-then v b w k
     let q : IsLoadedRecord v b w n.contents n.dirty d k = subst (λ (x : NodeFields). IsLoadedRecord v b w x.contents x.dirty d k) node_fields g.facts in
     one-record v a b w n.contents n.dirty e l k f.facts (subst (λ (x : RecordFields). IsLoadedRecord v b w n.contents n.dirty x k) fields q)))
 
--- its dirty word
+-- its dirty flag
 pub load-clean : (v : StoreView) (a : Rule) (w : ℕ) (l : Loaded) → load v a w ≡ Ok l → (not a.clean || (l.dirty == 0)) ≡ true
 load-clean v a w l ok = load-then v a w l ok (λ n e f. ap (λ (d : ℕ). not a.clean || (d == 0)) f.facts.dirty_is ∙ f.facts.keyed.clean)

@@ -23,7 +23,7 @@ use Rattle.law_folder.proofs.walks.Loads.{load-then}
 use Rattle.law_folder.proofs.lists.Lists.{eqb-sym, is_among-append}
 use Rattle.spec_folder.specs.Reasons as reason
 
--- ---- the role and the child flag
+-- ---- the role and the flag of a part
 
 parent_role-is : (e : RecordFields) (streams : List (List ℕ)) (role : Role) → parent_role e streams ≡ Some role → is_part_role role ≡ false
 unfolding parent_role
@@ -92,7 +92,7 @@ role-name e key streams name index is =
     (cases_Bool (e.flags == child)))
     (cases_Bool (e.flags == parent))
 
--- a loaded node is a child where its role is a part's
+-- `is_child` is true of a loaded node exactly where its role is a part's
 pub child-part : (v : StoreView) (rule : Rule) (w : ℕ) (l : Loaded) → load v rule w ≡ Ok l → is_child v w ≡ is_part l
 child-part v rule w l ok = load-then v rule w l ok (λ n e facts. rw (facts.node, facts.entry, facts.checks) (role-part e l.key l.streams l.role facts.facts.role))
 
@@ -151,7 +151,7 @@ module _ (v : StoreView) (rule : Rule) (ws : List ℕ) (given : ℕ → Option L
   PartsLast [] = Unit {0}
   PartsLast (t ∷ ts) = (is_child v t ≡ true → AllByRecursion (λ x. is_child v x ≡ true) ts) × PartsLast ts
 
-  -- one that is no child is not among children
+  -- a node that names no part is not among those that name parts
   not_child : (ts : List ℕ) (x : ℕ) → is_child v x ≡ false → AllByRecursion (λ y. is_child v y ≡ true) ts → is_among ts x ≡ false
   not_child [] x isnt all = refl
   not_child (t ∷ ts) x isnt all =
@@ -242,7 +242,7 @@ module _ (v : StoreView) (rule : Rule) (ws : List ℕ) (given : ℕ → Option L
             (eqb_tells t x);
       }
 
-  -- what a verdict tells
+  -- what a verdict says
   Tells : Option Loaded → Option (Result Loaded Reason) → Type 0
   Tells (Some l) r = r ≡ Some (Ok l)
   Tells None r = kept_of r ≡ None
