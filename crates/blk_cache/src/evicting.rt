@@ -25,7 +25,7 @@ impl Cache {
     /// Evicts groups, each that of the last item that isn't pinned, until enough is evicted or each item is pinned, and
     /// prints each item of them. It tells how many items were evicted. The covered parts are pinned.
     ///
-    /// After a fault nothing is promised of the cache but that it can be dropped. Where the sink fails nothing more is
+    /// After a fault nothing is promised of the cache but that it can be dropped. Where the output fails nothing more is
     /// printed, and the eviction goes on.
     pub(crate) fn evict_until<F: Folder, K: Sink>(
         &mut self,
@@ -46,7 +46,7 @@ impl Cache {
         ensures stops { ForCovered self.old parts.now (F.told folder.old) (λ state covered. Passes (F.told folder.old) (F.told folder.new) (IsEvicting (evicted_until (is_met goal.now) state covered) state)) }
         ensures front { ForCovered self.old parts.now (F.told folder.old) (λ state covered. Appends (K.written out.old) (K.written out.new) (evicted_text (evicted_until (is_met goal.now) state covered))) }
 
-        // Where the sink failed before nothing is printed.
+        // Where the output failed before nothing is printed.
         ensures quiet { failed.old ≡ true → (failed.new ≡ true) × (K.written out.new ≡ K.written out.old) }
         ensures fails { FailsWhereItRose failed.old failed.new (K.faults out.old) (K.faults out.new) }
         ensures others { OnlyItemsChange self.old self.new }

@@ -118,7 +118,7 @@ module _ (state : State) (layout : Layout) (keep : Item → Bool) (chains : ℕ 
     counted = next-counted state layout keep item u.was mid image k.valid p.lies.lies.listed p.lies.stays u.here (still-counted state layout keep from mid u.counters c) (subst (λ (w : ℕ). AreCountedLess w mid image) u.charge_is less);
   }
 
--- ---- what is told
+-- ---- observed files
 
 -- of an observable folder, read without a change, then changed by the call that takes out
 module _ (a r m : Told) (stays : r ≡ a) (state : State) (layout : Layout) (keep : Item → Bool) (chains : ℕ → List ℕ) (unlinked : List ℕ) (item : Item) (node entry : ℕ) (before : Option ℕ) (from : Image) (there : a.files ≡ Some from) (k : KeepsPartlyOut state layout keep chains unlinked from)

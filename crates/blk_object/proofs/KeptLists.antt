@@ -30,9 +30,9 @@ listed-amid state layout unlinked image item k listed =
     let order-is : order state layout ≡ nodes_of layout a.before ++ layout.place item ∷ nodes_of layout a.suffix = ap (nodes_of layout) a.is ∙ nodes-append layout a.before (item ∷ a.suffix) in
     record { prefix = nodes_of layout a.before; suffix = nodes_of layout a.suffix; rest = record { whole = subst (IsList (list_of image)) order-is k.represents.list; idle = k.represents.idle } }
 
--- ---- what is told
+-- ---- observed files
 
--- the folder after steps that were made is the one that is told
+-- the observed files after steps are those before, with the steps made
 pub told-after : (old new : Told) (steps : List TrailStep) (from image : Image) → Applies old new steps → old.files ≡ Some from → new.files ≡ Some image → after steps from ≡ image
 told-after old new steps from image applies there is = sym (some_inj (sym is ∙ applies.files ∙ ap (option_map (after steps)) there))
 

@@ -113,7 +113,7 @@ pub removed-whole : (state after : State) (layout : Layout) (unlinked : List ℕ
 removed-whole state after layout unlinked node entry charge mid image g counted =
     less-counted state after layout (layout_removed layout node entry) unlinked charge mid image g.counters g.less g.kept counted
 
--- ---- what is told
+-- ---- observed files
 
 -- of an observable folder, read without a change, then changed by the call that takes out
 module _ (a r m : Told) (stays : r ≡ a) (state : State) (layout : Layout) (unlinked : List ℕ) (objects : List (Option Object)) (keep : Item → Bool) (item : Item) (node entry : ℕ) (before : Option ℕ) (from : Image) (there : a.files ≡ Some from) (k : Keeps state layout unlinked from) (p : GoesAlone state layout objects keep item node entry before)

@@ -225,7 +225,7 @@ module _ (from : Image) (limits : Bounds) (readings : Readings) (old : Outside) 
       no_less = λ level. inr printed;
     }
 
-    -- and behind those up to one whose text was printed in part, where the sink failed
+    -- and behind those up to one whose text was printed in part, where the output failed
     stops_unprinted : (all : List Turn) (sink : Type 0) (new : Outside) → sink → Appends old.written new.written (text_of all) → StopsPast from opened (commands (run_with all)) (length (commands_of all)) old.folder new.folder
         → StopsByNotes from (run_with all) sink old new
     stops_unprinted all sink new rose printed past = record {
@@ -408,7 +408,7 @@ module _ (from : Image) (limits : Bounds) (readings : Readings) (old : Outside) 
             };
           }
 
-      -- the sink failed in the lines
+      -- the output failed in the lines
       module _ (plays : PlaysInput (Err step_fault.Sink) budget (Some input) new.left begun_far keeps notes spare start mid) where
         abbrev sink_made : List Turn
         sink_made = plays.part.made
@@ -551,7 +551,7 @@ module _ (from : Image) (limits : Bounds) (readings : Readings) (old : Outside) 
             };
           }
 
-      -- the sink failed in it
+      -- the output failed in it
       module _ {A : Type 0} (plays : PlaysPart {A = A} (Err step_fault.Sink) part begun_far keeps notes spare fixed_start mid) where
         abbrev pub fixed_to : AreMadeTo plays.made begun_far keeps notes spare fixed_start mid
         fixed_to = plays.plays

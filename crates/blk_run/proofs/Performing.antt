@@ -22,7 +22,7 @@ use Rattle.blk_script.specs.declared.fault.LineFault.{LineFault}
 use Rattle.blk_run.specs.WholeInputs.{IsWholeInBuffer, longest_input}
 use Rattle.blk_run.specs.Work.{Performs, ReadsOnDamage, no_input, whole_input, DoesWork, Work, budget, folder_text, input_by}
 
--- a cause, where the source can't have failed and nothing is too long
+-- a cause, where the input can't have failed and nothing is too long
 pub cause_wider : (s : Status) (damaged device source sink long : Type 0) → CauseOf s damaged device ⊥ sink ⊥ → CauseOf s damaged device source sink long
 cause_wider status.Ok damaged device source sink long cause = tt
 cause_wider status.Refused damaged device source sink long cause = tt
@@ -118,7 +118,7 @@ module _ (result : Status) (limits : Bounds) (device source : Type 0) (before no
     memory = runs.memory;
   })
 
-  -- a call that has no source
+  -- a call that has no input
   pub performs_wider : (script : Script) → Performs (no_input script) result limits device ⊥ before now old new → Performs (no_input script) result limits device source before now old new
   performs_wider script does = record {
     plays = does.plays;

@@ -159,7 +159,7 @@ pub(crate) fn drop_indexed_with<F: Folder, E: FnMut(u32)>(
     drop_parts_with(folder, files, key, indexed.signature, buffer, each)
 }
 
-// Removes the first part of a key behind a node of the list, or from the front of the list on, if there is one.
+// Removes the first part of a key after a node of the list, or from the front of the list on, if there is one.
 fn drop_next<F: Folder>(
     folder: &mut F,
     files: &BlockFiles,

@@ -134,7 +134,7 @@ pub(crate) fn holds(alloc: Global, f: &mut Mem, text: &str) -> Result<bool, Fail
     Ok(out.written() == text.as_bytes())
 }
 
-// How a folder is verified where the sink fails at a call, and whether what was printed then is a prefix of this.
+// How a folder is verified where the output fails at a call, and whether what was printed then is a prefix of this.
 pub(crate) fn cut(
     alloc: Global,
     f: &mut Mem,
