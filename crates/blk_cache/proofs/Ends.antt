@@ -1,4 +1,4 @@
--- Where a cache keeps a state its folder may be written, and ends sound where no name is bound.
+-- Where a cache keeps a state its folder may be written, and ends consistent where no name is bound.
 use Rattle.std.proofs.Common.{◌≡◌, inl, inr, ℕ, length, Option, Some, None, refl, ◌∙◌, subst, arith, false}
 use Rattle.std.specs.Option.{ForSome}
 use Rattle.spec_image.specs.Image.{Image, Index, byte, word}

@@ -302,7 +302,7 @@ any-damaged (Err (Damaged damage)) P all = all damage
 none-some : (image : Image) → ◌≡◌ {A = Option Image} (Some image) None → ⊥
 none-some image e = cc
 
--- a call on a folder that tells nothing more than on one that told its files before, and tells them still
+-- where a call after another one reports corruption of an opaque folder alone, the folder was opaque before both
 pub untold-on : {A : Type 0} (result : Result A Fault) (told now : Told) (P : Image → Type 0) → (told.files ≡ None → now.files ≡ None) → ((from : Image) → told.files ≡ Some from → (image : Image) × (now.files ≡ Some image) × P image)
     → (ForSome now.files P → IfDamaged result (λ _. now.files ≡ None)) → IfDamaged result (λ _. told.files ≡ None)
 untold-on {A} result told now P silent holds call = go told.files refl where

@@ -159,7 +159,7 @@ repaired-opens from ends = ends-weaker ends (λ i mid. mid) (λ i repaired. repa
 pub repaired-either : {a b : Told} (from : Image) → EndsOrBreaksOff a b (IsMidRepair from) (IsRepaired from) → EndsOrBreaksOff a b (IsMidRepair from) (StandsOpened from)
 repaired-either from either = either-weaker either (λ i mid. mid) (λ i repaired. repaired.stands_for)
 
--- what stands for what a made folder holds stands for what was found in the uninitialized one before it
+-- what represents what a made folder holds represents what was recovered of the uninitialized one before it
 pub made-stands : (entry made image : Image) → IsUnfinished entry → IsJustMade made → StandsOpened made image → StandsOpened entry image
 made-stands entry made image un is stands limits = subst (λ (rows : List Row). StandsFor image (open_state rows limits)) (made-found made is ∙ sym (unfinished-found entry un)) (stands limits)
 
@@ -203,7 +203,7 @@ loading-as e a b same cause = if_damaged_weaker {A = Told} (Err e) (IsLoadDamage
 pub looking-as : (e : Fault) (a b : Told) → b ≡ a → IfDamaged {A = Told} (Err e) (IsLookDamage a) → IfDamaged {A = Told} (Err e) (IsOpeningDamage b)
 looking-as e a b same cause = if_damaged_weaker {A = Told} (Err e) (IsLookDamage a) (IsOpeningDamage b) (λ damage h. inl (subst (λ (t : Told). IsLookDamage t damage) (sym same) h)) cause
 
--- an observable folder tells its files
+-- an observable folder isn't opaque
 pub told-some : {P : Type 0} (a : Told) (image : Image) → a.files ≡ Some image → a.files ≡ None → P
 told-some a image there none = absurd (no (sym there ∙ none)) where
   no : ◌≡◌ {A = Option Image} (Some image) None → ⊥
@@ -213,7 +213,7 @@ told-some a image there none = absurd (no (sym there ∙ none)) where
 pub scanned-can : (files : BlockFiles) (scan : Scan) (image : Image) → IsWellFormed image → IsOpen files image → (Agrees files image → IsScanOf image scan) → IsRepairable scan image
 scanned-can files scan image well open_now told = record { well_formed = well; scanned = told open_now.agrees }
 
--- what told nothing after a call that stayed told nothing before
+-- a folder that is opaque after a call that left it as it was, was opaque before
 pub untold-as : (e : Fault) (a b : Told) → b ≡ a → IfDamaged {A = Told} (Err e) (λ _. b.files ≡ None) → IfDamaged {A = Told} (Err e) (λ _. a.files ≡ None)
 untold-as e a b same cause = if_damaged_weaker {A = Told} (Err e) (λ _. b.files ≡ None) (λ _. a.files ≡ None) (λ damage none. sym (ap (λ (t : Told). t.files) same) ∙ none) cause
 

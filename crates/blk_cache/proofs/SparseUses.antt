@@ -93,7 +93,7 @@ module _ (state : State) (moment handle offset count : ℕ) where
       use-refused w ∙ five (names_none state handle) (nat_lt 1048576 count) (past_end offset count) (is_doomed state handle) (is_plain state handle) refusal.BadHandle refusal.TooLarge refusal.RangeEnd refusal.Doomed refusal.NotSparse None p.passes
       ∙ ap (λ (t : Bool). if t then Some refusal.NotSparse else None) full
 
--- what is told of a run is no refusal
+-- the answer about a run is no refusal
 pub run-told : (w : Wanted) (offset : ℕ) (run : ℕ × ℕ) → IsRefused (told_of_run w offset run) → ⊥
 run-told wanted.Bytes offset run r = r
 run-told wanted.Run offset run r = r

@@ -128,7 +128,7 @@ module _ (files : BlockFiles) (node moment less more : ℕ) (old mid now : Told)
 
 -- ---- failed checks
 
--- where files are told, none is said by a failed check that comes only where none are
+-- corruption that is reported of an opaque folder alone is never reported of an observable one
 pub never-told : {A : Type 0} (r : Result A Fault) (mid old : Option Image) (i : Image) → mid ≡ Some i → IfDamaged r (λ _. mid ≡ None) → IfDamaged r (λ _. old ≡ None)
 never-told (Ok a) mid old i there d = tt
 never-told (Err fault.Device) mid old i there d = tt

@@ -258,7 +258,7 @@ module _ (cache : Cache) (state : State) (from : Image) (k : HoldsState cache st
                 subst (λ (n : ℕ). IsRisen state (with_used written-state (main other.key)) k.layout there n more) first (subst (λ (n : ℕ). IsRisen state (with_used written-state (main other.key)) k.layout there before n) second risen) in
                 rises state (with_used written-state (main other.key)) k.layout there [] less more u.touched end counted-before now u.kept u.counted
 
-            -- the session is that of its dirty word
+            -- the session is that of its dirty flag
             live-session : (alive : object.live ≡ true) → Keeps (with_used written-state (main other.key)) there [] end → this_id_of (byte end Index) ≡ this_id_of (byte from Index)
             live-session alive keeps =
                 let at-now : there.at (there.place (main other.key)) ≡ Some w.now = ap there.at (sym (live-node alive)) ∙ lies.at_node in

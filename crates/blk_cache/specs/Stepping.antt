@@ -30,7 +30,7 @@ SaysEvicted cache told moment request failed_before failed old new = ForKept (Ho
 abbrev pub SaysPrefix : Cache → Told → (moment : ℕ) → Request → (old new : Option (List ℕ)) → Type 0
 SaysPrefix cache told moment request old new = ForKept (HoldsState cache) told (λ state. Appends old new (evicted_first (step state moment request)))
 
--- so it was for each state that the cache kept before in a finished folder
+-- so it was for each state that the cache kept before in an initialized folder
 abbrev pub SaysKeptPrefix : Cache → Told → (moment : ℕ) → Request → (old new : Option (List ℕ)) → Type 0
 SaysKeptPrefix cache told moment request old new = ForKept (KeepsState cache) told (λ state. Appends old new (evicted_first (step state moment request)))
 

@@ -23,7 +23,7 @@ use blk_io::{Fault, Folder, Sink};
 
 impl Cache {
     /// Evicts groups, each that of the last item that isn't pinned, until enough is evicted or each item is pinned, and
-    /// prints each item of them. It tells how many items were evicted. The covered parts are pinned.
+    /// prints each item of them. The answer is how many items were evicted. The covered parts are pinned.
     ///
     /// After a fault nothing is promised of the cache but that it can be dropped. Where the output fails nothing more is
     /// printed, and the eviction goes on.

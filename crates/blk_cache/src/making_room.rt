@@ -84,7 +84,7 @@ impl Cache {
     /// Makes space for so many more bytes and items, where there can be space, and prints what is evicted for it. The
     /// covered parts stay.
     ///
-    /// Nothing is evicted where they fit, or nothing is asked for; and whether there can be space is told by what is
+    /// Nothing is evicted where they fit, or nothing is asked for; and whether there can be space is decided by what is
     /// kept in memory. After a fault nothing is promised of the cache but that it can be dropped.
     pub(crate) fn make_room_beside<F: Folder, K: Sink>(
         &mut self,

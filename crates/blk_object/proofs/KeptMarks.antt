@@ -21,7 +21,7 @@ use Rattle.law_state.proofs.MarkSteps.{marks-done}
 use Rattle.blk_object.specs.KeptMarks.{NodesOfStatesCheck, LinksAreInFront, LinksComeInFront, MarksAreBeingSet, MarksAreSet, NodesCheckAsRecords}
 use Rattle.blk_object.proofs.KeptLists.{told-after}
 
--- ---- dirty words
+-- ---- dirty flags
 
 or-true : (b : Bool) → (b || true) ≡ true
 or-true true = refl

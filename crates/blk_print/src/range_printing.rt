@@ -220,7 +220,7 @@ fn print_through<F: Folder, K: Sink>(
     Ok(())
 }
 
-// Prints the front of a line of data, unless the output failed before: the word, the number of bytes, and a space after
+// Prints the start of a line of data, unless the output failed before: the word, the number of bytes, and a space after
 // each.
 fn say_front<K: Sink>(out: &mut K, failed: &mut bool, number: u64)
     ensures prints { PrintsUnlessFailed failed.old failed.new (K.written out.old) (K.written out.new) (codes "data " ++ (number_text number ++ codes " ")) }

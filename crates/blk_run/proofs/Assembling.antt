@@ -138,7 +138,7 @@ turns_first texts more all opened clock same =
       ap (λ (l : List (List ℕ)). turns (session_script 1 l) opened clock) same ∙ (more_turns 1 texts more opened clock).all,
     )
 
--- A session on files that are told, with the readings.
+-- A session on observed files, with the readings.
 
 module _ (from : Image) (limits : Bounds) (readings : Readings) (old : Outside) (there : old.folder.files ≡ Some from) (clock : old.clock ≡ Some readings) where
   abbrev pub opened : State
@@ -216,7 +216,7 @@ module _ (from : Image) (limits : Bounds) (readings : Readings) (old : Outside) 
         (sym (commands_are opened (later_of readings) all made ends.commands same (ends.are (clock_after (later_of readings) (readings_of made)) (clock_made made clock_mid read))))
         ends.closes)
 
-    -- behind all iterations of a run, whose texts were printed
+    -- after all iterations of a run, whose texts were printed
     stops_printed : (all : List Turn) (sink : Type 0) (new : Outside) → new.written ≡ option_map (λ (w : List ℕ). w ++ text_of all) old.written → StopsPast from opened (commands (run_with all)) (length (commands_of all)) old.folder new.folder
         → StopsByNotes from (run_with all) sink old new
     stops_printed all sink new printed past = record {
@@ -225,7 +225,7 @@ module _ (from : Image) (limits : Bounds) (readings : Readings) (old : Outside) 
       no_less = λ level. inr printed;
     }
 
-    -- and behind those up to one whose text was printed in part, where the output failed
+    -- and after those up to one whose text was printed in part, where the output failed
     stops_unprinted : (all : List Turn) (sink : Type 0) (new : Outside) → sink → Appends old.written new.written (text_of all) → StopsPast from opened (commands (run_with all)) (length (commands_of all)) old.folder new.folder
         → StopsByNotes from (run_with all) sink old new
     stops_unprinted all sink new rose printed past = record {

@@ -109,7 +109,7 @@ unfolding without
 names_left [] state = refl
 names_left (group ∷ groups) state = refl
 
--- what a command evicted is told by the numbers of items
+-- the numbers of items before and after a command say what it evicted
 abbrev IsTold : Request → State → Outcome → Type 0
 IsTold request state made = (evicted_items made ≡ evicted_by request (answer_of made.reply) (items state) (items made.state)) × (evicted_items made ≤ items state)
 

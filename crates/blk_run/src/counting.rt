@@ -42,7 +42,7 @@ pub(crate) fn run_count<F: Folder, K: Sink, C: Clock>(
     clock: &mut C,
 ) -> Status
     // On a folder that is uninitialized or well formed it is the run of the script of `count` on the map model, whatever the
-    // clock tells.
+    // clock gives.
     ensures script { ForSome (F.told folder.old).files (λ from. IsUsable from → ReadsAs (C.readings clock.old) (C.readings clock.new) (λ readings late. (left : Option (List ℕ)) → FixedScript result count_script (bounds_of limits) from readings (Rises (K.faults out.old) (K.faults out.new)) (outside (F.told folder.old) (K.written out.old) left (Some readings)) (outside (F.told folder.new) (K.written out.new) left (Some late)))) }
 
     // Where nothing fails the whole output is printed, unless it is out of memory.
@@ -56,7 +56,7 @@ pub(crate) fn run_count<F: Folder, K: Sink, C: Clock>(
     ensures later { (F.faults folder.old ≤ F.faults folder.new) × GoesOn K.is K.faults out.old out.new }
     ensures handed { IfWhole result (K.waiting out.old ≡ false → K.waiting out.new ≡ false) }
 
-    // Out of memory nothing is done, whatever of folder, output and clock is told.
+    // Out of memory nothing is done, whatever of folder, output and clock is observable.
     ensures memory { result ≡ Status.Memory → Stays (F.told folder.old) (F.told folder.new) × (K.written out.new ≡ K.written out.old) }
 
     // The folder decides the status, but for failures and out of memory.

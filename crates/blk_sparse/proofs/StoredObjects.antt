@@ -135,7 +135,7 @@ module _ (ns : List ℕ) (target : Target) (state : State) (layout : Layout) (un
 
 -- ---- the bytes are counted
 
--- the session is that of the dirty word of a dirty object
+-- the session is that of the dirty flag of a dirty object
 same-session : (state : State) (layout : Layout) (unlinked : List ℕ) (number : ℕ) (object : Object) (was : Loaded) (mid image : Image) → KeepsUncounted state layout unlinked mid → KeepsUncounted state layout unlinked image → object_at state number ≡ Some object → object.live ≡ true → object.settled ≡ false
     → layout.at (layout.place (main object.key)) ≡ Some was → SameSession mid image
 same-session state layout unlinked number object was mid image k l here live loose lies =

@@ -27,7 +27,7 @@ use blk_ranges::{INDEX, LONGEST_KEY, ParentHead, ParentMap};
 use blk_record::{EntryView, PARENT};
 
 /// Makes a plain object, that is dirty and has nothing in its second and its third stream, a sparse one with a
-/// signature: its third stream gets the index of a parent without parts, and then its record the flags of a parent.
+/// generation: its third stream gets the index of a parent without parts, and then its record the flags of a parent.
 ///
 /// The counters of the index stay. One folder call reads the record, and four give it the flags, beside those of
 /// `write_object`.

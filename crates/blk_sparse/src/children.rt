@@ -34,7 +34,7 @@ use blk_ranges::LONGEST_KEY;
 use blk_record::EntryView;
 
 /// The main item of an object with parts: its record, the node that it has, or had before it was taken out of the list
-/// and of its chain, and the signature of its index.
+/// and of its chain, and the generation of its index.
 #[derive(Clone, Copy, Debug, PartialEq, Eq)]
 pub struct Parent {
     pub entry: Addr,

@@ -153,7 +153,7 @@ pub fn doom_parent<F: Folder>(
     Ok(parts)
 }
 
-/// Reads the signature of the index of a parent, by two folder calls.
+/// Reads the generation of the index of a parent, by two folder calls.
 ///
 /// A failed check is one of `read`, or a third stream that begins otherwise than an index.
 pub fn read_signature<F: Folder>(
