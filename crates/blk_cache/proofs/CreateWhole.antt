@@ -49,7 +49,7 @@ pub untold-by : {A : Type 0} (r : Result A Fault) (files : Option Image) → ((i
 untold-by r None all = if-any r (λ _. None ≡ None) (λ damage. refl)
 untold-by r (Some image) all = all image refl
 
--- ---- refusals and groups
+-- ---- refusals and eviction units
 
 module _ (moment handle : ℕ) (key : List ℕ) where
   room-is : (state : State) → no_room moment (to_create handle key) state ≡ is_full (room state [] (length key) 1)

@@ -157,6 +157,6 @@ module _ (a m b : Told) (state after : State) (layout : Layout) (unlinked : List
   pub counting-removed : ForSome m.files (λ at. ForSome b.files (AreCountedLess charge at)) → ForSome b.files (IsRemovedWhole after layout unlinked node entry)
   counting-removed counted image is = removed-whole state after layout unlinked node entry charge gone-on.image image (gone gone-on.image gone-on.is) (counted gone-on.image gone-on.is image is)
 
-  -- so it isn't silent in between
+  -- so the folder isn't opaque in between
   pub counting-told : m.files ≡ None → a.files ≡ None
   counting-told none = absurd (some-none (sym gone-on.is ∙ none))

@@ -38,7 +38,7 @@ use std::alloc::Global;
 
 /// Opens the folder, plays the lines of an input, closes what is open, and answers how it ended.
 ///
-/// Each line is a command, whose reply is printed on `out` once it is done and noted, or a fault, which is printed; either is flushed once it is printed,
+/// Each line is a command, whose reply is printed on `out` once it is done and noted, or a parse error, which is printed; either is flushed once it is printed,
 /// before the next line is played. The input is taken as it comes, and at most `budget` bytes of it are used; one byte more is taken, to see whether more
 /// follow. The clock is read once for the opening and once before each command, the closings among them. All memory is taken before the first step in the
 /// folder.
