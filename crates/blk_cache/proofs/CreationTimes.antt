@@ -47,7 +47,7 @@ pub made-moment : (moment : ℕ) (image : Image) → moment < 2 ^ 64 → IsMade 
 made-moment moment image fits made =
     ap (λ (o : Option (List ℕ)). create_time_of (content (unwrap_or o []))) made.index ∙ moment-there moment (zeros index_length) fits (let long = length-zeros index_length in omega (arith, long))
 
--- nothing is to be repaired of it but words of the index
+-- recovery writes nothing of it but words of the index
 pub made-needs : (scan : Scan) (image : Image) → IsJustMade image → IsEmptyScan scan → NeedsOnlyWords scan image
 made-needs scan image made empty =
     let bare = new-bare made.0 image made.1 in

@@ -80,7 +80,7 @@ made-next image made = finished-id image (made-formed image made) ∙ ap next_id
 unfinished-next : (image : Image) → IsUnfinished image → opened_id image ≡ 1
 unfinished-next image un = ap (λ (b : Bool). if b then 1 else next_id (this_id_of (byte image Index))) ((unfinished_agrees image).1 un)
 
--- ---- a repaired folder
+-- ---- a recovered folder
 
 pub opened-as : (scan : Scan) (entry image : Image) (opened : Opened) → IsRepairable scan entry → IsRepaired entry image → AreBytes image → Agrees opened.files image → opened.items ≡ length scan.kept.items → opened.bytes ≡ scan.bytes → opened.mark ≡ word image Index 20
     → IsOpenedAs entry opened image
@@ -110,7 +110,7 @@ made-opened entry made image opened un is left =
       finished = left.finished;
     }
 
--- by the empty scan it may be repaired
+-- by the empty scan it may be recovered
 pub made-can : (scan : Scan) (image : Image) → IsJustMade image → IsEmptyScan scan → IsRepairable scan image
 made-can scan image made empty = made-repairable made.0 image scan made.1 empty
 
@@ -152,7 +152,7 @@ passes-silent passes none = passes.applies.files ∙ ap (option_map (after passe
 
 -- ---- where the session was marked as open
 
--- what repaired an image opened it
+-- what recovered an image opened it
 pub repaired-opens : {a b : Told} (from : Image) → EndsWithCrashWord a b (IsMidRepair from) (IsRepaired from) → EndsWithCrashWord a b (IsMidRepair from) (StandsOpened from)
 repaired-opens from ends = ends-weaker ends (λ i mid. mid) (λ i repaired. repaired.stands_for)
 
@@ -209,7 +209,7 @@ told-some a image there none = absurd (no (sym there ∙ none)) where
   no : ◌≡◌ {A = Option Image} (Some image) None → ⊥
   no e = cc
 
--- a well-formed folder may be repaired by its scan
+-- a well-formed folder may be recovered by its scan
 pub scanned-can : (files : BlockFiles) (scan : Scan) (image : Image) → IsWellFormed image → IsOpen files image → (Agrees files image → IsScanOf image scan) → IsRepairable scan image
 scanned-can files scan image well open_now told = record { well_formed = well; scanned = told open_now.agrees }
 

@@ -103,7 +103,7 @@ pub sparse-refuses : (cache : Cache) (old now : Told) → now ≡ old → (momen
 sparse-refuses cache old now stays moment handle offset count w why refuses =
     refusals-done (HoldsState cache) old now moment (to_use_sparse w handle offset count) why stays refuses
 
--- ---- the use
+-- ---- the accesses
 
 module _ (cache : Cache) (old mid now : Told) (stays : mid ≡ old) (moment handle offset count : ℕ) (w : Wanted) (parent : Parent) (has : ForSome old.files (λ image. (state : State) (k : HoldsState cache state image) → IsParentNamed state k.layout handle offset count parent)) where
   module _ (image : Image) (here : old.files ≡ Some image) (state : State) (k : HoldsState cache state image) where

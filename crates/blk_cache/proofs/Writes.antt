@@ -1,4 +1,4 @@
--- A stream of a dirty object of a cache that keeps a state is written, used and counted.
+-- A stream of a dirty object of a cache that keeps a state is written, accessed and counted.
 use Rattle.std.proofs.Common.{◌≡◌, ◌⊎◌, ⊎_elim, inl, inr, ℕ, zero, suc, ◌+◌, ◌-◌, ◌<◌, ◌≤◌, ◌^◌, Bool, true, false, List, [], length, get_or, Option, Some, None, refl, sym, ap, ap₂, subst, ◌∙◌, arith}
 use Rattle.std.specs.Prelude.{◌&&◌, ◌||◌, IfSome, if◌then◌else◌, is_none, nat_lt, sum_by}
 use Rattle.std.proofs.lemmas.Bool.{ltb-false}

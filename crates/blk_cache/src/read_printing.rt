@@ -23,7 +23,7 @@ pub(crate) struct ReadRange {
 }
 
 impl Cache {
-    /// Prints the line of a Read that was used: the number of bytes that there are from the offset on, which its answer
+    /// Prints the line of a Read that was done: the number of bytes that there are from the offset on, which its answer
     /// gave, and then the bytes.
     ///
     /// Two folder calls are made for each 4096 bytes. Nothing is written. Where the handle names no object, or no stream

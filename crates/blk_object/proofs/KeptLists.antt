@@ -1,4 +1,4 @@
--- Inserts, removals and touches of nodes of a kept state.
+-- Inserts, removals and accesses of nodes of a kept state.
 use Rattle.std.proofs.Common.{◌≡◌, ℕ, ◌≤◌, List, ◌∷◌, ◌++◌, ap, sym, ◌∙◌, subst, lit≤, Some}
 use Rattle.std.specs.Option.{option_map}
 use Rattle.spec_image.specs.Image.{Image}
@@ -58,7 +58,7 @@ pub removals-done : RemovalsAreDone
 removals-done files node old new bytes is_open amid steps from there image is = let a = amid from there in
     subst (IsRemovalDone from node) (told-after old new (operation_steps remove node from) from image (steps from there) there is) (removal-done from node a.prefix a.suffix (writable files old from bytes there (is_open from there)) a.rest)
 
--- ---- touches
+-- ---- accesses
 
 pub touches-partly : TouchesArePartly
 touches-partly files node old new amid passes from there = let a = amid from there in passes_weaker (passes from there a.prefix a.suffix a.rest) (λ image m. m.partly) (λ image m. m.partly)

@@ -59,7 +59,7 @@ pub fn make_entry<F: Folder>(
     // Each state that was kept, that can have the object, in a session of this number, is kept with it in the end.
     ensures made { IfOk result (λ made. ForSome (F.told folder.old).files (λ from. this_id_of (byte from index) ≡ mark → ForSome (F.told folder.new).files (HasNewObjects key.now made from))) }
 
-    // It was made, used and changed at the moment.
+    // The object was made, accessed and changed at the moment.
     ensures times { IfOk result (λ made. ForSome (F.told folder.new).files (HasTimes made.entry made.node moment)) }
 
     // At each word the old durable contents are recovered: the new object is dirty, and so it isn't durable.

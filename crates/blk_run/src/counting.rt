@@ -66,13 +66,13 @@ pub(crate) fn run_count<F: Folder, K: Sink, C: Clock>(
     ensures printed { ShowsTotals result (bounds_of limits) (F.told folder.old).files (K.written out.old) (K.written out.new) }
     ensures damage { result ≡ Status.Damaged → IsFailedInOpening (F.told folder.old) (F.told folder.new) (K.written out.old) (K.written out.new) (K.faults out.old) (K.faults out.new) }
 
-    // In the end the same is found, and the folder is consistent.
+    // In the end recovery gives the same, and the folder is consistent.
     ensures ended { (result ≡ Status.Ok) ⊎ (result ≡ Status.Sink) → ForSome (F.told folder.old).files (λ start. ForSome (F.told folder.new).files (EndsSame start)) }
 
     // An uninitialized folder is made at the next reading of the clock, and keeps that moment.
     ensures made { (result ≡ Status.Ok) ⊎ (result ≡ Status.Sink) → ForSome (F.told folder.old).files (λ start. IsUnfinished start → ForSome (F.told folder.new).files (IsMadeAtNext (C.readings clock.old))) }
 
-    // At each word the same is found, and the folder is uninitialized or well formed where it was.
+    // At each word recovery gives the same, and the folder is uninitialized or well formed where it was.
     ensures stops { ForSome (F.told folder.old).files (λ start. PassesAny (F.told folder.old) (F.told folder.new) (HoldsStill start)) }
 
     // No step is made where an observable folder is corrupt.

@@ -25,7 +25,7 @@ pub(crate) fn read_input<S: Source>(input: &mut S, buffer: &mut [u8]) -> Result<
     ensures buffer { length buffer.new ≡ 1048577 }
     ensures reads { Reads result (S.left input.old) (S.left input.new) buffer.new }
 
-    // The bytes that the input gave are these, whether it is observable or not.
+    // The bytes that were read are those that the input gave, whether it is observable or not.
     ensures given { TakesAs (S.left input.old) (S.left input.new) (λ bytes rest. Reads result (Some bytes) (Some rest) buffer.new) }
     ensures later { S.faults input.old ≤ S.faults input.new }
     ensures source { IfSource result (Rises (S.faults input.old) (S.faults input.new)) }
